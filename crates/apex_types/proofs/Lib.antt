@@ -1,0 +1,4 @@
+pub mod HexText
+pub mod NameLemmas
+pub mod ReadText
+pub mod Text

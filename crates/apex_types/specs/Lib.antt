@@ -1,0 +1,7 @@
+pub mod Direction
+pub mod Message
+pub mod Mode
+pub mod Name
+pub mod Reply
+pub mod ReturnCode
+pub mod Validity

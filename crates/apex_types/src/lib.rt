@@ -1,0 +1,26 @@
+//! The public types of the APEX port services: names, messages, moments, calls and replies.
+//!
+//! No call of this crate takes memory.
+#![tactic(auto)]
+
+pub mod call;
+pub mod direction;
+pub mod message;
+pub mod mode;
+pub mod moment;
+pub mod name;
+pub mod reply;
+pub mod return_code;
+#[cfg(test)]
+mod tests;
+pub mod validity;
+
+pub use crate::call::Call;
+pub use crate::direction::Direction;
+pub use crate::message::{HEX_LIMIT, HexFault, MESSAGE_LIMIT, Message, TooLong};
+pub use crate::mode::Mode;
+pub use crate::moment::Moment;
+pub use crate::name::{NAME_LIMIT, Name, NameFault};
+pub use crate::reply::Reply;
+pub use crate::return_code::ReturnCode;
+pub use crate::validity::Validity;

@@ -1,0 +1,144 @@
+//! Messages.
+ghost use Rattle.std.specs.Prelude.{◌≡◌, ◌≤◌, ◌<◌, length, MatchResult};
+ghost use Rattle.std.specs.List.{list_all};
+ghost use Rattle.hex.specs.Hex.{is_hex_digit};
+ghost use Rattle.apex_types.specs.Message.{message_of_hex, hex_text_of};
+
+use arrayvec::{ArrayString, ArrayVec};
+use std::marker::Model;
+use std::str;
+use thiserror::Error;
+
+/// The most bytes of a message.
+pub const MESSAGE_LIMIT: usize = 256;
+
+/// The bytes of the longest message's hexadecimal text: two digits a byte.
+pub const HEX_LIMIT: usize = 2 * MESSAGE_LIMIT;
+
+/// A message of at most 256 bytes. To a contract it is the list of its bytes.
+#[derive(Debug, Drop, PartialEq, Eq)]
+pub struct Message {
+    bytes: ArrayVec<u8, MESSAGE_LIMIT>,
+}
+
+impl Model for Message {
+    ghost use Rattle.std.specs.Prelude.{ℕ, List, ◌≤◌, length};
+    ghost use Rattle.apex_types.specs.declared.message.TheConstants.{MESSAGE_LIMIT};
+
+    ghost Value = { List ℕ };
+
+    ghost view = { λ message. message.bytes.items };
+
+    ghost invariant = { λ message. length message.bytes.items ≤ MESSAGE_LIMIT };
+
+    ghost inverse = { λ bytes. record { bytes = record { items = bytes } } };
+}
+
+/// More bytes than a message holds.
+#[derive(Clone, Copy, Debug, PartialEq, Eq, Error)]
+#[error("too long")]
+pub struct TooLong;
+
+/// Why a text is no message.
+#[derive(Clone, Copy, Debug, PartialEq, Eq, Error)]
+pub enum HexFault {
+    /// The text has an odd number of bytes.
+    #[error("odd length")]
+    OddLength,
+    /// A byte is no hexadecimal digit.
+    #[error("bad digit")]
+    BadDigit,
+    /// The text stands for more than 256 bytes.
+    #[error("too long")]
+    TooLong,
+}
+
+impl Message {
+    /// The message of these bytes.
+    pub fn from_bytes(bytes: &[u8]) -> Result<Message, TooLong>
+        ensures { MatchResult result (λ message. (message ≡ bytes.now) × (length bytes.now ≤ MESSAGE_LIMIT)) (λ _. MESSAGE_LIMIT < length bytes.now) }
+    {
+        let mut copied = ArrayVec::new();
+        match copied.try_extend_from_slice(bytes) {
+            Ok(()) => Ok(Message { bytes: copied }),
+            Err(_) => Err(TooLong),
+        }
+    }
+
+    /// Reads hexadecimal digits of either case. `-` and the empty text are the empty message. The first fault counts, in the order of `HexFault`.
+    pub fn from_hex(text: &str) -> Result<Message, HexFault>
+        ensures { result ≡ message_of_hex text.now }
+    {
+        let digits = text.as_bytes();
+        if text == "-" {
+            return Ok(Message {
+                bytes: ArrayVec::new(),
+            });
+        }
+        if digits.len() % 2 != 0 {
+            return Err(HexFault::OddLength);
+        }
+        if digits.len() > HEX_LIMIT {
+            return Err(if has_hex_digits(digits) {
+                HexFault::TooLong
+            } else {
+                HexFault::BadDigit
+            });
+        }
+        let mut bytes = ArrayVec::new();
+        bytes
+            .try_extend_from_slice(&[0; MESSAGE_LIMIT][..digits.len() / 2])
+            .unwrap();
+        match hex::decode_to_slice(digits, bytes.as_mut_slice()) {
+            Ok(()) => Ok(Message { bytes }),
+            Err(_) => Err(HexFault::BadDigit),
+        }
+    }
+
+    /// The lower-case hexadecimal text of the message, `-` for the empty message. `from_hex` gives the message back.
+    pub fn to_hex(&self) -> ArrayString<HEX_LIMIT>
+        ensures text { result.bytes ≡ hex_text_of self.now }
+        ensures reads_back { message_of_hex (hex_text_of self.now) ≡ Ok self.now }
+    {
+        hex_text(self.bytes.as_slice())
+    }
+
+    /// The bytes of the message.
+    pub fn bytes(&self) -> &[u8]
+        ensures { result.now ≡ self.now }
+    {
+        self.bytes.as_slice()
+    }
+
+    /// An equal message.
+    pub fn copy(&self) -> Message
+        ensures { result ≡ self.now }
+    {
+        let mut bytes = ArrayVec::new();
+        bytes.try_extend_from_slice(self.bytes.as_slice()).unwrap();
+        Message { bytes }
+    }
+}
+
+fn has_hex_digits(text: &[u8]) -> bool
+    ensures { result ≡ list_all is_hex_digit text.now }
+{
+    text.iter().all(|byte| byte.is_ascii_hexdigit())
+}
+
+fn hex_text(bytes: &[u8]) -> ArrayString<HEX_LIMIT>
+    requires { length bytes.now ≤ MESSAGE_LIMIT }
+    ensures text { result.bytes ≡ hex_text_of bytes.now }
+    ensures reads_back { message_of_hex (hex_text_of bytes.now) ≡ Ok bytes.now }
+{
+    let mut text = ArrayString::new();
+    if bytes.is_empty() {
+        text.push_str("-");
+        return text;
+    }
+    let mut digits = [0; HEX_LIMIT];
+    let digits = &mut digits[..2 * bytes.len()];
+    hex::encode_to_slice(bytes, digits).unwrap();
+    text.push_str(str::from_utf8(digits).unwrap());
+    text
+}

@@ -1,0 +1,91 @@
+//! The names of partitions, ports and channels.
+ghost use Rattle.std.specs.Prelude.{◌≡◌, Ok};
+ghost use Rattle.std.specs.List.{list_all};
+ghost use Rattle.apex_types.specs.Name.{name_of, is_name_byte};
+
+use arrayvec::ArrayVec;
+use std::marker::Model;
+use std::str;
+use thiserror::Error;
+
+/// The most bytes of a name.
+pub const NAME_LIMIT: usize = 30;
+
+/// A name of 1 to 30 ASCII letters, digits and `_`, compared byte for byte. To a contract it is the list of its bytes.
+#[derive(Debug, Drop, PartialEq, Eq)]
+pub struct Name {
+    bytes: ArrayVec<u8, NAME_LIMIT>,
+}
+
+impl Model for Name {
+    ghost use Rattle.std.specs.Prelude.{ℕ, List};
+    ghost use Rattle.apex_types.specs.Name.{IsName};
+
+    ghost Value = { List ℕ };
+
+    ghost view = { λ name. name.bytes.items };
+
+    ghost invariant = { λ name. IsName name.bytes.items };
+
+    ghost inverse = { λ bytes. record { bytes = record { items = bytes } } };
+}
+
+/// Why a text is no name.
+#[derive(Clone, Copy, Debug, PartialEq, Eq, Error)]
+pub enum NameFault {
+    /// The text has no byte.
+    #[error("empty")]
+    Empty,
+    /// The text has more than 30 bytes.
+    #[error("too long")]
+    TooLong,
+    /// A byte is no ASCII letter, digit or `_`.
+    #[error("bad character")]
+    BadCharacter,
+}
+
+impl Name {
+    /// Reads a name. The first fault counts, in the order of `NameFault`.
+    pub fn read(text: &str) -> Result<Name, NameFault>
+        ensures { result ≡ name_of text.now }
+    {
+        if text.is_empty() {
+            return Err(NameFault::Empty);
+        }
+        let text = text.as_bytes();
+        if text.len() > NAME_LIMIT {
+            return Err(NameFault::TooLong);
+        }
+        if !has_name_bytes(text) {
+            return Err(NameFault::BadCharacter);
+        }
+        let mut bytes = ArrayVec::new();
+        match bytes.try_extend_from_slice(text) {
+            Ok(()) => Ok(Name { bytes }),
+            Err(_) => Err(NameFault::TooLong),
+        }
+    }
+
+    /// The text of the name.
+    pub fn text(&self) -> &str
+        ensures { result.now ≡ self.now }
+    {
+        str::from_utf8(self.bytes.as_slice()).unwrap()
+    }
+
+    /// An equal name.
+    pub fn copy(&self) -> Name
+        ensures { result ≡ self.now }
+    {
+        let mut bytes = ArrayVec::new();
+        bytes.try_extend_from_slice(self.bytes.as_slice()).unwrap();
+        Name { bytes }
+    }
+}
+
+fn has_name_bytes(text: &[u8]) -> bool
+    ensures { result ≡ list_all is_name_byte text.now }
+{
+    text.iter()
+        .all(|byte| byte.is_ascii_alphanumeric() || *byte == b'_')
+}
