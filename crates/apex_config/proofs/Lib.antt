@@ -1,0 +1,6 @@
+pub mod Accepted
+pub mod Answering
+pub mod Each
+pub mod OnLiterals
+pub mod Places
+pub mod Tables

@@ -1,0 +1,23 @@
+use Rattle.std.proofs.Common.{Some, None, Ok, sym, ap, ◌∙◌}
+use Rattle.std.proofs.lemmas.Bool.{false≢true}
+use Rattle.toml.specs.View.{table_view}
+use Rattle.apex_config.proofs.Answering.{not_toml, no_shape, is_judged}
+use Rattle.apex_config.proofs.config.Config.read.Goals as goal
+
+pub returns-in-Err-2 : goal.returns-in-Err-2
+returns-in-Err-2 c _ =
+    not_toml c.args.bytes.now (c.in-Err.ensures.refused (λ memory. false≢true (sym c.if-is_memory.false ∙ c.is_memory.ensures.1 memory)))
+
+pub returns-in_default : goal.returns-in_default
+returns-in_default c _ =
+    no_shape c.args.bytes.now (table_view c.in-Ok.document) c.in-Ok.ensures.ok.0 c.in-Ok.ensures.ok.1 (sym c.in_ok-draft.ensures ∙ c.in_default.is)
+
+pub returns-in-Some-first_fault : goal.returns-in-Some-first_fault
+returns-in-Some-first_fault c _ =
+    is_judged c.args.bytes.now (table_view c.in-Ok.document) c.in-Some.draft (Some c.in-Some-first_fault.fault) c.in-Ok.ensures.ok.0 c.in-Ok.ensures.ok.1
+    (sym c.in_ok-draft.ensures ∙ c.in-Some.is) (sym c.first_fault.ensures ∙ c.in-Some-first_fault.is)
+
+pub returns : goal.returns
+returns c =
+    is_judged c.args.bytes.now (table_view c.in-Ok.document) c.in-Some.draft None c.in-Ok.ensures.ok.0 c.in-Ok.ensures.ok.1
+    (sym c.in_ok-draft.ensures ∙ c.in-Some.is) (sym c.first_fault.ensures ∙ c.in_default-first_fault.is) ∙ ap (λ config. Ok config) (sym c.in_ok-config_of.ensures)

@@ -1,0 +1,107 @@
+//! Why a configuration is refused.
+ghost use Rattle.std.specs.Prelude.{◌≡◌};
+ghost use Rattle.apex_config.specs.Fault.{pass_of};
+ghost use Rattle.apex_config.specs.declared.fault.ConfigFault.TheVariants as fault;
+
+use std::alloc::{AllocError, AllocFailed};
+use thiserror::Error;
+
+/// An allocation was refused.
+#[derive(Clone, Copy, Debug, PartialEq, Eq, Error)]
+#[error("out of memory")]
+pub struct OutOfMemory;
+
+impl From<AllocError> for OutOfMemory {
+    fn from(_refused: AllocError) -> OutOfMemory {
+        OutOfMemory
+    }
+}
+
+impl<T: Drop> From<AllocFailed<T>> for OutOfMemory {
+    fn from(_refused: AllocFailed<T>) -> OutOfMemory {
+        OutOfMemory
+    }
+}
+
+/// Why a configuration is refused: the first pass that finds a fault in the text.
+#[derive(Clone, Copy, Debug, PartialEq, Eq, Error)]
+pub enum ConfigFault {
+    /// The bytes are no TOML.
+    #[error("not TOML")]
+    NotToml,
+    /// A needed key is missing, a key is unknown, a value has the wrong type, or a word isn't in its list.
+    #[error("shape")]
+    Shape,
+    /// The name of a partition, a port or a channel isn't 1 to 30 ASCII letters, digits and `_`.
+    #[error("name")]
+    BadName,
+    /// Two partitions, two ports of one partition, or two channels have one name.
+    #[error("name twice")]
+    NameTwice,
+    /// A size, a depth or a refresh period is out of its limits.
+    #[error("number out of range")]
+    OutOfRange,
+    /// A port names a channel that isn't there.
+    #[error("unknown channel")]
+    UnknownChannel,
+    /// A queuing port names a sampling channel, or a sampling port a queuing channel.
+    #[error("kind of port and channel differ")]
+    KindDiffers,
+    /// A channel has no source port, or more than one.
+    #[error("not exactly one source")]
+    Sources,
+    /// A queuing channel hasn't exactly one destination port, or a sampling channel has none.
+    #[error("destinations")]
+    Destinations,
+    /// The number of partitions, of a partition's ports, or of channels is out of its limits.
+    #[error("count out of limits")]
+    Counts,
+    /// An allocation was refused.
+    #[error("out of memory")]
+    OutOfMemory,
+}
+
+impl ConfigFault {
+    /// The number of the pass that finds the fault, 1 to 10; none for want of memory.
+    pub fn number(self) -> Option<u32>
+        ensures { result ≡ pass_of self }
+    {
+        match self {
+            ConfigFault::NotToml => Some(1),
+            ConfigFault::Shape => Some(2),
+            ConfigFault::BadName => Some(3),
+            ConfigFault::NameTwice => Some(4),
+            ConfigFault::OutOfRange => Some(5),
+            ConfigFault::UnknownChannel => Some(6),
+            ConfigFault::KindDiffers => Some(7),
+            ConfigFault::Sources => Some(8),
+            ConfigFault::Destinations => Some(9),
+            ConfigFault::Counts => Some(10),
+            ConfigFault::OutOfMemory => None,
+        }
+    }
+}
+
+impl From<OutOfMemory> for ConfigFault {
+    ghost from_gives = { λ _ given. given ≡ fault.OutOfMemory };
+
+    fn from(_refused: OutOfMemory) -> ConfigFault {
+        ConfigFault::OutOfMemory
+    }
+}
+
+impl From<AllocError> for ConfigFault {
+    ghost from_gives = { λ _ given. given ≡ fault.OutOfMemory };
+
+    fn from(_refused: AllocError) -> ConfigFault {
+        ConfigFault::OutOfMemory
+    }
+}
+
+impl<T: Drop> From<AllocFailed<T>> for ConfigFault {
+    ghost from_gives = { λ _ given. given ≡ fault.OutOfMemory };
+
+    fn from(_refused: AllocFailed<T>) -> ConfigFault {
+        ConfigFault::OutOfMemory
+    }
+}

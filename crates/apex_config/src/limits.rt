@@ -1,0 +1,19 @@
+//! The limits of a configuration.
+
+/// The most partitions.
+pub const PARTITION_LIMIT: usize = 16;
+
+/// The most ports of a partition.
+pub const PORT_LIMIT: usize = 32;
+
+/// The most channels.
+pub const CHANNEL_LIMIT: usize = 64;
+
+/// The largest message size of a channel, in bytes.
+pub const SIZE_LIMIT: u32 = 256;
+
+/// The most messages that can wait on a queuing channel.
+pub const DEPTH_LIMIT: u32 = 512;
+
+/// The longest refresh period of a sampling port, in nanoseconds.
+pub const REFRESH_LIMIT: u64 = 9223372036854775807;

@@ -1,0 +1,358 @@
+//! The tests of a draft, in their order. Each looks at the whole draft.
+ghost use Rattle.std.specs.Prelude.{◌≡◌, ◌==◌, ◌&&◌, length, map, min, nat_le, nat_lt, count_by};
+ghost use Rattle.std.specs.List.{list_all, list_any, enumerate_from};
+ghost use Rattle.std.specs.Str.{bytes_eq};
+ghost use Rattle.apex_config.specs.Configuration.{is_queuing_port};
+ghost use Rattle.apex_config.specs.Passes.{all_ports, is_name, has_names, are_distinct, has_distinct_names, is_within, has_refresh, has_depth, has_numbers, has_channels, fits_kind, has_kinds, is_end, end_count, has_sources, fits_destinations, has_destinations, has_counts, first_fault};
+
+use crate::draft::{ChannelDraft, Draft, PartitionDraft, PortDraft};
+use crate::fault::ConfigFault;
+use crate::limits::{
+    CHANNEL_LIMIT, DEPTH_LIMIT, PARTITION_LIMIT, PORT_LIMIT, REFRESH_LIMIT, SIZE_LIMIT,
+};
+use crate::port::PortKind;
+use apex_types::{Direction, Name};
+
+fn is_name(text: &str) -> bool
+    ensures { result ≡ is_name text.now }
+{
+    Name::read(text).is_ok()
+}
+
+fn has_port_names(ports: &[PortDraft]) -> bool
+    ensures { result ≡ list_all (λ port. is_name port.name) ports.now }
+{
+    ports.iter().all(|port| is_name(port.name))
+}
+
+fn has_partition_names(partitions: &[PartitionDraft]) -> bool
+    ensures { result ≡ list_all (λ partition. is_name partition.name) partitions.now }
+{
+    partitions.iter().all(|partition| is_name(partition.name))
+}
+
+fn has_all_port_names(partitions: &[PartitionDraft]) -> bool
+    ensures { result ≡ list_all (λ partition. list_all (λ port. is_name port.name) partition.ports) partitions.now }
+{
+    partitions
+        .iter()
+        .all(|partition| has_port_names(partition.ports.as_slice()))
+}
+
+fn has_channel_names(channels: &[ChannelDraft]) -> bool
+    ensures { result ≡ list_all (λ channel. is_name channel.name) channels.now }
+{
+    channels.iter().all(|channel| is_name(channel.name))
+}
+
+#[tactic(auto, unfolding(crate::specs::Passes::has_names))]
+fn has_names(draft: &Draft) -> bool
+    ensures { result ≡ has_names draft.now }
+{
+    has_partition_names(draft.partitions.as_slice())
+        && has_all_port_names(draft.partitions.as_slice())
+        && has_channel_names(draft.channels.as_slice())
+}
+
+trait Named {
+    ghost use Rattle.std.specs.Prelude.{List, ℕ};
+
+    ghost name_of: { Self → List ℕ };
+
+    fn name(&self) -> &str
+        ensures { result.now ≡ name_of self.now };
+}
+
+impl Named for PartitionDraft<'_> {
+    ghost name_of = { λ partition. partition.name };
+
+    fn name(&self) -> &str {
+        self.name
+    }
+}
+
+impl Named for PortDraft<'_> {
+    ghost name_of = { λ port. port.name };
+
+    fn name(&self) -> &str {
+        self.name
+    }
+}
+
+impl Named for ChannelDraft<'_> {
+    ghost name_of = { λ channel. channel.name };
+
+    fn name(&self) -> &str {
+        self.name
+    }
+}
+
+fn has_name<T: Named>(entries: &[T], name: &str) -> bool
+    ensures { result ≡ list_any (λ other. bytes_eq other name.now) (map T.name_of entries.now) }
+{
+    for entry in entries {
+        if entry.name() == name {
+            return true;
+        }
+    }
+    false
+}
+
+fn are_distinct<T: Named>(entries: &[T]) -> bool
+    ensures { result ≡ are_distinct (map T.name_of entries.now) }
+{
+    for (i, entry) in entries.iter().enumerate() {
+        if has_name(&entries[i + 1..], entry.name()) {
+            return false;
+        }
+    }
+    true
+}
+
+fn has_distinct_port_names(partitions: &[PartitionDraft]) -> bool
+    ensures { result ≡ list_all (λ partition. are_distinct (map (λ port. port.name) partition.ports)) partitions.now }
+{
+    partitions
+        .iter()
+        .all(|partition| are_distinct(partition.ports.as_slice()))
+}
+
+#[tactic(auto, unfolding(crate::specs::Passes::has_distinct_names))]
+fn has_distinct_names(draft: &Draft) -> bool
+    ensures { result ≡ has_distinct_names draft.now }
+{
+    are_distinct(draft.partitions.as_slice())
+        && has_distinct_port_names(draft.partitions.as_slice())
+        && are_distinct(draft.channels.as_slice())
+}
+
+fn is_within(limit: u64, number: u64) -> bool
+    ensures { result ≡ is_within limit number }
+{
+    1 <= number && number <= limit
+}
+
+fn has_refresh(kind: PortKind) -> bool
+    ensures { result ≡ has_refresh kind }
+{
+    match kind {
+        PortKind::Queuing => true,
+        PortKind::Sampling { refresh } => is_within(REFRESH_LIMIT, refresh),
+    }
+}
+
+fn has_refreshes(partitions: &[PartitionDraft]) -> bool
+    ensures { result ≡ all_ports (λ port. has_refresh port.kind) partitions.now }
+{
+    partitions
+        .iter()
+        .all(|partition| have_refresh(partition.ports.as_slice()))
+}
+
+fn have_refresh(ports: &[PortDraft]) -> bool
+    ensures { result ≡ list_all (λ port. has_refresh port.kind) ports.now }
+{
+    ports.iter().all(|port| has_refresh(port.kind))
+}
+
+fn has_size_and_depth(channel: &ChannelDraft) -> bool
+    ensures { result ≡ (is_within SIZE_LIMIT channel.now.size && has_depth channel.now.kind) }
+{
+    let deep = match channel.depth {
+        Some(depth) => is_within(DEPTH_LIMIT as u64, depth),
+        None => true,
+    };
+    is_within(SIZE_LIMIT as u64, channel.size) && deep
+}
+
+fn have_size_and_depth(channels: &[ChannelDraft]) -> bool
+    ensures { result ≡ list_all (λ channel. is_within SIZE_LIMIT channel.size && has_depth channel.kind) channels.now }
+{
+    channels.iter().all(|channel| has_size_and_depth(channel))
+}
+
+#[tactic(auto, unfolding(crate::specs::Passes::has_numbers))]
+fn has_numbers(draft: &Draft) -> bool
+    ensures { result ≡ has_numbers draft.now }
+{
+    have_size_and_depth(draft.channels.as_slice()) && has_refreshes(draft.partitions.as_slice())
+}
+
+fn have_channel(ports: &[PortDraft], count: usize) -> bool
+    ensures { result ≡ list_all (λ port. nat_lt port.channel count) ports.now }
+{
+    ports.iter().all(|port| port.channel < count)
+}
+
+fn all_have_channel(partitions: &[PartitionDraft], count: usize) -> bool
+    ensures { result ≡ all_ports (λ port. nat_lt port.channel count) partitions.now }
+{
+    partitions.iter().all(|partition| have_channel(partition.ports.as_slice(), count))
+}
+
+#[tactic(auto, unfolding(crate::specs::Passes::has_channels))]
+fn has_channels(draft: &Draft) -> bool
+    ensures { result ≡ has_channels draft.now }
+{
+    all_have_channel(draft.partitions.as_slice(), draft.channels.len())
+}
+
+fn is_queuing(kind: PortKind) -> bool
+    ensures { result ≡ is_queuing_port kind }
+{
+    match kind {
+        PortKind::Queuing => true,
+        PortKind::Sampling { .. } => false,
+    }
+}
+
+#[tactic(auto, unfolding(crate::specs::Passes::fits_kind))]
+fn fits_kind(channels: &[ChannelDraft], port: &PortDraft) -> bool
+    ensures { result ≡ fits_kind channels.now port.now }
+{
+    match channels.get(port.channel) {
+        Some(channel) => channel.depth.is_some() == is_queuing(port.kind),
+        None => false,
+    }
+}
+
+fn fit_kinds(channels: &[ChannelDraft], ports: &[PortDraft]) -> bool
+    ensures { result ≡ list_all (fits_kind channels.now) ports.now }
+{
+    ports.iter().all(|port| fits_kind(channels, port))
+}
+
+fn all_fit_kinds(channels: &[ChannelDraft], partitions: &[PartitionDraft]) -> bool
+    ensures { result ≡ all_ports (fits_kind channels.now) partitions.now }
+{
+    partitions.iter().all(|partition| fit_kinds(channels, partition.ports.as_slice()))
+}
+
+#[tactic(auto, unfolding(crate::specs::Passes::has_kinds))]
+fn has_kinds(draft: &Draft) -> bool
+    ensures { result ≡ has_kinds draft.now }
+{
+    all_fit_kinds(draft.channels.as_slice(), draft.partitions.as_slice())
+}
+
+fn is_end(port: &PortDraft, direction: Direction, channel: usize) -> bool
+    ensures { result ≡ is_end direction channel port.now }
+{
+    port.direction == direction && port.channel == channel
+}
+
+fn ends_in(ports: &[PortDraft], direction: Direction, channel: usize) -> usize
+    ensures { result ≡ count_by (is_end direction channel) ports.now }
+{
+    ports
+        .iter()
+        .filter(|port| is_end(port, direction, channel))
+        .count()
+}
+
+/// How many ports of a direction a channel has, or the largest number where they are more.
+fn end_count(partitions: &[PartitionDraft], direction: Direction, channel: usize) -> usize
+    ensures { result ≡ min (end_count direction channel partitions.now) usize.MAX }
+{
+    let mut count: usize = 0;
+    for partition in partitions {
+        count = count.saturating_add(ends_in(partition.ports.as_slice(), direction, channel));
+    }
+    count
+}
+
+fn has_one_end(partitions: &[PartitionDraft], direction: Direction, channel: usize) -> bool
+    ensures { result ≡ (end_count direction channel partitions.now == 1) }
+{
+    end_count(partitions, direction, channel) == 1
+}
+
+fn has_end(partitions: &[PartitionDraft], direction: Direction, channel: usize) -> bool
+    ensures { result ≡ nat_le 1 (end_count direction channel partitions.now) }
+{
+    end_count(partitions, direction, channel) >= 1
+}
+
+fn all_have_source(channels: &[ChannelDraft], partitions: &[PartitionDraft]) -> bool
+    ensures { result ≡ list_all (λ numbered. end_count Direction.Source numbered.0 partitions.now == 1) (enumerate_from 0 channels.now) }
+{
+    channels.iter().enumerate().all(|(number, _)| has_one_end(
+        partitions,
+        Direction::Source,
+        number,
+    ))
+}
+
+#[tactic(auto, unfolding(crate::specs::Passes::has_sources))]
+fn has_sources(draft: &Draft) -> bool
+    ensures { result ≡ has_sources draft.now }
+{
+    all_have_source(draft.channels.as_slice(), draft.partitions.as_slice())
+}
+
+fn fits_destinations(channel: &ChannelDraft, number: usize, partitions: &[PartitionDraft]) -> bool
+    ensures { result ≡ fits_destinations channel.now.kind (end_count Direction.Destination number partitions.now) }
+{
+    match channel.depth {
+        Some(_) => has_one_end(partitions, Direction::Destination, number),
+        None => has_end(partitions, Direction::Destination, number),
+    }
+}
+
+fn all_have_destinations(channels: &[ChannelDraft], partitions: &[PartitionDraft]) -> bool
+    ensures { result ≡ list_all (λ numbered. fits_destinations numbered.1.kind (end_count Direction.Destination numbered.0 partitions.now)) (enumerate_from 0 channels.now) }
+{
+    channels.iter().enumerate().all(|(number, channel)| fits_destinations(
+        channel, number, partitions,
+    ))
+}
+
+#[tactic(auto, unfolding(crate::specs::Passes::has_destinations))]
+fn has_destinations(draft: &Draft) -> bool
+    ensures { result ≡ has_destinations draft.now }
+{
+    all_have_destinations(draft.channels.as_slice(), draft.partitions.as_slice())
+}
+
+fn have_few_ports(partitions: &[PartitionDraft]) -> bool
+    ensures { result ≡ list_all (λ partition. nat_le (length partition.ports) PORT_LIMIT) partitions.now }
+{
+    partitions
+        .iter()
+        .all(|partition| partition.ports.len() <= PORT_LIMIT)
+}
+
+#[tactic(auto, unfolding(crate::specs::Passes::has_counts))]
+fn has_counts(draft: &Draft) -> bool
+    ensures { result ≡ has_counts draft.now }
+{
+    is_within(PARTITION_LIMIT as u64, draft.partitions.len() as u64)
+        && have_few_ports(draft.partitions.as_slice())
+        && draft.channels.len() <= CHANNEL_LIMIT
+}
+
+/// The fault of the first test that fails.
+#[tactic(auto, unfolding(crate::specs::Passes::first_fault))]
+pub fn first_fault(draft: &Draft) -> Option<ConfigFault>
+    ensures { result ≡ first_fault draft.now }
+{
+    if !has_names(draft) {
+        Some(ConfigFault::BadName)
+    } else if !has_distinct_names(draft) {
+        Some(ConfigFault::NameTwice)
+    } else if !has_numbers(draft) {
+        Some(ConfigFault::OutOfRange)
+    } else if !has_channels(draft) {
+        Some(ConfigFault::UnknownChannel)
+    } else if !has_kinds(draft) {
+        Some(ConfigFault::KindDiffers)
+    } else if !has_sources(draft) {
+        Some(ConfigFault::Sources)
+    } else if !has_destinations(draft) {
+        Some(ConfigFault::Destinations)
+    } else if !has_counts(draft) {
+        Some(ConfigFault::Counts)
+    } else {
+        None
+    }
+}

@@ -1,0 +1,208 @@
+//! Reads the tables of a document as a draft, where their shape is right.
+ghost use Rattle.std.specs.Prelude.{◌≡◌, option_map, unwrap_or, position, length, IfOk};
+ghost use Rattle.std.specs.Str.{bytes_eq};
+ghost use Rattle.toml.specs.View.{view, table_view, items_view};
+ghost use Rattle.apex_config.specs.Reading.{queuing_port_keys, sampling_port_keys, channel_kind_of, channel_kind_in, channel_in, channel_number, port_kind_in, direction_in, port_in, partition_in, draft_in};
+ghost use Rattle.apex_config.specs.Table.{each, has_only_keys};
+
+use crate::draft::{ChannelDraft, Draft, PartitionDraft, PortDraft};
+use crate::port::PortKind;
+use crate::table::{array_at, array_if_any, has_only_keys, number_at, text_at};
+use apex_types::Direction;
+use std::alloc::{AllocError, Global};
+use toml::{Table, Value};
+
+/// The depth of a queuing channel, or none for a sampling channel.
+#[tactic(auto, unfolding(crate::specs::Reading::channel_kind_in))]
+fn depth_of(table: &Table) -> Option<Option<u64>>
+    ensures { option_map channel_kind_of result ≡ channel_kind_in (table_view table.now) }
+{
+    match text_at(table, "kind")? {
+        "queuing" => {
+            let depth = number_at(table, "depth")?;
+            has_only_keys(table, &["name", "kind", "size", "depth"]).then_some(Some(depth))
+        }
+        "sampling" => has_only_keys(table, &["name", "kind", "size"]).then_some(None),
+        _ => None,
+    }
+}
+
+#[tactic(auto, unfolding(crate::specs::Reading::channel_in))]
+fn channel_of(value: &Value) -> Option<ChannelDraft<'_>>
+    ensures { result ≡ channel_in (view value.now) }
+{
+    let table = value.as_table()?;
+    let name = text_at(table, "name")?;
+    let size = number_at(table, "size")?;
+    let depth = depth_of(table)?;
+    Some(ChannelDraft { name, size, depth })
+}
+
+fn channels_of(alloc: Global, values: &[Value]) -> Result<Option<Vec<ChannelDraft<'_>>>, AllocError>
+    ensures { IfOk result (λ found. option_map (λ channels. channels.items) found ≡ each channel_in (items_view values.now)) }
+{
+    let mut channels = Vec::new(alloc);
+    for value in values {
+        match channel_of(value) {
+            Some(channel) => channels.push(channel)?,
+            None => return Ok(None),
+        }
+    }
+    Ok(Some(channels))
+}
+
+fn place_of(channels: &[ChannelDraft], name: &str) -> Option<usize>
+    ensures { result ≡ position (λ channel. bytes_eq channel.name name.now) channels.now }
+{
+    channels.iter().position(|channel| channel.name == name)
+}
+
+/// The number of the channel of a name; where there is none, the number of channels.
+fn channel_number(channels: &[ChannelDraft], name: &str) -> usize
+    ensures { result ≡ channel_number channels.now name.now }
+{
+    match place_of(channels, name) {
+        Some(place) => place,
+        None => channels.len(),
+    }
+}
+
+fn has_queuing_port_keys(table: &Table) -> bool
+    ensures { result ≡ has_only_keys queuing_port_keys (table_view table.now) }
+{
+    has_only_keys(table, &["name", "kind", "direction", "channel"])
+}
+
+fn has_sampling_port_keys(table: &Table) -> bool
+    ensures { result ≡ has_only_keys sampling_port_keys (table_view table.now) }
+{
+    has_only_keys(table, &["name", "kind", "direction", "channel", "refresh"])
+}
+
+#[tactic(auto, unfolding(crate::specs::Reading::port_kind_in))]
+fn port_kind_of(table: &Table) -> Option<PortKind>
+    ensures { result ≡ port_kind_in (table_view table.now) }
+{
+    match text_at(table, "kind")? {
+        "queuing" => has_queuing_port_keys(table).then_some(PortKind::Queuing),
+        "sampling" => {
+            let refresh = number_at(table, "refresh")?;
+            has_sampling_port_keys(table).then_some(PortKind::Sampling { refresh })
+        }
+        _ => None,
+    }
+}
+
+#[tactic(auto, unfolding(crate::specs::Reading::direction_in))]
+fn direction_of(table: &Table) -> Option<Direction>
+    ensures { result ≡ direction_in (table_view table.now) }
+{
+    match text_at(table, "direction")? {
+        "source" => Some(Direction::Source),
+        "destination" => Some(Direction::Destination),
+        _ => None,
+    }
+}
+
+#[tactic(auto, unfolding(crate::specs::Reading::port_in))]
+fn port_of<'a>(channels: &[ChannelDraft], value: &'a Value) -> Option<PortDraft<'a>>
+    ensures { result ≡ port_in channels.now (view value.now) }
+{
+    let table = value.as_table()?;
+    let name = text_at(table, "name")?;
+    let direction = direction_of(table)?;
+    let channel = channel_number(channels, text_at(table, "channel")?);
+    let kind = port_kind_of(table)?;
+    Some(PortDraft {
+        name,
+        kind,
+        direction,
+        channel,
+    })
+}
+
+fn ports_of<'a>(
+    alloc: Global,
+    channels: &[ChannelDraft],
+    values: &'a [Value],
+) -> Result<Option<Vec<PortDraft<'a>>>, AllocError>
+    ensures { IfOk result (λ found. option_map (λ ports. ports.items) found ≡ each (port_in channels.now) (items_view values.now)) }
+{
+    let mut ports = Vec::new(alloc);
+    for value in values {
+        match port_of(channels, value) {
+            Some(port) => ports.push(port)?,
+            None => return Ok(None),
+        }
+    }
+    Ok(Some(ports))
+}
+
+#[tactic(auto, unfolding(crate::specs::Reading::partition_in))]
+fn partition_of<'a>(
+    alloc: Global,
+    channels: &[ChannelDraft],
+    value: &'a Value,
+) -> Result<Option<PartitionDraft<'a>>, AllocError>
+    ensures { IfOk result (λ found. found ≡ partition_in channels.now (view value.now)) }
+{
+    let Some(table) = value.as_table() else {
+        return Ok(None);
+    };
+    let Some(name) = text_at(table, "name") else {
+        return Ok(None);
+    };
+    let Some(values) = array_if_any(table, "port") else {
+        return Ok(None);
+    };
+    let Some(ports) = ports_of(alloc, channels, values)? else {
+        return Ok(None);
+    };
+    if !has_only_keys(table, &["name", "port"]) {
+        return Ok(None);
+    }
+    Ok(Some(PartitionDraft { name, ports }))
+}
+
+fn partitions_of<'a>(
+    alloc: Global,
+    channels: &[ChannelDraft],
+    values: &'a [Value],
+) -> Result<Option<Vec<PartitionDraft<'a>>>, AllocError>
+    ensures { IfOk result (λ found. option_map (λ partitions. partitions.items) found ≡ each (partition_in channels.now) (items_view values.now)) }
+{
+    let mut partitions = Vec::new(alloc);
+    for value in values {
+        match partition_of(alloc, channels, value)? {
+            Some(partition) => partitions.push(partition)?,
+            None => return Ok(None),
+        }
+    }
+    Ok(Some(partitions))
+}
+
+/// The draft that a document is, where its shape is right.
+#[tactic(auto, unfolding(crate::specs::Reading::draft_in))]
+pub fn draft_of(alloc: Global, document: &Table) -> Result<Option<Draft<'_>>, AllocError>
+    ensures { IfOk result (λ found. found ≡ draft_in (table_view document.now)) }
+{
+    let Some(values) = array_if_any(document, "channel") else {
+        return Ok(None);
+    };
+    let Some(channels) = channels_of(alloc, values)? else {
+        return Ok(None);
+    };
+    let Some(values) = array_at(document, "partition") else {
+        return Ok(None);
+    };
+    let Some(partitions) = partitions_of(alloc, channels.as_slice(), values)? else {
+        return Ok(None);
+    };
+    if !has_only_keys(document, &["partition", "channel"]) {
+        return Ok(None);
+    }
+    Ok(Some(Draft {
+        partitions,
+        channels,
+    }))
+}
