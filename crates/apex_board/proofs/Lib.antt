@@ -1,0 +1,13 @@
+pub mod Appends
+pub mod Idle
+pub mod LawfulSteps
+pub mod LeastRoom
+pub mod Lookups
+pub mod OneChannel
+pub mod PartitionSteps
+pub mod QueueSteps
+pub mod Refused
+pub mod RoomSteps
+pub mod SampleSteps
+pub mod SoundSteps
+pub mod Stays

@@ -1,0 +1,30 @@
+use Rattle.std.proofs.Common.{◌≡◌, ◌≤◌, ◌+◌, sym, subst, arith}
+use Rattle.std.specs.Vec.{vec_len, vec_capacity}
+use Rattle.apex_board.specs.BoardView.{BoardView}
+use Rattle.apex_board.specs.Room.{room_of}
+use Rattle.apex_board.proofs.LeastRoom.{room_from, room_kept}
+use Rattle.apex_board.proofs.SoundSteps.{sound_same}
+use Rattle.apex_board.proofs.board.Board.reserve.Goals as goal
+
+pub invariant_of-self : goal.invariant_of-self
+invariant_of-self g c = sound_same _ _ _ _ _ _ _ _ _ c.self.invariant c.reserve.ensures.log c.reserve.ensures.kept
+
+pub returns-in_err-reserve-clause-grows : goal.returns-in_err-reserve-clause-grows
+returns-in_err-reserve-clause-grows g c =
+    let len = c.reserve.ensures.len in
+    let capacity = c.reserve.ensures.capacity in
+    let more : vec_len c.reserve.new.self.log + vec_capacity c.self.inside.state.log ≤ vec_len c.self.inside.state.log + vec_capacity c.reserve.new.self.log = omega (arith, len, capacity) in
+    subst (λ (v : BoardView). v.room ≤ room_of c.reserve.new.self.log c.reserve.new.self.queues.items) c.self.view_is (room_kept c.self.inside.state.log c.reserve.new.self.log _ _ more c.reserve.ensures.grows)
+
+pub invariant_of-self-2 : goal.invariant_of-self-2
+invariant_of-self-2 g c = sound_same _ _ _ _ _ _ _ _ _ c.self.invariant c.reserve.ensures.log c.reserve.ensures.kept
+
+pub returns-clause-room : goal.returns-clause-room
+returns-clause-room g c = room_from c.reserve.new.self.log _ _ c.in_ok-reserve.ensures.entries c.in_ok-reserve.ensures.room
+
+pub returns-clause-grows : goal.returns-clause-grows
+returns-clause-grows g c =
+    let len = c.reserve.ensures.len in
+    let capacity = c.reserve.ensures.capacity in
+    let more : vec_len c.reserve.new.self.log + vec_capacity c.self.inside.state.log ≤ vec_len c.self.inside.state.log + vec_capacity c.reserve.new.self.log = omega (arith, len, capacity) in
+    subst (λ (v : BoardView). v.room ≤ room_of c.reserve.new.self.log c.reserve.new.self.queues.items) c.self.view_is (room_kept c.self.inside.state.log c.reserve.new.self.log _ _ more c.reserve.ensures.grows)

@@ -1,0 +1,16 @@
+use Rattle.std.proofs.Common.{◌≡◌, ◌<◌, ◌≤◌, ◌++◌, List, ℕ, length, sym, ap, subst, ◌∙◌, arith}
+use Rattle.apex_board.specs.BoardView.{BoardView}
+use Rattle.apex_board.specs.Channels.{accepted_on, received_on, waiting_on}
+use Rattle.apex_board.specs.Lawful.{IsLawful}
+use Rattle.apex_board.specs.Ports.{is_created, sampling_port}
+use Rattle.apex_board.specs.ReplyTable.{depth_of, validity_shown}
+use Rattle.apex_board.proofs.Lookups.{queue_at, partition_at, waiting_is, waiting_count_is, all_conserved}
+use Rattle.apex_board.proofs.board.Board.waiting.Goals as goal
+use Rattle.std.specs.Option.{option_copied}
+use Rattle.std.specs.List.{slice_get}
+
+pub returns : goal.returns
+returns g c =
+    let within = subst (λ (v : BoardView). c.args.c < length v.config.channels) (sym c.self.view_is) c.requires in
+    let queue = queue_at _ _ _ _ _ c.self.invariant.kept _ c.index.result.now within c.index.ensures in
+    subst (λ (v : BoardView). option_copied c.get.result ≡ slice_get (waiting_on v.config c.args.c v.log) c.args.i) c.self.view_is (c.get.ensures ∙ ap (λ (xs : List (List ℕ)). slice_get xs c.args.i) (waiting_is _ _ _ _ queue))

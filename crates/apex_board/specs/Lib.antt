@@ -1,0 +1,12 @@
+pub mod BoardView
+pub mod Channels
+pub mod History
+pub mod Idle
+pub mod Kept
+pub mod Lawful
+pub mod Modes
+pub mod OneChannel
+pub mod Ports
+pub mod ReplyTable
+pub mod Refused
+pub mod Room

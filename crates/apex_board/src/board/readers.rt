@@ -1,0 +1,115 @@
+//! What a board shows. No reader takes memory.
+ghost use Rattle.std.specs.Prelude.{◌≡◌, [], ◌++◌, ◌<◌, ◌≤◌, true, false, length, None, slice_get};
+ghost use Rattle.std.specs.Option.{option_copied};
+
+use crate::board::Board;
+use crate::history::{Entry, Sample};
+use apex_config::Config;
+use apex_types::{Message, Mode, Validity};
+use std::alloc::Allocator;
+
+impl<A: Allocator> Board<A> {
+    ghost use Rattle.apex_board.specs.Channels.{accepted_on, received_on, waiting_on, last_write_on};
+    ghost use Rattle.apex_board.specs.Idle.{IdleIsSilent};
+    ghost use Rattle.apex_board.specs.Lawful.{IsLawful};
+    ghost use Rattle.apex_board.specs.Modes.{mode_of};
+    ghost use Rattle.apex_board.specs.Ports.{is_created, is_queuing, sampling_port};
+    ghost use Rattle.apex_board.specs.ReplyTable.{depth_of, validity_shown};
+
+    /// The configuration.
+    pub fn config(&self) -> &Config
+        ensures { result.now ≡ self.now.config }
+    {
+        &self.config
+    }
+
+    /// All calls with their replies, oldest first.
+    pub fn log(&self) -> &[Entry]
+        ensures log { result.now ≡ self.now.log }
+        ensures lawful { IsLawful self.now.config self.now.log }
+        ensures idle { IdleIsSilent self.now.log }
+    {
+        self.state.log.as_slice()
+    }
+
+    /// The messages that channel `c` accepted, oldest first; none on a sampling channel.
+    pub fn accepted(&self, c: usize) -> &[Message]
+        requires { c < length self.now.config.channels }
+        ensures messages { result.now ≡ accepted_on self.now.config c self.now.log }
+        ensures sampling { is_queuing self.now.config c ≡ false → result.now ≡ [] }
+    {
+        self.state.queues[c].accepted.as_slice()
+    }
+
+    /// The messages that were received from channel `c`, oldest first; none on a sampling channel.
+    pub fn received(&self, c: usize) -> &[Message]
+        requires { c < length self.now.config.channels }
+        ensures messages { result.now ≡ received_on self.now.config c self.now.log }
+        ensures sampling { is_queuing self.now.config c ≡ false → result.now ≡ [] }
+    {
+        self.state.queues[c].received.as_slice()
+    }
+
+    /// How many messages wait on channel `c`.
+    pub fn waiting_count(&self, c: usize) -> usize
+        requires { c < length self.now.config.channels }
+        ensures count { result ≡ length (waiting_on self.now.config c self.now.log) }
+
+        // Never more than the depth wait, and received and waiting messages together are the accepted ones, in order.
+        ensures depth { result ≤ depth_of self.now.config c }
+        ensures conserved { received_on self.now.config c self.now.log ++ waiting_on self.now.config c self.now.log ≡ accepted_on self.now.config c self.now.log }
+    {
+        self.state.queues[c].waiting.len()
+    }
+
+    /// The message at place `i` of those that wait on channel `c`; place 0 has the oldest.
+    pub fn waiting(&self, c: usize, i: usize) -> Option<&Message>
+        requires { c < length self.now.config.channels }
+        ensures { option_copied result ≡ slice_get (waiting_on self.now.config c self.now.log) i }
+    {
+        self.state.queues[c].waiting.get(i)
+    }
+
+    /// The message that channel `c` holds, with the moment of its writing; none on a queuing channel, or before the first write.
+    pub fn last_sample(&self, c: usize) -> Option<&Sample>
+        requires { c < length self.now.config.channels }
+        ensures sample { option_copied result ≡ last_write_on self.now.config c self.now.log }
+        ensures queuing { is_queuing self.now.config c ≡ true → result ≡ None }
+    {
+        self.state.samples[c].as_ref()
+    }
+
+    /// The mode of partition `p`.
+    pub fn mode(&self, p: usize) -> Mode
+        requires { p < length self.now.config.partitions }
+        ensures { result ≡ mode_of p self.now.log }
+    {
+        self.state.partitions[p].mode
+    }
+
+    /// Whether partition `p` has created the port of the identifier since its last restart.
+    pub fn created(&self, p: usize, id: u32) -> bool
+        requires { p < length self.now.config.partitions }
+        ensures { result ≡ is_created p id self.now.log }
+    {
+        self.state.partitions[p].is_created(id)
+    }
+
+    /// What the last read of a created sampling port showed since the port's creation; INVALID for any other identifier.
+    pub fn last_validity(&self, p: usize, id: u32) -> Validity
+        requires { p < length self.now.config.partitions }
+        ensures { result ≡ validity_shown self.now.log p id (sampling_port self.now.config self.now.log p id) }
+    {
+        match self.state.sampling_port(&self.config, p, id) {
+            Some(_) => self.state.partitions[p].last_validity(id),
+            None => Validity::Invalid,
+        }
+    }
+
+    /// How many calls are answered without memory at least.
+    pub fn room(&self) -> usize
+        ensures { result ≡ self.now.room }
+    {
+        self.state.room()
+    }
+}

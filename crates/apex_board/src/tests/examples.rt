@@ -1,0 +1,154 @@
+//! What the examples share: short ways to write a call and a reply, and boards that answer tables of calls.
+ghost use Rattle.std.specs.Prelude.{◌≡◌, ◌<◌, length};
+
+use crate::Board;
+use crate::tests::texts::{AIR, DSP, FMS};
+use apex_config::Config;
+use apex_types::{Call, Message, Moment, Name, Reply, ReturnCode, Validity};
+use std::alloc::{AllocGlobal, Allocator};
+use std::process::Abort;
+use std::test::Fail;
+
+/// One event of an example: the partition, the moment, the call, and the reply that is wanted.
+pub(crate) type Row = (usize, u64, Call, Reply);
+
+pub(crate) const NO_ERROR: Reply = Reply::Code(ReturnCode::NoError);
+
+pub(crate) const NOT_AVAILABLE: Reply = Reply::Code(ReturnCode::NotAvailable);
+
+pub(crate) fn create_queuing(
+    name: &str,
+    size: u32,
+    depth: u32,
+    direction: u32,
+    discipline: u32,
+) -> Result<Call, Fail> {
+    Ok(Call::CreateQueuing {
+        name: Name::read(name)?,
+        size,
+        depth,
+        direction,
+        discipline,
+    })
+}
+
+pub(crate) fn create_sampling(
+    name: &str,
+    size: u32,
+    direction: u32,
+    refresh: u64,
+) -> Result<Call, Fail> {
+    Ok(Call::CreateSampling {
+        name: Name::read(name)?,
+        size,
+        direction,
+        refresh,
+    })
+}
+
+pub(crate) fn send(id: u32, message: &str) -> Result<Call, Fail> {
+    Ok(Call::SendQueuing {
+        id,
+        message: Message::from_hex(message)?,
+    })
+}
+
+pub(crate) fn receive(id: u32) -> Call {
+    Call::ReceiveQueuing { id }
+}
+
+pub(crate) fn write(id: u32, message: &str) -> Result<Call, Fail> {
+    Ok(Call::WriteSampling {
+        id,
+        message: Message::from_hex(message)?,
+    })
+}
+
+pub(crate) fn read(id: u32) -> Call {
+    Call::ReadSampling { id }
+}
+
+pub(crate) fn mode(mode: u32) -> Call {
+    Call::SetMode { mode }
+}
+
+pub(crate) fn received(message: &str) -> Result<Reply, Fail> {
+    Ok(Reply::Received(Message::from_hex(message)?))
+}
+
+pub(crate) fn shown(message: &str, validity: Validity) -> Result<Reply, Fail> {
+    Ok(Reply::Read {
+        message: Message::from_hex(message)?,
+        validity,
+    })
+}
+
+/// FMS and DSP create the ports of the channel NAV and go into NORMAL.
+pub(crate) fn queuing_ports() -> Result<[Row; 4], Fail> {
+    Ok([
+        (FMS, 1, create_queuing("NAV_OUT", 4, 2, 0, 0)?, Reply::Id(1)),
+        (DSP, 2, create_queuing("NAV_IN", 4, 2, 1, 0)?, Reply::Id(1)),
+        (FMS, 3, mode(3), NO_ERROR),
+        (DSP, 4, mode(3), NO_ERROR),
+    ])
+}
+
+/// AIR and DSP create the ports of the channel SPD.
+pub(crate) fn sampling_ports() -> Result<[Row; 2], Fail> {
+    Ok([
+        (AIR, 1, create_sampling("SPD_OUT", 4, 0, 50)?, Reply::Id(1)),
+        (DSP, 2, create_sampling("SPD_IN", 4, 1, 50)?, Reply::Id(2)),
+    ])
+}
+
+/// A new board over the configuration of a text.
+pub(crate) fn board_of<R: AllocGlobal>(rt: &R, text: &str) -> Result<Board, Fail> {
+    let config = Config::read(rt.alloc(), text.as_bytes())?;
+    Ok(Board::new(rt.alloc(), config)?)
+}
+
+/// Makes a call on the board, and compares the reply.
+pub(crate) fn answer<A: Allocator>(
+    rt: &impl Abort,
+    board: &mut Board<A>,
+    row: &Row,
+) -> Result<(), Fail> {
+    let (partition, at, call, wanted) = row;
+    assert!(rt; *partition < board.config().partitions());
+    let reply = board.call(*partition, Moment(*at), call)?;
+    assert_eq!(rt; &reply, wanted, "at {at}");
+    Ok(())
+}
+
+/// Makes the calls of a table on the board, and compares each reply.
+pub(crate) fn answers<A: Allocator>(
+    rt: &impl Abort,
+    board: &mut Board<A>,
+    rows: &[Row],
+) -> Result<(), Fail> {
+    for row in rows {
+        answer(rt, board, row)?;
+    }
+    Ok(())
+}
+
+/// Compares what a queuing channel shows: how many messages it accepted, how many were received, and those that wait.
+pub(crate) fn queue_shows<A: Allocator>(
+    rt: &impl Abort,
+    board: &Board<A>,
+    channel: usize,
+    accepted: usize,
+    received: usize,
+    waiting: &[&str],
+) -> Result<(), Fail> {
+    assert!(rt; channel < board.config().channels());
+    assert_eq!(rt; board.accepted(channel).len(), accepted);
+    assert_eq!(rt; board.received(channel).len(), received);
+    assert_eq!(rt; board.waiting_count(channel), waiting.len());
+    for (place, message) in waiting.iter().enumerate() {
+        let message = Message::from_hex(message)?;
+        assert_eq!(rt; board.waiting(channel, place), Some(&message));
+    }
+    assert_eq!(rt; board.last_sample(channel), None);
+    Ok(())
+}

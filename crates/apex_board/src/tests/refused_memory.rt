@@ -1,0 +1,294 @@
+//! Refused memory: a refusal changes nothing that a reader shows, and a call within the room never meets one.
+ghost use Rattle.std.specs.Prelude.{◌≡◌, ◌<◌, length, All};
+
+use crate::tests::examples::{
+    NO_ERROR, NOT_AVAILABLE, Row, answer, answers, board_of, create_queuing, queuing_ports, read,
+    receive, received, sampling_ports, send, shown, write,
+};
+use crate::tests::texts::{AIR, BASE, DSP, FMS, NAV};
+use crate::{Board, Request, Stopped, run_list};
+use apex_config::Config;
+use apex_types::Validity::Valid;
+use apex_types::{Moment, Reply};
+use refusing::Switch;
+use std::alloc::{AllocError, AllocGlobal, Allocator, Global};
+use std::process::Abort;
+use std::test::Fail;
+
+/// More allocations than any call of these examples asks for.
+const MANY: u64 = 40;
+
+fn config_of<R: AllocGlobal>(rt: &R) -> Result<Config, Fail> {
+    Ok(Config::read(rt.alloc(), BASE.as_bytes())?)
+}
+
+// Both boards show the same, their rooms excepted.
+fn shows_same<A: Allocator, B: Allocator>(rt: &impl Abort, one: &Board<A>, other: &Board<B>) {
+    assert_eq!(rt; one.config(), other.config());
+    assert_eq!(rt; one.log(), other.log());
+    assert_eq!(rt; one.config().partitions(), other.config().partitions());
+    for p in 0..one.config().partitions() {
+        assert_eq!(rt; one.mode(p), other.mode(p));
+        for id in 0..4u32 {
+            assert_eq!(rt; one.created(p, id), other.created(p, id));
+            assert_eq!(rt; one.last_validity(p, id), other.last_validity(p, id));
+        }
+    }
+    assert_eq!(rt; one.config().channels(), other.config().channels());
+    for c in 0..one.config().channels() {
+        assert_eq!(rt; one.accepted(c), other.accepted(c));
+        assert_eq!(rt; one.received(c), other.received(c));
+        assert_eq!(rt; one.waiting_count(c), other.waiting_count(c));
+        for i in 0..3usize {
+            assert_eq!(rt; one.waiting(c, i), other.waiting(c, i));
+        }
+        assert_eq!(rt; one.last_sample(c), other.last_sample(c));
+    }
+}
+
+// The calls of a full queue, from the creation of its ports on.
+fn full_queue() -> Result<[Row; 11], Fail> {
+    let [fms_port, dsp_port, fms_normal, dsp_normal] = queuing_ports()?;
+    Ok([
+        fms_port,
+        dsp_port,
+        fms_normal,
+        dsp_normal,
+        (FMS, 5, send(1, "01")?, NO_ERROR),
+        (FMS, 6, send(1, "02")?, NO_ERROR),
+        (FMS, 7, send(1, "03")?, NOT_AVAILABLE),
+        (DSP, 8, receive(1), received("01")?),
+        (FMS, 9, send(1, "03")?, NO_ERROR),
+        (DSP, 10, receive(1), received("02")?),
+        (DSP, 11, receive(1), received("03")?),
+    ])
+}
+
+// A message is written and read, from the creation of the ports on.
+fn one_sample() -> Result<[Row; 4], Fail> {
+    let [air_port, dsp_port] = sampling_ports()?;
+    Ok([
+        air_port,
+        dsp_port,
+        (AIR, 100, write(1, "00ff")?, NO_ERROR),
+        (DSP, 150, read(2), shown("00ff", Valid)?),
+    ])
+}
+
+fn requests_of(rows: &[Row], alloc: Global) -> Result<Vec<Request>, AllocError> {
+    let mut requests = Vec::with_capacity(alloc, rows.len())?;
+    for (partition, at, call, _) in rows {
+        requests.push(Request {
+            partition: *partition,
+            at: Moment(*at),
+            call: call.copy(),
+        })?;
+    }
+    Ok(requests)
+}
+
+// The list, whose partitions the board has.
+fn run<A: Allocator>(
+    rt: &impl Abort,
+    board: &mut Board<A>,
+    requests: &[Request],
+) -> Result<(), Stopped> {
+    let partitions = board.config().partitions();
+    assert!(rt;
+        requests
+            .iter()
+            .all(|request| request.partition < partitions)
+    );
+    run_list(board, requests)
+}
+
+#[test]
+fn room_serves_without_memory(rt: HostRuntime) -> Result<(), Fail> {
+    let switch = Switch::new(rt.alloc());
+    let mut board = Board::new(&switch, config_of(&rt)?)?;
+    board.reserve(3)?;
+    assert!(rt; board.room() >= 3);
+    let rows = [
+        (FMS, 5, create_queuing("NAV_OUT", 4, 2, 0, 0)?, Reply::Id(1)),
+        (FMS, 5, send(1, "01")?, NO_ERROR),
+        (DSP, 5, create_queuing("NAV_IN", 4, 2, 1, 0)?, Reply::Id(1)),
+    ];
+    switch.refuse_all();
+    answers(&rt, &mut board, &rows)?;
+    assert_eq!(rt; board.log().len(), 3);
+    assert!(rt; NAV < board.config().channels());
+    assert_eq!(rt; board.accepted(NAV).len(), 1);
+    Ok(())
+}
+
+#[test]
+fn new_board_refused_in_turn(rt: HostRuntime) -> Result<(), Fail> {
+    let ample = board_of(&rt, BASE)?;
+    let mut ended = false;
+    for pass in 0..MANY {
+        let config = config_of(&rt)?;
+        let switch = Switch::new(rt.alloc());
+        switch.refuse_after(pass, 1);
+        let made = Board::new(&switch, config);
+        assert_eq!(rt; made.is_ok(), switch.refused() == 0, "after {pass}");
+        if let Ok(board) = made {
+            shows_same(&rt, &board, &ample);
+            ended = true;
+            break;
+        }
+    }
+    assert!(rt; ended);
+    Ok(())
+}
+
+#[test]
+fn reserve_refused_in_turn(rt: HostRuntime) -> Result<(), Fail> {
+    let rows = full_queue()?;
+    let mut ample = board_of(&rt, BASE)?;
+    answers(&rt, &mut ample, &rows)?;
+    let mut ended = false;
+    for pass in 0..MANY {
+        let switch = Switch::new(rt.alloc());
+        let mut board = Board::new(&switch, config_of(&rt)?)?;
+        answers(&rt, &mut board, &rows)?;
+        let room = board.room();
+        switch.refuse_after(pass, 1);
+        let reserved = board.reserve(100);
+        assert_eq!(rt; reserved.is_ok(), switch.refused() == 0, "after {pass}");
+        shows_same(&rt, &board, &ample);
+        assert!(rt; board.room() >= room);
+        ended = switch.refused() == 0;
+        board.reserve(100)?;
+        assert!(rt; board.room() >= 100);
+        if ended {
+            break;
+        }
+    }
+    assert!(rt; ended);
+    Ok(())
+}
+
+// The call of `row` after those before it, with each of its allocations refused in turn; whether there was one.
+fn call_refused_in_turn<R: AllocGlobal + Abort>(
+    rt: &R,
+    before: &[Row],
+    row: &Row,
+) -> Result<bool, Fail> {
+    let (partition, at, call, wanted) = row;
+    for pass in 0..MANY {
+        let mut ample = board_of(rt, BASE)?;
+        answers(rt, &mut ample, before)?;
+        let switch = Switch::new(rt.alloc());
+        let mut board = Board::new(&switch, config_of(rt)?)?;
+        answers(rt, &mut board, before)?;
+        let room = board.room();
+        assert!(rt; *partition < board.config().partitions());
+        switch.refuse_after(pass, 1);
+        let answered = board.call(*partition, Moment(*at), call);
+        let refused = switch.refused();
+        switch.allow_all();
+        if let Ok(reply) = answered {
+            assert_eq!(rt; refused, 0);
+            assert_eq!(rt; &reply, wanted);
+            return Ok(pass > 0);
+        }
+        assert_eq!(rt; refused, 1);
+        shows_same(rt, &board, &ample);
+        assert!(rt; board.room() >= room);
+        answer(rt, &mut board, row)?;
+        answer(rt, &mut ample, row)?;
+        shows_same(rt, &board, &ample);
+    }
+    assert!(rt; false, "the sweep does not end");
+    Ok(true)
+}
+
+#[test]
+fn calls_refused_in_turn(rt: HostRuntime) -> Result<(), Fail> {
+    let rows = full_queue()?;
+    let mut met = false;
+    for (done, row) in rows.iter().enumerate() {
+        met |= call_refused_in_turn(&rt, &rows[..done], row)?;
+    }
+    assert!(rt; met);
+    let rows = one_sample()?;
+    for (done, row) in rows.iter().enumerate() {
+        let _ = call_refused_in_turn(&rt, &rows[..done], row)?;
+    }
+    Ok(())
+}
+
+// The board has answered just the first `done` requests; with memory again it answers the rest.
+fn goes_on<R: AllocGlobal + Abort, A: Allocator>(
+    rt: &R,
+    board: &mut Board<A>,
+    requests: &[Request],
+    done: usize,
+) -> Result<(), Fail> {
+    assert!(rt; done <= requests.len());
+    let mut ample = board_of(rt, BASE)?;
+    run(rt, &mut ample, &requests[..done])?;
+    assert_eq!(rt; board.log().len(), done);
+    shows_same(rt, board, &ample);
+    run(rt, board, &requests[done..])?;
+    run(rt, &mut ample, &requests[done..])?;
+    shows_same(rt, board, &ample);
+    Ok(())
+}
+
+// The list on a new board, with `refuse` allocations refused after each number of granted ones. Once memory is wanting
+// for good it stops; one refusal alone it may do without.
+fn list_refused_in_turn<R: AllocGlobal + Abort>(rt: &R, refuse: u64) -> Result<(), Fail> {
+    let requests = requests_of(&full_queue()?, rt.alloc())?;
+    for pass in 0..MANY {
+        let switch = Switch::new(rt.alloc());
+        let mut board = Board::new(&switch, config_of(rt)?)?;
+        switch.refuse_after(pass, refuse);
+        let answered = run(rt, &mut board, &requests);
+        let refused = switch.refused();
+        switch.allow_all();
+        let done = match answered {
+            Ok(()) => requests.len(),
+            Err(stopped) => stopped.done,
+        };
+        goes_on(rt, &mut board, &requests, done)?;
+        if refused == 0 {
+            assert_eq!(rt; done, requests.len());
+            return Ok(());
+        }
+        assert!(rt; refuse == 1 || done < requests.len());
+    }
+    assert!(rt; false, "the sweep does not end");
+    Ok(())
+}
+
+#[test]
+fn list_with_one_refusal(rt: HostRuntime) -> Result<(), Fail> {
+    list_refused_in_turn(&rt, 1)
+}
+
+#[test]
+fn list_without_memory(rt: HostRuntime) -> Result<(), Fail> {
+    list_refused_in_turn(&rt, u64::MAX)
+}
+
+#[test]
+fn list_stops_beyond_its_room(rt: HostRuntime) -> Result<(), Fail> {
+    let rows = full_queue()?;
+    let requests = requests_of(&rows, rt.alloc())?;
+    let switch = Switch::new(rt.alloc());
+    let mut board = Board::new(&switch, config_of(&rt)?)?;
+    board.reserve(5)?;
+    switch.refuse_all();
+    let done = match run(&rt, &mut board, &requests) {
+        Ok(()) => requests.len(),
+        Err(stopped) => stopped.done,
+    };
+    switch.allow_all();
+    assert!(rt; done >= 5);
+    goes_on(&rt, &mut board, &requests, done)?;
+    let mut ample = board_of(&rt, BASE)?;
+    answers(&rt, &mut ample, &rows)?;
+    shows_same(&rt, &board, &ample);
+    Ok(())
+}
