@@ -1,0 +1,7 @@
+pub mod Arguments
+pub mod LineFault
+pub mod Replay
+pub mod Report
+pub mod Service
+pub mod Text
+pub mod Trace

@@ -1,0 +1,79 @@
+//! The words of the command line.
+use clap::error::ErrorKind;
+use clap::{Arg, Command};
+use std::alloc::{AllocError, Global};
+use std::convert::AsStr;
+use std::env::Env;
+use std::{env, io};
+
+/// What the program is asked to do, with the paths of the files.
+#[derive(Clone, Copy, Debug, PartialEq, Eq)]
+pub enum Task<'a> {
+    /// Reads a configuration.
+    Check { config: &'a str },
+    /// Replays a trace on a configuration.
+    Replay { config: &'a str, trace: &'a str },
+}
+
+/// Why the words name no task.
+#[derive(Clone, Copy, Debug, PartialEq, Eq)]
+pub enum WordsFault {
+    /// The words aren't those of the usage line.
+    Usage,
+    /// A growth of memory was refused.
+    OutOfMemory,
+}
+
+impl From<AllocError> for WordsFault {
+    fn from(_refused: AllocError) -> WordsFault {
+        WordsFault::OutOfMemory
+    }
+}
+
+impl From<clap::Error> for WordsFault {
+    fn from(error: clap::Error) -> WordsFault {
+        if error.kind() == ErrorKind::OutOfMemory {
+            WordsFault::OutOfMemory
+        } else {
+            WordsFault::Usage
+        }
+    }
+}
+
+impl From<io::Error> for WordsFault {
+    fn from(error: io::Error) -> WordsFault {
+        if error.kind() == io::ErrorKind::OutOfMemory {
+            WordsFault::OutOfMemory
+        } else {
+            WordsFault::Usage
+        }
+    }
+}
+
+/// The words that the program was started with, its own name first.
+pub fn words_given<R: Env + AllocGlobal>(rt: &R) -> Result<Vec<String>, WordsFault> {
+    Ok(env::args(rt)?.collect(rt.alloc())?)
+}
+
+fn command<'a>(alloc: Global) -> Result<Command<'a>, AllocError> {
+    let check = Command::new(alloc, "check").arg(Arg::new(alloc, "CONFIG").required(true))?;
+    let replay = Command::new(alloc, "replay")
+        .arg(Arg::new(alloc, "CONFIG").required(true))?
+        .arg(Arg::new(alloc, "TRACE").required(true))?;
+    Command::new(alloc, "apexports")
+        .subcommand_required(true)
+        .subcommand(check)?
+        .subcommand(replay)
+}
+
+/// The task that the words name; the first word is the program's own name.
+pub fn task_of<'a, S: AsStr>(alloc: Global, words: &'a [S]) -> Result<Task<'a>, WordsFault> {
+    let matches = command(alloc)?.try_get_matches_from(words)?;
+    let (name, arguments) = matches.subcommand().ok_or(WordsFault::Usage)?;
+    let config = arguments.get_str("CONFIG").ok_or(WordsFault::Usage)?;
+    if name == "check" {
+        return Ok(Task::Check { config });
+    }
+    let trace = arguments.get_str("TRACE").ok_or(WordsFault::Usage)?;
+    Ok(Task::Replay { config, trace })
+}

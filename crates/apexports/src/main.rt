@@ -1,0 +1,38 @@
+//! The simulator of the APEX port services: a configuration and a trace of calls go in, the reply to
+//! each call and a report come out.
+#![tactic(auto)]
+
+mod arguments;
+mod command_line;
+mod fault;
+mod files;
+mod line_fault;
+mod program;
+mod replay;
+mod report;
+mod service;
+mod text;
+mod trace;
+
+use command_line::words_given;
+use files::SystemFiles;
+use program::{program, refuse};
+use std::process::ExitCode;
+
+fn main(rt: HostRuntime) -> ExitCode {
+    let files = SystemFiles { rt: &rt };
+    let (mut output, mut errors) = (rt.stdout(), rt.stderr());
+    ExitCode::from(match words_given(&rt) {
+        Ok(words) => program(
+            rt.alloc(),
+            words.as_slice(),
+            &files,
+            &mut output,
+            &mut errors,
+        ),
+        Err(fault) => refuse(fault.into(), &mut errors),
+    })
+}
+
+#[cfg(test)]
+mod tests;

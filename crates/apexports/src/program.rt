@@ -1,0 +1,159 @@
+//! The program: from the words of the command line to a status.
+use crate::command_line::{Task, WordsFault, task_of};
+use crate::fault::Fault;
+use crate::files::{FileFault, Opener, read_path};
+use crate::replay::replay;
+use crate::trace::read_trace;
+use apex_config::Config;
+use std::alloc::{AllocError, Global};
+use std::convert::AsStr;
+use std::error::Error;
+use std::fmt;
+use std::io::Write;
+
+/// Why the program did not do what it was asked to do. Its text is a line for standard error.
+#[derive(Clone, Copy, Debug, PartialEq, Eq)]
+pub enum Refusal<'a> {
+    /// The words aren't those of the usage line.
+    Usage,
+    /// A text is refused, or memory.
+    Text(Fault),
+    /// The file at a path can't be read.
+    File(&'a str),
+    /// Standard output refused the text.
+    Output,
+}
+
+impl Refusal<'_> {
+    /// The status that the program ends with: 1 for a refused text, 2 for a mistake in the words, 3
+    /// for a file, memory or standard output.
+    pub fn status(&self) -> u8 {
+        match self {
+            Refusal::Text(Fault::Memory) | Refusal::File(_) | Refusal::Output => 3,
+            Refusal::Text(_) => 1,
+            Refusal::Usage => 2,
+        }
+    }
+}
+
+impl fmt::Display for Refusal<'_> {
+    fn fmt<W: fmt::Write>(&self, f: &mut fmt::Formatter<W>) -> fmt::Result {
+        match self {
+            Refusal::Usage => write!(
+                f,
+                "usage: apexports check CONFIG | replay CONFIG TRACE | run CONFIG [NAME=SCRIPT]..."
+            ),
+            Refusal::Text(fault) => write!(f, "{fault}"),
+            Refusal::File(path) => write!(f, "cannot read {path}"),
+            Refusal::Output => write!(f, "cannot write"),
+        }
+    }
+}
+
+impl Error for Refusal<'_> {}
+
+impl<'a> From<WordsFault> for Refusal<'a> {
+    fn from(fault: WordsFault) -> Refusal<'a> {
+        match fault {
+            WordsFault::Usage => Refusal::Usage,
+            WordsFault::OutOfMemory => Refusal::Text(Fault::Memory),
+        }
+    }
+}
+
+impl<'a> From<Fault> for Refusal<'a> {
+    fn from(fault: Fault) -> Refusal<'a> {
+        Refusal::Text(fault)
+    }
+}
+
+/// Does what the words ask for, and answers the status. A refusal writes one line to `errors`, and
+/// nothing to `output` unless it is `output` that fails.
+pub fn program<S: AsStr, O: Opener, W: Write, E: Write>(
+    alloc: Global,
+    words: &[S],
+    opener: &O,
+    output: &mut W,
+    errors: &mut E,
+) -> u8 {
+    match perform(alloc, words, opener, output) {
+        Ok(()) => 0,
+        Err(refusal) => refuse(refusal, errors),
+    }
+}
+
+/// Writes the line of a refusal, and answers its status.
+pub fn refuse<E: Write>(refusal: Refusal<'_>, errors: &mut E) -> u8 {
+    let _ = writeln!(errors, "{refusal}");
+    refusal.status()
+}
+
+fn perform<'a, S: AsStr, O: Opener, W: Write>(
+    alloc: Global,
+    words: &'a [S],
+    opener: &O,
+    output: &mut W,
+) -> Result<(), Refusal<'a>> {
+    let text = match task_of(alloc, words)? {
+        Task::Check { config } => check(alloc, opener, config)?,
+        Task::Replay { config, trace } => replay_files(alloc, opener, config, trace)?,
+    };
+    if output.write_all(text.as_bytes()).is_err() || output.flush().is_err() {
+        return Err(Refusal::Output);
+    }
+    Ok(())
+}
+
+fn read_file<'a, O: Opener>(
+    alloc: Global,
+    opener: &O,
+    path: &'a str,
+) -> Result<Vec<u8>, Refusal<'a>> {
+    match read_path(alloc, opener, path) {
+        Ok(bytes) => Ok(bytes),
+        Err(FileFault::Unreadable) => Err(Refusal::File(path)),
+        Err(FileFault::OutOfMemory) => Err(Refusal::Text(Fault::Memory)),
+    }
+}
+
+fn read_config<'a, O: Opener>(
+    alloc: Global,
+    opener: &O,
+    path: &'a str,
+) -> Result<Config, Refusal<'a>> {
+    let text = read_file(alloc, opener, path)?;
+    match Config::read(alloc, text.as_slice()) {
+        Ok(config) => Ok(config),
+        Err(fault) => Err(Refusal::Text(Fault::from(fault))),
+    }
+}
+
+/// `ok partitions P ports Q channels C`.
+fn check<'a, O: Opener>(alloc: Global, opener: &O, path: &'a str) -> Result<String, Refusal<'a>> {
+    let config = read_config(alloc, opener, path)?;
+    let mut ports: usize = 0;
+    for p in 0..config.partitions() {
+        ports = ports.saturating_add(config.ports(p));
+    }
+    let partitions = config.partitions();
+    let channels = config.channels();
+    match format!(in alloc; "ok partitions {partitions} ports {ports} channels {channels}\n") {
+        Ok(text) => Ok(text),
+        Err(AllocError) => Err(Refusal::Text(Fault::Memory)),
+    }
+}
+
+fn replay_files<'a, O: Opener>(
+    alloc: Global,
+    opener: &O,
+    config: &'a str,
+    trace: &'a str,
+) -> Result<String, Refusal<'a>> {
+    let config = read_config(alloc, opener, config)?;
+    let text = read_file(alloc, opener, trace)?;
+    let requests = match read_trace(alloc, &config, text.as_slice()) {
+        Ok(requests) => requests,
+        Err(fault) => return Err(Refusal::Text(Fault::from(fault))),
+    };
+    Ok(replay(alloc, config, requests.as_slice())?)
+}

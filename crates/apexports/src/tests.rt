@@ -1,0 +1,7 @@
+//! Tests from outside: what each text gives, with values that were worked out by hand.
+mod creation;
+mod lines;
+mod program;
+mod queuing;
+mod sampling;
+mod texts;

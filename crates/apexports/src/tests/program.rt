@@ -1,0 +1,192 @@
+//! The whole program on files and writers that stand in for the system's.
+use super::texts::{BASE, REDUCED};
+use crate::files::{FILE_LIMIT, Opener};
+use crate::program::program;
+use std::alloc::Global;
+use std::io;
+use std::io::{ErrorKind, Read, Write};
+use std::process::Abort;
+use std::test::Fail;
+
+/// What lies at a path.
+#[derive(Clone, Copy, Debug, PartialEq, Eq)]
+enum Content {
+    /// A text.
+    Text(&'static str),
+    /// A read of it fails once so many bytes were given.
+    FailsAfter(usize),
+    /// It gives one byte a read, without end.
+    Endless,
+    /// So many spaces.
+    Spaces(usize),
+}
+
+/// A reader of some content, of which so many bytes were given.
+#[derive(Clone, Copy, Drop)]
+struct FakeFile {
+    content: Content,
+    given: usize,
+}
+
+impl Read for FakeFile {
+    fn read(&mut self, buf: &mut [u8]) -> io::Result<usize> {
+        let left = match self.content {
+            Content::Text(text) => {
+                let rest = text.as_bytes().get(self.given..).unwrap_or(b"");
+                let count = rest.len().min(buf.len());
+                buf[..count].copy_from_slice(&rest[..count]);
+                self.given += count;
+                return Ok(count);
+            }
+            Content::FailsAfter(limit) if self.given >= limit => {
+                return Err(io::Error::from(ErrorKind::Other));
+            }
+            Content::FailsAfter(limit) => limit - self.given,
+            Content::Endless => 1,
+            Content::Spaces(count) => count.saturating_sub(self.given),
+        };
+        let count = left.min(buf.len());
+        for byte in &mut buf[..count] {
+            *byte = b' ';
+        }
+        self.given = self.given.saturating_add(count);
+        Ok(count)
+    }
+}
+
+/// The paths of the tests.
+#[derive(Clone, Copy, Drop)]
+struct FakeFiles;
+
+impl Opener for FakeFiles {
+    type Reader = FakeFile;
+
+    fn open(&self, path: &str) -> io::Result<FakeFile> {
+        let content = match path {
+            "base.toml" => Content::Text(BASE),
+            "reduced.toml" => Content::Text(REDUCED),
+            "empty" => Content::Text(""),
+            "trace.txt" => Content::Text("1 FMS mode 3\n\n"),
+            "faulty.txt" => Content::Text("1 FMS mode 3\n\n20 FMS send 1 0a0\n"),
+            "fails" => Content::FailsAfter(0),
+            "fails_later" => Content::FailsAfter(10),
+            "endless" => Content::Endless,
+            "longest" => Content::Spaces(FILE_LIMIT),
+            "too_long" => Content::Spaces(FILE_LIMIT + 1),
+            _ => return Err(io::Error::from(ErrorKind::NotFound)),
+        };
+        Ok(FakeFile { content, given: 0 })
+    }
+}
+
+/// The words give the status, and these texts on standard output and standard error.
+fn answers<R: Abort + AllocGlobal>(
+    rt: &R,
+    words: &[&str],
+    status: u8,
+    output: &str,
+    errors: &str,
+) -> Result<(), Fail> {
+    let alloc: Global = rt.alloc();
+    let mut written = Vec::new(alloc);
+    let mut told = Vec::new(alloc);
+    let got = program(alloc, words, &FakeFiles, &mut written, &mut told);
+    assert_eq!(rt; written.as_slice(), output.as_bytes(), "{words:?}");
+    assert_eq!(rt; told.as_slice(), errors.as_bytes(), "{words:?}");
+    assert_eq!(rt; got, status, "{words:?}");
+    Ok(())
+}
+
+const USAGE: &str =
+    "usage: apexports check CONFIG | replay CONFIG TRACE | run CONFIG [NAME=SCRIPT]...\n";
+
+#[test]
+fn other_words_show_the_usage(rt: HostRuntime) -> Result<(), Fail> {
+    let all: [&[&str]; 11] = [
+        &["apexports"],
+        &["apexports", "help"],
+        &["apexports", "--help"],
+        &["apexports", "--version"],
+        &["apexports", "chek", "base.toml"],
+        &["apexports", "check"],
+        &["apexports", "check", "--help"],
+        &["apexports", "check", "base.toml", "trace.txt"],
+        &["apexports", "replay", "base.toml"],
+        &["apexports", "replay", "base.toml", "trace.txt", "more"],
+        &["apexports", "run", "base.toml"],
+    ];
+    for words in all {
+        answers(&rt, words, 2, "", USAGE)?;
+    }
+    Ok(())
+}
+
+#[test]
+fn a_configuration_is_counted(rt: HostRuntime) -> Result<(), Fail> {
+    let counted = "ok partitions 3 ports 4 channels 2\n";
+    answers(&rt, &["apexports", "check", "base.toml"], 0, counted, "")?;
+    let counted = "ok partitions 2 ports 2 channels 1\n";
+    answers(&rt, &["apexports", "check", "reduced.toml"], 0, counted, "")
+}
+
+#[test]
+fn refused_texts_run_nothing(rt: HostRuntime) -> Result<(), Fail> {
+    let fault = "config fault 2: shape\n";
+    answers(&rt, &["apexports", "check", "empty"], 1, "", fault)?;
+    answers(
+        &rt,
+        &["apexports", "replay", "empty", "no file"],
+        1,
+        "",
+        fault,
+    )?;
+    let fault = "config fault 1: not TOML\n";
+    answers(&rt, &["apexports", "check", "trace.txt"], 1, "", fault)?;
+    let words = ["apexports", "replay", "reduced.toml", "faulty.txt"];
+    answers(&rt, &words, 1, "", "trace line 3 fault 9: message\n")
+}
+
+#[test]
+fn files_that_cannot_be_read(rt: HostRuntime) -> Result<(), Fail> {
+    for path in ["no file", "fails", "fails_later", "endless", "too_long"] {
+        let line = format!(in rt.alloc(); "cannot read {path}\n")?;
+        answers(&rt, &["apexports", "check", path], 3, "", line.as_str())?;
+        let words = ["apexports", "replay", "reduced.toml", path];
+        answers(&rt, &words, 3, "", line.as_str())?;
+    }
+    Ok(())
+}
+
+const LITTLE: &str = "partition FMS mode COLD_START calls 0
+partition DSP mode COLD_START calls 0
+queuing NAV accepted 0 received 0 waiting 0
+";
+
+#[test]
+fn the_longest_file_is_read(rt: HostRuntime) -> Result<(), Fail> {
+    let words = ["apexports", "replay", "reduced.toml", "longest"];
+    answers(&rt, &words, 0, LITTLE, "")
+}
+
+/// Standard output that takes nothing.
+#[derive(Clone, Copy, Drop)]
+struct Closed;
+
+impl Write for Closed {
+    fn write(&mut self, _buf: &[u8]) -> io::Result<usize> {
+        Err(io::Error::from(ErrorKind::BrokenPipe))
+    }
+
+    fn flush(&mut self) -> io::Result<()> {
+        Ok(())
+    }
+}
+
+#[test]
+fn output_that_cannot_be_written(rt: HostRuntime) {
+    let mut told = Vec::new(rt.alloc());
+    let words = ["apexports", "check", "base.toml"];
+    let status = program(rt.alloc(), &words, &FakeFiles, &mut Closed, &mut told);
+    assert_eq!(rt; told.as_slice(), b"cannot write\n".as_slice());
+    assert_eq!(rt; status, 3);
+}
