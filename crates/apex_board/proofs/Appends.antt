@@ -1,18 +1,17 @@
 -- What one more entry does to what a history comes to.
-use Rattle.std.proofs.Common.{◌≡◌, ℕ, ◌+◌, ◌-◌, Bool, false, ◌&&◌, ◌||◌, not, if◌then◌else◌, List, [], ◌∷◌, ◌++◌, length, Option, Some, None, refl, ap, ◌∙◌, arith, length-append, append-nil}
+use Rattle.std.proofs.Common.{◌≡◌, ℕ, false, ◌&&◌, ◌||◌, not, if◌then◌else◌, [], ◌∷◌, ◌++◌, Option, Some, None, refl, ap, ◌∙◌}
 use Rattle.std.specs.Option.{unwrap_or, option_to_list}
-use Rattle.std.specs.List.{slice_get, filter_map}
+use Rattle.std.specs.List.{filter_map}
 use Rattle.std.proofs.lemmas.List.Sums.{fold-append}
 use Rattle.std.proofs.lemmas.List.Elements.{filter_map-append}
 use Rattle.apex_config.specs.Configuration.{Configuration}
 use Rattle.apex_types.specs.declared.mode.Mode.TheVariants.{ColdStart}
 use Rattle.apex_types.specs.declared.validity.Validity.TheVariants.{Invalid}
 use Rattle.apex_board.specs.declared.history.Entry.{Entry}
-use Rattle.apex_board.specs.declared.history.Sample.{Sample}
 use Rattle.apex_board.specs.History.{History}
 use Rattle.apex_board.specs.Modes.{mode_of, mode_set, restarts}
 use Rattle.apex_board.specs.Ports.{is_created, creates}
-use Rattle.apex_board.specs.Channels.{accepted_on, received_on, writes_on, last_write_on, message_accepted, message_received, sample_written, last_validity_of, validity_read}
+use Rattle.apex_board.specs.Channels.{accepted_on, received_on, writes_on, message_accepted, message_received, sample_written, last_validity_of, validity_read}
 
 pub mode_of-append : (p : ℕ) (h : History) (e : Entry) → mode_of p (h ++ e ∷ []) ≡ unwrap_or (mode_set p e) (mode_of p h)
 mode_of-append p h e = fold-append (λ mode entry. unwrap_or (mode_set p entry) mode) ColdStart h (e ∷ [])

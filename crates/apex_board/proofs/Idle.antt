@@ -1,5 +1,5 @@
 -- A partition in IDLE stays there, and nothing is accepted from it.
-use Rattle.std.proofs.Common.{◌≡◌, ◌≢◌, ◌⊎◌, inl, inr, ⊎_elim, ℕ, ◌==◌, Bool, true, false, ◌&&◌, if◌then◌else◌, List, [], ◌∷◌, ◌++◌, Option, Some, None, refl, sym, ap, ◌∙◌, subst, arith}
+use Rattle.std.proofs.Common.{◌≡◌, ◌≢◌, ℕ, ◌==◌, Bool, true, false, ◌&&◌, if◌then◌else◌, [], ◌∷◌, ◌++◌, Option, Some, None, refl, sym, ap, ◌∙◌, arith}
 use Rattle.std.specs.Option.{unwrap_or}
 use Rattle.std.proofs.lemmas.Bool.Decides.{nat_tests}
 use Rattle.apex_types.specs.declared.call.Call.{Call}
@@ -16,7 +16,7 @@ use Rattle.apex_board.specs.History.{History, entry_of}
 use Rattle.apex_board.specs.Idle.{StaysIdle, HasSource}
 use Rattle.apex_board.specs.Modes.{mode_of, mode_set, mode_asked, is_idle, is_accepted}
 use Rattle.apex_board.specs.Ports.{is_source, is_source_of}
-use Rattle.apex_board.specs.Channels.{accepted_on, last_write_on, message_accepted, message_sent, message_written, sample_at, sample_written}
+use Rattle.apex_board.specs.Channels.{message_accepted, message_sent, message_written, sample_at, sample_written}
 use Rattle.apex_board.specs.ReplyTable.{reply_to, service_reply}
 use Rattle.apex_board.proofs.Appends.{mode_of-append}
 use Rattle.apex_board.proofs.PartitionSteps.{and_false}

@@ -1,17 +1,16 @@
 -- One more lawful entry, and what holds of lawful histories.
-use Rattle.std.proofs.Common.{◌≡◌, ◌≢◌, ◌⊎◌, inl, inr, ⊎_elim, ℕ, zero, suc, ◌+◌, ◌-◌, ◌<◌, ◌≤◌, ◌==◌, Bool, true, false, ◌&&◌, if◌then◌else◌, List, [], ◌∷◌, ◌++◌, length, take, map, Option, Some, None, refl, sym, ap, ◌∙◌, subst, arith, length-append, append_assoc, append-nil}
+use Rattle.std.proofs.Common.{◌≡◌, ◌≢◌, ℕ, ◌<◌, ◌==◌, Bool, true, false, List, [], ◌∷◌, ◌++◌, length, take, Some, refl, sym, ap, ◌∙◌, subst, arith}
 use Rattle.std.specs.List.{slice_get}
 use Rattle.std.proofs.lemmas.Bool.Decides.{nat_tests}
 use Rattle.std.proofs.lemmas.List.{take-append-le}
-use Rattle.circular_buffer.proofs.Places.{slice_get-append_left, slice_get-last, slice_get-push}
+use Rattle.circular_buffer.proofs.Places.{slice_get-last, slice_get-push}
 use Rattle.std.proofs.lemmas.Option.{slice_get_within}
 use Rattle.apex_types.specs.declared.call.Call.{Call}
 use Rattle.apex_types.specs.declared.moment.Moment.{Moment}
 use Rattle.apex_types.specs.declared.reply.Reply.{Reply}
-use Rattle.apex_types.specs.declared.reply.Reply.TheVariants.{NotMade}
 use Rattle.apex_config.specs.Configuration.{Configuration}
 use Rattle.apex_board.specs.declared.history.Entry.{Entry}
-use Rattle.apex_board.specs.History.{History, entry_of, requests_of}
+use Rattle.apex_board.specs.History.{History, entry_of}
 use Rattle.apex_board.specs.Lawful.{IsLawful, IsLawfulEntry}
 use Rattle.apex_board.specs.ReplyTable.{reply_to}
 

@@ -15,7 +15,7 @@ use Rattle.apex_board.specs.declared.history.Sample.{Sample}
 use Rattle.apex_board.specs.declared.state.PartitionState.{PartitionState}
 use Rattle.apex_board.specs.declared.queue.Queue.{Queue}
 use Rattle.apex_board.specs.History.{History}
-use Rattle.apex_board.specs.Channels.{accepted_on, received_on, last_write_on, waiting_on}
+use Rattle.apex_board.specs.Channels.{accepted_on, received_on, waiting_on}
 use Rattle.apex_board.specs.ReplyTable.{depth_of, depth_in, depth_in_kind}
 use Rattle.apex_board.specs.Ports.{IsPlace, is_queue, is_queuing}
 use Rattle.apex_board.specs.Kept.{IsKept, IsPartitionKept, IsQueueKept, IsSampleKept}

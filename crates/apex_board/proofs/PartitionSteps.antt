@@ -1,7 +1,6 @@
 -- What a change of mode, a creation and a sampling read do to a partition.
-use Rattle.std.proofs.Common.{◌≡◌, ◌≢◌, ◌⊎◌, inl, inr, ⊎_elim, ℕ, zero, suc, ◌+◌, ◌-◌, ◌<◌, ◌≤◌, ◌==◌, Bool, true, false, ◌&&◌, ◌||◌, not, if◌then◌else◌, List, [], ◌∷◌, ◌++◌, length, drop, set, Option, Some, None, refl, sym, ap, ◌∙◌, subst, arith}
+use Rattle.std.proofs.Common.{◌≡◌, ◌≢◌, ℕ, ◌==◌, Bool, true, false, ◌&&◌, ◌||◌, not, if◌then◌else◌, List, [], ◌∷◌, ◌++◌, length, set, Option, Some, None, refl, sym, ap, ◌∙◌, arith}
 use Rattle.std.specs.Option.{unwrap_or}
-use Rattle.std.specs.List.{slice_get}
 use Rattle.std.proofs.lemmas.Bool.Decides.{nat_tests}
 use Rattle.apex_types.specs.Mode.{mode_numbered}
 use Rattle.apex_types.specs.declared.call.Call.{Call}
@@ -13,14 +12,14 @@ use Rattle.apex_types.specs.declared.reply.Reply.TheVariants.{Code, Id, Read}
 use Rattle.apex_types.specs.declared.return_code.ReturnCode.TheVariants.{NoError}
 use Rattle.apex_types.specs.declared.validity.Validity.{Validity}
 use Rattle.apex_types.specs.declared.validity.Validity.TheVariants.{Invalid}
-use Rattle.apex_config.specs.Configuration.{Configuration, ports_of}
+use Rattle.apex_config.specs.Configuration.{Configuration}
 use Rattle.apex_board.specs.declared.history.Entry.{Entry}
 use Rattle.apex_board.specs.declared.history.Sample.{Sample}
 use Rattle.apex_board.specs.declared.state.PartitionState.{PartitionState}
 use Rattle.apex_board.specs.declared.state.PortState.{PortState}
 use Rattle.apex_board.specs.declared.queue.Queue.{Queue}
 use Rattle.apex_board.specs.History.{History, entry_of}
-use Rattle.apex_board.specs.Modes.{mode_of, mode_set, mode_asked, is_start, is_restart, restarts, is_accepted}
+use Rattle.apex_board.specs.Modes.{mode_of, mode_set, mode_asked, is_start, is_restart, is_accepted}
 use Rattle.apex_board.specs.Ports.{is_created, creates, is_create, is_id}
 use Rattle.apex_board.specs.Channels.{last_validity_of, validity_read, validity_in, is_read, message_sent, message_written, is_receive}
 use Rattle.apex_board.specs.Kept.{IsPartitionKept, IsKept, created_in, last_in, state_at}

@@ -1,8 +1,7 @@
 -- What a send and a receive do to a queue.
-use Rattle.std.proofs.Common.{◌≡◌, ◌≢◌, ◌⊎◌, ⊎_elim, ℕ, zero, suc, ◌+◌, ◌-◌, ◌<◌, ◌≤◌, ◌==◌, Bool, true, false, ◌&&◌, not, if◌then◌else◌, List, [], ◌∷◌, ◌++◌, length, drop, set, Option, Some, None, refl, sym, ap, ◌∙◌, subst, arith, length-append, length-drop, append_assoc, append-nil}
+use Rattle.std.proofs.Common.{◌≡◌, ◌≢◌, ⊎_elim, ℕ, ◌+◌, ◌<◌, ◌≤◌, ◌==◌, Bool, true, false, ◌&&◌, not, if◌then◌else◌, List, [], ◌∷◌, ◌++◌, length, drop, set, Option, Some, None, refl, sym, ap, ◌∙◌, subst, arith, length-append, length-drop, append_assoc, append-nil}
 use Rattle.std.specs.Option.{option_to_list}
 use Rattle.std.specs.List.{slice_get}
-use Rattle.std.specs.declared.vec.Vec.{Vec}
 use Rattle.std.specs.Vec.{vec_len, vec_capacity}
 use Rattle.std.proofs.lemmas.Bool.Decides.{nat_tests}
 use Rattle.circular_buffer.specs.Buffer.{buffer}
@@ -22,7 +21,7 @@ use Rattle.apex_board.specs.Channels.{accepted_on, received_on, message_accepted
 use Rattle.apex_board.specs.Kept.{IsQueueKept, IsKept, HasRoomAt, KeepsRoom, KeepsAllButOne}
 use Rattle.apex_board.specs.ReplyTable.{depth_of, oldest_reply}
 use Rattle.apex_board.proofs.Appends.{accepted_on-append, received_on-append}
-use Rattle.apex_board.proofs.Stays.{LeavesQueue, leaves_partition, leaves_sample, queue_changes, slice_get-set_cases}
+use Rattle.apex_board.proofs.Stays.{leaves_partition, leaves_sample, queue_changes, slice_get-set_cases}
 
 pub and_true : (a b : Bool) → (a && b) ≡ true → (a ≡ true) × (b ≡ true)
 and_true true b h = (refl, h)

@@ -1,5 +1,5 @@
 -- A refused send changes no channel.
-use Rattle.std.proofs.Common.{◌≡◌, ℕ, ◌-◌, Bool, true, false, if◌then◌else◌, List, [], ◌∷◌, ◌++◌, length, drop, Option, Some, None, refl, sym, ap, ◌∙◌, append-nil}
+use Rattle.std.proofs.Common.{◌≡◌, ℕ, true, false, if◌then◌else◌, [], ◌∷◌, ◌++◌, length, drop, None, refl, ap, ◌∙◌, append-nil}
 use Rattle.std.specs.Option.{option_to_list}
 use Rattle.apex_types.specs.declared.call.Call.{Call}
 use Rattle.apex_types.specs.declared.call.Call.TheVariants.{SendQueuing}
@@ -7,7 +7,7 @@ use Rattle.apex_config.specs.Configuration.{Configuration}
 use Rattle.apex_board.specs.declared.history.Entry.{Entry}
 use Rattle.apex_board.specs.History.{History}
 use Rattle.apex_board.specs.Modes.{is_accepted}
-use Rattle.apex_board.specs.Channels.{accepted_on, received_on, waiting_on, message_accepted, message_received, message_sent, message_in, message_written, sample_at, sample_written, is_receive}
+use Rattle.apex_board.specs.Channels.{accepted_on, received_on, message_accepted, message_received, message_sent, message_in, message_written, sample_at, sample_written, is_receive}
 use Rattle.apex_board.specs.OneChannel.{SameChannel}
 use Rattle.apex_board.specs.Refused.{SameChannels, is_send}
 use Rattle.apex_board.proofs.Appends.{accepted_on-append, received_on-append}

@@ -1,5 +1,5 @@
 -- What a sampling write does to the samples.
-use Rattle.std.proofs.Common.{◌≡◌, ◌≢◌, ℕ, if◌then◌else◌, true, false, List, [], ◌∷◌, ◌++◌, set, Option, Some, None, refl, sym}
+use Rattle.std.proofs.Common.{◌≡◌, ℕ, if◌then◌else◌, true, false, List, [], ◌∷◌, ◌++◌, set, Option, Some, None, refl, sym}
 use Rattle.apex_types.specs.declared.call.Call.TheVariants.{WriteSampling}
 use Rattle.apex_types.specs.declared.moment.Moment.{Moment}
 use Rattle.apex_types.specs.declared.reply.Reply.TheVariants.{Code}

@@ -1,11 +1,11 @@
 -- A kept state stays kept where an entry leaves its parts alone, and where the part that it changes is set.
-use Rattle.std.proofs.Common.{◌≡◌, ◌≢◌, ◌⊎◌, inl, inr, ⊎_elim, ℕ, zero, suc, ◌+◌, ◌-◌, ◌<◌, Bool, true, false, ◌&&◌, ◌||◌, ◌==◌, not, if◌then◌else◌, List, [], ◌∷◌, ◌++◌, length, set, Option, Some, None, refl, sym, ap, ◌∙◌, subst, arith, length-append, length-set, append-nil}
+use Rattle.std.proofs.Common.{◌≡◌, ◌≢◌, ◌⊎◌, inl, inr, ⊎_elim, ℕ, zero, suc, ◌+◌, ◌-◌, Bool, true, false, ◌&&◌, ◌||◌, ◌==◌, not, if◌then◌else◌, List, [], ◌∷◌, ◌++◌, length, set, Option, Some, None, refl, sym, ap, ◌∙◌, subst, arith, length-append, length-set, append-nil}
 use Rattle.std.specs.Option.{unwrap_or, option_to_list}
-use Rattle.std.specs.List.{slice_get, filter_map}
+use Rattle.std.specs.List.{slice_get}
 use Rattle.circular_buffer.proofs.Places.{slice_get-last, slice_get-push}
 use Rattle.std.proofs.lemmas.Bool.Decides.{nat_tests}
 use Rattle.apex_types.specs.declared.validity.Validity.TheVariants.{Invalid}
-use Rattle.apex_config.specs.Configuration.{Configuration, port_of}
+use Rattle.apex_config.specs.Configuration.{Configuration}
 use Rattle.apex_types.specs.declared.call.Call.{Call}
 use Rattle.apex_types.specs.declared.moment.Moment.{Moment}
 use Rattle.apex_types.specs.declared.reply.Reply.{Reply}
@@ -18,7 +18,7 @@ use Rattle.apex_board.specs.declared.history.Sample.{Sample}
 use Rattle.apex_board.specs.declared.state.PartitionState.{PartitionState}
 use Rattle.apex_board.specs.declared.queue.Queue.{Queue}
 use Rattle.apex_board.specs.History.{History, entry_of}
-use Rattle.apex_board.specs.Modes.{mode_of, mode_set, mode_asked, restarts, is_restart, is_accepted, is_no_error}
+use Rattle.apex_board.specs.Modes.{mode_of, mode_set, mode_asked, is_restart, is_accepted, is_no_error}
 use Rattle.apex_board.specs.Ports.{is_created, creates, is_create, is_id, NamedPort}
 use Rattle.apex_board.specs.Channels.{accepted_on, received_on, writes_on, last_write_on, message_accepted, message_sent, message_received, message_in, is_receive, sample_written, sample_at, message_written, last_validity_of, validity_read, validity_in, is_read}
 use Rattle.apex_board.specs.ReplyTable.{queuing_status_reply, sampling_status_reply, id_reply}

@@ -1,5 +1,5 @@
-use Rattle.std.proofs.Common.{◌≡◌, [], ◌∷◌, ◌++◌, length, refl, sym, ap, ◌∙◌, subst, arith, length-append, List}
-use Rattle.apex_board.specs.Kept.{EachAt, IsPartitionKept}
+use Rattle.std.proofs.Common.{[], length, refl, ap, ◌∙◌}
+use Rattle.apex_board.specs.Kept.{IsPartitionKept}
 use Rattle.apex_board.proofs.Stays.{each_at_push, length_push}
 use Rattle.apex_board.proofs.making.new_partitions.Goals as goal
 

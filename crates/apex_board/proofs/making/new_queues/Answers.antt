@@ -1,5 +1,5 @@
-use Rattle.std.proofs.Common.{◌≡◌, ◌≤◌, [], ◌∷◌, ◌++◌, length, refl, sym, ap, ◌∙◌, subst, arith, length-append, List}
-use Rattle.apex_board.specs.Kept.{EachAt, IsQueueKept}
+use Rattle.std.proofs.Common.{◌≡◌, [], ◌++◌, length, sym, ap, ◌∙◌, arith}
+use Rattle.apex_board.specs.Kept.{IsQueueKept}
 use Rattle.apex_board.specs.ReplyTable.{depth_in}
 use Rattle.apex_board.proofs.Stays.{each_at_push, length_push}
 use Rattle.apex_board.proofs.making.new_queues.Goals as goal

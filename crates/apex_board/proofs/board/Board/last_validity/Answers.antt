@@ -1,13 +1,11 @@
-use Rattle.std.proofs.Common.{◌≡◌, ◌<◌, ◌≤◌, ◌++◌, List, ℕ, length, sym, ap, subst, ◌∙◌, arith}
+use Rattle.std.proofs.Common.{◌≡◌, ◌<◌, length, sym, ap, subst, ◌∙◌}
 use Rattle.apex_board.specs.BoardView.{BoardView}
-use Rattle.apex_board.specs.Channels.{accepted_on, received_on, waiting_on}
-use Rattle.apex_board.specs.Lawful.{IsLawful}
-use Rattle.apex_board.specs.Ports.{is_created, sampling_port}
-use Rattle.apex_board.specs.ReplyTable.{depth_of, validity_shown}
-use Rattle.apex_board.proofs.Lookups.{queue_at, partition_at, waiting_is, waiting_count_is, all_conserved}
+use Rattle.apex_board.specs.Ports.{sampling_port}
+use Rattle.apex_board.specs.ReplyTable.{validity_shown}
+use Rattle.apex_board.proofs.Lookups.{partition_at}
 use Rattle.apex_board.proofs.board.Board.last_validity.Goals as goal
 use Rattle.apex_config.specs.declared.port.Port.{Port}
-use Rattle.std.proofs.Common.{Option, Some}
+use Rattle.std.proofs.Common.{Option}
 
 pub returns-in-Some : goal.returns-in-Some
 returns-in-Some g c =

@@ -1,10 +1,8 @@
-use Rattle.std.proofs.Common.{false, ◌≡◌, ◌<◌, ◌≤◌, ◌++◌, List, ℕ, length, sym, ap, subst, ◌∙◌, arith}
+use Rattle.std.proofs.Common.{false, ◌≡◌, ◌<◌, length, sym, subst, ◌∙◌}
 use Rattle.apex_board.specs.BoardView.{BoardView}
-use Rattle.apex_board.specs.Channels.{accepted_on, received_on, waiting_on}
-use Rattle.apex_board.specs.Lawful.{IsLawful}
+use Rattle.apex_board.specs.Channels.{received_on}
 use Rattle.apex_board.specs.Ports.{is_queuing}
-use Rattle.apex_board.specs.ReplyTable.{depth_of, validity_shown}
-use Rattle.apex_board.proofs.Lookups.{front_of_nil, queue_at, partition_at, waiting_is, waiting_count_is, all_conserved}
+use Rattle.apex_board.proofs.Lookups.{front_of_nil, queue_at}
 use Rattle.apex_board.proofs.board.Board.received.Goals as goal
 
 pub returns-clause-messages : goal.returns-clause-messages

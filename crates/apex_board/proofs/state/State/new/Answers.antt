@@ -1,4 +1,4 @@
-use Rattle.std.proofs.Common.{◌≡◌, ◌∙◌, length, arith}
+use Rattle.std.proofs.Common.{arith}
 use Rattle.apex_board.proofs.state.State.new.Goals as goal
 
 pub returns-clause-kept : goal.returns-clause-kept

@@ -1,4 +1,4 @@
-use Rattle.std.proofs.Common.{rules, ◌≡◌, ◌≤◌, length, sym, ap, ◌∙◌, arith, List, ℕ}
+use Rattle.std.proofs.Common.{rules, ◌≡◌, length, ap, ◌∙◌, arith, List, ℕ}
 use Rattle.apex_board.specs.Channels.{waiting_on}
 use Rattle.apex_board.specs.ReplyTable.{depth_of}
 use Rattle.apex_board.proofs.Lookups.{queue_at, waiting_is, depth_small}

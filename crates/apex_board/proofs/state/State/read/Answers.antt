@@ -1,5 +1,4 @@
-use Rattle.std.proofs.Common.{◌≡◌, sym, ap, ◌∙◌, arith}
-use Rattle.apex_board.specs.Ports.{is_created}
+use Rattle.std.proofs.Common.{◌∙◌, arith}
 use Rattle.apex_board.proofs.Lookups.{partition_at}
 use Rattle.apex_board.proofs.PartitionSteps.{read_keeps}
 use Rattle.apex_board.proofs.Stays.{quiet_keeps, refused_is_quiet}

@@ -1,5 +1,4 @@
-use Rattle.std.proofs.Common.{◌≡◌, ◌<◌, length, sym, ap, ◌∙◌, arith}
-use Rattle.apex_types.specs.declared.reply.Reply.TheVariants.{Received}
+use Rattle.std.proofs.Common.{◌<◌, length, sym, ap, ◌∙◌, arith}
 use Rattle.apex_board.specs.ReplyTable.{oldest_reply}
 use Rattle.apex_board.proofs.Lookups.{queue_at, place_of, waiting_is, waiting_count_is, room_to_receive}
 use Rattle.apex_board.proofs.QueueSteps.{received_keeps, receive_room, oldest_is}

@@ -1,4 +1,4 @@
-use Rattle.std.proofs.Common.{◌≡◌, ℕ, ◌<◌, ◌+◌, ◌∙◌, length, arith, below_more}
+use Rattle.std.proofs.Common.{ℕ, ◌<◌, ◌∙◌, arith, below_more}
 use Rattle.std.proofs.lemmas.Option.{slice_get_within}
 use Rattle.apex_board.specs.Kept.{HasRoomAt}
 use Rattle.apex_board.proofs.state.State.reserve.Goals as goal

@@ -1,7 +1,6 @@
-use Rattle.std.proofs.Common.{◌≡◌, ◌<◌, ◌≤◌, ◌+◌, ℕ, length, Some, sym, ap, ◌∙◌, arith}
+use Rattle.std.proofs.Common.{◌<◌, ◌≤◌, ◌+◌, length, arith}
 use Rattle.std.proofs.lemmas.Result.{on_ok_weaker}
 use Rattle.std.specs.Vec.{vec_len, vec_capacity}
-use Rattle.apex_board.specs.Kept.{HasRoomAt}
 use Rattle.apex_board.proofs.Lookups.{queue_at, place_of, received_within}
 use Rattle.apex_board.proofs.QueueSteps.{kept_room}
 use Rattle.apex_board.proofs.RoomSteps.{roomy_queue, roomy_keeps, room_here, no_room_wanted, depth_of_queuing}

@@ -1,4 +1,4 @@
-use Rattle.std.proofs.Common.{rules, ◌≡◌, true, false, sym, ap, ◌∙◌, arith}
+use Rattle.std.proofs.Common.{rules, ◌≡◌, true, false, sym, ◌∙◌}
 use Rattle.apex_board.specs.Ports.{is_created}
 use Rattle.apex_board.proofs.Lookups.{partition_at}
 use Rattle.apex_board.proofs.state.State.sampling_id.Goals as goal

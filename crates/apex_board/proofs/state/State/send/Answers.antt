@@ -1,5 +1,4 @@
-use Rattle.std.proofs.Common.{◌≡◌, ◌<◌, length, sym, ap, ◌∙◌, arith}
-use Rattle.circular_buffer.specs.Buffer.{Buffer}
+use Rattle.std.proofs.Common.{◌<◌, length, arith}
 use Rattle.apex_board.specs.ReplyTable.{depth_of}
 use Rattle.apex_board.proofs.Lookups.{queue_at, place_of, waiting_count_is}
 use Rattle.apex_board.proofs.QueueSteps.{sent_keeps, send_room}

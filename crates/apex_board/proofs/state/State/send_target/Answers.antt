@@ -1,4 +1,4 @@
-use Rattle.std.proofs.Common.{rules, ◌≡◌, ◌==◌, ◌<◌, true, false, length, sym, ◌∙◌}
+use Rattle.std.proofs.Common.{rules, ◌≡◌, ◌==◌, true, false, length, sym, ◌∙◌}
 use Rattle.apex_board.specs.Channels.{waiting_on}
 use Rattle.apex_board.specs.ReplyTable.{depth_of}
 use Rattle.apex_board.proofs.Lookups.{queue_at, full_is, has_place}

@@ -1,8 +1,6 @@
-use Rattle.std.proofs.Common.{◌≡◌, false, refl, sym, ap, subst, ◌∙◌, List, []}
-use Rattle.apex_types.specs.declared.call.Call.{Call}
+use Rattle.std.proofs.Common.{◌≡◌, false, refl, sym, ap, ◌∙◌}
 use Rattle.apex_board.specs.Modes.{mode_of, is_idle}
 use Rattle.apex_board.specs.Ports.{queuing_named, sampling_named, queuing_port, sampling_port}
-use Rattle.apex_board.specs.ReplyTable.{reply_to, service_reply}
 use Rattle.apex_board.proofs.Lookups.{partition_at}
 use Rattle.apex_board.proofs.QueueSteps.{room_weaker, same_room}
 use Rattle.apex_board.proofs.Stays.{quiet_keeps, queuing_status_is_quiet, sampling_status_is_quiet, id_is_quiet, not_made_is_quiet}

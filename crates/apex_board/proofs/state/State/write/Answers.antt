@@ -1,4 +1,3 @@
-use Rattle.std.proofs.Common.{ap, subst}
 use Rattle.apex_board.proofs.SampleSteps.{written_keeps}
 use Rattle.apex_board.proofs.Stays.{quiet_keeps, refused_is_quiet}
 use Rattle.apex_board.proofs.state.State.write.Goals as goal
