@@ -1,5 +1,5 @@
 -- What a history did to a channel.
-use Rattle.std.specs.Prelude.{ℕ, Bool, true, false, ◌==◌, ◌&&◌, ◌-◌, nat_le, ◌+◌, if◌then◌else◌, List, [], ◌∷◌, length, drop, slice_get, Option, Some, None, unwrap_or, fold}
+use Rattle.std.specs.Prelude.{ℕ, Bool, false, ◌==◌, ◌&&◌, ◌-◌, nat_le, ◌+◌, if◌then◌else◌, List, length, drop, slice_get, Option, Some, None, unwrap_or, fold}
 use Rattle.std.specs.List.{filter_map}
 use Rattle.apex_types.specs.declared.call.Call.{Call}
 use Rattle.apex_types.specs.declared.call.Call.TheVariants.{SendQueuing, ReceiveQueuing, WriteSampling, ReadSampling}

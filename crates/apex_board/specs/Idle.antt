@@ -1,5 +1,5 @@
 -- Partitions in IDLE.
-use Rattle.std.specs.Prelude.{ℕ, Bool, true, ◌≡◌, Option, Some, take, slice_get}
+use Rattle.std.specs.Prelude.{ℕ, true, ◌≡◌, Some, take, slice_get}
 use Rattle.apex_types.specs.declared.reply.Reply.TheVariants.{NotMade}
 use Rattle.apex_config.specs.Configuration.{Configuration, port_of}
 use Rattle.apex_board.specs.declared.history.Entry.{Entry}

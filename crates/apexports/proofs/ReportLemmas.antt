@@ -1,17 +1,18 @@
 -- The lines of a report, one after the other.
-use Rattle.std.proofs.Common.{◌≡◌, ℕ, suc, ◌+◌, ◌<◌, ◌≤◌, List, [], ◌∷◌, ◌++◌, length, drop, get_or, Option, Some, None, codes, sym, ap, ◌∙◌, append_assoc, add-one, refl}
+use Rattle.std.proofs.Common.{◌≡◌, ℕ, suc, ◌+◌, ◌<◌, ◌≤◌, ◌==◌, List, [], ◌∷◌, ◌++◌, length, take, drop, get_or, arith, Option, Some, None, codes, sym, ap, ◌∙◌, append_assoc, add-one, refl}
 use Rattle.std.specs.Prelude.{slice_get, option_map}
 use Rattle.std.proofs.Math.Seq.{drop-cons}
 use Rattle.std.proofs.Math.ListN.{drop_of_length-le}
-use Rattle.std.proofs.lemmas.List.{append-nil}
+use Rattle.std.proofs.lemmas.List.{append-nil, length-take-le}
+use Rattle.std.proofs.lemmas.List.Sums.{length-filter, count_by-le-length}
 use Rattle.std.proofs.lemmas.Option.{slice_get-get_or, slice_get_within, get_or_from_slice_get}
 use Rattle.apex_types.specs.Message.{hex_text_of}
 use Rattle.apex_config.specs.Configuration.{Configuration, PartitionData, partition_name_of}
 use Rattle.apex_config.specs.declared.channel.Channel.{Channel}
 use Rattle.apex_board.specs.declared.history.Entry.{Entry}
-use Rattle.apex_board.specs.History.{History}
+use Rattle.apex_board.specs.History.{History, entries_of}
 use Rattle.apex_board.specs.Lawful.{IsLawful}
-use Rattle.apexports.specs.Report.{entry_line, entry_lines, partition_line, partition_lines, messages_text, channel_text, channel_lines}
+use Rattle.apexports.specs.Report.{entry_line, entry_lines, partition_line, partition_lines, messages_text, channel_text, channel_lines, CountCalls}
 
 -- a text that grew by the line that comes next
 pub grows : (old new line rest all total : List ℕ) → new ≡ old ++ line → all ≡ line ++ rest → old ++ all ≡ total → new ++ rest ≡ total
@@ -60,6 +61,14 @@ partition_cut history config p name named = named_by history config.partitions p
 pub partition_end : (history : History) (partitions : List PartitionData) (p : ℕ) → length partitions ≤ p → partition_lines history p (drop p partitions) ≡ []
 unfolding partition_lines
 partition_end history partitions p past = rw (drop_of_length-le partitions past) refl
+
+-- a partition made no more calls than there are
+pub calls_within : (counts : List ℕ) (partitions : ℕ) (log : History) (i p : ℕ) → CountCalls counts partitions (take i log) → p < partitions → i < length log → get_or counts p 0 < length log
+calls_within counts partitions log i p counted known inside =
+    let within : length (entries_of p (take i log)) ≤ length (take i log) = rw (length-filter (λ (entry : Entry). entry.partition == p) (take i log)) (count_by-le-length (λ (entry : Entry). entry.partition == p) (take i log)) in
+    let taken : length (take i log) ≡ i = length-take-le i log (omega (arith, inside)) in
+    let same = counted.1 p known in
+    omega (arith, within, taken, same, inside)
 
 -- ---- channels
 

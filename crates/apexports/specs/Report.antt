@@ -1,5 +1,5 @@
 -- The report of a history: a line for each entry, each partition and each channel.
-use Rattle.std.specs.Prelude.{ℕ, ◌+◌, List, [], ◌∷◌, ◌++◌, length, codes, decimal, Option, Some, None, unwrap_or}
+use Rattle.std.specs.Prelude.{ℕ, ◌≡◌, ◌<◌, ◌+◌, List, [], ◌∷◌, ◌++◌, length, get_or, codes, decimal, Option, Some, None, unwrap_or}
 use Rattle.apex_types.specs.Message.{hex_text_of}
 use Rattle.apex_types.specs.Direction.{word_of as direction_word}
 use Rattle.apex_types.specs.Mode.{word_of as mode_word}
@@ -58,6 +58,11 @@ entry_lines config number [] = []
 entry_lines config number (entry ∷ rest) = entry_line number (name_of_partition config entry.partition) entry ++ entry_lines config (number + 1) rest
 
 -- ---- partitions
+
+-- how many calls each partition made, and those that were not made count too
+abbrev pub CountCalls : List ℕ → ℕ → History → Type 0
+CountCalls counts partitions history =
+    (length counts ≡ partitions) × ((p : ℕ) → p < partitions → get_or counts p 0 ≡ length (entries_of p history))
 
 -- `partition NAME mode MODE calls N`, where the calls that were not made count too
 unfoldable pub partition_line : History → ℕ → List ℕ → List ℕ

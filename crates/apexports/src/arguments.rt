@@ -94,34 +94,27 @@ pub fn call_at(service: Service, words: &[u8]) -> Result<Call, LineFault>
             let (message, _) = message_at(words)?;
             Ok(Call::SendQueuing { id, message })
         }
-        Service::SamplingId => {
-            let (name, _) = name_at(words)?;
-            Ok(Call::SamplingId { name })
-        }
-        Service::QueuingId => {
-            let (name, _) = name_at(words)?;
-            Ok(Call::QueuingId { name })
-        }
-        Service::ReadSampling => {
-            let (id, _) = number_at(words)?;
-            Ok(Call::ReadSampling { id })
-        }
-        Service::SamplingStatus => {
-            let (id, _) = number_at(words)?;
-            Ok(Call::SamplingStatus { id })
-        }
-        Service::ReceiveQueuing => {
-            let (id, _) = number_at(words)?;
-            Ok(Call::ReceiveQueuing { id })
-        }
-        Service::QueuingStatus => {
-            let (id, _) = number_at(words)?;
-            Ok(Call::QueuingStatus { id })
-        }
-        Service::SetMode => {
-            let (mode, _) = number_at(words)?;
-            Ok(Call::SetMode { mode })
-        }
+        Service::SamplingId => Ok(Call::SamplingId {
+            name: name_at(words)?.0,
+        }),
+        Service::QueuingId => Ok(Call::QueuingId {
+            name: name_at(words)?.0,
+        }),
+        Service::ReadSampling => Ok(Call::ReadSampling {
+            id: number_at(words)?.0,
+        }),
+        Service::SamplingStatus => Ok(Call::SamplingStatus {
+            id: number_at(words)?.0,
+        }),
+        Service::ReceiveQueuing => Ok(Call::ReceiveQueuing {
+            id: number_at(words)?.0,
+        }),
+        Service::QueuingStatus => Ok(Call::QueuingStatus {
+            id: number_at(words)?.0,
+        }),
+        Service::SetMode => Ok(Call::SetMode {
+            mode: number_at(words)?.0,
+        }),
     }
 }
 

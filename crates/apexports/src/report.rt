@@ -4,7 +4,7 @@ ghost use Rattle.std.specs.Option.{option_copied};
 ghost use Rattle.apex_types.specs.Message.{hex_text_of};
 ghost use Rattle.apex_board.specs.History.{entries_of};
 ghost use Rattle.apex_board.specs.Channels.{waiting_on};
-ghost use Rattle.apexports.specs.Report.{queuing_status_text, sampling_status_text, reply_text, entry_line, entry_lines, partition_line, partition_lines, queue_text, sample_text, channel_text, channel_lines, messages_text, report_of};
+ghost use Rattle.apexports.specs.Report.{queuing_status_text, sampling_status_text, reply_text, entry_line, entry_lines, partition_line, partition_lines, queue_text, sample_text, channel_text, channel_lines, messages_text, report_of, CountCalls};
 
 use crate::service::Service;
 use apex_board::{Board, Entry, Sample};
@@ -24,7 +24,8 @@ pub fn report(alloc: Global, board: &Board) -> Result<String, OutOfMemory>
     let bytes = board.log().len().saturating_mul(LINE_BYTES);
     let mut text = String::with_capacity(alloc, bytes)?;
     push_log(&mut text, board)?;
-    push_partitions(&mut text, board)?;
+    let calls = count_calls(alloc, board)?;
+    push_partitions(&mut text, board, calls.as_slice())?;
     push_channels(&mut text, board)?;
     Ok(text)
 }
@@ -159,22 +160,41 @@ fn push_sampling_status(
     push_word(text, last.word())
 }
 
+/// How many entries of the log each partition has.
+fn count_calls(alloc: Global, board: &Board) -> Result<Vec<u64>, AllocError>
+    ensures { IfOk result (λ calls. CountCalls calls.items (length board.now.config.partitions) board.now.log) }
+{
+    let mut calls = vec![in alloc; 0; board.config().partitions()]?;
+    for entry in board.log() {
+        calls[entry.partition] += 1;
+    }
+    Ok(calls)
+}
+
 /// A line for each partition.
 #[tactic(auto, unfolding(crate::specs::Report::partition_lines))]
-fn push_partitions(text: &mut String, board: &Board) -> Result<(), AllocError>
+fn push_partitions(text: &mut String, board: &Board, calls: &[u64]) -> Result<(), AllocError>
+    requires { CountCalls calls.now (length board.now.config.partitions) board.now.log }
     ensures { OnOk result (string_bytes text.new ≡ string_bytes text.old ++ partition_lines board.now.log 0 board.now.config.partitions) }
 {
     for p in 0..board.config().partitions() {
         let name = board.config().partition_name(p).text();
-        push_partition(text, board, p, name)?;
+        push_partition(text, board, p, name, calls[p])?;
     }
     Ok(())
 }
 
 /// `partition NAME mode MODE calls N`.
 #[tactic(auto, unfolding(crate::specs::Report::partition_line))]
-fn push_partition(text: &mut String, board: &Board, p: usize, name: &str) -> Result<(), AllocError>
-    requires { p < length board.now.config.partitions }
+fn push_partition(
+    text: &mut String,
+    board: &Board,
+    p: usize,
+    name: &str,
+    calls: u64,
+) -> Result<(), AllocError>
+    requires partition { p < length board.now.config.partitions }
+    requires calls { calls ≡ length (entries_of p board.now.log) }
     ensures { OnOk result (string_bytes text.new ≡ string_bytes text.old ++ partition_line board.now.log p name.now) }
 {
     push_word(text, "partition ")?;
@@ -182,14 +202,8 @@ fn push_partition(text: &mut String, board: &Board, p: usize, name: &str) -> Res
     push_word(text, " mode ")?;
     push_word(text, board.mode(p).word())?;
     push_word(text, " calls ")?;
-    push_number(text, count_calls(board.log(), p) as u64)?;
+    push_number(text, calls)?;
     push_word(text, "\n")
-}
-
-fn count_calls(log: &[Entry], p: usize) -> usize
-    ensures { result ≡ length (entries_of p log.now) }
-{
-    log.iter().filter(|entry| entry.partition == p).count()
 }
 
 /// A line for each channel.
