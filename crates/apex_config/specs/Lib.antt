@@ -3,6 +3,7 @@ pub mod Equality
 pub mod EqualityLaws
 pub mod Examples
 pub mod Fault
+pub mod Limits
 pub mod Passes
 pub mod Reading
 pub mod Table

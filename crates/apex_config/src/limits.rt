@@ -1,4 +1,5 @@
 //! The limits of a configuration.
+use apex_types::MESSAGE_LIMIT;
 
 /// The most partitions.
 pub const PARTITION_LIMIT: usize = 16;
@@ -9,8 +10,8 @@ pub const PORT_LIMIT: usize = 32;
 /// The most channels.
 pub const CHANNEL_LIMIT: usize = 64;
 
-/// The largest message size of a channel, in bytes.
-pub const SIZE_LIMIT: u32 = 256;
+/// The largest message size of a channel, in bytes: that of the longest message.
+pub const SIZE_LIMIT: u32 = MESSAGE_LIMIT as u32;
 
 /// The most messages that can wait on a queuing channel.
 pub const DEPTH_LIMIT: u32 = 512;

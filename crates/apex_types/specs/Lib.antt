@@ -1,4 +1,5 @@
 pub mod Direction
+pub mod Limits
 pub mod Message
 pub mod Mode
 pub mod Name

@@ -1,5 +1,5 @@
 -- Names and messages are ASCII, so bytes that are no UTF-8 are neither.
-use Rattle.std.proofs.Common.{◌≡◌, ℕ, List, Option, None, Result, Ok, Err, refl}
+use Rattle.std.proofs.Common.{◌≡◌, ℕ, List, None, Result, Ok, Err, refl}
 use Rattle.std.specs.Str.{IsUtf8}
 use Rattle.std.proofs.lemmas.Str.{IsUtf8-from_ascii}
 use Rattle.apex_types.proofs.ReadText.{read_name_is_ascii, read_message_is_ascii}

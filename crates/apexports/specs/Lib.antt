@@ -1,5 +1,7 @@
 pub mod Arguments
+pub mod Limits
 pub mod LineFault
+pub mod Refusal
 pub mod Replay
 pub mod Report
 pub mod Service

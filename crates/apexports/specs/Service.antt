@@ -1,9 +1,8 @@
 -- The services that a trace can ask for, by their call words.
-use Rattle.std.specs.Prelude.{ℕ, List, codes, find, Option}
+use Rattle.std.specs.Prelude.{ℕ, List, [], ◌∷◌, codes, find, Option}
 use Rattle.std.specs.Str.{bytes_eq}
 use Rattle.apex_types.specs.declared.call.Call.{Call}
 use Rattle.apex_types.specs.declared.call.Call.TheVariants as calls
-use Rattle.apexports.specs.declared.service.TheConstants.{SERVICES}
 use Rattle.apexports.specs.declared.service.Service.{Service}
 use Rattle.apexports.specs.declared.service.Service.TheVariants.{CreateSampling, WriteSampling, ReadSampling, SamplingId, SamplingStatus, CreateQueuing, SendQueuing, ReceiveQueuing, QueuingId, QueuingStatus, SetMode}
 
@@ -21,9 +20,13 @@ word_of QueuingId = codes "queuing-id"
 word_of QueuingStatus = codes "queuing-status"
 word_of SetMode = codes "mode"
 
+abbrev pub services : List Service
+services =
+    CreateSampling ∷ WriteSampling ∷ ReadSampling ∷ SamplingId ∷ SamplingStatus ∷ CreateQueuing ∷ SendQueuing ∷ ReceiveQueuing ∷ QueuingId ∷ QueuingStatus ∷ SetMode ∷ []
+
 -- the service that a call word names
 abbrev pub service_named : List ℕ → Option Service
-service_named word = find (λ service. bytes_eq (word_of service) word) SERVICES
+service_named word = find (λ service. bytes_eq (word_of service) word) services
 
 -- the service that a call asks for
 abbrev pub service_of : Call → Service

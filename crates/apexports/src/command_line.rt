@@ -1,4 +1,7 @@
 //! The words of the command line.
+ghost use Rattle.std.specs.Prelude.{◌≡◌};
+ghost use Rattle.apexports.specs.declared.command_line.WordsFault.TheVariants.{OutOfMemory};
+
 use clap::error::ErrorKind;
 use clap::{Arg, Command};
 use std::alloc::{AllocError, Global};
@@ -25,6 +28,8 @@ pub enum WordsFault {
 }
 
 impl From<AllocError> for WordsFault {
+    ghost from_gives = { λ _ given. given ≡ OutOfMemory };
+
     fn from(_refused: AllocError) -> WordsFault {
         WordsFault::OutOfMemory
     }

@@ -1,10 +1,14 @@
 //! The program: from the words of the command line to a status.
+ghost use Rattle.std.specs.Prelude.{◌≡◌};
+ghost use Rattle.apexports.specs.declared.program.Refusal.TheVariants.{Text};
+ghost use Rattle.apexports.specs.Refusal.{status_of, words_refusal};
+
 use crate::command_line::{Task, WordsFault, task_of};
-use crate::fault::Fault;
+use crate::fault::{Fault, TraceFault};
 use crate::files::{FileFault, Opener, read_path};
 use crate::replay::replay;
 use crate::trace::read_trace;
-use apex_config::Config;
+use apex_config::{Config, ConfigFault};
 use std::alloc::{AllocError, Global};
 use std::convert::AsStr;
 use std::error::Error;
@@ -27,9 +31,17 @@ pub enum Refusal<'a> {
 impl Refusal<'_> {
     /// The status that the program ends with: 1 for a refused text, 2 for a mistake in the words, 3
     /// for a file, memory or standard output.
-    pub fn status(&self) -> u8 {
+    pub fn status(&self) -> u8
+        ensures { result ≡ status_of self.now }
+    {
         match self {
-            Refusal::Text(Fault::Memory) | Refusal::File(_) | Refusal::Output => 3,
+            Refusal::Text(
+                Fault::Memory
+                | Fault::Config(ConfigFault::OutOfMemory)
+                | Fault::Trace(TraceFault::OutOfMemory),
+            )
+            | Refusal::File(_)
+            | Refusal::Output => 3,
             Refusal::Text(_) => 1,
             Refusal::Usage => 2,
         }
@@ -53,6 +65,8 @@ impl fmt::Display for Refusal<'_> {
 impl Error for Refusal<'_> {}
 
 impl<'a> From<WordsFault> for Refusal<'a> {
+    ghost from_gives = { λ fault given. given ≡ words_refusal fault };
+
     fn from(fault: WordsFault) -> Refusal<'a> {
         match fault {
             WordsFault::Usage => Refusal::Usage,
@@ -62,6 +76,8 @@ impl<'a> From<WordsFault> for Refusal<'a> {
 }
 
 impl<'a> From<Fault> for Refusal<'a> {
+    ghost from_gives = { λ fault given. given ≡ Text fault };
+
     fn from(fault: Fault) -> Refusal<'a> {
         Refusal::Text(fault)
     }

@@ -1,0 +1,12 @@
+-- The limits of names and messages, as numbers.
+use Rattle.std.proofs.Common.{◌≡◌, refl}
+use Rattle.apex_types.specs.declared.name.TheConstants.{NAME_LIMIT}
+use Rattle.apex_types.specs.declared.message.TheConstants.{MESSAGE_LIMIT}
+
+-- bytes of a name
+pub NAME_LIMIT-is : NAME_LIMIT ≡ 30
+NAME_LIMIT-is = refl
+
+-- bytes of a message
+pub MESSAGE_LIMIT-is : MESSAGE_LIMIT ≡ 256
+MESSAGE_LIMIT-is = refl
