@@ -1,12 +1,12 @@
 //! Worked examples of modes and of the creation of queuing ports.
-use super::texts::{REDUCED, shows};
+use super::texts::{BASE, shows};
 use std::test::Fail;
 
 #[test]
 fn creation_is_checked_in_order(rt: HostRuntime) -> Result<(), Fail> {
     shows(
         &rt,
-        REDUCED,
+        BASE,
         "5 FMS create-queuing NAV_OUT 5 2 0 0
 5 FMS create-queuing NAV_OUT 4 3 0 0
 5 FMS create-queuing NAV_OUT 4 2 1 0
@@ -30,7 +30,9 @@ fn creation_is_checked_in_order(rt: HostRuntime) -> Result<(), Fail> {
 10 5 DSP create-queuing INVALID_CONFIG
 partition FMS mode COLD_START calls 6
 partition DSP mode NORMAL calls 4
+partition AIR mode COLD_START calls 0
 queuing NAV accepted 0 received 0 waiting 0
+sampling SPD empty
 ",
     )
 }
@@ -39,7 +41,7 @@ queuing NAV accepted 0 received 0 waiting 0
 fn modes_and_their_refusals(rt: HostRuntime) -> Result<(), Fail> {
     shows(
         &rt,
-        REDUCED,
+        BASE,
         "5 FMS mode 7
 5 FMS mode 2
 5 FMS mode 1
@@ -55,7 +57,9 @@ fn modes_and_their_refusals(rt: HostRuntime) -> Result<(), Fail> {
 6 5 FMS mode NO_ERROR
 partition FMS mode WARM_START calls 6
 partition DSP mode COLD_START calls 0
+partition AIR mode COLD_START calls 0
 queuing NAV accepted 0 received 0 waiting 0
+sampling SPD empty
 ",
     )
 }

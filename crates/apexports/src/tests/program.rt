@@ -1,6 +1,6 @@
 //! The whole program on files and writers that stand in for the system's.
 use super::texts::{BASE, REDUCED};
-use crate::files::{FILE_LIMIT, Opener};
+use crate::files::Opener;
 use crate::program::program;
 use std::alloc::Global;
 use std::io;
@@ -17,6 +17,8 @@ enum Content {
     FailsAfter(usize),
     /// It gives one byte a read, without end.
     Endless,
+    /// So many spaces, one a read.
+    Slow(usize),
     /// So many spaces.
     Spaces(usize),
 }
@@ -43,6 +45,7 @@ impl Read for FakeFile {
             }
             Content::FailsAfter(limit) => limit - self.given,
             Content::Endless => 1,
+            Content::Slow(count) => count.saturating_sub(self.given).min(1),
             Content::Spaces(count) => count.saturating_sub(self.given),
         };
         let count = left.min(buf.len());
@@ -71,8 +74,9 @@ impl Opener for FakeFiles {
             "fails" => Content::FailsAfter(0),
             "fails_later" => Content::FailsAfter(10),
             "endless" => Content::Endless,
-            "longest" => Content::Spaces(FILE_LIMIT),
-            "too_long" => Content::Spaces(FILE_LIMIT + 1),
+            "longest" => Content::Spaces(16_777_216),
+            "slow" => Content::Slow(16_777_216),
+            "too_long" => Content::Spaces(16_777_217),
             _ => return Err(io::Error::from(ErrorKind::NotFound)),
         };
         Ok(FakeFile { content, given: 0 })
@@ -164,8 +168,11 @@ queuing NAV accepted 0 received 0 waiting 0
 
 #[test]
 fn the_longest_file_is_read(rt: HostRuntime) -> Result<(), Fail> {
-    let words = ["apexports", "replay", "reduced.toml", "longest"];
-    answers(&rt, &words, 0, LITTLE, "")
+    for path in ["longest", "slow"] {
+        let words = ["apexports", "replay", "reduced.toml", path];
+        answers(&rt, &words, 0, LITTLE, "")?;
+    }
+    Ok(())
 }
 
 /// Standard output that takes nothing.

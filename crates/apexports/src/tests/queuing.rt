@@ -1,16 +1,18 @@
-//! Worked examples of queuing ports, on two partitions and one channel of two messages.
-use super::texts::{REDUCED, shows, shows_after_opening};
+//! Worked examples of queuing ports.
+use super::texts::{BASE, REDUCED, shows, shows_after_opening};
 use std::test::Fail;
 
 #[test]
 fn nothing_asked(rt: HostRuntime) -> Result<(), Fail> {
     shows(
         &rt,
-        REDUCED,
+        BASE,
         "",
         "partition FMS mode COLD_START calls 0
 partition DSP mode COLD_START calls 0
+partition AIR mode COLD_START calls 0
 queuing NAV accepted 0 received 0 waiting 0
+sampling SPD empty
 ",
     )
 }
@@ -40,7 +42,7 @@ queuing NAV accepted 2 received 2 waiting 0
 fn full_queue_refuses(rt: HostRuntime) -> Result<(), Fail> {
     shows_after_opening(
         &rt,
-        REDUCED,
+        BASE,
         "5 FMS send 1 01
 6 FMS send 1 02
 7 FMS send 1 03
@@ -58,7 +60,9 @@ fn full_queue_refuses(rt: HostRuntime) -> Result<(), Fail> {
 11 11 DSP receive NO_ERROR message 03
 partition FMS mode NORMAL calls 6
 partition DSP mode NORMAL calls 5
+partition AIR mode COLD_START calls 0
 queuing NAV accepted 3 received 3 waiting 0
+sampling SPD empty
 ",
     )
 }
@@ -67,12 +71,14 @@ queuing NAV accepted 3 received 3 waiting 0
 fn empty_queue_has_none(rt: HostRuntime) -> Result<(), Fail> {
     shows_after_opening(
         &rt,
-        REDUCED,
+        BASE,
         "5 DSP receive 1\n",
         "5 5 DSP receive NOT_AVAILABLE
 partition FMS mode NORMAL calls 2
 partition DSP mode NORMAL calls 3
+partition AIR mode COLD_START calls 0
 queuing NAV accepted 0 received 0 waiting 0
+sampling SPD empty
 ",
     )
 }
@@ -81,7 +87,7 @@ queuing NAV accepted 0 received 0 waiting 0
 fn equal_messages_are_two(rt: HostRuntime) -> Result<(), Fail> {
     shows_after_opening(
         &rt,
-        REDUCED,
+        BASE,
         "5 FMS send 1 aa
 5 FMS send 1 aa
 5 DSP receive 1
@@ -91,7 +97,9 @@ fn equal_messages_are_two(rt: HostRuntime) -> Result<(), Fail> {
 7 5 DSP receive NO_ERROR message aa
 partition FMS mode NORMAL calls 4
 partition DSP mode NORMAL calls 3
+partition AIR mode COLD_START calls 0
 queuing NAV accepted 2 received 1 waiting 1 aa
+sampling SPD empty
 ",
     )
 }
@@ -100,7 +108,7 @@ queuing NAV accepted 2 received 1 waiting 1 aa
 fn idle_is_silent(rt: HostRuntime) -> Result<(), Fail> {
     shows_after_opening(
         &rt,
-        REDUCED,
+        BASE,
         "5 FMS send 1 01
 5 FMS mode 0
 5 FMS send 1 02
@@ -114,7 +122,9 @@ fn idle_is_silent(rt: HostRuntime) -> Result<(), Fail> {
 9 5 DSP receive NOT_AVAILABLE
 partition FMS mode IDLE calls 5
 partition DSP mode NORMAL calls 4
+partition AIR mode COLD_START calls 0
 queuing NAV accepted 1 received 1 waiting 0
+sampling SPD empty
 ",
     )
 }
@@ -123,7 +133,7 @@ queuing NAV accepted 1 received 1 waiting 0
 fn length_before_direction(rt: HostRuntime) -> Result<(), Fail> {
     shows_after_opening(
         &rt,
-        REDUCED,
+        BASE,
         "5 FMS send 1 0102030405
 5 FMS send 1 01020304
 5 FMS send 1 -
@@ -135,7 +145,9 @@ fn length_before_direction(rt: HostRuntime) -> Result<(), Fail> {
 8 5 DSP send INVALID_CONFIG
 partition FMS mode NORMAL calls 5
 partition DSP mode NORMAL calls 3
+partition AIR mode COLD_START calls 0
 queuing NAV accepted 1 received 0 waiting 1 01020304
+sampling SPD empty
 ",
     )
 }
@@ -144,7 +156,7 @@ queuing NAV accepted 1 received 0 waiting 1 01020304
 fn restart_forgets_ports(rt: HostRuntime) -> Result<(), Fail> {
     shows_after_opening(
         &rt,
-        REDUCED,
+        BASE,
         "5 FMS send 1 0a
 5 DSP mode 2
 5 DSP receive 1
@@ -158,7 +170,9 @@ fn restart_forgets_ports(rt: HostRuntime) -> Result<(), Fail> {
 9 5 DSP receive NO_ERROR message 0a
 partition FMS mode NORMAL calls 3
 partition DSP mode WARM_START calls 6
+partition AIR mode COLD_START calls 0
 queuing NAV accepted 1 received 1 waiting 0
+sampling SPD empty
 ",
     )
 }
@@ -167,21 +181,29 @@ queuing NAV accepted 1 received 1 waiting 0
 fn identifiers_and_status(rt: HostRuntime) -> Result<(), Fail> {
     shows_after_opening(
         &rt,
-        REDUCED,
+        BASE,
         "5 FMS queuing-id NAV_OUT
 5 FMS queuing-id NAV_IN
+5 AIR sampling-id SPD_OUT
+5 AIR create-sampling SPD_OUT 4 0 50
+5 AIR sampling-id SPD_OUT
 5 FMS send 1 01
 5 FMS queuing-status 1
 5 DSP queuing-status 1
 ",
         "5 5 FMS queuing-id NO_ERROR id 1
 6 5 FMS queuing-id INVALID_CONFIG
-7 5 FMS send NO_ERROR
-8 5 FMS queuing-status NO_ERROR waiting 1 depth 2 size 4 SOURCE processes 0
-9 5 DSP queuing-status NO_ERROR waiting 1 depth 2 size 4 DESTINATION processes 0
+7 5 AIR sampling-id INVALID_CONFIG
+8 5 AIR create-sampling NO_ERROR id 1
+9 5 AIR sampling-id NO_ERROR id 1
+10 5 FMS send NO_ERROR
+11 5 FMS queuing-status NO_ERROR waiting 1 depth 2 size 4 SOURCE processes 0
+12 5 DSP queuing-status NO_ERROR waiting 1 depth 2 size 4 DESTINATION processes 0
 partition FMS mode NORMAL calls 6
 partition DSP mode NORMAL calls 3
+partition AIR mode COLD_START calls 3
 queuing NAV accepted 1 received 0 waiting 1 01
+sampling SPD empty
 ",
     )
 }

@@ -3,21 +3,6 @@ use super::texts::{BASE, shows};
 use std::test::Fail;
 
 #[test]
-fn nothing_asked_of_both_kinds(rt: HostRuntime) -> Result<(), Fail> {
-    shows(
-        &rt,
-        BASE,
-        "",
-        "partition FMS mode COLD_START calls 0
-partition DSP mode COLD_START calls 0
-partition AIR mode COLD_START calls 0
-queuing NAV accepted 0 received 0 waiting 0
-sampling SPD empty
-",
-    )
-}
-
-#[test]
 fn sample_expires(rt: HostRuntime) -> Result<(), Fail> {
     shows(
         &rt,
