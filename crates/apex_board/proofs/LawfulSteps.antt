@@ -1,8 +1,9 @@
 -- One more lawful entry, and what holds of lawful histories.
-use Rattle.std.proofs.Common.{◌≡◌, ◌≢◌, ℕ, ◌<◌, ◌==◌, Bool, true, false, List, [], ◌∷◌, ◌++◌, length, take, Some, refl, sym, ap, ◌∙◌, subst, arith}
+use Rattle.std.proofs.Common.{◌≡◌, ◌≢◌, ℕ, ◌<◌, ◌==◌, Bool, true, false, [], ◌∷◌, ◌++◌, length, take, Some, refl, sym, ap, ◌∙◌, subst, arith}
 use Rattle.std.specs.List.{slice_get}
 use Rattle.std.proofs.lemmas.Bool.Decides.{nat_tests}
 use Rattle.std.proofs.lemmas.List.{take-append-le}
+use Rattle.std.proofs.Math.Seq.{take-append_seam}
 use Rattle.circular_buffer.proofs.Places.{slice_get-last, slice_get-push}
 use Rattle.std.proofs.lemmas.Option.{slice_get_within}
 use Rattle.apex_types.specs.declared.call.Call.{Call}
@@ -13,10 +14,6 @@ use Rattle.apex_board.specs.declared.history.Entry.{Entry}
 use Rattle.apex_board.specs.History.{History, entry_of}
 use Rattle.apex_board.specs.Lawful.{IsLawful, IsLawfulEntry}
 use Rattle.apex_board.specs.ReplyTable.{reply_to}
-
-take_all : {X : Type 0} (xs ys : List X) → take (length xs) (xs ++ ys) ≡ xs
-take_all [] ys = refl
-take_all (x ∷ xs) ys = ap (λ zs. x ∷ zs) (take_all xs ys)
 
 -- a lawful history stays lawful with one more lawful entry
 pub lawful_push : (config : Configuration) (h : History) (p : ℕ) (at : Moment) (call : Call) (reply : Reply) → IsLawful config h → p < length config.partitions → reply ≡ reply_to config h p at call → IsLawful config (h ++ entry_of p at call reply ∷ [])
@@ -30,7 +27,7 @@ lawful_push config h p at call reply lawful within is k entry here = by_test (k 
         let place : k ≡ length h = grind (arith, nat_tests) in
         let same : Some entry ≡ Some e = sym here ∙ slice_get-last h e k place in
         let is_e : e ≡ entry = cc in
-        let before : h ≡ take k (h ++ e ∷ []) = sym (ap (λ n. take n (h ++ e ∷ [])) place ∙ take_all h (e ∷ [])) in
+        let before : h ≡ take k (h ++ e ∷ []) = sym (ap (λ n. take n (h ++ e ∷ [])) place ∙ take-append_seam h (e ∷ [])) in
         subst (λ (x : Entry). IsLawfulEntry config (take k (h ++ e ∷ [])) x) is_e (subst (λ (g : History). IsLawfulEntry config g e) before (within, is))
     by_test false earlier =
         let apart : k ≢ length h = grind (arith, nat_tests) in

@@ -21,9 +21,6 @@ request_of entry = record { partition = entry.partition; at = entry.at; call = e
 abbrev pub requests_of : History → List Request
 requests_of history = map request_of history
 
--- the moments and calls of one partition, and the replies that it got
+-- the entries of one partition
 abbrev pub entries_of : ℕ → History → History
 entries_of partition history = filter (λ entry. entry.partition == partition) history
-
-abbrev pub replies_of : ℕ → History → List Reply
-replies_of partition history = map (λ entry. entry.reply) (entries_of partition history)

@@ -4,6 +4,7 @@ pub mod History
 pub mod Idle
 pub mod Kept
 pub mod Lawful
+pub mod LawfulLaws
 pub mod Modes
 pub mod OneChannel
 pub mod Ports

@@ -3,7 +3,7 @@ use Rattle.std.proofs.Common.{◌≡◌, ℕ, zero, suc, ◌+◌, ◌-◌, ◌<�
 use Rattle.std.specs.List.{slice_get, list_all, count_by}
 use Rattle.std.proofs.lemmas.Bool.{and_parts, false≢true, leb-true, eqb-true, ltb-false}
 use Rattle.std.proofs.lemmas.Bool.Decides.{nat_tests}
-use Rattle.std.proofs.lemmas.Option.{same_Some}
+use Rattle.std.proofs.lemmas.Option.{same_Some, slice_get-map}
 use Rattle.apex_types.specs.Name.{IsName, is_name_byte}
 use Rattle.apex_types.specs.declared.direction.Direction.{Direction}
 use Rattle.apex_types.specs.declared.direction.Direction.TheVariants.{Source, Destination}
@@ -20,7 +20,7 @@ use Rattle.apex_config.specs.declared.fault.ConfigFault.TheVariants.{BadName, Na
 use Rattle.apex_config.specs.declared.limits.TheConstants.{PARTITION_LIMIT, PORT_LIMIT, CHANNEL_LIMIT, SIZE_LIMIT}
 use Rattle.apex_config.specs.Configuration.{PartitionData, Configuration, IsConfiguration, ports_of_partition, port_at, port_of, channel_of, partition_name_of, is_queuing_port, is_queuing_channel, KindsAgree, IsRefresh, IsDepth}
 use Rattle.apex_config.specs.Passes.{all_ports, is_name, has_names, are_distinct, has_distinct_names, is_within, has_refresh, has_depth, has_numbers, has_channels, same_kind, agrees, fits_kind, has_kinds, same_direction, is_end, end_count, has_sources, fits_destinations, has_destinations, has_counts, first_fault}
-use Rattle.apex_config.proofs.Places.{no_place, same_place, all_at, slice_get-map, distinct_at, part-le-sum_by, one_part, some_part, numbered_at}
+use Rattle.apex_config.proofs.Places.{no_place, same_place, all_at, distinct_at, part-le-sum_by, one_part, some_part, numbered_at}
 
 -- ---- where a port stands
 

@@ -1,5 +1,5 @@
 -- Elements at their places, against tests and counts of the whole list.
-use Rattle.std.proofs.Common.{◌≡◌, ℕ, zero, suc, ◌+◌, ◌≤◌, Bool, true, false, ◌||◌, not, List, [], ◌∷◌, map, Some, option_map, refl, sym, ap, ◌∙◌, arith}
+use Rattle.std.proofs.Common.{◌≡◌, ℕ, zero, suc, ◌+◌, ◌≤◌, Bool, true, false, ◌||◌, not, List, [], ◌∷◌, Some, refl, sym, ap, ◌∙◌, arith}
 use Rattle.std.specs.List.{slice_get, list_all, list_any, sum_by, enumerate_from}
 use Rattle.std.specs.Str.{bytes_eq}
 use Rattle.std.proofs.lemmas.Bool.{and_parts, false≢true}
@@ -31,11 +31,6 @@ any_at : {X : Type 0} (p : X → Bool) (xs : List X) (i : ℕ) (x : X) → slice
 any_at p [] i x found holds = no_place i x found
 any_at p (y ∷ ys) zero x found holds = or_left (p y) (list_any p ys) (ap p (same_Some y x found) ∙ holds)
 any_at p (y ∷ ys) (suc i) x found holds = or_right (p y) (list_any p ys) (any_at p ys i x found holds)
-
-pub slice_get-map : {X Y : Type 0} (f : X → Y) (xs : List X) (i : ℕ) → slice_get (map f xs) i ≡ option_map f (slice_get xs i)
-slice_get-map f [] i = refl
-slice_get-map f (x ∷ xs) zero = refl
-slice_get-map f (x ∷ xs) (suc i) = slice_get-map f xs i
 
 -- ---- distinct names
 
