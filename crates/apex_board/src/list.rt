@@ -35,11 +35,9 @@ pub fn run_list<A: Allocator>(board: &mut Board<A>, requests: &[Request]) -> Res
     // Where this is refused the log grows as it goes.
     let _ = board.reserve_entries(requests.len());
     for (done, request) in requests.iter().enumerate() {
-        if board
-            .call(request.partition, request.at, &request.call)
-            .is_err()
-        {
-            return Err(Stopped { done });
+        match board.call(request.partition, request.at, &request.call) {
+            Ok(_) => {}
+            Err(_) => return Err(Stopped { done }),
         }
     }
     Ok(())
