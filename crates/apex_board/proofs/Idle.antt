@@ -97,14 +97,3 @@ idle_stays config h q at call reply valid is = record {
         by_test : (b : Bool) → (q == p) ≡ b → sample_written config c e ≡ None
         by_test true test = let here : q ≡ p = grind (arith, nat_tests) in λ i. if refused p idle here i then sample_at at (message_written config c q call) else None
         by_test false test = let apart : q ≢ p = grind (arith, nat_tests) in (λ i. if is_accepted reply then sample_at at (writes_nothing config p source.0 q c call valid source.1 apart i) else None) ∙ none_or_none (is_accepted reply)
-
--- IDLE lasts over two steps as over one
-pub idle_along : (config : Configuration) (a b d : History) → StaysIdle config a b → StaysIdle config b d → StaysIdle config a d
-idle_along config a b d first second = record {
-  mode = λ p idle. second.mode p (first.mode p idle);
-  accepted = λ p c idle source. second.accepted p c (first.mode p idle) source ∙ first.accepted p c idle source;
-  sample = λ p c idle source. second.sample p c (first.mode p idle) source ∙ first.sample p c idle source;
-}
-
-pub idle_same : (config : Configuration) (h : History) → StaysIdle config h h
-idle_same config h = record { mode = λ p idle. idle; accepted = λ p c idle source. refl; sample = λ p c idle source. refl }

@@ -1,45 +1,26 @@
 -- What a kept state says at one place.
-use Rattle.std.proofs.Common.{◌≡◌, ℕ, ◌-◌, Bool, if◌then◌else◌, ◌<◌, ◌≤◌, ◌==◌, true, false, [], ◌∷◌, length-append, refl, List, ◌++◌, length, drop, get_or, Option, Some, None, sym, ap, ◌∙◌, arith}
+use Rattle.std.proofs.Common.{◌≡◌, ℕ, ◌<◌, ◌≤◌, ◌==◌, true, false, [], ◌∷◌, length-append, refl, List, ◌++◌, length, drop, get_or, Option, Some, None, sym, ap, ◌∙◌, arith}
 use Rattle.std.specs.List.{slice_get}
 use Rattle.std.specs.Vec.{vec_len, vec_capacity}
 use Rattle.std.proofs.Math.Seq.{drop-append_seam}
 use Rattle.std.proofs.lemmas.Bool.Decides.{nat_tests}
-use Rattle.std.proofs.lemmas.Option.{slice_get-get_or, slice_get_within}
-use Rattle.apex_config.specs.Configuration.{Configuration, IsConfiguration, port_of, ports_of, channel_of, IsDepth, is_queuing_port}
+use Rattle.std.proofs.lemmas.Option.{slice_get-get_or}
+use Rattle.apex_config.specs.Configuration.{Configuration, IsConfiguration, channel_of, IsDepth}
 use Rattle.apex_config.specs.declared.channel.Channel.{Channel}
 use Rattle.apex_config.specs.declared.channel.ChannelKind.{ChannelKind}
 use Rattle.apex_config.specs.declared.channel.ChannelKind.TheVariants.{Queuing, Sampling}
 use Rattle.apex_config.specs.declared.limits.TheConstants.{DEPTH_LIMIT}
-use Rattle.apex_config.specs.declared.port.Port.{Port}
 use Rattle.apex_board.specs.declared.history.Sample.{Sample}
 use Rattle.apex_board.specs.declared.state.PartitionState.{PartitionState}
 use Rattle.apex_board.specs.declared.queue.Queue.{Queue}
 use Rattle.apex_board.specs.History.{History}
 use Rattle.apex_board.specs.Channels.{accepted_on, received_on, waiting_on}
 use Rattle.apex_board.specs.ReplyTable.{depth_of, depth_in, depth_in_kind}
-use Rattle.apex_board.specs.Ports.{IsPlace, is_queue, is_queuing}
 use Rattle.apex_board.specs.Kept.{IsKept, IsPartitionKept, IsQueueKept, IsSampleKept}
 
 -- what an index reads
 pub place_of : {X : Type 0} (xs : List X) (k : ℕ) (x : X) → k < length xs → x ≡ get_or xs k x → slice_get xs k ≡ Some x
 place_of xs k x within is = slice_get-get_or xs k x within ∙ ap Some (sym is)
-
--- a port's channel is one of the configuration's
-pub channel_within : (config : Configuration) (p id : ℕ) (port : Port) → IsConfiguration config → port_of config p id ≡ Some port → port.channel < length config.channels
-channel_within config p id port valid is =
-    let link = valid.linked p id port is in
-    slice_get_within config.channels port.channel link.0 link.1
-
--- a port has a place
-pub port_place : (config : Configuration) (p id : ℕ) (port : Port) → port_of config p id ≡ Some port → IsPlace (ports_of config p) id
-port_place config p id port is = by_test (id == 0) refl is
-  where
-    by_test : (b : Bool) → (id == 0) ≡ b → (if b then None else slice_get (ports_of config p) (id - 1)) ≡ Some port → IsPlace (ports_of config p) id
-    by_test true zero is = absurd (cc)
-    by_test false some is =
-        let within = slice_get_within (ports_of config p) (id - 1) port is in
-        let first : 0 < id = grind (arith, nat_tests) in
-        record { first = first; last = omega arith }
 
 -- what waits is what the history says
 pub waiting_is : {A : Type 0} (config : Configuration) (history : History) (c : ℕ) (queue : Queue A) → IsQueueKept config history c queue → queue.waiting.items ≡ waiting_on config c history
@@ -96,10 +77,6 @@ pub received_within : {A : Type 0} (config : Configuration) (history : History) 
 received_within config history c queue kept =
     let conserved : length (queue.received.items ++ queue.waiting.items) ≡ length queue.accepted.items = ap (λ (xs : List (List ℕ)). length xs) kept.conserved in
     omega (arith, conserved, length-append queue.received.items queue.waiting.items, queue.accepted.ok.0, queue.received.ok.0)
-
--- a port lies on a channel of its kind
-pub kind_of_port : (config : Configuration) (p id : ℕ) (port : Port) → IsConfiguration config → port_of config p id ≡ Some port → is_queuing config port.channel ≡ is_queuing_port port.kind
-kind_of_port config p id port valid is = let link = valid.linked p id port is in ap is_queue link.1 ∙ sym link.2
 
 pub front_of_nil : {X : Type 0} (xs ys : List X) → xs ++ ys ≡ [] → xs ≡ []
 front_of_nil [] ys e = refl

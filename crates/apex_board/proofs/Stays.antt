@@ -82,9 +82,6 @@ sample_changes config h e c sample written =
 
 -- ---- lists, place by place
 
-each_at_stays : {X : Type 0} (P Q : ℕ → X → Type 0) (xs : List X) → EachAt P xs → ((k : ℕ) (x : X) → P k x → Q k x) → EachAt Q xs
-each_at_stays P Q xs each step k x at = step k x (each k x at)
-
 -- the item at a place of a list with one item set
 pub slice_get-set_cases : {X : Type 0} (xs : List X) (i : ℕ) (y : X) (k : ℕ) (x : X) → slice_get (set xs i y) k ≡ Some x → ((k ≡ i) × (x ≡ y)) ⊎ ((k ≢ i) × (slice_get xs k ≡ Some x))
 slice_get-set_cases [] i y k x at = inr ((λ e. absurd (cc)), at)

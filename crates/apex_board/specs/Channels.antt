@@ -99,7 +99,7 @@ abbrev pub validity_read : ℕ → ℕ → Entry → Option Validity
 validity_read partition id entry =
     if is_read id entry.call && (entry.partition == partition) then validity_in entry.reply else None
 
--- the validity of the port's last read since its last creation, INVALID where there is none
+-- the validity that was read last at the port; each creation makes it INVALID, until the next read
 abbrev pub last_validity_of : ℕ → ℕ → History → Validity
 last_validity_of partition id history =
     fold (λ last entry. if creates partition id entry then Invalid else unwrap_or (validity_read partition id entry) last) Invalid history

@@ -52,7 +52,7 @@ mode_set partition entry = if is_accepted entry.reply && (entry.partition == par
 abbrev pub mode_of : ℕ → History → Mode
 mode_of partition history = fold (λ mode entry. unwrap_or (mode_set partition entry) mode) ColdStart history
 
--- an accepted change to COLD_START or WARM_START, which is a restart, also from the same mode
+-- a restart: COLD_START or WARM_START was set, from whichever mode
 abbrev pub is_restart : Option Mode → Bool
 is_restart None = false
 is_restart (Some mode) = is_start mode

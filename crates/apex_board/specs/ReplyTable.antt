@@ -176,7 +176,7 @@ service_reply config history p now (call.QueuingStatus id) =
     queuing_status_reply config history (queuing_port config history p id)
 service_reply config history p now (call.SetMode number) = set_mode_reply (mode_of p history) (mode_numbered number)
 
--- a partition in IDLE executes nothing
+-- in IDLE no service is performed
 abbrev pub reply_to : Configuration → History → ℕ → Moment → Call → Reply
 reply_to config history p now call =
     if is_idle (mode_of p history) then NotMade else service_reply config history p now call

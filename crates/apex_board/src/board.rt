@@ -1,5 +1,5 @@
 //! The board: its public face.
-ghost use Rattle.std.specs.Prelude.{◌≡◌, ℕ, ◌+◌, ◌<◌, ◌≤◌, ◌∷◌, ◌++◌, [], true, false, length, IfOk, OnOk, OnErr, IsOk};
+ghost use Rattle.std.specs.Prelude.{◌≡◌, ◌+◌, ◌<◌, ◌≤◌, ◌∷◌, ◌++◌, [], true, false, length, IfOk, OnOk, OnErr, IsOk};
 
 use crate::state::State;
 use apex_config::{Config, OutOfMemory};
@@ -63,7 +63,7 @@ impl<A: Allocator> Board<A> {
         Ok(())
     }
 
-    // Makes room for the entries of this many more calls.
+    /// Makes room for the entries of this many more calls.
     pub(crate) fn reserve_entries(&mut self, calls: usize) -> Result<(), OutOfMemory>
         ensures grows { self.old.room ≤ self.new.room }
         ensures config { self.new.config ≡ self.old.config }

@@ -1,5 +1,5 @@
 //! CREATE_QUEUING_PORT, CREATE_SAMPLING_PORT, GET_QUEUING_PORT_ID and GET_SAMPLING_PORT_ID.
-ghost use Rattle.std.specs.Prelude.{◌≡◌, ℕ, ◌<◌, ◌∷◌, ◌++◌, [], false, length, Some, IfOk, IfErr};
+ghost use Rattle.std.specs.Prelude.{◌≡◌, ◌<◌, ◌∷◌, ◌++◌, [], false, length, Some, IfOk, IfErr};
 ghost use Rattle.apex_types.specs.declared.call.Call.TheVariants as call;
 ghost use Rattle.apex_types.specs.declared.moment.Moment.{Moment};
 ghost use Rattle.apex_types.specs.declared.reply.Reply.TheVariants.{Code, Id};

@@ -1,5 +1,5 @@
 //! SET_PARTITION_MODE.
-ghost use Rattle.std.specs.Prelude.{◌≡◌, ℕ, ◌<◌, ◌∷◌, ◌++◌, [], false, length, Some, IfOk, IfErr};
+ghost use Rattle.std.specs.Prelude.{◌≡◌, ◌<◌, ◌∷◌, ◌++◌, [], false, length, Some, IfOk, IfErr};
 ghost use Rattle.apex_types.specs.Mode.{mode_numbered};
 ghost use Rattle.apex_types.specs.declared.call.Call.TheVariants as call;
 ghost use Rattle.apex_types.specs.declared.moment.Moment.{Moment};
@@ -52,12 +52,14 @@ fn mode_change(present: Mode, number: u32) -> Result<Mode, ReturnCode>
     }
 }
 
+/// Whether the mode is IDLE.
 pub(crate) fn is_idle(mode: Mode) -> bool
     ensures { result ≡ is_idle_mode mode }
 {
     matches!(mode, Mode::Idle)
 }
 
+/// Whether the mode is NORMAL.
 pub(crate) fn is_normal(mode: Mode) -> bool
     ensures { result ≡ is_normal_mode mode }
 {

@@ -1,6 +1,5 @@
 //! SEND_QUEUING_MESSAGE, RECEIVE_QUEUING_MESSAGE and GET_QUEUING_PORT_STATUS.
-ghost use Rattle.std.specs.Prelude.{◌≡◌, ℕ, ◌+◌, ◌<◌, ◌≤◌, ◌∷◌, ◌++◌, [], true, false, length, Some, IfOk, IfErr, slice_get};
-ghost use Rattle.std.specs.Vec.{vec_len, vec_capacity};
+ghost use Rattle.std.specs.Prelude.{◌≡◌, ◌+◌, ◌<◌, ◌∷◌, ◌++◌, [], true, false, length, Some, IfOk, IfErr};
 ghost use Rattle.apex_types.specs.declared.call.Call.TheVariants as call;
 ghost use Rattle.apex_types.specs.declared.reply.Reply.TheVariants.{Code, Received};
 ghost use Rattle.apex_types.specs.declared.return_code.ReturnCode.TheVariants.{NoError};

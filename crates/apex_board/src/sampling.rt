@@ -1,13 +1,12 @@
 //! WRITE_SAMPLING_MESSAGE, READ_SAMPLING_MESSAGE and GET_SAMPLING_PORT_STATUS.
-ghost use Rattle.std.specs.Prelude.{◌≡◌, ℕ, ◌<◌, ◌∷◌, ◌++◌, [], true, false, length, Some, IfOk, IfErr};
-ghost use Rattle.std.specs.Option.{option_copied};
+ghost use Rattle.std.specs.Prelude.{◌≡◌, ◌<◌, ◌∷◌, ◌++◌, [], true, false, length, Some, IfOk, IfErr};
 ghost use Rattle.apex_types.specs.declared.call.Call.TheVariants as call;
 ghost use Rattle.apex_types.specs.declared.moment.Moment.{Moment};
 ghost use Rattle.apex_types.specs.declared.reply.Reply.TheVariants.{Code, Read};
 ghost use Rattle.apex_types.specs.declared.return_code.ReturnCode.TheVariants.{NoError};
 ghost use Rattle.apex_config.specs.Configuration.{port_of, ports_of};
 ghost use Rattle.apex_board.specs.History.{entry_of};
-ghost use Rattle.apex_board.specs.Channels.{last_write_on, validity_at as validity_of_age};
+ghost use Rattle.apex_board.specs.Channels.{validity_at as validity_of_age};
 ghost use Rattle.apex_board.specs.Kept.{IsKept};
 ghost use Rattle.apex_board.specs.Modes.{is_no_error};
 ghost use Rattle.apex_board.specs.Ports.{IsPlace, is_queuing, sampling_port, is_source_of};

@@ -1,5 +1,5 @@
 //! One call as one event: the room that it may need, its service, and its entry in the log.
-ghost use Rattle.std.specs.Prelude.{◌≡◌, ℕ, ◌+◌, ◌<◌, ◌≤◌, ◌∷◌, ◌++◌, [], length, IfOk, OnOk, OnErr, IsOk};
+ghost use Rattle.std.specs.Prelude.{◌≡◌, ◌+◌, ◌<◌, ◌≤◌, ◌∷◌, ◌++◌, [], length, IfOk, OnOk, OnErr, IsOk};
 ghost use Rattle.std.specs.Vec.{vec_len, vec_capacity};
 ghost use Rattle.apex_board.specs.History.{entry_of};
 ghost use Rattle.apex_board.specs.Kept.{IsKept, HasPlaceFor, HasRoom, KeepsRoom, KeepsAllButOne};

@@ -1,6 +1,5 @@
 //! The state of a board: its log, and what the log comes to.
-ghost use Rattle.std.specs.Prelude.{◌≡◌, ℕ, ◌+◌, ◌-◌, ◌<◌, ◌≤◌, ◌==◌, if◌then◌else◌, true, false, length, Some};
-ghost use Rattle.apex_types.specs.Mode.{mode_numbered};
+ghost use Rattle.std.specs.Prelude.{◌≡◌, ℕ, ◌-◌, ◌<◌, ◌≤◌, ◌==◌, if◌then◌else◌, true, false, length, Some};
 ghost use Rattle.apex_types.specs.declared.validity.Validity.TheVariants.{Invalid};
 ghost use Rattle.apex_board.specs.Kept.{state_at, created_in, last_in};
 ghost use Rattle.apex_board.specs.Modes.{is_start};

@@ -23,9 +23,6 @@ no_front (Some xs) = refl
 abbrev pub Reads : {X : Type 0} → (Data → Option X) → List Value → ℕ → List X → Type 0
 Reads read values i front = with_front front (each read (items_view (drop i values))) ≡ each read (items_view values)
 
-pub reads_start : {X : Type 0} (read : Data → Option X) (values : List Value) → Reads read values 0 []
-reads_start read values = no_front (each read (items_view values))
-
 first_is : {X : Type 0} (read : Data → Option X) (front : List X) (first : Data) (others : Items) (x : X) → read first ≡ Some x
     → with_front front (each read (item first others)) ≡ with_front (front ++ x ∷ []) (each read others)
 unfolding each

@@ -6,7 +6,7 @@ ghost use Rattle.apex_config.specs.Passes.{all_ports, is_name, is_within, has_de
 use crate::channel::{Channel, ChannelKind};
 use crate::config::Config;
 use crate::draft::{ChannelDraft, Draft, PartitionDraft, PortDraft};
-use crate::limits::{DEPTH_LIMIT, SIZE_LIMIT};
+use crate::limits::SIZE_LIMIT;
 use crate::partition::Partition;
 use crate::port::Port;
 use apex_types::Name;

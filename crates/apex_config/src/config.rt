@@ -14,8 +14,8 @@ use apex_types::Name;
 use std::alloc::{AllocError, Global};
 use std::marker::Model;
 
-/// A configuration. To a contract it is plain data: the list of its partitions, each a name and a list of ports, and
-/// the list of its channels, of which all of `IsConfiguration` holds.
+/// The partitions and channels of a module. A contract sees the plain data of `Configuration`, of which all of
+/// `IsConfiguration` holds.
 #[derive(Debug, Drop)]
 pub struct Config {
     partitions: Vec<Partition>,
@@ -36,6 +36,7 @@ impl Config {
     ghost use Rattle.apex_config.specs.Passes.{Answers, config_of};
     ghost use Rattle.apex_config.specs.Configuration.{IsConfiguration, port_of, ports_of, channel_of, partition_name_of, partition_named, id_named};
 
+    /// The configuration of these lists.
     pub(crate) fn new(partitions: Vec<Partition>, channels: Vec<Channel>) -> Config
         requires { IsConfiguration (record { partitions = partitions.items; channels = channels.items }) }
         ensures { result ≡ record { partitions = partitions.items; channels = channels.items } }

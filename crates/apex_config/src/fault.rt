@@ -29,10 +29,10 @@ pub enum ConfigFault {
     /// The bytes are no TOML.
     #[error("not TOML")]
     NotToml,
-    /// A needed key is missing, a key is unknown, a value has the wrong type, or a word isn't in its list.
+    /// The document has another form: a key too few or too many, a value of another type, or a word that its key does not take.
     #[error("shape")]
     Shape,
-    /// The name of a partition, a port or a channel isn't 1 to 30 ASCII letters, digits and `_`.
+    /// A partition, a port or a channel has a text for its name that `Name::read` refuses.
     #[error("name")]
     BadName,
     /// Two partitions, two ports of one partition, or two channels have one name.
@@ -50,10 +50,10 @@ pub enum ConfigFault {
     /// A channel has no source port, or more than one.
     #[error("not exactly one source")]
     Sources,
-    /// A queuing channel hasn't exactly one destination port, or a sampling channel has none.
+    /// A channel has no destination port, or a queuing channel several.
     #[error("destinations")]
     Destinations,
-    /// The number of partitions, of a partition's ports, or of channels is out of its limits.
+    /// There is no partition, or there are too many of them, of the ports of one, or of the channels.
     #[error("count out of limits")]
     Counts,
     /// An allocation was refused.

@@ -1,5 +1,5 @@
 //! Reads the tables of a document as a draft, where their shape is right.
-ghost use Rattle.std.specs.Prelude.{◌≡◌, option_map, unwrap_or, position, length, IfOk};
+ghost use Rattle.std.specs.Prelude.{◌≡◌, option_map, position, IfOk};
 ghost use Rattle.std.specs.Str.{bytes_eq};
 ghost use Rattle.toml.specs.View.{view, table_view, items_view};
 ghost use Rattle.apex_config.specs.Reading.{queuing_port_keys, sampling_port_keys, channel_kind_of, channel_kind_in, channel_in, channel_number, port_kind_in, direction_in, port_in, partition_in, draft_in};

@@ -4,7 +4,7 @@ ghost use Rattle.std.specs.Prelude.{◌≡◌};
 use crate::message::Message;
 use crate::name::Name;
 
-/// A call of a service. Enumerated parameters are raw numbers, so that values out of range can be asked.
+/// A call of a service. A direction, a discipline or a mode is the number that the caller gave, and may be one that stands for nothing.
 #[derive(Debug, Drop, PartialEq, Eq)]
 pub enum Call {
     /// CREATE_SAMPLING_PORT. The size is in bytes, the refresh period in nanoseconds.

@@ -1,6 +1,6 @@
 //! The public types of the APEX port services: names, messages, moments, calls and replies.
 //!
-//! No call of this crate takes memory.
+//! Nothing here allocates.
 #![tactic(auto)]
 
 pub mod call;

@@ -15,7 +15,7 @@ pub const MESSAGE_LIMIT: usize = 256;
 /// The bytes of the longest message's hexadecimal text: two digits a byte.
 pub const HEX_LIMIT: usize = 2 * MESSAGE_LIMIT;
 
-/// A message of at most 256 bytes. To a contract it is the list of its bytes.
+/// A message of at most `MESSAGE_LIMIT` bytes. To a contract it is the list of its bytes.
 #[derive(Debug, Drop, PartialEq, Eq)]
 pub struct Message {
     bytes: ArrayVec<u8, MESSAGE_LIMIT>,
@@ -48,7 +48,7 @@ pub enum HexFault {
     /// A byte is no hexadecimal digit.
     #[error("bad digit")]
     BadDigit,
-    /// The text stands for more than 256 bytes.
+    /// The text stands for more than `MESSAGE_LIMIT` bytes.
     #[error("too long")]
     TooLong,
 }

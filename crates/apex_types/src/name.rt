@@ -11,7 +11,7 @@ use thiserror::Error;
 /// The most bytes of a name.
 pub const NAME_LIMIT: usize = 30;
 
-/// A name of 1 to 30 ASCII letters, digits and `_`, compared byte for byte. To a contract it is the list of its bytes.
+/// A name: ASCII letters, digits and `_`, at least one and at most `NAME_LIMIT`. Case counts. To a contract it is the list of its bytes.
 #[derive(Debug, Drop, PartialEq, Eq)]
 pub struct Name {
     bytes: ArrayVec<u8, NAME_LIMIT>,
@@ -36,7 +36,7 @@ pub enum NameFault {
     /// The text has no byte.
     #[error("empty")]
     Empty,
-    /// The text has more than 30 bytes.
+    /// The text has more than `NAME_LIMIT` bytes.
     #[error("too long")]
     TooLong,
     /// A byte is no ASCII letter, digit or `_`.

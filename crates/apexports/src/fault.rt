@@ -19,6 +19,7 @@ pub enum TraceFault {
     OutOfMemory,
 }
 
+// Written out, since the words of a line's fault are looked up by its number.
 impl fmt::Display for TraceFault {
     fn fmt<W: fmt::Write>(&self, f: &mut fmt::Formatter<W>) -> fmt::Result {
         match self {

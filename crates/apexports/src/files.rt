@@ -39,7 +39,7 @@ impl<R: Files> Opener for SystemFiles<'_, R> {
 /// Why a file was not read.
 #[derive(Clone, Copy, Debug, PartialEq, Eq)]
 pub enum FileFault {
-    /// It can't be opened or read, is longer than the limit, or doesn't end.
+    /// It can't be opened, a read of it failed, or its bytes or reads exceed the limits.
     Unreadable,
     /// A growth of memory was refused.
     OutOfMemory,

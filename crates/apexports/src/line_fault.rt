@@ -4,7 +4,7 @@ ghost use Rattle.apexports.specs.LineFault.{number_of, fault_numbered};
 
 use thiserror::Error;
 
-/// What is wrong with a line, in the order in which a line is looked at.
+/// What is wrong with a line, in the order of the numbers.
 #[derive(Clone, Copy, Debug, PartialEq, Eq, Error)]
 pub enum LineFault {
     /// A byte is above 0x7F.

@@ -1,5 +1,5 @@
 //! Reading a trace: the requests of its lines, or its first faulty line.
-ghost use Rattle.std.specs.Prelude.{◌≡◌, length, IfOk};
+ghost use Rattle.std.specs.Prelude.{◌≡◌, IfOk};
 ghost use Rattle.std.specs.List.{list_all};
 ghost use Rattle.apexports.specs.Text.{words_of};
 ghost use Rattle.apexports.specs.Trace.{Answers, HavePartitions, is_ascii, moment_of, partition_of, test_count, request_at, request_of_line, trace_of};

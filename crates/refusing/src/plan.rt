@@ -1,4 +1,5 @@
-ghost use Rattle.std.specs.Prelude.{◌≡◌, ◌<◌, ◌≤◌, ◌-◌, ◌↔◌, IsTrue};
+//! The plan: which requests are refused.
+ghost use Rattle.std.specs.Prelude.{◌<◌, ◌-◌, ◌↔◌, IsTrue};
 ghost use Rattle.refusing.specs.Plan.{IsRefused};
 
 use std::sync::atomic::{AtomicU64, Ordering};

@@ -1,3 +1,4 @@
+//! The allocator that follows a plan.
 use crate::plan::Plan;
 use std::alloc::{AllocError, Allocator};
 

@@ -1,3 +1,4 @@
+//! What the plan refuses and what it counts.
 use crate::Switch;
 use std::alloc::{AllocError, Allocator};
 
@@ -48,9 +49,9 @@ fn sent<T: Send>(value: T) -> T {
     value
 }
 
-// Memory of a switch may be given back by another thread.
+// A vector of a switch may go to another thread; this is a test of the types.
 #[test]
-fn crosses_threads(rt: HostRuntime) -> Result<(), AllocError> {
+fn vector_is_send(rt: HostRuntime) -> Result<(), AllocError> {
     let switch = Switch::new(rt.alloc());
     let mut bytes = Vec::new(&switch);
     bytes.push(7u8)?;

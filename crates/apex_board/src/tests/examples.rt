@@ -1,5 +1,5 @@
 //! What the examples share: short ways to write a call and a reply, and boards that answer tables of calls.
-ghost use Rattle.std.specs.Prelude.{◌≡◌, ◌<◌, length};
+ghost use Rattle.std.specs.Prelude.{◌<◌};
 
 use crate::Board;
 use crate::tests::texts::{AIR, DSP, FMS};

@@ -1,5 +1,5 @@
 //! Refused memory: a refusal changes nothing that a reader shows, and a call within the room never meets one.
-ghost use Rattle.std.specs.Prelude.{◌≡◌, ◌<◌, length, All};
+ghost use Rattle.std.specs.Prelude.{◌<◌};
 
 use crate::tests::examples::{
     NO_ERROR, NOT_AVAILABLE, Row, answer, answers, board_of, create_queuing, queuing_ports, read,
