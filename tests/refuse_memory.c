@@ -5,9 +5,8 @@
  * REFUSE_REPORT=F   at the end of the program one line is written to the file F: the requests asked
  *                   and the requests refused
  *
- * Requests are counted once the program's own code runs: what the loader asks before `main` of a
- * program that is linked against the C library is counted too, and is refused like any other, so
- * the constructor below starts the count.
+ * Counting and refusing begin with this library's constructor: what the loader asks before it is
+ * neither counted nor refused, what it and the C library ask between it and `main` is both.
  */
 #define _GNU_SOURCE
 #include <errno.h>

@@ -8,7 +8,7 @@ use Rattle.apex_config.specs.declared.fault.ConfigFault.{ConfigFault}
 use Rattle.apex_config.specs.declared.fault.ConfigFault.TheVariants.{NotToml, Shape}
 use Rattle.apex_config.specs.Configuration.{Configuration}
 use Rattle.apex_config.specs.Reading.{draft_in}
-use Rattle.apex_config.specs.Passes.{config_of, config_of_document, config_of_draft, judged, first_fault}
+use Rattle.apex_config.specs.Passes.{config_of, config_of_document, config_of_draft, unless_faulty, first_fault}
 
 not_toml_in : (bytes : List ℕ) (b : Bool) → is_utf8 bytes ≡ b → (IsUtf8 bytes → parse_document bytes ≡ None) → cond b (config_of_document (parse_document bytes)) (Err NotToml) ≡ Err NotToml
 not_toml_in bytes true is refused = ap config_of_document (refused (IsUtf8-from_is_utf8 bytes is))
@@ -25,6 +25,6 @@ is_document bytes document text parsed = rw (is_utf8-from_IsUtf8 bytes text, par
 pub no_shape : (bytes : List ℕ) (document : Members) → IsUtf8 bytes → parse_document bytes ≡ Some document → draft_in document ≡ None → config_of bytes ≡ Err Shape
 no_shape bytes document text parsed none = is_document bytes document text parsed ∙ ap config_of_draft none
 
-pub is_judged : (bytes : List ℕ) (document : Members) (draft : Configuration) (found : Option ConfigFault) → IsUtf8 bytes → parse_document bytes ≡ Some document → draft_in document ≡ Some draft → first_fault draft ≡ found
-    → config_of bytes ≡ judged draft found
-is_judged bytes document draft found text parsed some is = is_document bytes document text parsed ∙ (ap config_of_draft some ∙ ap (judged draft) is)
+pub is_unless_faulty : (bytes : List ℕ) (document : Members) (draft : Configuration) (found : Option ConfigFault) → IsUtf8 bytes → parse_document bytes ≡ Some document → draft_in document ≡ Some draft → first_fault draft ≡ found
+    → config_of bytes ≡ unless_faulty draft found
+is_unless_faulty bytes document draft found text parsed some is = is_document bytes document text parsed ∙ (ap config_of_draft some ∙ ap (unless_faulty draft) is)

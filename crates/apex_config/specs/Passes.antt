@@ -137,13 +137,13 @@ first_fault config =
 
 -- ---- the configuration that bytes are, or the fault of the first pass that finds one
 
-abbrev pub judged : Configuration → Option ConfigFault → Result Configuration ConfigFault
-judged config None = Ok config
-judged config (Some fault) = Err fault
+abbrev pub unless_faulty : Configuration → Option ConfigFault → Result Configuration ConfigFault
+unless_faulty config None = Ok config
+unless_faulty config (Some fault) = Err fault
 
 abbrev pub config_of_draft : Option Configuration → Result Configuration ConfigFault
 config_of_draft None = Err Shape
-config_of_draft (Some config) = judged config (first_fault config)
+config_of_draft (Some config) = unless_faulty config (first_fault config)
 
 abbrev pub config_of_document : Option Members → Result Configuration ConfigFault
 config_of_document None = Err NotToml

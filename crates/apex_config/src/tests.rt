@@ -296,7 +296,14 @@ fn with_partitions(alloc: Global, partitions: u32) -> Result<String, Fail> {
     Ok(text)
 }
 
-/// This many sampling channels, each with a source in one partition and a destination in another of every 32.
+/// Both ports of the sampling channel of a number.
+fn ports_of_channel(alloc: Global, number: u32) -> Result<String, Fail> {
+    Ok(format!(in alloc;
+        "[[partition.port]]\nname = \"A{number}\"\nkind = \"sampling\"\ndirection = \"source\"\nchannel = \"C{number}\"\nrefresh = 1\n[[partition.port]]\nname = \"B{number}\"\nkind = \"sampling\"\ndirection = \"destination\"\nchannel = \"C{number}\"\nrefresh = 1\n"
+    )?)
+}
+
+/// This many sampling channels, spread over 16 partitions, each with both of its ports in one of them.
 fn with_channels(alloc: Global, channels: u32) -> Result<String, Fail> {
     let mut text = String::new(alloc);
     for number in 0..channels {
@@ -305,11 +312,15 @@ fn with_channels(alloc: Global, channels: u32) -> Result<String, Fail> {
         )?;
         text.push_str(channel.as_str())?;
     }
-    for number in 0..channels {
-        let ports = format!(in alloc;
-            "[[partition]]\nname = \"P{number}\"\n[[partition.port]]\nname = \"A\"\nkind = \"sampling\"\ndirection = \"source\"\nchannel = \"C{number}\"\nrefresh = 1\n[[partition.port]]\nname = \"B\"\nkind = \"sampling\"\ndirection = \"destination\"\nchannel = \"C{number}\"\nrefresh = 1\n"
-        )?;
-        text.push_str(ports.as_str())?;
+    for partition in 0..16 {
+        let heading = format!(in alloc; "[[partition]]\nname = \"P{partition}\"\n")?;
+        text.push_str(heading.as_str())?;
+        for number in 0..channels {
+            if number % 16 == partition {
+                let ports = ports_of_channel(alloc, number)?;
+                text.push_str(ports.as_str())?;
+            }
+        }
     }
     Ok(text)
 }
@@ -328,8 +339,12 @@ fn counts_have_limits(rt: HostRuntime) -> Result<(), Fail> {
         Some(10)
     );
     assert_eq!(rt;
-        fault_of(alloc, with_channels(alloc, 16)?.as_str()),
+        fault_of(alloc, with_channels(alloc, 64)?.as_str()),
         Some(0)
+    );
+    assert_eq!(rt;
+        fault_of(alloc, with_channels(alloc, 65)?.as_str()),
+        Some(10)
     );
     Ok(())
 }

@@ -16,7 +16,7 @@ use std::process::Abort;
 use std::test::Fail;
 
 /// More allocations than any call of these examples asks for.
-const MANY: u64 = 40;
+const ALLOCATION_LIMIT: u64 = 40;
 
 fn config_of<R: AllocGlobal>(rt: &R) -> Result<Config, Fail> {
     Ok(Config::read(rt.alloc(), BASE.as_bytes())?)
@@ -125,7 +125,7 @@ fn room_serves_without_memory(rt: HostRuntime) -> Result<(), Fail> {
 fn new_board_refused_in_turn(rt: HostRuntime) -> Result<(), Fail> {
     let ample = board_of(&rt, BASE)?;
     let mut ended = false;
-    for pass in 0..MANY {
+    for pass in 0..ALLOCATION_LIMIT {
         let config = config_of(&rt)?;
         let switch = Switch::new(rt.alloc());
         switch.refuse_after(pass, 1);
@@ -147,7 +147,7 @@ fn reserve_refused_in_turn(rt: HostRuntime) -> Result<(), Fail> {
     let mut ample = board_of(&rt, BASE)?;
     answers(&rt, &mut ample, &rows)?;
     let mut ended = false;
-    for pass in 0..MANY {
+    for pass in 0..ALLOCATION_LIMIT {
         let switch = Switch::new(rt.alloc());
         let mut board = Board::new(&switch, config_of(&rt)?)?;
         answers(&rt, &mut board, &rows)?;
@@ -175,7 +175,7 @@ fn call_refused_in_turn<R: AllocGlobal + Abort>(
     row: &Row,
 ) -> Result<bool, Fail> {
     let (partition, at, call, wanted) = row;
-    for pass in 0..MANY {
+    for pass in 0..ALLOCATION_LIMIT {
         let mut ample = board_of(rt, BASE)?;
         answers(rt, &mut ample, before)?;
         let switch = Switch::new(rt.alloc());
@@ -240,7 +240,7 @@ fn goes_on<R: AllocGlobal + Abort, A: Allocator>(
 // for good it stops; one refusal alone it may do without.
 fn list_refused_in_turn<R: AllocGlobal + Abort>(rt: &R, refuse: u64) -> Result<(), Fail> {
     let requests = requests_of(&full_queue()?, rt.alloc())?;
-    for pass in 0..MANY {
+    for pass in 0..ALLOCATION_LIMIT {
         let switch = Switch::new(rt.alloc());
         let mut board = Board::new(&switch, config_of(rt)?)?;
         switch.refuse_after(pass, refuse);

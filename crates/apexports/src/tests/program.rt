@@ -161,7 +161,7 @@ fn files_that_cannot_be_read(rt: HostRuntime) -> Result<(), Fail> {
     Ok(())
 }
 
-const LITTLE: &str = "partition FMS mode COLD_START calls 0
+const EMPTY_REPORT: &str = "partition FMS mode COLD_START calls 0
 partition DSP mode COLD_START calls 0
 queuing NAV accepted 0 received 0 waiting 0
 ";
@@ -170,7 +170,7 @@ queuing NAV accepted 0 received 0 waiting 0
 fn the_longest_file_is_read(rt: HostRuntime) -> Result<(), Fail> {
     for path in ["longest", "slow"] {
         let words = ["apexports", "replay", "reduced.toml", path];
-        answers(&rt, &words, 0, LITTLE, "")?;
+        answers(&rt, &words, 0, EMPTY_REPORT, "")?;
     }
     Ok(())
 }

@@ -1,7 +1,7 @@
 use Rattle.std.proofs.Common.{Some, None, Ok, sym, ap, ◌∙◌}
 use Rattle.std.proofs.lemmas.Bool.{false≢true}
 use Rattle.toml.specs.View.{table_view}
-use Rattle.apex_config.proofs.Answering.{not_toml, no_shape, is_judged}
+use Rattle.apex_config.proofs.Answering.{not_toml, no_shape, is_unless_faulty}
 use Rattle.apex_config.proofs.config.Config.read.Goals as goal
 
 pub returns-in-Err-2 : goal.returns-in-Err-2
@@ -14,10 +14,10 @@ returns-in_default c _ =
 
 pub returns-in-Some-first_fault : goal.returns-in-Some-first_fault
 returns-in-Some-first_fault c _ =
-    is_judged c.args.bytes.now (table_view c.in-Ok.document) c.in-Some.draft (Some c.in-Some-first_fault.fault) c.in-Ok.ensures.ok.0 c.in-Ok.ensures.ok.1
+    is_unless_faulty c.args.bytes.now (table_view c.in-Ok.document) c.in-Some.draft (Some c.in-Some-first_fault.fault) c.in-Ok.ensures.ok.0 c.in-Ok.ensures.ok.1
     (sym c.in_ok-draft.ensures ∙ c.in-Some.is) (sym c.first_fault.ensures ∙ c.in-Some-first_fault.is)
 
 pub returns : goal.returns
 returns c =
-    is_judged c.args.bytes.now (table_view c.in-Ok.document) c.in-Some.draft None c.in-Ok.ensures.ok.0 c.in-Ok.ensures.ok.1
+    is_unless_faulty c.args.bytes.now (table_view c.in-Ok.document) c.in-Some.draft None c.in-Ok.ensures.ok.0 c.in-Ok.ensures.ok.1
     (sym c.in_ok-draft.ensures ∙ c.in-Some.is) (sym c.first_fault.ensures ∙ c.in_default-first_fault.is) ∙ ap (λ config. Ok config) (sym c.in_ok-config_of.ensures)
