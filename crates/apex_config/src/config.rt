@@ -60,10 +60,10 @@ impl Config {
         let Some(draft) = shape::draft_of(alloc, &document)? else {
             return Err(ConfigFault::Shape);
         };
-        if let Some(fault) = passes::first_fault(&draft) {
-            return Err(fault);
+        match passes::first_fault(alloc, &draft)? {
+            Some(fault) => Err(fault),
+            None => Ok(accept::config_of(alloc, &draft)?),
         }
-        Ok(accept::config_of(alloc, &draft)?)
     }
 
     /// An equal configuration.

@@ -1,5 +1,5 @@
 //! The tests of a draft, in their order. Each looks at the whole draft.
-ghost use Rattle.std.specs.Prelude.{◌≡◌, ◌==◌, ◌&&◌, length, map, min, nat_le, nat_lt, count_by};
+ghost use Rattle.std.specs.Prelude.{◌≡◌, ◌==◌, ◌&&◌, length, map, min, nat_le, nat_lt, count_by, IfOk};
 ghost use Rattle.std.specs.List.{list_all, list_any, enumerate_from};
 ghost use Rattle.std.specs.Str.{bytes_eq};
 ghost use Rattle.apex_config.specs.Configuration.{is_queuing_port};
@@ -12,6 +12,8 @@ use crate::limits::{
 };
 use crate::port::PortKind;
 use apex_types::{Direction, Name};
+use std::alloc::{AllocError, Global};
+use std::collections::BTreeSet;
 
 fn is_name(text: &str) -> bool
     ensures { result ≡ is_name text.now }
@@ -87,43 +89,38 @@ impl Named for ChannelDraft<'_> {
     }
 }
 
-fn has_name<T: Named>(entries: &[T], name: &str) -> bool
-    ensures { result ≡ list_any (λ other. bytes_eq other name.now) (map T.name_of entries.now) }
+fn are_distinct<T: Named>(alloc: Global, entries: &[T]) -> Result<bool, AllocError>
+    ensures { IfOk result (λ distinct. distinct ≡ are_distinct (map T.name_of entries.now)) }
 {
+    let mut seen = BTreeSet::new(alloc);
     for entry in entries {
-        if entry.name() == name {
-            return true;
+        if !seen.insert(entry.name())? {
+            return Ok(false);
         }
     }
-    false
+    Ok(true)
 }
 
-fn are_distinct<T: Named>(entries: &[T]) -> bool
-    ensures { result ≡ are_distinct (map T.name_of entries.now) }
+fn has_distinct_port_names(alloc: Global, partitions: &[PartitionDraft]) -> Result<bool, AllocError>
+    ensures { IfOk result (λ distinct. distinct ≡ list_all (λ partition. are_distinct (map (λ port. port.name) partition.ports)) partitions.now) }
 {
-    for (i, entry) in entries.iter().enumerate() {
-        if has_name(&entries[i + 1..], entry.name()) {
-            return false;
+    for partition in partitions {
+        if !are_distinct(alloc, partition.ports.as_slice())? {
+            return Ok(false);
         }
     }
-    true
-}
-
-fn has_distinct_port_names(partitions: &[PartitionDraft]) -> bool
-    ensures { result ≡ list_all (λ partition. are_distinct (map (λ port. port.name) partition.ports)) partitions.now }
-{
-    partitions
-        .iter()
-        .all(|partition| are_distinct(partition.ports.as_slice()))
+    Ok(true)
 }
 
 #[tactic(auto, unfolding(crate::specs::Passes::has_distinct_names))]
-fn has_distinct_names(draft: &Draft) -> bool
-    ensures { result ≡ has_distinct_names draft.now }
+fn has_distinct_names(alloc: Global, draft: &Draft) -> Result<bool, AllocError>
+    ensures { IfOk result (λ distinct. distinct ≡ has_distinct_names draft.now) }
 {
-    are_distinct(draft.partitions.as_slice())
-        && has_distinct_port_names(draft.partitions.as_slice())
-        && are_distinct(draft.channels.as_slice())
+    Ok(
+        are_distinct(alloc, draft.partitions.as_slice())?
+            && has_distinct_port_names(alloc, draft.partitions.as_slice())?
+            && are_distinct(alloc, draft.channels.as_slice())?,
+    )
 }
 
 fn is_within(limit: u64, number: u64) -> bool
@@ -333,12 +330,12 @@ fn has_counts(draft: &Draft) -> bool
 
 /// The fault of the first test that fails.
 #[tactic(auto, unfolding(crate::specs::Passes::first_fault))]
-pub fn first_fault(draft: &Draft) -> Option<ConfigFault>
-    ensures { result ≡ first_fault draft.now }
+pub fn first_fault(alloc: Global, draft: &Draft) -> Result<Option<ConfigFault>, AllocError>
+    ensures { IfOk result (λ fault. fault ≡ first_fault draft.now) }
 {
-    if !has_names(draft) {
+    Ok(if !has_names(draft) {
         Some(ConfigFault::BadName)
-    } else if !has_distinct_names(draft) {
+    } else if !has_distinct_names(alloc, draft)? {
         Some(ConfigFault::NameTwice)
     } else if !has_numbers(draft) {
         Some(ConfigFault::OutOfRange)
@@ -354,5 +351,5 @@ pub fn first_fault(draft: &Draft) -> Option<ConfigFault>
         Some(ConfigFault::Counts)
     } else {
         None
-    }
+    })
 }

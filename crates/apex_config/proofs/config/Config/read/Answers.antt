@@ -12,12 +12,12 @@ pub returns-in_default : goal.returns-in_default
 returns-in_default c _ =
     no_shape c.args.bytes.now (table_view c.in-Ok.document) c.in-Ok.ensures.ok.0 c.in-Ok.ensures.ok.1 (sym c.in_ok-draft.ensures ∙ c.in_default.is)
 
-pub returns-in-Some-first_fault : goal.returns-in-Some-first_fault
-returns-in-Some-first_fault c _ =
-    is_unless_faulty c.args.bytes.now (table_view c.in-Ok.document) c.in-Some.draft (Some c.in-Some-first_fault.fault) c.in-Ok.ensures.ok.0 c.in-Ok.ensures.ok.1
-    (sym c.in_ok-draft.ensures ∙ c.in-Some.is) (sym c.first_fault.ensures ∙ c.in-Some-first_fault.is)
+pub returns-in-Some-2 : goal.returns-in-Some-2
+returns-in-Some-2 c _ =
+    is_unless_faulty c.args.bytes.now (table_view c.in-Ok.document) c.in-Some.draft (Some c.in-Some-2.fault) c.in-Ok.ensures.ok.0 c.in-Ok.ensures.ok.1
+    (sym c.in_ok-draft.ensures ∙ c.in-Some.is) (sym c.in_ok-fault.ensures ∙ c.in-Some-2.is)
 
 pub returns : goal.returns
 returns c =
     is_unless_faulty c.args.bytes.now (table_view c.in-Ok.document) c.in-Some.draft None c.in-Ok.ensures.ok.0 c.in-Ok.ensures.ok.1
-    (sym c.in_ok-draft.ensures ∙ c.in-Some.is) (sym c.first_fault.ensures ∙ c.in_default-first_fault.is) ∙ ap (λ config. Ok config) (sym c.in_ok-config_of.ensures)
+    (sym c.in_ok-draft.ensures ∙ c.in-Some.is) (sym c.in_ok-fault.ensures ∙ c.in-None.is) ∙ ap (λ config. Ok config) (sym c.in_ok-config_of-in-None.ensures)
