@@ -1,13 +1,22 @@
-//! The replay of a trace as a plain Rust program: std alone, messages on the heap.
+//! The replay of a trace as a plain Rust program: std alone, messages on the heap, or in place where it
+//! is built with `--cfg in_place`.
 //!
 //! It serves what the benchmark's traces ask, queuing ports and modes, reads a configuration by its
 //! headed tables alone, and prints the same report as the proved program. It is measured beside that
 //! program and stands in no other relation to it.
 
+#[cfg(in_place)]
+mod in_place;
+
 use std::collections::VecDeque;
 use std::fmt::Write;
 use std::io::Write as _;
 use std::{env, fs, process};
+
+#[cfg(in_place)]
+use in_place::Message;
+#[cfg(not(in_place))]
+type Message = Vec<u8>;
 
 #[derive(Clone, Copy, PartialEq)]
 enum Mode {
@@ -50,14 +59,14 @@ struct Channel {
     name: String,
     size: usize,
     depth: usize,
-    queue: VecDeque<Vec<u8>>,
-    accepted: Vec<Vec<u8>>,
-    received: Vec<Vec<u8>>,
+    queue: VecDeque<Message>,
+    accepted: Vec<Message>,
+    received: Vec<Message>,
 }
 
 enum Call {
     Create { name: String, size: u32, depth: u32, direction: u32, discipline: u32 },
-    Send { id: u32, message: Vec<u8> },
+    Send { id: u32, message: Message },
     Receive { id: u32 },
     SetMode { mode: u32 },
 }
@@ -66,7 +75,7 @@ enum Reply {
     NotMade,
     Code(&'static str),
     Id(usize),
-    Received(Vec<u8>),
+    Received(Message),
 }
 
 struct Request {
@@ -203,7 +212,7 @@ fn created_port(partition: &Partition, id: u32) -> Option<&Port> {
     partition.ports.get(place).filter(|port| port.is_created)
 }
 
-fn send(partition: &Partition, channels: &mut [Channel], id: u32, message: &[u8]) -> Reply {
+fn send(partition: &Partition, channels: &mut [Channel], id: u32, message: &Message) -> Reply {
     let Some(port) = created_port(partition, id) else {
         return Reply::Code("INVALID_PARAM");
     };
@@ -220,8 +229,8 @@ fn send(partition: &Partition, channels: &mut [Channel], id: u32, message: &[u8]
     if channel.queue.len() == channel.depth {
         return Reply::Code("NOT_AVAILABLE");
     }
-    channel.queue.push_back(message.to_vec());
-    channel.accepted.push(message.to_vec());
+    channel.queue.push_back(message.clone());
+    channel.accepted.push(message.clone());
     Reply::Code("NO_ERROR")
 }
 
@@ -263,10 +272,10 @@ fn number(word: Option<&str>) -> u32 {
     word.and_then(|word| word.parse().ok()).unwrap_or_else(|| fail("number"))
 }
 
-fn message(word: Option<&str>) -> Vec<u8> {
+fn message(word: Option<&str>) -> Message {
     let text = word.unwrap_or_else(|| fail("message"));
     if text == "-" {
-        return Vec::new();
+        return Message::default();
     }
     let digit = |byte: u8| (byte as char).to_digit(16).unwrap_or_else(|| fail("message")) as u8;
     text.as_bytes()
