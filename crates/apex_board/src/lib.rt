@@ -13,8 +13,6 @@ mod queuing;
 mod sampling;
 mod serve;
 mod state;
-#[cfg(test)]
-mod tests;
 
 pub use crate::board::Board;
 pub use crate::history::{Entry, Request, Sample};

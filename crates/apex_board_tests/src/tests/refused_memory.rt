@@ -6,7 +6,7 @@ use crate::tests::examples::{
     receive, received, sampling_ports, send, shown, write,
 };
 use crate::tests::texts::{AIR, BASE, DSP, FMS, NAV};
-use crate::{Board, Request, Stopped, run_list};
+use apex_board::{Board, Request, Stopped, run_list};
 use apex_config::Config;
 use apex_types::Validity::Valid;
 use apex_types::{Moment, Reply};

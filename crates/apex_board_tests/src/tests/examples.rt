@@ -1,8 +1,8 @@
 //! What the examples share: short ways to write a call and a reply, and boards that answer tables of calls.
 ghost use Rattle.std.specs.Prelude.{◌<◌};
 
-use crate::Board;
 use crate::tests::texts::{AIR, DSP, FMS};
+use apex_board::Board;
 use apex_config::Config;
 use apex_types::{Call, Message, Moment, Name, Reply, ReturnCode, Validity};
 use std::alloc::{AllocGlobal, Allocator};
