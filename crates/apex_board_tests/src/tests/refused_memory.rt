@@ -273,6 +273,22 @@ fn list_without_memory(rt: HostRuntime) -> Result<(), Fail> {
 }
 
 #[test]
+fn list_leaves_the_room_beyond_it(rt: HostRuntime) -> Result<(), Fail> {
+    let requests = requests_of(&full_queue()?, rt.alloc())?;
+    let switch = Switch::new(rt.alloc());
+    let mut board = Board::new(&switch, config_of(&rt)?)?;
+    board.reserve(requests.len() + 2)?;
+    switch.refuse_all();
+    assert!(rt; run(&rt, &mut board, &requests).is_ok());
+    assert!(rt; board.room() >= 2);
+    let more = [
+        (FMS, 12, send(1, "04")?, NO_ERROR),
+        (DSP, 13, receive(1), received("04")?),
+    ];
+    answers(&rt, &mut board, &more)
+}
+
+#[test]
 fn list_stops_beyond_its_room(rt: HostRuntime) -> Result<(), Fail> {
     let rows = full_queue()?;
     let requests = requests_of(&rows, rt.alloc())?;
