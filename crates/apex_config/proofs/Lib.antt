@@ -2,6 +2,8 @@ pub mod Accepted
 pub mod Answering
 pub mod Distinct
 pub mod Each
+pub mod EndCounts
+pub mod FirstPlaces
 pub mod OnLiterals
 pub mod Places
 pub mod Tables

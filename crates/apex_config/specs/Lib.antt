@@ -1,9 +1,11 @@
 pub mod Configuration
+pub mod Ends
 pub mod Equality
 pub mod EqualityLaws
 pub mod Examples
 pub mod Fault
 pub mod Limits
 pub mod Passes
+pub mod Places
 pub mod Reading
 pub mod Table

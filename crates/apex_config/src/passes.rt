@@ -1,17 +1,18 @@
 //! The tests of a draft, in their order. Each looks at the whole draft.
-ghost use Rattle.std.specs.Prelude.{◌≡◌, ◌==◌, ◌&&◌, length, map, min, nat_le, nat_lt, count_by, IfOk};
-ghost use Rattle.std.specs.List.{list_all, list_any, enumerate_from};
+ghost use Rattle.std.specs.Prelude.{◌≡◌, ◌==◌, ◌&&◌, length, map, nat_le, nat_lt, IfOk};
+ghost use Rattle.std.specs.List.{list_all, list_any};
 ghost use Rattle.std.specs.Str.{bytes_eq};
 ghost use Rattle.apex_config.specs.Configuration.{is_queuing_port};
-ghost use Rattle.apex_config.specs.Passes.{all_ports, is_name, has_names, are_distinct, has_distinct_names, is_within, has_refresh, has_depth, has_numbers, has_channels, fits_kind, has_kinds, is_end, end_count, has_sources, fits_destinations, has_destinations, has_counts, first_fault};
+ghost use Rattle.apex_config.specs.Passes.{all_ports, is_name, has_names, are_distinct, has_distinct_names, is_within, has_refresh, has_depth, has_numbers, has_channels, fits_kind, has_kinds, has_counts, first_fault};
 
 use crate::draft::{ChannelDraft, Draft, PartitionDraft, PortDraft};
+use crate::ends;
 use crate::fault::ConfigFault;
 use crate::limits::{
     CHANNEL_LIMIT, DEPTH_LIMIT, PARTITION_LIMIT, PORT_LIMIT, REFRESH_LIMIT, SIZE_LIMIT,
 };
 use crate::port::PortKind;
-use apex_types::{Direction, Name};
+use apex_types::Name;
 use std::alloc::{AllocError, Global};
 use std::collections::BTreeSet;
 
@@ -232,85 +233,6 @@ fn has_kinds(draft: &Draft) -> bool
     all_fit_kinds(draft.channels.as_slice(), draft.partitions.as_slice())
 }
 
-fn is_end(port: &PortDraft, direction: Direction, channel: usize) -> bool
-    ensures { result ≡ is_end direction channel port.now }
-{
-    port.direction == direction && port.channel == channel
-}
-
-fn ends_in(ports: &[PortDraft], direction: Direction, channel: usize) -> usize
-    ensures { result ≡ count_by (is_end direction channel) ports.now }
-{
-    ports
-        .iter()
-        .filter(|port| is_end(port, direction, channel))
-        .count()
-}
-
-/// How many ports of a direction a channel has, or the largest number where they are more.
-fn end_count(partitions: &[PartitionDraft], direction: Direction, channel: usize) -> usize
-    ensures { result ≡ min (end_count direction channel partitions.now) usize.MAX }
-{
-    let mut count: usize = 0;
-    for partition in partitions {
-        count = count.saturating_add(ends_in(partition.ports.as_slice(), direction, channel));
-    }
-    count
-}
-
-fn has_one_end(partitions: &[PartitionDraft], direction: Direction, channel: usize) -> bool
-    ensures { result ≡ (end_count direction channel partitions.now == 1) }
-{
-    end_count(partitions, direction, channel) == 1
-}
-
-fn has_end(partitions: &[PartitionDraft], direction: Direction, channel: usize) -> bool
-    ensures { result ≡ nat_le 1 (end_count direction channel partitions.now) }
-{
-    end_count(partitions, direction, channel) >= 1
-}
-
-fn all_have_source(channels: &[ChannelDraft], partitions: &[PartitionDraft]) -> bool
-    ensures { result ≡ list_all (λ numbered. end_count Direction.Source numbered.0 partitions.now == 1) (enumerate_from 0 channels.now) }
-{
-    channels.iter().enumerate().all(|(number, _)| has_one_end(
-        partitions,
-        Direction::Source,
-        number,
-    ))
-}
-
-#[tactic(auto, unfolding(crate::specs::Passes::has_sources))]
-fn has_sources(draft: &Draft) -> bool
-    ensures { result ≡ has_sources draft.now }
-{
-    all_have_source(draft.channels.as_slice(), draft.partitions.as_slice())
-}
-
-fn fits_destinations(channel: &ChannelDraft, number: usize, partitions: &[PartitionDraft]) -> bool
-    ensures { result ≡ fits_destinations channel.now.kind (end_count Direction.Destination number partitions.now) }
-{
-    match channel.depth {
-        Some(_) => has_one_end(partitions, Direction::Destination, number),
-        None => has_end(partitions, Direction::Destination, number),
-    }
-}
-
-fn all_have_destinations(channels: &[ChannelDraft], partitions: &[PartitionDraft]) -> bool
-    ensures { result ≡ list_all (λ numbered. fits_destinations numbered.1.kind (end_count Direction.Destination numbered.0 partitions.now)) (enumerate_from 0 channels.now) }
-{
-    channels.iter().enumerate().all(|(number, channel)| fits_destinations(
-        channel, number, partitions,
-    ))
-}
-
-#[tactic(auto, unfolding(crate::specs::Passes::has_destinations))]
-fn has_destinations(draft: &Draft) -> bool
-    ensures { result ≡ has_destinations draft.now }
-{
-    all_have_destinations(draft.channels.as_slice(), draft.partitions.as_slice())
-}
-
 fn have_few_ports(partitions: &[PartitionDraft]) -> bool
     ensures { result ≡ list_all (λ partition. nat_le (length partition.ports) PORT_LIMIT) partitions.now }
 {
@@ -343,9 +265,9 @@ pub fn first_fault(alloc: Global, draft: &Draft) -> Result<Option<ConfigFault>, 
         Some(ConfigFault::UnknownChannel)
     } else if !has_kinds(draft) {
         Some(ConfigFault::KindDiffers)
-    } else if !has_sources(draft) {
+    } else if !ends::has_sources(alloc, draft)? {
         Some(ConfigFault::Sources)
-    } else if !has_destinations(draft) {
+    } else if !ends::has_destinations(alloc, draft)? {
         Some(ConfigFault::Destinations)
     } else if !has_counts(draft) {
         Some(ConfigFault::Counts)

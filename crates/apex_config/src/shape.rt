@@ -1,11 +1,11 @@
 //! Reads the tables of a document as a draft, where their shape is right.
-ghost use Rattle.std.specs.Prelude.{◌≡◌, option_map, position, IfOk};
-ghost use Rattle.std.specs.Str.{bytes_eq};
+ghost use Rattle.std.specs.Prelude.{◌≡◌, option_map, IfOk};
 ghost use Rattle.toml.specs.View.{view, table_view, items_view};
-ghost use Rattle.apex_config.specs.Reading.{queuing_port_keys, sampling_port_keys, channel_kind_of, channel_kind_in, channel_in, channel_number, port_kind_in, direction_in, port_in, partition_in, draft_in};
+ghost use Rattle.apex_config.specs.Reading.{queuing_port_keys, sampling_port_keys, channel_kind_of, channel_kind_in, channel_in, port_kind_in, direction_in, port_in, partition_in, draft_in};
 ghost use Rattle.apex_config.specs.Table.{each, has_only_keys};
 
 use crate::draft::{ChannelDraft, Draft, PartitionDraft, PortDraft};
+use crate::index::ChannelIndex;
 use crate::port::PortKind;
 use crate::table::{array_at, array_if_any, has_only_keys, number_at, text_at};
 use apex_types::Direction;
@@ -51,22 +51,6 @@ fn channels_of(alloc: Global, values: &[Value]) -> Result<Option<Vec<ChannelDraf
     Ok(Some(channels))
 }
 
-fn place_of(channels: &[ChannelDraft], name: &str) -> Option<usize>
-    ensures { result ≡ position (λ channel. bytes_eq channel.name name.now) channels.now }
-{
-    channels.iter().position(|channel| channel.name == name)
-}
-
-/// The number of the channel of a name; where there is none, the number of channels.
-fn channel_number(channels: &[ChannelDraft], name: &str) -> usize
-    ensures { result ≡ channel_number channels.now name.now }
-{
-    match place_of(channels, name) {
-        Some(place) => place,
-        None => channels.len(),
-    }
-}
-
 fn has_queuing_port_keys(table: &Table) -> bool
     ensures { result ≡ has_only_keys queuing_port_keys (table_view table.now) }
 {
@@ -105,13 +89,13 @@ fn direction_of(table: &Table) -> Option<Direction>
 }
 
 #[tactic(auto, unfolding(crate::specs::Reading::port_in))]
-fn port_of<'a>(channels: &[ChannelDraft], value: &'a Value) -> Option<PortDraft<'a>>
+fn port_of<'a>(channels: &ChannelIndex<'_, 'a>, value: &'a Value) -> Option<PortDraft<'a>>
     ensures { result ≡ port_in channels.now (view value.now) }
 {
     let table = value.as_table()?;
     let name = text_at(table, "name")?;
     let direction = direction_of(table)?;
-    let channel = channel_number(channels, text_at(table, "channel")?);
+    let channel = channels.number_of(text_at(table, "channel")?);
     let kind = port_kind_of(table)?;
     Some(PortDraft {
         name,
@@ -123,7 +107,7 @@ fn port_of<'a>(channels: &[ChannelDraft], value: &'a Value) -> Option<PortDraft<
 
 fn ports_of<'a>(
     alloc: Global,
-    channels: &[ChannelDraft],
+    channels: &ChannelIndex<'_, 'a>,
     values: &'a [Value],
 ) -> Result<Option<Vec<PortDraft<'a>>>, AllocError>
     ensures { IfOk result (λ found. option_map (λ ports. ports.items) found ≡ each (port_in channels.now) (items_view values.now)) }
@@ -141,7 +125,7 @@ fn ports_of<'a>(
 #[tactic(auto, unfolding(crate::specs::Reading::partition_in))]
 fn partition_of<'a>(
     alloc: Global,
-    channels: &[ChannelDraft],
+    channels: &ChannelIndex<'_, 'a>,
     value: &'a Value,
 ) -> Result<Option<PartitionDraft<'a>>, AllocError>
     ensures { IfOk result (λ found. found ≡ partition_in channels.now (view value.now)) }
@@ -166,7 +150,7 @@ fn partition_of<'a>(
 
 fn partitions_of<'a>(
     alloc: Global,
-    channels: &[ChannelDraft],
+    channels: &ChannelIndex<'_, 'a>,
     values: &'a [Value],
 ) -> Result<Option<Vec<PartitionDraft<'a>>>, AllocError>
     ensures { IfOk result (λ found. option_map (λ partitions. partitions.items) found ≡ each (partition_in channels.now) (items_view values.now)) }
@@ -195,12 +179,14 @@ pub fn draft_of(alloc: Global, document: &Table) -> Result<Option<Draft<'_>>, Al
     let Some(values) = array_at(document, "partition") else {
         return Ok(None);
     };
-    let Some(partitions) = partitions_of(alloc, channels.as_slice(), values)? else {
+    let index = ChannelIndex::new(alloc, channels.as_slice())?;
+    let Some(partitions) = partitions_of(alloc, &index, values)? else {
         return Ok(None);
     };
     if !has_only_keys(document, &["partition", "channel"]) {
         return Ok(None);
     }
+    drop(index);
     Ok(Some(Draft {
         partitions,
         channels,
