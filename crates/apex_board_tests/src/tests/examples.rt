@@ -3,7 +3,7 @@ ghost use Rattle.std.specs.Prelude.{◌<◌};
 
 use crate::tests::texts::{AIR, DSP, FMS};
 use apex_board::Board;
-use apex_config::Config;
+use apex_config::{Config, OutOfMemory};
 use apex_types::{Call, Message, Moment, Name, Reply, ReturnCode, Validity};
 use std::alloc::{AllocGlobal, Allocator};
 use std::process::Abort;
@@ -107,15 +107,25 @@ pub(crate) fn board_of<R: AllocGlobal>(rt: &R, text: &str) -> Result<Board, Fail
     Ok(Board::new(rt.alloc(), config)?)
 }
 
+/// Makes a call on the board.
+pub(crate) fn ask<A: Allocator>(
+    rt: &impl Abort,
+    board: &mut Board<A>,
+    row: &Row,
+) -> Result<Reply, OutOfMemory> {
+    let (partition, at, call, _) = row;
+    assert!(rt; *partition < board.config().partitions());
+    board.call(*partition, Moment(*at), call)
+}
+
 /// Makes a call on the board, and compares the reply.
 pub(crate) fn answer<A: Allocator>(
     rt: &impl Abort,
     board: &mut Board<A>,
     row: &Row,
 ) -> Result<(), Fail> {
-    let (partition, at, call, wanted) = row;
-    assert!(rt; *partition < board.config().partitions());
-    let reply = board.call(*partition, Moment(*at), call)?;
+    let (_, at, _, wanted) = row;
+    let reply = ask(rt, board, row)?;
     assert_eq!(rt; &reply, wanted, "at {at}");
     Ok(())
 }

@@ -1,9 +1,9 @@
 //! Refused memory: a refusal changes nothing that a reader shows, and a call within the room never meets one.
-ghost use Rattle.std.specs.Prelude.{◌<◌};
+ghost use Rattle.std.specs.Prelude.{◌<◌, length};
 
 use crate::tests::examples::{
-    NO_ERROR, NOT_AVAILABLE, Row, answer, answers, board_of, create_queuing, queuing_ports, read,
-    receive, received, sampling_ports, send, shown, write,
+    NO_ERROR, NOT_AVAILABLE, Row, answer, answers, ask, board_of, create_queuing, queuing_ports,
+    read, receive, received, sampling_ports, send, shown, write,
 };
 use crate::tests::texts::{AIR, BASE, DSP, FMS, NAV};
 use apex_board::{Board, Request, Stopped, run_list};
@@ -22,27 +22,53 @@ fn config_of<R: AllocGlobal>(rt: &R) -> Result<Config, Fail> {
     Ok(Config::read(rt.alloc(), BASE.as_bytes())?)
 }
 
+// Both boards show the same of a partition.
+fn partition_shows_same<A: Allocator, B: Allocator>(
+    rt: &impl Abort,
+    one: &Board<A>,
+    other: &Board<B>,
+    p: usize,
+)
+    requires one { p < length one.now.config.partitions }
+    requires other { p < length other.now.config.partitions }
+{
+    assert_eq!(rt; one.mode(p), other.mode(p));
+    for id in 0..4u32 {
+        assert_eq!(rt; one.created(p, id), other.created(p, id));
+        assert_eq!(rt; one.last_validity(p, id), other.last_validity(p, id));
+    }
+}
+
+// Both boards show the same of a channel.
+fn channel_shows_same<A: Allocator, B: Allocator>(
+    rt: &impl Abort,
+    one: &Board<A>,
+    other: &Board<B>,
+    c: usize,
+)
+    requires one { c < length one.now.config.channels }
+    requires other { c < length other.now.config.channels }
+{
+    assert_eq!(rt; one.accepted(c), other.accepted(c));
+    assert_eq!(rt; one.received(c), other.received(c));
+    assert_eq!(rt; one.waiting_count(c), other.waiting_count(c));
+    for i in 0..3usize {
+        assert_eq!(rt; one.waiting(c, i), other.waiting(c, i));
+    }
+    assert_eq!(rt; one.last_sample(c), other.last_sample(c));
+}
+
 // Both boards show the same, their rooms excepted.
 fn shows_same<A: Allocator, B: Allocator>(rt: &impl Abort, one: &Board<A>, other: &Board<B>) {
     assert_eq!(rt; one.config(), other.config());
     assert_eq!(rt; one.log(), other.log());
     assert_eq!(rt; one.config().partitions(), other.config().partitions());
     for p in 0..one.config().partitions() {
-        assert_eq!(rt; one.mode(p), other.mode(p));
-        for id in 0..4u32 {
-            assert_eq!(rt; one.created(p, id), other.created(p, id));
-            assert_eq!(rt; one.last_validity(p, id), other.last_validity(p, id));
-        }
+        partition_shows_same(rt, one, other, p);
     }
     assert_eq!(rt; one.config().channels(), other.config().channels());
     for c in 0..one.config().channels() {
-        assert_eq!(rt; one.accepted(c), other.accepted(c));
-        assert_eq!(rt; one.received(c), other.received(c));
-        assert_eq!(rt; one.waiting_count(c), other.waiting_count(c));
-        for i in 0..3usize {
-            assert_eq!(rt; one.waiting(c, i), other.waiting(c, i));
-        }
-        assert_eq!(rt; one.last_sample(c), other.last_sample(c));
+        channel_shows_same(rt, one, other, c);
     }
 }
 
@@ -124,48 +150,93 @@ fn room_serves_without_memory(rt: HostRuntime) -> Result<(), Fail> {
 #[test]
 fn new_board_refused_in_turn(rt: HostRuntime) -> Result<(), Fail> {
     let ample = board_of(&rt, BASE)?;
-    let mut ended = false;
-    for pass in 0..ALLOCATION_LIMIT {
+    for granted in 0..ALLOCATION_LIMIT {
         let config = config_of(&rt)?;
         let switch = Switch::new(rt.alloc());
-        switch.refuse_after(pass, 1);
+        switch.refuse_after(granted, 1);
         let made = Board::new(&switch, config);
-        assert_eq!(rt; made.is_ok(), switch.refused() == 0, "after {pass}");
+        assert_eq!(rt; made.is_ok(), switch.refused() == 0, "after {granted}");
         if let Ok(board) = made {
+            assert!(rt; granted > 0);
             shows_same(&rt, &board, &ample);
-            ended = true;
-            break;
+            return Ok(());
         }
     }
-    assert!(rt; ended);
+    assert!(rt; false, "the sweep does not end");
     Ok(())
+}
+
+// A board on the base configuration that has answered the calls of the rows.
+fn board_after<R: AllocGlobal + Abort, A: Allocator + Copy>(
+    rt: &R,
+    alloc: A,
+    rows: &[Row],
+) -> Result<Board<A>, Fail> {
+    let mut board = Board::new(alloc, config_of(rt)?)?;
+    answers(rt, &mut board, rows)?;
+    Ok(board)
+}
+
+// `reserve` after the calls of the rows, with one allocation refused after `granted` others; whether it was.
+fn reserve_refused_after<R: AllocGlobal + Abort>(
+    rt: &R,
+    granted: u64,
+    rows: &[Row],
+) -> Result<bool, Fail> {
+    let ample = board_after(rt, rt.alloc(), rows)?;
+    let switch = Switch::new(rt.alloc());
+    let mut board = board_after(rt, &switch, rows)?;
+    let room = board.room();
+    switch.refuse_after(granted, 1);
+    let reserved = board.reserve(100);
+    assert_eq!(rt; reserved.is_ok(), switch.refused() == 0, "after {granted}");
+    shows_same(rt, &board, &ample);
+    assert!(rt; board.room() >= room);
+    board.reserve(100)?;
+    assert!(rt; board.room() >= 100);
+    Ok(reserved.is_err())
 }
 
 #[test]
 fn reserve_refused_in_turn(rt: HostRuntime) -> Result<(), Fail> {
     let rows = full_queue()?;
-    let mut ample = board_of(&rt, BASE)?;
-    answers(&rt, &mut ample, &rows)?;
-    let mut ended = false;
-    for pass in 0..ALLOCATION_LIMIT {
-        let switch = Switch::new(rt.alloc());
-        let mut board = Board::new(&switch, config_of(&rt)?)?;
-        answers(&rt, &mut board, &rows)?;
-        let room = board.room();
-        switch.refuse_after(pass, 1);
-        let reserved = board.reserve(100);
-        assert_eq!(rt; reserved.is_ok(), switch.refused() == 0, "after {pass}");
-        shows_same(&rt, &board, &ample);
-        assert!(rt; board.room() >= room);
-        ended = switch.refused() == 0;
-        board.reserve(100)?;
-        assert!(rt; board.room() >= 100);
-        if ended {
-            break;
+    for granted in 0..ALLOCATION_LIMIT {
+        if !reserve_refused_after(&rt, granted, &rows)? {
+            assert!(rt; granted > 0);
+            return Ok(());
         }
     }
-    assert!(rt; ended);
+    assert!(rt; false, "the sweep does not end");
     Ok(())
+}
+
+// The call of `row` after those before it, with one allocation refused after `granted` others; whether it was.
+fn call_refused_after<R: AllocGlobal + Abort>(
+    rt: &R,
+    granted: u64,
+    before: &[Row],
+    row: &Row,
+) -> Result<bool, Fail> {
+    let switch = Switch::new(rt.alloc());
+    let mut board = board_after(rt, &switch, before)?;
+    let room = board.room();
+    switch.refuse_after(granted, 1);
+    let answered = ask(rt, &mut board, row);
+    let refused = switch.refused();
+    switch.allow_all();
+    if let Ok(reply) = answered {
+        assert_eq!(rt; refused, 0);
+        assert_eq!(rt; &reply, &row.3);
+        return Ok(false);
+    }
+    assert_eq!(rt; refused, 1);
+    let mut ample = board_after(rt, rt.alloc(), before)?;
+    shows_same(rt, &board, &ample);
+    assert!(rt; board.room() >= room);
+    answer(rt, &mut board, row)?;
+    answer(rt, &mut ample, row)?;
+    shows_same(rt, &board, &ample);
+    Ok(true)
 }
 
 // The call of `row` after those before it, with each of its allocations refused in turn; whether there was one.
@@ -174,30 +245,10 @@ fn call_refused_in_turn<R: AllocGlobal + Abort>(
     before: &[Row],
     row: &Row,
 ) -> Result<bool, Fail> {
-    let (partition, at, call, wanted) = row;
-    for pass in 0..ALLOCATION_LIMIT {
-        let mut ample = board_of(rt, BASE)?;
-        answers(rt, &mut ample, before)?;
-        let switch = Switch::new(rt.alloc());
-        let mut board = Board::new(&switch, config_of(rt)?)?;
-        answers(rt, &mut board, before)?;
-        let room = board.room();
-        assert!(rt; *partition < board.config().partitions());
-        switch.refuse_after(pass, 1);
-        let answered = board.call(*partition, Moment(*at), call);
-        let refused = switch.refused();
-        switch.allow_all();
-        if let Ok(reply) = answered {
-            assert_eq!(rt; refused, 0);
-            assert_eq!(rt; &reply, wanted);
-            return Ok(pass > 0);
+    for granted in 0..ALLOCATION_LIMIT {
+        if !call_refused_after(rt, granted, before, row)? {
+            return Ok(granted > 0);
         }
-        assert_eq!(rt; refused, 1);
-        shows_same(rt, &board, &ample);
-        assert!(rt; board.room() >= room);
-        answer(rt, &mut board, row)?;
-        answer(rt, &mut ample, row)?;
-        shows_same(rt, &board, &ample);
     }
     assert!(rt; false, "the sweep does not end");
     Ok(true)
@@ -240,10 +291,10 @@ fn goes_on<R: AllocGlobal + Abort, A: Allocator>(
 // for good it stops; one refusal alone it may do without.
 fn list_refused_in_turn<R: AllocGlobal + Abort>(rt: &R, refuse: u64) -> Result<(), Fail> {
     let requests = requests_of(&full_queue()?, rt.alloc())?;
-    for pass in 0..ALLOCATION_LIMIT {
+    for granted in 0..ALLOCATION_LIMIT {
         let switch = Switch::new(rt.alloc());
         let mut board = Board::new(&switch, config_of(rt)?)?;
-        switch.refuse_after(pass, refuse);
+        switch.refuse_after(granted, refuse);
         let answered = run(rt, &mut board, &requests);
         let refused = switch.refused();
         switch.allow_all();
