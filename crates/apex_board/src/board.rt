@@ -55,6 +55,7 @@ impl<A: Allocator> Board<A> {
     /// Makes room for this many more calls. Neither answer changes anything else that a reader shows.
     pub fn reserve(&mut self, calls: usize) -> Result<(), OutOfMemory>
         ensures room { OnOk result (calls ≤ self.new.room) }
+        ensures succeeds { calls ≤ self.old.room → IsOk result }
         ensures grows { self.old.room ≤ self.new.room }
         ensures config { self.new.config ≡ self.old.config }
         ensures log { self.new.log ≡ self.old.log }

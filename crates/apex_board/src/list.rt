@@ -26,10 +26,11 @@ pub fn run_list<A: Allocator>(board: &mut Board<A>, requests: &[Request]) -> Res
     ensures within { IfErr result (λ stop. stop.done < length requests.now) }
     ensures config { board.new.config ≡ board.old.config }
 
-    // With enough room all are applied; each lowers the room by at most one. A partition in IDLE stays there.
+    // With enough room all are applied, each lowers the room by at most one, and no stop comes before the room is used
+    // up. A partition in IDLE stays there.
     ensures succeeds { length requests.now ≤ board.old.room → IsOk result }
     ensures room { OnOk result (board.old.room ≤ board.new.room + length requests.now) }
-    ensures stopped_room { IfErr result (λ stop. board.old.room ≤ board.new.room + stop.done) }
+    ensures stopped_room { IfErr result (λ stop. board.old.room ≤ stop.done) }
     ensures idle { StaysIdle board.old.config board.old.log board.new.log }
 {
     // Where this is refused the log grows as it goes.

@@ -94,6 +94,7 @@ impl<A: Allocator> State<A> {
         ensures len { vec_len self.new.log ≡ vec_len self.old.log }
         ensures capacity { vec_capacity self.old.log ≤ vec_capacity self.new.log }
         ensures grows { KeepsRoom self.old.queues.items self.new.queues.items }
+        ensures succeeds { vec_len self.old.log + calls ≤ vec_capacity self.old.log → HasRoom calls self.old.queues.items → IsOk result }
     {
         self.log.reserve(calls)?;
         for c in 0..config.channels() {

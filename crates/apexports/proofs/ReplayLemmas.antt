@@ -15,7 +15,7 @@ use Rattle.apexports.specs.declared.fault.Fault.{Fault}
 use Rattle.apexports.specs.declared.fault.Fault.TheVariants as faults
 use Rattle.apexports.specs.Trace.{trace_of, Answers as TraceAnswers}
 use Rattle.apexports.specs.Report.{report_of}
-use Rattle.apexports.specs.Replay.{config_fault, trace_fault, IsReportOf, IsReplay}
+use Rattle.apexports.specs.Replay.{config_fault, trace_fault, IsReportOf, IsTraceReplay, IsReplay}
 
 -- the report of a new board on which the requests were run
 pub made_report : (config : Configuration) (requests : List Request) (before after : BoardView) (text : List ℕ) → before.log ≡ [] → before.config ≡ config → after.config ≡ before.config
@@ -39,13 +39,20 @@ config_refused config_faults.Destinations config trace h = h (λ e. cc)
 config_refused config_faults.Counts config trace h = h (λ e. cc)
 config_refused config_faults.OutOfMemory config trace h = tt
 
+-- a configuration is read, and the trace is replayed on it
+pub config_read : (answer : Result (String Global) Fault) (config trace : List ℕ) (configuration : Configuration) → config_of config ≡ Ok configuration → IsTraceReplay answer configuration trace → IsReplay answer config trace
+config_read (Ok text) config trace configuration read replay = (configuration, read, replay)
+config_read (Err (faults.Config fault)) config trace configuration read replay = absurd replay
+config_read (Err (faults.Trace fault)) config trace configuration read replay = (configuration, read, replay)
+config_read (Err faults.Memory) config trace configuration read replay = tt
+
 -- a trace is refused
-pub trace_refused : (fault : TraceFault) (config trace : List ℕ) (configuration : Configuration) → config_of config ≡ Ok configuration → TraceAnswers (Err fault) (trace_of configuration trace) → IsReplay (Err (trace_fault fault)) config trace
-trace_refused (trace_faults.Line line fault) config trace configuration read refused = (configuration, read, refused)
-trace_refused trace_faults.OutOfMemory config trace configuration read refused = tt
+pub trace_refused : (fault : TraceFault) (config : Configuration) (trace : List ℕ) → TraceAnswers (Err fault) (trace_of config trace) → IsTraceReplay (Err (trace_fault fault)) config trace
+trace_refused (trace_faults.Line line fault) config trace refused = refused
+trace_refused trace_faults.OutOfMemory config trace refused = tt
 
 -- what the run answered
-pub replayed : (answer : Result (String Global) Fault) (config trace : List ℕ) (configuration : Configuration) (requests : List Request) → config_of config ≡ Ok configuration → trace_of configuration trace ≡ Ok requests
-    → IfOk answer (λ text. IsReportOf configuration requests (string_bytes text)) → IfErr answer (λ fault. fault ≡ faults.Memory) → IsReplay answer config trace
-replayed (Ok text) config trace configuration requests read asked made refused = (configuration, requests, read, asked, made)
-replayed (Err fault) config trace configuration requests read asked made refused = subst (λ f. IsReplay (Err f) config trace) (sym refused) tt
+pub replayed : (answer : Result (String Global) Fault) (config : Configuration) (trace : List ℕ) (requests : List Request) → trace_of config trace ≡ Ok requests
+    → IfOk answer (λ text. IsReportOf config requests (string_bytes text)) → IfErr answer (λ fault. fault ≡ faults.Memory) → IsTraceReplay answer config trace
+replayed (Ok text) config trace requests asked made refused = (requests, asked, made)
+replayed (Err fault) config trace requests asked made refused = subst (λ f. IsTraceReplay (Err f) config trace) (sym refused) tt

@@ -36,11 +36,16 @@ abbrev pub IsRefused : Result (List Request) FaultyLine → TraceFault → Type 
 IsRefused meaning (trace_faults.Line line fault) = meaning ≡ Err (record { line = line; fault = fault })
 IsRefused meaning trace_faults.OutOfMemory = ⊥
 
+-- what a replay of a trace's text on a configuration answers
+abbrev pub IsTraceReplay : Result (String Global) Fault → Configuration → List ℕ → Type 0
+IsTraceReplay (Ok text) config trace = (requests : List Request) × (trace_of config trace ≡ Ok requests) × IsReportOf config requests (string_bytes text)
+IsTraceReplay (Err (faults.Config fault)) config trace = ⊥
+IsTraceReplay (Err (faults.Trace fault)) config trace = IsRefused (trace_of config trace) fault
+IsTraceReplay (Err faults.Memory) config trace = Unit {0}
+
 -- what a replay of two texts answers
 abbrev pub IsReplay : Result (String Global) Fault → List ℕ → List ℕ → Type 0
-IsReplay (Ok text) config trace =
-    (configuration : Configuration) × (requests : List Request) × (config_of config ≡ Ok configuration) × (trace_of configuration trace ≡ Ok requests) × IsReportOf configuration requests (string_bytes text)
+IsReplay (Ok text) config trace = (configuration : Configuration) × (config_of config ≡ Ok configuration) × IsTraceReplay (Ok text) configuration trace
 IsReplay (Err (faults.Config fault)) config trace = config_of config ≡ Err fault
-IsReplay (Err (faults.Trace fault)) config trace =
-    (configuration : Configuration) × (config_of config ≡ Ok configuration) × IsRefused (trace_of configuration trace) fault
+IsReplay (Err (faults.Trace fault)) config trace = (configuration : Configuration) × (config_of config ≡ Ok configuration) × IsTraceReplay (Err (faults.Trace fault)) configuration trace
 IsReplay (Err faults.Memory) config trace = Unit {0}

@@ -6,8 +6,7 @@ ghost use Rattle.apexports.specs.Refusal.{status_of, words_refusal};
 use crate::command_line::{Task, WordsFault, task_of};
 use crate::fault::{Fault, TraceFault};
 use crate::files::{FileFault, Opener, read_path};
-use crate::replay::replay;
-use crate::trace::read_trace;
+use crate::replay::replay_trace;
 use apex_config::{Config, ConfigFault};
 use std::alloc::{AllocError, Global};
 use std::convert::AsStr;
@@ -167,9 +166,5 @@ fn replay_files<'a, O: Opener>(
 ) -> Result<String, Refusal<'a>> {
     let config = read_config(alloc, opener, config)?;
     let text = read_file(alloc, opener, trace)?;
-    let requests = match read_trace(alloc, &config, text.as_slice()) {
-        Ok(requests) => requests,
-        Err(fault) => return Err(Refusal::Text(Fault::from(fault))),
-    };
-    Ok(replay(alloc, config, requests.as_slice())?)
+    Ok(replay_trace(alloc, config, text.as_slice())?)
 }

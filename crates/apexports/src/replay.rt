@@ -1,7 +1,7 @@
 //! A replay: a configuration and a trace in, a report out.
 ghost use Rattle.std.specs.Prelude.{◌≡◌, string_bytes, IfOk, IfErr};
 ghost use Rattle.apexports.specs.Trace.{HavePartitions};
-ghost use Rattle.apexports.specs.Replay.{IsReportOf, IsReplay};
+ghost use Rattle.apexports.specs.Replay.{IsReportOf, IsTraceReplay, IsReplay};
 
 use crate::fault::Fault;
 use crate::report::report;
@@ -15,12 +15,19 @@ pub fn replay_text(alloc: Global, config: &[u8], trace: &[u8]) -> Result<String,
     ensures { IsReplay result config.now trace.now }
 {
     let config = Config::read(alloc, config)?;
+    replay_trace(alloc, config, trace)
+}
+
+/// The report of a trace's calls on a new board of a configuration, from the trace's text.
+pub fn replay_trace(alloc: Global, config: Config, trace: &[u8]) -> Result<String, Fault>
+    ensures { IsTraceReplay result config trace.now }
+{
     let requests = read_trace(alloc, &config, trace)?;
     replay(alloc, config, requests.as_slice())
 }
 
 /// The report of these requests on a new board of a configuration.
-pub fn replay(alloc: Global, config: Config, requests: &[Request]) -> Result<String, Fault>
+fn replay(alloc: Global, config: Config, requests: &[Request]) -> Result<String, Fault>
     requires { HavePartitions config requests.now }
     ensures made { IfOk result (λ text. IsReportOf config requests.now (string_bytes text)) }
     ensures refused { IfErr result (λ fault. fault ≡ Fault.Memory) }

@@ -141,24 +141,3 @@ pub(crate) fn answers<A: Allocator>(
     }
     Ok(())
 }
-
-/// Compares what a queuing channel shows: how many messages it accepted, how many were received, and those that wait.
-pub(crate) fn queue_shows<A: Allocator>(
-    rt: &impl Abort,
-    board: &Board<A>,
-    channel: usize,
-    accepted: usize,
-    received: usize,
-    waiting: &[&str],
-) -> Result<(), Fail> {
-    assert!(rt; channel < board.config().channels());
-    assert_eq!(rt; board.accepted(channel).len(), accepted);
-    assert_eq!(rt; board.received(channel).len(), received);
-    assert_eq!(rt; board.waiting_count(channel), waiting.len());
-    for (place, message) in waiting.iter().enumerate() {
-        let message = Message::from_hex(message)?;
-        assert_eq!(rt; board.waiting(channel, place), Some(&message));
-    }
-    assert_eq!(rt; board.last_sample(channel), None);
-    Ok(())
-}

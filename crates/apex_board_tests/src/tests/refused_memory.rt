@@ -254,19 +254,20 @@ fn call_refused_in_turn<R: AllocGlobal + Abort>(
     Ok(true)
 }
 
-#[test]
-fn calls_refused_in_turn(rt: HostRuntime) -> Result<(), Fail> {
-    let rows = full_queue()?;
+// Each call of the rows after those before it, with each of its allocations refused in turn.
+fn rows_refused_in_turn<R: AllocGlobal + Abort>(rt: &R, rows: &[Row]) -> Result<(), Fail> {
     let mut met = false;
     for (done, row) in rows.iter().enumerate() {
-        met |= call_refused_in_turn(&rt, &rows[..done], row)?;
+        met |= call_refused_in_turn(rt, &rows[..done], row)?;
     }
     assert!(rt; met);
-    let rows = one_sample()?;
-    for (done, row) in rows.iter().enumerate() {
-        let _ = call_refused_in_turn(&rt, &rows[..done], row)?;
-    }
     Ok(())
+}
+
+#[test]
+fn calls_refused_in_turn(rt: HostRuntime) -> Result<(), Fail> {
+    rows_refused_in_turn(&rt, &full_queue()?)?;
+    rows_refused_in_turn(&rt, &one_sample()?)
 }
 
 // The board has answered just the first `done` requests; with memory again it answers the rest.
@@ -304,6 +305,7 @@ fn list_refused_in_turn<R: AllocGlobal + Abort>(rt: &R, refuse: u64) -> Result<(
         };
         goes_on(rt, &mut board, &requests, done)?;
         if refused == 0 {
+            assert!(rt; granted > 0);
             assert_eq!(rt; done, requests.len());
             return Ok(());
         }
@@ -352,7 +354,7 @@ fn list_stops_beyond_its_room(rt: HostRuntime) -> Result<(), Fail> {
         Err(stopped) => stopped.done,
     };
     switch.allow_all();
-    assert!(rt; done >= 5);
+    assert!(rt; done >= 5 && done < requests.len());
     goes_on(&rt, &mut board, &requests, done)?;
     let mut ample = board_of(&rt, BASE)?;
     answers(&rt, &mut ample, &rows)?;

@@ -1,10 +1,17 @@
-use Rattle.std.proofs.Common.{ℕ, ◌<◌, ◌∙◌, arith, below_more}
+use Rattle.std.proofs.Common.{◌≡◌, ℕ, ◌<◌, false, ap, ◌∙◌, arith, below_more}
+use Rattle.std.specs.Result.{is_ok}
 use Rattle.std.proofs.lemmas.Option.{slice_get_within}
 use Rattle.apex_board.specs.Kept.{HasRoomAt}
 use Rattle.apex_board.proofs.state.State.reserve.Goals as goal
 
 pub returns-in_err-reserve_queue-clause-grows : goal.returns-in_err-reserve_queue-clause-grows
 returns-in_err-reserve_queue-clause-grows g c n k room = c.reserve_queue.ensures.grows n k (c.loop-c.invariant.grows n k room)
+
+pub returns-in_err-reserve_queue-clause-succeeds : goal.returns-in_err-reserve_queue-clause-succeeds
+returns-in_err-reserve_queue-clause-succeeds g c spare room =
+    let ok = c.reserve_queue.ensures.succeeds (c.loop-c.invariant.grows c.args.calls c.loop-c.c (room c.loop-c.c)) in
+    let refused : is_ok c.reserve_queue.result ≡ false = ap is_ok c.in_err-reserve_queue.was in
+    absurd (cc)
 
 pub loop-c-preserved : goal.loop-c-preserved
 loop-c-preserved g c = record {
