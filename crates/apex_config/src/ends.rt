@@ -1,5 +1,5 @@
 //! The tests of the ends of channels: their source ports and their destination ports.
-ghost use Rattle.std.specs.Prelude.{◌≡◌, ◌==◌, length, IfOk};
+ghost use Rattle.std.specs.Prelude.{◌≡◌, ◌==◌, IfOk};
 ghost use Rattle.std.specs.List.{list_all, zip};
 ghost use Rattle.apex_config.specs.Passes.{has_sources, fits_destinations, has_destinations};
 ghost use Rattle.apex_config.specs.Ends.{CountEnds, CountMoreEnds};

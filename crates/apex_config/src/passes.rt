@@ -1,7 +1,6 @@
-//! The tests of a draft, in their order. Each looks at the whole draft.
-ghost use Rattle.std.specs.Prelude.{◌≡◌, ◌==◌, ◌&&◌, length, map, nat_le, nat_lt, IfOk};
-ghost use Rattle.std.specs.List.{list_all, list_any};
-ghost use Rattle.std.specs.Str.{bytes_eq};
+//! The tests of a draft, in their order. Each looks at the whole draft. Those of the ends of channels stand in `ends`.
+ghost use Rattle.std.specs.Prelude.{◌≡◌, ◌&&◌, length, map, nat_le, nat_lt, IfOk};
+ghost use Rattle.std.specs.List.{list_all};
 ghost use Rattle.apex_config.specs.Configuration.{is_queuing_port};
 ghost use Rattle.apex_config.specs.Passes.{all_ports, is_name, has_names, are_distinct, has_distinct_names, is_within, has_refresh, has_depth, has_numbers, has_channels, fits_kind, has_kinds, has_counts, first_fault};
 

@@ -349,18 +349,24 @@ fn counts_have_limits(rt: HostRuntime) -> Result<(), Fail> {
     Ok(())
 }
 
+/// The partition without ports is read, with its line feed and without, and the text without its last line feed.
 #[test]
-fn every_prefix_is_read_or_refused(rt: HostRuntime) {
+fn every_prefix_is_read_or_refused(rt: HostRuntime) -> Result<(), Fail> {
+    let mut read = Vec::new(rt.alloc());
     for end in 0..BASE.len() {
         let prefix = BASE.as_bytes().get(..end).unwrap_or(&[]);
-        let named = match Config::read(rt.alloc(), prefix) {
-            Ok(_) => true,
-            Err(fault) => fault != ConfigFault::OutOfMemory
-                && fault != ConfigFault::NameTwice
-                && fault != ConfigFault::Counts,
-        };
-        assert!(rt; named, "the first {end} bytes");
+        match Config::read(rt.alloc(), prefix) {
+            Ok(_) => read.push(end)?,
+            Err(fault) => {
+                let named = fault != ConfigFault::OutOfMemory
+                    && fault != ConfigFault::NameTwice
+                    && fault != ConfigFault::Counts;
+                assert!(rt; named, "the first {end} bytes");
+            }
+        }
     }
+    assert_eq!(rt; read.len(), 3);
+    Ok(())
 }
 
 #[test]
