@@ -3,55 +3,23 @@ use Rattle.std.proofs.Common.{◌≡◌, ℕ, suc, ◌+◌, ◌<◌, Bool, true,
 use Rattle.std.specs.List.{list_any}
 use Rattle.std.specs.Str.{bytes_eq}
 use Rattle.std.proofs.Math.Seq.{drop-cons}
-use Rattle.std.proofs.lemmas.Bool.{and_parts, false≢true}
+use Rattle.std.proofs.lemmas.Bool.{and_parts, and_left, and_right, or_parts, or_left, or_right, not_from_true, false≢true}
+use Rattle.std.proofs.lemmas.Bool.Decides.{same_from_decides}
 use Rattle.std.proofs.lemmas.List.{take-append-drop, take_more}
 use Rattle.std.proofs.lemmas.List.Folds.{list_any-append, list_any_more}
 use Rattle.std.proofs.lemmas.Slice.Eq.{bytes_eq-Decides}
 use Rattle.apex_config.specs.Passes.{are_distinct}
 
-same_test : (a b : Bool) → (a ≡ true → b ≡ true) → (b ≡ true → a ≡ true) → a ≡ b
-same_test true b there back = sym (there refl)
-same_test false true there back = back refl
-same_test false false there back = refl
-
 bytes_eq-sym : (xs ys : List ℕ) → bytes_eq xs ys ≡ bytes_eq ys xs
 bytes_eq-sym xs ys =
-    same_test (bytes_eq xs ys) (bytes_eq ys xs) (λ h. (bytes_eq-Decides ys xs).1 (sym ((bytes_eq-Decides xs ys).0 h))) (λ h. (bytes_eq-Decides xs ys).1 (sym ((bytes_eq-Decides ys xs).0 h)))
-
-pub not_false : (b : Bool) → not b ≡ false → b ≡ true
-not_false true h = refl
-not_false false h = sym h
-
-pub not_true : (b : Bool) → not b ≡ true → b ≡ false
-not_true true h = sym h
-not_true false h = refl
-
-neither : (a b : Bool) → (a || b) ≡ false → (a ≡ false) × (b ≡ false)
-neither true b h = absurd (false≢true (sym h))
-neither false b h = (refl, h)
-
-not_first : (a b : Bool) → a ≡ true → (not a && b) ≡ false
-not_first true b h = refl
-not_first false b h = absurd (false≢true h)
-
-not_second : (a b : Bool) → b ≡ false → (a && b) ≡ false
-not_second true b h = h
-not_second false b h = refl
-
-or_first : (a b : Bool) → a ≡ true → (a || b) ≡ true
-or_first true b h = refl
-or_first false b h = absurd (false≢true h)
-
-or_second : (a b : Bool) → b ≡ true → (a || b) ≡ true
-or_second true b h = refl
-or_second false b h = h
+    same_from_decides (bytes_eq xs ys) (bytes_eq ys xs) (bytes_eq-Decides xs ys) (λ h. sym ((bytes_eq-Decides ys xs).0 h), λ h. (bytes_eq-Decides ys xs).1 (sym h))
 
 -- one more name, which is none of those before it
 distinct_push : (names : List (List ℕ)) (name : List ℕ) → are_distinct names ≡ true → list_any (λ other. bytes_eq other name) names ≡ false → are_distinct (names ++ name ∷ []) ≡ true
 distinct_push [] name once new = refl
 distinct_push (n ∷ ns) name once new =
     let parts = and_parts (not (list_any (λ other. bytes_eq other n) ns)) (are_distinct ns) once in
-    let apart = neither (bytes_eq n name) (list_any (λ other. bytes_eq other name) ns) new in
+    let apart = or_parts (bytes_eq n name) (list_any (λ other. bytes_eq other name) ns) new in
     let last : bytes_eq name n ≡ false = bytes_eq-sym name n ∙ apart.0 in
     let more : list_any (λ other. bytes_eq other n) (ns ++ name ∷ []) ≡ (list_any (λ other. bytes_eq other n) ns || (bytes_eq name n || false)) = list_any-append (λ other. bytes_eq other n) ns (name ∷ []) in
     let rest : are_distinct (ns ++ name ∷ []) ≡ true = distinct_push ns name parts.1 apart.1 in
@@ -72,9 +40,9 @@ distinct_twice (n ∷ ns) name rest met = by_test (bytes_eq n name) refl met (di
     by_test true same h later =
         let there : bytes_eq name n ≡ true = bytes_eq-sym name n ∙ same in
         let some : list_any (λ other. bytes_eq other n) (ns ++ name ∷ rest) ≡ true =
-        list_any-append (λ other. bytes_eq other n) ns (name ∷ rest) ∙ or_second (list_any (λ other. bytes_eq other n) ns) (bytes_eq name n || list_any (λ other. bytes_eq other n) rest) (or_first (bytes_eq name n) (list_any (λ other. bytes_eq other n) rest) there) in
-        not_first (list_any (λ other. bytes_eq other n) (ns ++ name ∷ rest)) (are_distinct (ns ++ name ∷ rest)) some
-    by_test false apart h later = not_second (not (list_any (λ other. bytes_eq other n) (ns ++ name ∷ rest))) (are_distinct (ns ++ name ∷ rest)) (later h)
+        list_any-append (λ other. bytes_eq other n) ns (name ∷ rest) ∙ or_right (list_any (λ other. bytes_eq other n) ns) (bytes_eq name n || list_any (λ other. bytes_eq other n) rest) (or_left (bytes_eq name n) (list_any (λ other. bytes_eq other n) rest) there) in
+        and_left (not (list_any (λ other. bytes_eq other n) (ns ++ name ∷ rest))) (are_distinct (ns ++ name ∷ rest)) (not_from_true (list_any (λ other. bytes_eq other n) (ns ++ name ∷ rest)) some)
+    by_test false apart h later = and_right (not (list_any (λ other. bytes_eq other n) (ns ++ name ∷ rest))) (are_distinct (ns ++ name ∷ rest)) (later h)
 
 -- ---- at a place of a list
 

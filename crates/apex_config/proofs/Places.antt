@@ -1,8 +1,8 @@
 -- Elements at their places, against tests and counts of the whole list.
-use Rattle.std.proofs.Common.{◌≡◌, ℕ, zero, suc, ◌+◌, ◌≤◌, Bool, true, false, ◌||◌, not, List, [], ◌∷◌, Some, refl, sym, ap, ◌∙◌, arith}
+use Rattle.std.proofs.Common.{◌≡◌, ℕ, zero, suc, ◌+◌, ◌≤◌, Bool, true, false, not, List, [], ◌∷◌, Some, refl, sym, ap, ◌∙◌, arith}
 use Rattle.std.specs.List.{slice_get, list_all, list_any, sum_by, enumerate_from}
 use Rattle.std.specs.Str.{bytes_eq}
-use Rattle.std.proofs.lemmas.Bool.{and_parts, false≢true}
+use Rattle.std.proofs.lemmas.Bool.{and_parts, or_left, or_right, not-true, false≢true}
 use Rattle.std.proofs.lemmas.List.Sums.{sum_by-cons}
 use Rattle.std.proofs.lemmas.Option.{same_Some}
 use Rattle.std.proofs.lemmas.Slice.Eq.{bytes_eq-Decides}
@@ -19,14 +19,6 @@ all_at p [] i x all found = no_place i x found
 all_at p (y ∷ ys) zero x all found = ap p (sym (same_Some y x found)) ∙ (and_parts (p y) (list_all p ys) all).0
 all_at p (y ∷ ys) (suc i) x all found = all_at p ys i x (and_parts (p y) (list_all p ys) all).1 found
 
-or_left : (a b : Bool) → a ≡ true → (a || b) ≡ true
-or_left true b h = refl
-or_left false b h = absurd (false≢true h)
-
-or_right : (a b : Bool) → b ≡ true → (a || b) ≡ true
-or_right true b h = refl
-or_right false b h = h
-
 any_at : {X : Type 0} (p : X → Bool) (xs : List X) (i : ℕ) (x : X) → slice_get xs i ≡ Some x → p x ≡ true → list_any p xs ≡ true
 any_at p [] i x found holds = no_place i x found
 any_at p (y ∷ ys) zero x found holds = or_left (p y) (list_any p ys) (ap p (same_Some y x found) ∙ holds)
@@ -34,13 +26,9 @@ any_at p (y ∷ ys) (suc i) x found holds = or_right (p y) (list_any p ys) (any_
 
 -- ---- distinct names
 
-not_true : (b : Bool) → not b ≡ true → b ≡ true → false ≡ true
-not_true true h k = h
-not_true false h k = k
-
 twice : (name : List ℕ) (names : List (List ℕ)) (j : ℕ) (other : List ℕ) → not (list_any (λ n. bytes_eq n name) names) ≡ true → slice_get names j ≡ Some other → name ≡ other → false ≡ true
 twice name names j other once found same =
-    not_true (list_any (λ n. bytes_eq n name) names) once (any_at (λ n. bytes_eq n name) names j other found ((bytes_eq-Decides other name).1 (sym same)))
+    sym (not-true (list_any (λ n. bytes_eq n name) names) once) ∙ any_at (λ n. bytes_eq n name) names j other found ((bytes_eq-Decides other name).1 (sym same))
 
 pub distinct_at : (names : List (List ℕ)) (i j : ℕ) (name other : List ℕ) → are_distinct names ≡ true → slice_get names i ≡ Some name → slice_get names j ≡ Some other → name ≡ other → i ≡ j
 distinct_at [] i j name other once here there same = no_place i name here

@@ -1,11 +1,11 @@
 -- The tests of equality say exactly whether two values are equal.
-use Rattle.std.proofs.Common.{◌≡◌, ℕ, Bool, true, false, ◌&&◌, eqb, List, refl, sym, ap, ◌∙◌, arith}
+use Rattle.std.proofs.Common.{◌≡◌, Bool, true, false, ◌&&◌, eqb, List, refl, sym, ap, ◌∙◌}
 use Rattle.std.specs.Bool.{Decides}
 use Rattle.std.specs.Cmp.{IsEquivalence}
 use Rattle.std.specs.Cmp.Lexicographic.{pointwise, pointwise_decides}
 use Rattle.std.specs.Str.{bytes_eq}
-use Rattle.std.proofs.lemmas.Bool.{and_parts, false≢true, eqb-true}
-use Rattle.std.proofs.lemmas.Bool.Decides.{nat_tests}
+use Rattle.std.proofs.lemmas.Bool.{and_parts, and_from, false≢true, eqb-true}
+use Rattle.std.proofs.lemmas.Bool.Decides.{Decides-eqb, same_from_decides}
 use Rattle.std.proofs.lemmas.Slice.Eq.{bytes_eq-Decides}
 use Rattle.apex_types.specs.declared.direction.Direction.{Direction}
 use Rattle.apex_types.specs.declared.direction.Direction.TheVariants.{Source, Destination}
@@ -19,13 +19,6 @@ use Rattle.apex_config.specs.Configuration.{PartitionData, Configuration}
 use Rattle.apex_config.specs.Passes.{same_direction}
 use Rattle.apex_config.specs.Equality.{equal_port_kinds, equal_channel_kinds, equal_ports, equal_channels, equal_partitions, equal_configurations}
 
-number_decides : (a b : ℕ) → Decides (eqb a b) (a ≡ b)
-number_decides a b = (eqb-true a b, λ h. grind (arith, nat_tests))
-
-and_both : (a b : Bool) → a ≡ true → b ≡ true → (a && b) ≡ true
-and_both true b h k = k
-and_both false b h k = absurd (false≢true h)
-
 direction_decides : (a b : Direction) → Decides (same_direction a b) (a ≡ b)
 direction_decides Source Source = (λ h. refl, λ h. refl)
 direction_decides Source Destination = (λ h. absurd (false≢true h), λ h. absurd cc)
@@ -37,11 +30,11 @@ port_kind_decides port_kind.Queuing port_kind.Queuing = (λ h. refl, λ h. refl)
 port_kind_decides port_kind.Queuing (port_kind.Sampling refresh) = (λ h. absurd (false≢true h), λ h. absurd cc)
 port_kind_decides (port_kind.Sampling refresh) port_kind.Queuing = (λ h. absurd (false≢true h), λ h. absurd cc)
 port_kind_decides (port_kind.Sampling refresh) (port_kind.Sampling other) =
-    (λ h. ap (λ n. port_kind.Sampling n) (eqb-true refresh other h), λ h. let same : refresh ≡ other = cc in (number_decides refresh other).1 same)
+    (λ h. ap (λ n. port_kind.Sampling n) (eqb-true refresh other h), λ h. let same : refresh ≡ other = cc in (Decides-eqb refresh other).1 same)
 
 channel_kind_decides : (a b : ChannelKind) → Decides (equal_channel_kinds a b) (a ≡ b)
 channel_kind_decides (channel_kind.Queuing depth) (channel_kind.Queuing other) =
-    (λ h. ap (λ n. channel_kind.Queuing n) (eqb-true depth other h), λ h. let same : depth ≡ other = cc in (number_decides depth other).1 same)
+    (λ h. ap (λ n. channel_kind.Queuing n) (eqb-true depth other h), λ h. let same : depth ≡ other = cc in (Decides-eqb depth other).1 same)
 channel_kind_decides (channel_kind.Queuing depth) channel_kind.Sampling = (λ h. absurd (false≢true h), λ h. absurd cc)
 channel_kind_decides channel_kind.Sampling (channel_kind.Queuing depth) = (λ h. absurd (false≢true h), λ h. absurd cc)
 channel_kind_decides channel_kind.Sampling channel_kind.Sampling = (λ h. refl, λ h. refl)
@@ -61,8 +54,8 @@ port_is a b h =
 port_from : (a b : Port) → a ≡ b → equal_ports a b ≡ true
 unfolding equal_ports
 port_from a b h =
-    and_both _ _ (and_both _ _ (and_both _ _ ((bytes_eq-Decides a.name b.name).1 (ap (λ x. x.name) h)) ((port_kind_decides a.kind b.kind).1 (ap (λ x. x.kind) h)))
-    ((direction_decides a.direction b.direction).1 (ap (λ x. x.direction) h))) ((number_decides a.channel b.channel).1 (ap (λ x. x.channel) h))
+    and_from _ _ (and_from _ _ (and_from _ _ ((bytes_eq-Decides a.name b.name).1 (ap (λ x. x.name) h)) ((port_kind_decides a.kind b.kind).1 (ap (λ x. x.kind) h)))
+    ((direction_decides a.direction b.direction).1 (ap (λ x. x.direction) h))) ((Decides-eqb a.channel b.channel).1 (ap (λ x. x.channel) h))
 
 channel_is : (a b : Channel) → equal_channels a b ≡ true → a ≡ b
 unfolding equal_channels
@@ -77,7 +70,7 @@ channel_is a b h =
 channel_from : (a b : Channel) → a ≡ b → equal_channels a b ≡ true
 unfolding equal_channels
 channel_from a b h =
-    and_both _ _ (and_both _ _ ((bytes_eq-Decides a.name b.name).1 (ap (λ x. x.name) h)) ((number_decides a.size b.size).1 (ap (λ x. x.size) h)))
+    and_from _ _ (and_from _ _ ((bytes_eq-Decides a.name b.name).1 (ap (λ x. x.name) h)) ((Decides-eqb a.size b.size).1 (ap (λ x. x.size) h)))
     ((channel_kind_decides a.kind b.kind).1 (ap (λ x. x.kind) h))
 
 ports_decide : (xs ys : List Port) → Decides (pointwise equal_ports xs ys) (xs ≡ ys)
@@ -93,7 +86,7 @@ partition_is a b h =
 
 partition_from : (a b : PartitionData) → a ≡ b → equal_partitions a b ≡ true
 unfolding equal_partitions
-partition_from a b h = and_both _ _ ((bytes_eq-Decides a.name b.name).1 (ap (λ x. x.name) h)) ((ports_decide a.ports b.ports).1 (ap (λ x. x.ports) h))
+partition_from a b h = and_from _ _ ((bytes_eq-Decides a.name b.name).1 (ap (λ x. x.name) h)) ((ports_decide a.ports b.ports).1 (ap (λ x. x.ports) h))
 
 partitions_decide : (xs ys : List PartitionData) → Decides (pointwise equal_partitions xs ys) (xs ≡ ys)
 partitions_decide = pointwise_decides (λ a b. (partition_is a b, partition_from a b))
@@ -112,7 +105,7 @@ configuration_is a b h =
 configuration_from : (a b : Configuration) → a ≡ b → equal_configurations a b ≡ true
 unfolding equal_configurations
 configuration_from a b h =
-    and_both _ _ ((partitions_decide a.partitions b.partitions).1 (ap (λ x. x.partitions) h)) ((channels_decide a.channels b.channels).1 (ap (λ x. x.channels) h))
+    and_from _ _ ((partitions_decide a.partitions b.partitions).1 (ap (λ x. x.partitions) h)) ((channels_decide a.channels b.channels).1 (ap (λ x. x.channels) h))
 
 pub equal_configurations-Decides : (a b : Configuration) → Decides (equal_configurations a b) (a ≡ b)
 equal_configurations-Decides a b = (configuration_is a b, configuration_from a b)
@@ -120,15 +113,10 @@ equal_configurations-Decides a b = (configuration_is a b, configuration_from a b
 pub equal_partitions-Decides : (a b : PartitionData) → Decides (equal_partitions a b) (a ≡ b)
 equal_partitions-Decides a b = (partition_is a b, partition_from a b)
 
-same_answer : (b c : Bool) → (b ≡ true → c ≡ true) → (c ≡ true → b ≡ true) → b ≡ c
-same_answer true c to from = sym (to refl)
-same_answer false true to from = from refl
-same_answer false false to from = refl
-
 equivalence : {K : Type 0} (E : K → K → Bool) → ((a b : K) → Decides (E a b) (a ≡ b)) → IsEquivalence E
 equivalence E decides = record {
   refl = λ x. (decides x x).1 refl;
-  symm = λ x y. same_answer (E x y) (E y x) (λ h. (decides y x).1 (sym ((decides x y).0 h))) (λ h. (decides x y).1 (sym ((decides y x).0 h)));
+  symm = λ x y. same_from_decides (E x y) (E y x) (decides x y) (λ h. sym ((decides y x).0 h), λ h. (decides y x).1 (sym h));
   congr = λ x y z h. ap (λ w. E w z) ((decides x y).0 h);
 }
 
@@ -143,7 +131,7 @@ pub same_tests : {K : Type 0} (E F : K → K → Bool) → ((a b : K) → Decide
 same_tests E F one other xs ys =
     let left : Decides (pointwise E xs ys) (xs ≡ ys) = pointwise_decides one xs ys in
     let right : Decides (pointwise F xs ys) (xs ≡ ys) = pointwise_decides other xs ys in
-    same_answer (pointwise E xs ys) (pointwise F xs ys) (λ h. right.1 (left.0 h)) (λ h. left.1 (right.0 h))
+    same_from_decides (pointwise E xs ys) (pointwise F xs ys) left right
 
 pub equal_ports-Decides : (a b : Port) → Decides (equal_ports a b) (a ≡ b)
 equal_ports-Decides a b = (port_is a b, port_from a b)

@@ -3,9 +3,10 @@ use Rattle.std.specs.Str.{bytes_eq}
 use Rattle.std.specs.Ordering.{nat_cmp}
 use Rattle.std.specs.Cmp.Lexicographic.{slice_cmp}
 use Rattle.std.specs.BTreeSet.{contains}
+use Rattle.std.proofs.lemmas.Bool.{not-true, not-false}
 use Rattle.std.proofs.lemmas.List.{get_or-map, length-map}
 use Rattle.std.proofs.lemmas.Map.Text.{is_eq-slice_cmp}
-use Rattle.apex_config.proofs.Distinct.{not_false, not_true, once_at, twice_at, seen_at}
+use Rattle.apex_config.proofs.Distinct.{once_at, twice_at, seen_at}
 use Rattle.apex_config.proofs.passes.are_distinct.Goals as goal
 
 pub returns-then-not-branch : goal.returns-then-not-branch
@@ -15,7 +16,7 @@ returns-then-not-branch g c =
     let name = c.name.result.now in
     let inside : i < length names = rw (length-map c.args.entries.now g.T.Named.name_of) c.loop-entry-test.true in
     let is : get_or names i name ≡ name = get_or-map g.T.Named.name_of c.args.entries.now i c.entry-item.result name c.loop-entry-test.true ∙ ap g.T.Named.name_of (sym c.entry-item.is) ∙ sym c.name.ensures in
-    let met = not_false _ (sym c.in_ok-insert.ensures.added ∙ c.if-not-branch.true) in
+    let met = not-false _ (sym c.in_ok-insert.ensures.added ∙ c.if-not-branch.true) in
     sym (twice_at names i name inside is (sym (c.loop-entry.invariant.seen c.name.result) ∙ met))
 
 pub loop-entry-preserved : goal.loop-entry-preserved
@@ -25,7 +26,7 @@ loop-entry-preserved g c =
     let name = c.name.result.now in
     let inside : i < length names = rw (length-map c.args.entries.now g.T.Named.name_of) c.loop-entry-test.true in
     let is : get_or names i name ≡ name = get_or-map g.T.Named.name_of c.args.entries.now i c.entry-item.result name c.loop-entry-test.true ∙ ap g.T.Named.name_of (sym c.entry-item.is) ∙ sym c.name.ensures in
-    let new = not_true _ (sym c.in_ok-insert.ensures.added ∙ c.if-not-branch.false) in
+    let new = not-true _ (sym c.in_ok-insert.ensures.added ∙ c.if-not-branch.false) in
     record {
       seen = λ other.
           c.in_ok-insert.ensures.updates.0 other
