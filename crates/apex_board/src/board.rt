@@ -2,8 +2,8 @@
 ghost use Rattle.std.specs.Prelude.{◌≡◌, ◌+◌, ◌<◌, ◌≤◌, ◌∷◌, ◌++◌, [], true, false, length, IfOk, OnOk, OnErr, IsOk};
 
 use crate::state::State;
-use apex_config::{Config, OutOfMemory};
-use apex_types::{Call, Moment, Reply};
+use apex_config::Config;
+use apex_types::{Call, Moment, OutOfMemory, Reply};
 use std::alloc::{Allocator, Global};
 use std::marker::Model;
 

@@ -64,6 +64,16 @@ abbrev pub is_queuing_channel : ChannelKind → Bool
 is_queuing_channel (channel_kind.Queuing depth) = true
 is_queuing_channel channel_kind.Sampling = false
 
+-- how many messages can wait on a channel; 0 on a sampling channel
+abbrev pub depth_of_kind : ChannelKind → ℕ
+depth_of_kind (channel_kind.Queuing depth) = depth
+depth_of_kind channel_kind.Sampling = 0
+
+-- the refresh period of a port, in nanoseconds; 0 for a queuing port
+abbrev pub refresh_of_kind : PortKind → ℕ
+refresh_of_kind port_kind.Queuing = 0
+refresh_of_kind (port_kind.Sampling refresh) = refresh
+
 -- a queuing port lies on a queuing channel, a sampling port on a sampling channel
 abbrev pub KindsAgree : Port → Channel → Type 0
 KindsAgree port channel = is_queuing_port port.kind ≡ is_queuing_channel channel.kind

@@ -12,6 +12,30 @@ pub enum ChannelKind {
     Sampling,
 }
 
+impl ChannelKind {
+    ghost use Rattle.apex_config.specs.Configuration.{is_queuing_channel, depth_of_kind};
+
+    /// Whether the channel is a queuing channel.
+    pub fn is_queuing(self) -> bool
+        ensures { result ≡ is_queuing_channel self }
+    {
+        match self {
+            ChannelKind::Queuing { .. } => true,
+            ChannelKind::Sampling => false,
+        }
+    }
+
+    /// How many messages can wait on the channel; 0 on a sampling channel.
+    pub fn depth(self) -> u32
+        ensures { result ≡ depth_of_kind self }
+    {
+        match self {
+            ChannelKind::Queuing { depth } => depth,
+            ChannelKind::Sampling => 0,
+        }
+    }
+}
+
 /// A channel. Each of its ports has the channel's size, in bytes, as its MAX_MESSAGE_SIZE.
 #[derive(Debug, Drop, PartialEq, Eq)]
 pub struct Channel {

@@ -6,11 +6,11 @@ ghost use Rattle.apex_config.specs.Equality.{equal_partitions, equal_channels};
 ghost use Rattle.std.specs.Str.{bytes_eq};
 
 use crate::channel::Channel;
-use crate::fault::{ConfigFault, OutOfMemory};
+use crate::fault::ConfigFault;
 use crate::partition::Partition;
 use crate::port::Port;
 use crate::{accept, passes, shape};
-use apex_types::Name;
+use apex_types::{Name, OutOfMemory};
 use std::alloc::{AllocError, Global};
 use std::marker::Model;
 

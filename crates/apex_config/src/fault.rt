@@ -3,25 +3,9 @@ ghost use Rattle.std.specs.Prelude.{◌≡◌};
 ghost use Rattle.apex_config.specs.Fault.{pass_of};
 ghost use Rattle.apex_config.specs.declared.fault.ConfigFault.TheVariants as fault;
 
+use apex_types::OutOfMemory;
 use std::alloc::{AllocError, AllocFailed};
 use thiserror::Error;
-
-/// An allocation was refused.
-#[derive(Clone, Copy, Debug, PartialEq, Eq, Error)]
-#[error("out of memory")]
-pub struct OutOfMemory;
-
-impl From<AllocError> for OutOfMemory {
-    fn from(_refused: AllocError) -> OutOfMemory {
-        OutOfMemory
-    }
-}
-
-impl<T: Drop> From<AllocFailed<T>> for OutOfMemory {
-    fn from(_refused: AllocFailed<T>) -> OutOfMemory {
-        OutOfMemory
-    }
-}
 
 /// Why a configuration is refused: the first pass that finds a fault in the text.
 #[derive(Clone, Copy, Debug, PartialEq, Eq, Error)]

@@ -17,7 +17,7 @@ mod table;
 
 pub use crate::channel::{Channel, ChannelKind};
 pub use crate::config::Config;
-pub use crate::fault::{ConfigFault, OutOfMemory};
+pub use crate::fault::ConfigFault;
 pub use crate::limits::{
     CHANNEL_LIMIT, DEPTH_LIMIT, PARTITION_LIMIT, PORT_LIMIT, REFRESH_LIMIT, SIZE_LIMIT,
 };

@@ -1,7 +1,6 @@
 //! The tests of a draft, in their order. Each looks at the whole draft. Those of the ends of channels stand in `ends`.
 ghost use Rattle.std.specs.Prelude.{◌≡◌, ◌&&◌, length, map, nat_le, nat_lt, IfOk};
 ghost use Rattle.std.specs.List.{list_all};
-ghost use Rattle.apex_config.specs.Configuration.{is_queuing_port};
 ghost use Rattle.apex_config.specs.Passes.{all_ports, is_name, has_names, are_distinct, has_distinct_names, is_within, has_refresh, has_depth, has_numbers, has_channels, fits_kind, has_kinds, has_counts, first_fault};
 
 use crate::draft::{ChannelDraft, Draft, PartitionDraft, PortDraft};
@@ -194,21 +193,12 @@ fn has_channels(draft: &Draft) -> bool
     all_have_channel(draft.partitions.as_slice(), draft.channels.len())
 }
 
-fn is_queuing(kind: PortKind) -> bool
-    ensures { result ≡ is_queuing_port kind }
-{
-    match kind {
-        PortKind::Queuing => true,
-        PortKind::Sampling { .. } => false,
-    }
-}
-
 #[tactic(auto, unfolding(crate::specs::Passes::fits_kind))]
 fn fits_kind(channels: &[ChannelDraft], port: &PortDraft) -> bool
     ensures { result ≡ fits_kind channels.now port.now }
 {
     match channels.get(port.channel) {
-        Some(channel) => channel.depth.is_some() == is_queuing(port.kind),
+        Some(channel) => channel.depth.is_some() == port.kind.is_queuing(),
         None => false,
     }
 }

@@ -12,6 +12,30 @@ pub enum PortKind {
     Sampling { refresh: u64 },
 }
 
+impl PortKind {
+    ghost use Rattle.apex_config.specs.Configuration.{is_queuing_port, refresh_of_kind};
+
+    /// Whether the port is a queuing port.
+    pub fn is_queuing(self) -> bool
+        ensures { result ≡ is_queuing_port self }
+    {
+        match self {
+            PortKind::Queuing => true,
+            PortKind::Sampling { .. } => false,
+        }
+    }
+
+    /// The REFRESH_PERIOD of the port, in nanoseconds; 0 of a queuing port.
+    pub fn refresh(self) -> u64
+        ensures { result ≡ refresh_of_kind self }
+    {
+        match self {
+            PortKind::Queuing => 0,
+            PortKind::Sampling { refresh } => refresh,
+        }
+    }
+}
+
 /// A port of a partition. `channel` is the number of its channel, from 0.
 #[derive(Debug, Drop, PartialEq, Eq)]
 pub struct Port {

@@ -109,6 +109,16 @@ fn base_is_read(rt: HostRuntime) -> Result<(), Fail> {
 }
 
 #[test]
+fn kinds_have_their_numbers(rt: HostRuntime) {
+    let queue = ChannelKind::Queuing { depth: 2 };
+    let port = PortKind::Sampling { refresh: 50 };
+    assert_eq!(rt; (queue.is_queuing(), queue.depth()), (true, 2));
+    assert_eq!(rt; (port.is_queuing(), port.refresh()), (false, 50));
+    assert_eq!(rt; ChannelKind::Sampling.depth(), 0);
+    assert_eq!(rt; PortKind::Queuing.refresh(), 0);
+}
+
+#[test]
 fn copy_is_equal(rt: HostRuntime) -> Result<(), Fail> {
     let config = Config::read(rt.alloc(), BASE.as_bytes())?;
     let copy = config.copy()?;

@@ -9,6 +9,7 @@ pub mod message;
 pub mod mode;
 pub mod moment;
 pub mod name;
+pub mod out_of_memory;
 pub mod reply;
 pub mod return_code;
 #[cfg(test)]
@@ -21,6 +22,7 @@ pub use crate::message::{HEX_LIMIT, HexFault, MESSAGE_LIMIT, Message, TooLong};
 pub use crate::mode::Mode;
 pub use crate::moment::Moment;
 pub use crate::name::{NAME_LIMIT, Name, NameFault};
+pub use crate::out_of_memory::OutOfMemory;
 pub use crate::reply::Reply;
 pub use crate::return_code::ReturnCode;
 pub use crate::validity::Validity;

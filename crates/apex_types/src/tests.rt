@@ -1,6 +1,7 @@
 //! Worked texts, each public call once, and the limits from both sides.
 use crate::{
-    Call, Direction, HexFault, Message, Mode, Name, NameFault, Reply, ReturnCode, TooLong, Validity,
+    Call, Direction, HexFault, Message, Mode, Name, NameFault, OutOfMemory, Reply, ReturnCode,
+    TooLong, Validity,
 };
 use std::str;
 use std::test::Fail;
@@ -147,5 +148,14 @@ fn copies_of_calls(rt: HostRuntime) -> Result<(), Fail> {
     };
     assert_eq!(rt; call.copy(), call);
     assert_ne!(rt; Call::SetMode { mode: 3 }, Call::SetMode { mode: 4 });
+    Ok(())
+}
+
+#[test]
+fn want_of_memory_in_words(rt: HostRuntime) -> Result<(), Fail> {
+    assert_eq!(rt;
+        OutOfMemory.to_string(rt.alloc())?.as_str(),
+        "out of memory"
+    );
     Ok(())
 }

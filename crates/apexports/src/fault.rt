@@ -5,7 +5,8 @@ ghost use Rattle.apexports.specs.declared.fault.Fault.TheVariants as fault;
 ghost use Rattle.apexports.specs.Replay.{config_fault, trace_fault};
 
 use crate::line_fault::LineFault;
-use apex_config::{ConfigFault, OutOfMemory};
+use apex_config::ConfigFault;
+use apex_types::OutOfMemory;
 use std::alloc::{AllocError, AllocFailed};
 use std::error::Error;
 use std::fmt;

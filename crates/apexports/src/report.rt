@@ -8,8 +8,8 @@ ghost use Rattle.apexports.specs.Report.{queuing_status_text, sampling_status_te
 
 use crate::service::Service;
 use apex_board::{Board, Entry, Sample};
-use apex_config::{Channel, ChannelKind, OutOfMemory};
-use apex_types::{Direction, Message, Moment, Reply, Validity};
+use apex_config::{Channel, ChannelKind};
+use apex_types::{Direction, Message, Moment, OutOfMemory, Reply, Validity};
 use itoa::Buffer;
 use std::alloc::{AllocError, Global};
 

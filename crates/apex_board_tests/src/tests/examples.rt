@@ -3,8 +3,8 @@ ghost use Rattle.std.specs.Prelude.{◌<◌};
 
 use crate::tests::texts::{AIR, DSP, FMS};
 use apex_board::Board;
-use apex_config::{Config, OutOfMemory};
-use apex_types::{Call, Message, Moment, Name, Reply, ReturnCode, Validity};
+use apex_config::Config;
+use apex_types::{Call, Message, Moment, Name, OutOfMemory, Reply, ReturnCode, Validity};
 use std::alloc::{AllocGlobal, Allocator};
 use std::process::Abort;
 use std::test::Fail;
