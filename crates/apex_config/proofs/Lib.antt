@@ -1,4 +1,3 @@
-pub mod Accepted
 pub mod Answering
 pub mod Distinct
 pub mod Each
@@ -7,3 +6,4 @@ pub mod FirstPlaces
 pub mod OnLiterals
 pub mod Places
 pub mod Tables
+pub mod WithoutFault

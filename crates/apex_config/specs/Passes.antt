@@ -40,10 +40,14 @@ abbrev pub are_distinct : List (List ℕ) → Bool
 are_distinct [] = true
 are_distinct (name ∷ names) = not (list_any (λ other. bytes_eq other name) names) && are_distinct names
 
+-- no two ports of one partition have one name
+abbrev pub has_distinct_port_names : List PartitionData → Bool
+has_distinct_port_names partitions = list_all (λ partition. are_distinct (map (λ port. port.name) partition.ports)) partitions
+
 unfoldable pub has_distinct_names : Configuration → Bool
 has_distinct_names config =
     are_distinct (map (λ partition. partition.name) config.partitions)
-    && list_all (λ partition. are_distinct (map (λ port. port.name) partition.ports)) config.partitions
+    && has_distinct_port_names config.partitions
     && are_distinct (map (λ channel. channel.name) config.channels)
 
 -- ---- numbers within their limits
@@ -59,9 +63,12 @@ abbrev pub has_depth : ChannelKind → Bool
 has_depth (channel_kind.Queuing depth) = is_within DEPTH_LIMIT depth
 has_depth channel_kind.Sampling = true
 
+abbrev pub has_size_and_depth : Channel → Bool
+has_size_and_depth channel = is_within SIZE_LIMIT channel.size && has_depth channel.kind
+
 unfoldable pub has_numbers : Configuration → Bool
 has_numbers config =
-    list_all (λ channel. is_within SIZE_LIMIT channel.size && has_depth channel.kind) config.channels
+    list_all has_size_and_depth config.channels
     && all_ports (λ port. has_refresh port.kind) config.partitions
 
 -- ---- each port's channel is there
@@ -115,10 +122,13 @@ has_destinations config = list_all (λ numbered. fits_destinations numbered.1.ki
 
 -- ---- counts within their limits
 
+abbrev pub has_few_ports : PartitionData → Bool
+has_few_ports partition = nat_le (length partition.ports) PORT_LIMIT
+
 unfoldable pub has_counts : Configuration → Bool
 has_counts config =
     is_within PARTITION_LIMIT (length config.partitions)
-    && list_all (λ partition. nat_le (length partition.ports) PORT_LIMIT) config.partitions
+    && list_all has_few_ports config.partitions
     && nat_le (length config.channels) CHANNEL_LIMIT
 
 -- ---- the first fault
@@ -153,6 +163,6 @@ unfoldable pub config_of : List ℕ → Result Configuration ConfigFault
 config_of bytes = if is_utf8 bytes then config_of_document (parse_document bytes) else Err NotToml
 
 -- What reading answers: the configuration, or the fault of the first pass that finds one, unless memory ran out.
-abbrev pub Answers : Result Configuration ConfigFault → Result Configuration ConfigFault → Type 0
-Answers (Ok config) meaning = meaning ≡ Ok config
-Answers (Err fault) meaning = fault ≢ OutOfMemory → meaning ≡ Err fault
+abbrev pub IsConfigRead : Result Configuration ConfigFault → Result Configuration ConfigFault → Type 0
+IsConfigRead (Ok config) meaning = meaning ≡ Ok config
+IsConfigRead (Err fault) meaning = fault ≢ OutOfMemory → meaning ≡ Err fault

@@ -5,11 +5,13 @@ ghost use Rattle.std.specs.Option.{option_copied};
 ghost use Rattle.apex_config.specs.Equality.{equal_partitions, equal_channels};
 ghost use Rattle.std.specs.Str.{bytes_eq};
 
+use crate::accepted::accepted_config;
 use crate::channel::Channel;
+use crate::document::draft_of_document;
+use crate::draft_faults::first_fault;
 use crate::fault::ConfigFault;
 use crate::partition::Partition;
 use crate::port::Port;
-use crate::{accept, passes, shape};
 use apex_types::{Name, OutOfMemory};
 use std::alloc::{AllocError, Global};
 use std::marker::Model;
@@ -27,18 +29,25 @@ impl Model for Config {
 
     ghost Value = { Configuration };
 
-    ghost view = { λ config. record { partitions = config.partitions.items; channels = config.channels.items } };
+    ghost view = { λ config. record {
+      partitions = config.partitions.items;
+      channels = config.channels.items;
+    } };
 
-    ghost invariant = { λ config. IsConfiguration (record { partitions = config.partitions.items; channels = config.channels.items }) };
+    ghost invariant = { λ config. IsConfiguration (record {
+      partitions = config.partitions.items;
+      channels = config.channels.items;
+    }) };
 }
 
 impl Config {
-    ghost use Rattle.apex_config.specs.Passes.{Answers, config_of};
+    ghost use Rattle.apex_config.specs.Passes.{IsConfigRead, config_of};
     ghost use Rattle.apex_config.specs.Configuration.{IsConfiguration, port_of, ports_of, channel_of, partition_name_of, partition_named, id_named};
 
     /// The configuration of these lists.
     pub(crate) fn new(partitions: Vec<Partition>, channels: Vec<Channel>) -> Config
-        requires { IsConfiguration (record { partitions = partitions.items; channels = channels.items }) }
+        requires { IsConfiguration
+            (record { partitions = partitions.items; channels = channels.items }) }
         ensures { result ≡ record { partitions = partitions.items; channels = channels.items } }
     {
         Config {
@@ -50,19 +59,19 @@ impl Config {
     /// Reads a configuration from its TOML text. The passes run one after the other over the whole text, and the first
     /// that finds a fault names it. `OutOfMemory` comes only where an allocation was refused, in any pass.
     pub fn read(alloc: Global, bytes: &[u8]) -> Result<Config, ConfigFault>
-        ensures { Answers result (config_of bytes.now) }
+        ensures { IsConfigRead result (config_of bytes.now) }
     {
         let document = match toml::table_from_slice(alloc, bytes) {
             Ok(document) => document,
             Err(refused) if refused.is_memory() => return Err(ConfigFault::OutOfMemory),
             Err(_) => return Err(ConfigFault::NotToml),
         };
-        let Some(draft) = shape::draft_of(alloc, &document)? else {
+        let Some(draft) = draft_of_document(alloc, &document)? else {
             return Err(ConfigFault::Shape);
         };
-        match passes::first_fault(alloc, &draft)? {
+        match first_fault(alloc, &draft)? {
             Some(fault) => Err(fault),
-            None => Ok(accept::config_of(alloc, &draft)?),
+            None => Ok(accepted_config(alloc, &draft)?),
         }
     }
 

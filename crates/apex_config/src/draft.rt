@@ -17,7 +17,12 @@ impl<'a> Model for PortDraft<'a> {
 
     ghost Value = { Port };
 
-    ghost view = { λ port. record { name = port.name.now; kind = port.kind; direction = port.direction; channel = port.channel } };
+    ghost view = { λ port. record {
+      name = port.name.now;
+      kind = port.kind;
+      direction = port.direction;
+      channel = port.channel;
+    } };
 }
 
 /// A channel. A queuing channel has a depth.
@@ -34,7 +39,11 @@ impl<'a> Model for ChannelDraft<'a> {
 
     ghost Value = { Channel };
 
-    ghost view = { λ channel. record { name = channel.name.now; size = channel.size; kind = channel_kind_of channel.depth } };
+    ghost view = { λ channel. record {
+      name = channel.name.now;
+      size = channel.size;
+      kind = channel_kind_of channel.depth;
+    } };
 }
 
 /// A partition and its ports.
@@ -49,7 +58,10 @@ impl<'a> Model for PartitionDraft<'a> {
 
     ghost Value = { PartitionData };
 
-    ghost view = { λ partition. record { name = partition.name.now; ports = partition.ports.items } };
+    ghost view = { λ partition. record {
+      name = partition.name.now;
+      ports = partition.ports.items;
+    } };
 }
 
 /// The partitions and the channels.
@@ -64,5 +76,8 @@ impl<'a> Model for Draft<'a> {
 
     ghost Value = { Configuration };
 
-    ghost view = { λ draft. record { partitions = draft.partitions.items; channels = draft.channels.items } };
+    ghost view = { λ draft. record {
+      partitions = draft.partitions.items;
+      channels = draft.channels.items;
+    } };
 }

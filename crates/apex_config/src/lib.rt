@@ -1,18 +1,18 @@
 //! The configuration of a module: its partitions, their ports, and the channels between them.
 #![tactic(auto)]
 
-mod accept;
+mod accepted;
 pub mod channel;
+mod channel_ends;
+mod channel_index;
 pub mod config;
+mod document;
 mod draft;
-mod ends;
+mod draft_faults;
 pub mod fault;
-mod index;
 pub mod limits;
 mod partition;
-mod passes;
 pub mod port;
-mod shape;
 mod table;
 
 pub use crate::channel::{Channel, ChannelKind};

@@ -50,7 +50,7 @@ impl Partition {
     pub fn copy(&self) -> Result<Partition, AllocError>
         ensures { IfOk result (λ partition. partition ≡ self.now) }
     {
-        let ports = copies(*self.ports.allocator(), self.ports.as_slice())?;
+        let ports = copies_of_ports(*self.ports.allocator(), self.ports.as_slice())?;
         Ok(Partition {
             name: self.name.copy(),
             ports,
@@ -78,7 +78,7 @@ fn same_ports(ports: &[Port], others: &[Port]) -> bool
     ports == others
 }
 
-fn copies(alloc: Global, ports: &[Port]) -> Result<Vec<Port>, AllocError>
+fn copies_of_ports(alloc: Global, ports: &[Port]) -> Result<Vec<Port>, AllocError>
     ensures { IfOk result (λ made. made.items ≡ ports.now) }
 {
     let mut made = Vec::with_capacity(alloc, ports.len())?;

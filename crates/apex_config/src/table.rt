@@ -10,7 +10,8 @@ ghost use Rattle.apex_config.specs.Table.{text_at, natural, number_at, array_at,
 use toml::{Table, Value};
 
 fn value_at<'a>(table: &'a Table, key: &str) -> Option<&'a Value>
-    ensures { option_map (λ value. view value.now) result ≡ get_member key.now (table_view table.now) }
+    ensures { option_map (λ value. view value.now) result
+        ≡ get_member key.now (table_view table.now) }
 {
     table.get(key)
 }
@@ -55,7 +56,8 @@ fn items_of(value: &Value) -> Option<&[Value]>
 
 /// The array at a key.
 pub fn array_at<'a>(table: &'a Table, key: &str) -> Option<&'a [Value]>
-    ensures { option_map (λ values. items_view values.now) result ≡ array_at key.now (table_view table.now) }
+    ensures { option_map (λ values. items_view values.now) result
+        ≡ array_at key.now (table_view table.now) }
 {
     match value_at(table, key) {
         Some(value) => items_of(value),
@@ -65,7 +67,8 @@ pub fn array_at<'a>(table: &'a Table, key: &str) -> Option<&'a [Value]>
 
 /// The array at a key that may be missing, which is then empty.
 pub fn array_if_any<'a>(table: &'a Table, key: &str) -> Option<&'a [Value]>
-    ensures { option_map (λ values. items_view values.now) result ≡ array_if_any key.now (table_view table.now) }
+    ensures { option_map (λ values. items_view values.now) result
+        ≡ array_if_any key.now (table_view table.now) }
 {
     match value_at(table, key) {
         Some(value) => items_of(value),

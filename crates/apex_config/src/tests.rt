@@ -1,8 +1,9 @@
 //! Texts of configurations with the answers that are wanted.
 ghost use Rattle.std.specs.Prelude.{Ok, Err};
 ghost use Rattle.apex_config.specs.Examples.{base};
-ghost use Rattle.apex_config.specs.Passes.{Answers};
+ghost use Rattle.apex_config.specs.Passes.{IsConfigRead};
 
+mod counts;
 mod texts;
 
 use crate::tests::texts::{BASE, INLINE, TWO_SOURCES};
@@ -13,35 +14,35 @@ use std::test::Fail;
 
 /// The base text is the base configuration, by computation.
 fn read_base(alloc: Global) -> Result<Config, ConfigFault>
-    ensures { Answers result (Ok base) }
+    ensures { IsConfigRead result (Ok base) }
 {
     Config::read(alloc, BASE.as_bytes())
 }
 
 /// Two sources and no destination are the fault of the sources, by computation.
 fn read_two_sources(alloc: Global) -> Result<Config, ConfigFault>
-    ensures { Answers result (Err ConfigFault.Sources) }
+    ensures { IsConfigRead result (Err ConfigFault.Sources) }
 {
     Config::read(alloc, TWO_SOURCES.as_bytes())
 }
 
 /// The empty text has no list of partitions, by computation.
 fn read_nothing(alloc: Global) -> Result<Config, ConfigFault>
-    ensures { Answers result (Err ConfigFault.Shape) }
+    ensures { IsConfigRead result (Err ConfigFault.Shape) }
 {
     Config::read(alloc, "".as_bytes())
 }
 
 /// An empty list of partitions is a count out of its limits, by computation.
 fn read_no_partition(alloc: Global) -> Result<Config, ConfigFault>
-    ensures { Answers result (Err ConfigFault.Counts) }
+    ensures { IsConfigRead result (Err ConfigFault.Counts) }
 {
     Config::read(alloc, "partition = []".as_bytes())
 }
 
 /// A text that is cut in a name is no TOML, by computation.
 fn read_cut(alloc: Global) -> Result<Config, ConfigFault>
-    ensures { Answers result (Err ConfigFault.NotToml) }
+    ensures { IsConfigRead result (Err ConfigFault.NotToml) }
 {
     Config::read(alloc, "[[partition]]\nname = \"FMS".as_bytes())
 }
@@ -278,85 +279,6 @@ fn bytes_are_utf8(rt: HostRuntime) {
         let refused = Config::read(rt.alloc(), bytes);
         assert!(rt; refused.is_err_and(|fault| fault == ConfigFault::NotToml));
     }
-}
-
-/// One partition with this many ports of one sampling channel, the first its source.
-fn with_ports(alloc: Global, ports: u32) -> Result<String, Fail> {
-    let mut text = String::from_str(
-        alloc,
-        "[[channel]]\nname = \"C\"\nkind = \"sampling\"\nsize = 1\n[[partition]]\nname = \"P\"\n",
-    )?;
-    for number in 0..ports {
-        let direction = if number == 0 { "source" } else { "destination" };
-        let port = format!(in alloc;
-            "[[partition.port]]\nname = \"P{number}\"\nkind = \"sampling\"\ndirection = \"{direction}\"\nchannel = \"C\"\nrefresh = 1\n"
-        )?;
-        text.push_str(port.as_str())?;
-    }
-    Ok(text)
-}
-
-/// This many partitions without ports.
-fn with_partitions(alloc: Global, partitions: u32) -> Result<String, Fail> {
-    let mut text = String::new(alloc);
-    for number in 0..partitions {
-        let partition = format!(in alloc; "[[partition]]\nname = \"P{number}\"\n")?;
-        text.push_str(partition.as_str())?;
-    }
-    Ok(text)
-}
-
-/// Both ports of the sampling channel of a number.
-fn ports_of_channel(alloc: Global, number: u32) -> Result<String, Fail> {
-    Ok(format!(in alloc;
-        "[[partition.port]]\nname = \"A{number}\"\nkind = \"sampling\"\ndirection = \"source\"\nchannel = \"C{number}\"\nrefresh = 1\n[[partition.port]]\nname = \"B{number}\"\nkind = \"sampling\"\ndirection = \"destination\"\nchannel = \"C{number}\"\nrefresh = 1\n"
-    )?)
-}
-
-/// This many sampling channels, spread over 16 partitions, each with both of its ports in one of them.
-fn with_channels(alloc: Global, channels: u32) -> Result<String, Fail> {
-    let mut text = String::new(alloc);
-    for number in 0..channels {
-        let channel = format!(in alloc;
-            "[[channel]]\nname = \"C{number}\"\nkind = \"sampling\"\nsize = 1\n"
-        )?;
-        text.push_str(channel.as_str())?;
-    }
-    for partition in 0..16 {
-        let heading = format!(in alloc; "[[partition]]\nname = \"P{partition}\"\n")?;
-        text.push_str(heading.as_str())?;
-        for number in 0..channels {
-            if number % 16 == partition {
-                let ports = ports_of_channel(alloc, number)?;
-                text.push_str(ports.as_str())?;
-            }
-        }
-    }
-    Ok(text)
-}
-
-#[test]
-fn counts_have_limits(rt: HostRuntime) -> Result<(), Fail> {
-    let alloc = rt.alloc();
-    assert_eq!(rt; fault_of(alloc, with_ports(alloc, 32)?.as_str()), Some(0));
-    assert_eq!(rt; fault_of(alloc, with_ports(alloc, 33)?.as_str()), Some(10));
-    assert_eq!(rt;
-        fault_of(alloc, with_partitions(alloc, 16)?.as_str()),
-        Some(0)
-    );
-    assert_eq!(rt;
-        fault_of(alloc, with_partitions(alloc, 17)?.as_str()),
-        Some(10)
-    );
-    assert_eq!(rt;
-        fault_of(alloc, with_channels(alloc, 64)?.as_str()),
-        Some(0)
-    );
-    assert_eq!(rt;
-        fault_of(alloc, with_channels(alloc, 65)?.as_str()),
-        Some(10)
-    );
-    Ok(())
 }
 
 /// The partition without ports is read, with its line feed and without, and the text without its last line feed.

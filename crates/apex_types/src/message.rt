@@ -56,7 +56,9 @@ pub enum HexFault {
 impl Message {
     /// The message of these bytes.
     pub fn from_bytes(bytes: &[u8]) -> Result<Message, TooLong>
-        ensures { MatchResult result (λ message. (message ≡ bytes.now) × (length bytes.now ≤ MESSAGE_LIMIT)) (λ _. MESSAGE_LIMIT < length bytes.now) }
+        ensures { MatchResult result
+            (λ message. (message ≡ bytes.now) × (length bytes.now ≤ MESSAGE_LIMIT))
+            (λ _. MESSAGE_LIMIT < length bytes.now) }
     {
         let mut copied = ArrayVec::new();
         match copied.try_extend_from_slice(bytes) {

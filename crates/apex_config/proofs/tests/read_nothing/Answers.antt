@@ -1,8 +1,8 @@
 use Rattle.std.proofs.Common.{subst, ap, ◌∙◌, refl}
-use Rattle.apex_config.specs.Passes.{config_of, Answers}
+use Rattle.apex_config.specs.Passes.{config_of, IsConfigRead}
 use Rattle.apex_config.proofs.OnLiterals.{config_on_literals}
 use Rattle.apex_config.proofs.tests.read_nothing.Goals as goal
 
 pub returns : goal.returns
 unfolding config_on_literals
-returns c = subst (λ meaning. Answers c.read.result meaning) (ap config_of c.as_bytes.ensures.value ∙ refl) c.read.ensures
+returns c = subst (λ meaning. IsConfigRead c.read.result meaning) (ap config_of c.as_bytes.ensures.value ∙ refl) c.read.ensures

@@ -20,4 +20,4 @@ returns-in-Some-2 c _ =
 pub returns : goal.returns
 returns c =
     is_unless_faulty c.args.bytes.now (table_view c.in-Ok.document) c.in-Some.draft None c.in-Ok.ensures.ok.0 c.in-Ok.ensures.ok.1
-    (sym c.in_ok-draft.ensures ∙ c.in-Some.is) (sym c.in_ok-fault.ensures ∙ c.in-None.is) ∙ ap (λ config. Ok config) (sym c.in_ok-config_of-in-None.ensures)
+    (sym c.in_ok-draft.ensures ∙ c.in-Some.is) (sym c.in_ok-fault.ensures ∙ c.in-None.is) ∙ ap (λ config. Ok config) (sym c.in_ok-accepted_config-in-None.ensures)
