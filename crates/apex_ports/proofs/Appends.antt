@@ -1,0 +1,44 @@
+-- What one more entry does to what a history comes to.
+use Rattle.std.proofs.Common.{◌≡◌, ℕ, false, ◌&&◌, ◌||◌, not, if◌then◌else◌, [], ◌∷◌, ◌++◌, Option, Some, None, refl, ap, ◌∙◌}
+use Rattle.std.specs.Option.{unwrap_or, option_to_list}
+use Rattle.std.specs.List.{filter_map}
+use Rattle.std.proofs.lemmas.List.Sums.{fold-append}
+use Rattle.std.proofs.lemmas.List.Elements.{filter_map-append}
+use Rattle.apex_config.specs.Configuration.{Configuration}
+use Rattle.apex_types.specs.declared.mode.Mode.TheVariants.{ColdStart}
+use Rattle.apex_types.specs.declared.validity.Validity.TheVariants.{Invalid}
+use Rattle.apex_ports.specs.declared.history.Entry.{Entry}
+use Rattle.apex_ports.specs.History.{History}
+use Rattle.apex_ports.specs.Modes.{mode_of, mode_set, restarts}
+use Rattle.apex_ports.specs.Ports.{is_created, creates}
+use Rattle.apex_ports.specs.Channels.{accepted_on, received_on, writes_on, message_accepted, message_received, sample_written, last_validity_of, validity_read}
+
+pub mode_of-append : (p : ℕ) (h : History) (e : Entry) → mode_of p (h ++ e ∷ []) ≡ unwrap_or (mode_set p e) (mode_of p h)
+mode_of-append p h e = fold-append (λ mode entry. unwrap_or (mode_set p entry) mode) ColdStart h (e ∷ [])
+
+pub is_created-append : (p id : ℕ) (h : History) (e : Entry) → is_created p id (h ++ e ∷ []) ≡ (creates p id e || (is_created p id h && not (restarts p e)))
+is_created-append p id h e = fold-append (λ created entry. creates p id entry || (created && not (restarts p entry))) false h (e ∷ [])
+
+pub last_validity_of-append : (p id : ℕ) (h : History) (e : Entry) → last_validity_of p id (h ++ e ∷ []) ≡ (if creates p id e then Invalid else unwrap_or (validity_read p id e) (last_validity_of p id h))
+last_validity_of-append p id h e =
+    fold-append (λ last entry. if creates p id entry then Invalid else unwrap_or (validity_read p id entry) last) Invalid h (e ∷ [])
+
+-- filtering one more item
+one_more : {X Y : Type 0} (f : X → Option Y) (x : X) → filter_map f (x ∷ []) ≡ option_to_list (f x)
+one_more {X} {Y} f x = of_item (f x)
+  where
+    of_item : (o : Option Y) → filter_map (λ (_ : X). o) (x ∷ []) ≡ option_to_list o
+    of_item (Some y) = refl
+    of_item None = refl
+
+pub accepted_on-append : (config : Configuration) (c : ℕ) (h : History) (e : Entry) → accepted_on config c (h ++ e ∷ []) ≡ accepted_on config c h ++ option_to_list (message_accepted config c e)
+accepted_on-append config c h e =
+    filter_map-append (message_accepted config c) h (e ∷ []) ∙ ap (λ ys. accepted_on config c h ++ ys) (one_more (message_accepted config c) e)
+
+pub received_on-append : (config : Configuration) (c : ℕ) (h : History) (e : Entry) → received_on config c (h ++ e ∷ []) ≡ received_on config c h ++ option_to_list (message_received config c e)
+received_on-append config c h e =
+    filter_map-append (message_received config c) h (e ∷ []) ∙ ap (λ ys. received_on config c h ++ ys) (one_more (message_received config c) e)
+
+pub writes_on-append : (config : Configuration) (c : ℕ) (h : History) (e : Entry) → writes_on config c (h ++ e ∷ []) ≡ writes_on config c h ++ option_to_list (sample_written config c e)
+writes_on-append config c h e =
+    filter_map-append (sample_written config c) h (e ∷ []) ∙ ap (λ ys. writes_on config c h ++ ys) (one_more (sample_written config c) e)

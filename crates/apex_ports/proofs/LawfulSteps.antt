@@ -1,0 +1,49 @@
+-- One more lawful entry, and what holds of lawful histories.
+use Rattle.std.proofs.Common.{◌≡◌, ◌≢◌, ℕ, ◌<◌, ◌==◌, Bool, true, false, [], ◌∷◌, ◌++◌, length, take, Some, refl, sym, ap, ◌∙◌, subst, arith}
+use Rattle.std.specs.List.{slice_get}
+use Rattle.std.proofs.lemmas.Bool.Decides.{nat_tests}
+use Rattle.std.proofs.lemmas.List.{take-append-le}
+use Rattle.std.proofs.Math.Seq.{take-append_seam}
+use Rattle.circular_buffer.proofs.Places.{slice_get-last, slice_get-push}
+use Rattle.std.proofs.lemmas.Option.{slice_get_within}
+use Rattle.apex_types.specs.declared.call.Call.{Call}
+use Rattle.apex_types.specs.declared.moment.Moment.{Moment}
+use Rattle.apex_types.specs.declared.reply.Reply.{Reply}
+use Rattle.apex_config.specs.Configuration.{Configuration, IsConfiguration}
+use Rattle.apex_ports.specs.declared.history.Entry.{Entry}
+use Rattle.apex_ports.specs.History.{History, entry_of}
+use Rattle.apex_ports.specs.Lawful.{IsLawful, IsLawfulEntry}
+use Rattle.apex_ports.specs.ReplyTable.{reply_to}
+use Rattle.apex_ports.specs.Sound.{IsSound}
+
+-- a lawful history stays lawful with one more lawful entry
+pub lawful_push : (config : Configuration) (h : History) (p : ℕ) (at : Moment) (call : Call) (reply : Reply) → IsLawful config h → p < length config.partitions → reply ≡ reply_to config h p at call → IsLawful config (h ++ entry_of p at call reply ∷ [])
+lawful_push config h p at call reply lawful within is k entry here = by_test (k == length h) refl
+  where
+    e : Entry
+    e = entry_of p at call reply
+
+    by_test : (b : Bool) → (k == length h) ≡ b → IsLawfulEntry config (take k (h ++ e ∷ [])) entry
+    by_test true last =
+        let place : k ≡ length h = grind (arith, nat_tests) in
+        let same : Some entry ≡ Some e = sym here ∙ slice_get-last h e k place in
+        let is_e : e ≡ entry = cc in
+        let before : h ≡ take k (h ++ e ∷ []) = sym (ap (λ n. take n (h ++ e ∷ [])) place ∙ take-append_seam h (e ∷ [])) in
+        subst (λ (x : Entry). IsLawfulEntry config (take k (h ++ e ∷ [])) x) is_e (subst (λ (g : History). IsLawfulEntry config g e) before (within, is))
+    by_test false earlier =
+        let apart : k ≢ length h = grind (arith, nat_tests) in
+        let was : slice_get h k ≡ Some entry = sym (slice_get-push h e k apart) ∙ here in
+        let inside = slice_get_within h k entry was in
+        let before : take k (h ++ e ∷ []) ≡ take k h = take-append-le k h (e ∷ []) (omega arith) in
+        subst (λ (g : History). IsLawfulEntry config g entry) (sym before) (lawful k entry was)
+
+-- what holds of the ports holds with one more lawful entry
+pub sound-push : (config : Configuration) (h : History) (p : ℕ) (at : Moment) (call : Call) (reply : Reply) → IsSound config h → p < length config.partitions → reply ≡ reply_to config h p at call → IsSound config (h ++ entry_of p at call reply ∷ [])
+sound-push config h p at call reply sound within is = record {
+  valid = sound.valid;
+  lawful = lawful_push config h p at call reply sound.lawful within is;
+}
+
+-- and of the empty history
+pub sound-nil : (config : Configuration) → IsConfiguration config → IsSound config []
+sound-nil config valid = record { valid = valid; lawful = λ k entry here. absurd (cc) }

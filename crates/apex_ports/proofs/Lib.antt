@@ -1,0 +1,12 @@
+pub mod Appends
+pub mod ChannelSteps
+pub mod Conserved
+pub mod Counts
+pub mod Histories
+pub mod Idle
+pub mod LawfulSteps
+pub mod Lookups
+pub mod OneChannel
+pub mod PartitionSteps
+pub mod Refused
+pub mod Stays

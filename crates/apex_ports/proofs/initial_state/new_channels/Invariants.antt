@@ -1,0 +1,9 @@
+use Rattle.std.proofs.Common.{◌≡◌, [], length}
+use Rattle.apex_ports.specs.Kept.{EachAt, IsChannelKept}
+use Rattle.apex_ports.proofs.initial_state.new_channels.Given as goal
+
+abbrev pub invariant-loop-c : goal.invariant-loop-c
+invariant-loop-c g l = record {
+  count : length l.channels.items ≡ l.c;
+  kept : EachAt (IsChannelKept l.config []) l.channels.items;
+}

@@ -1,0 +1,31 @@
+-- What the state of a channel has. One of the other kind has nothing.
+use Rattle.std.specs.Prelude.{ℕ, Bool, true, false, List, [], Option, None}
+use Rattle.apex_ports.specs.declared.history.Sample.{Sample}
+use Rattle.apex_ports.specs.declared.channel.ChannelState.{ChannelState}
+use Rattle.apex_ports.specs.declared.channel.ChannelState.TheVariants.{Queuing, Sampling}
+
+abbrev pub has_queue : {A : Type 0} → ChannelState A → Bool
+has_queue (Queuing queue) = true
+has_queue (Sampling sample) = false
+
+-- the messages that wait, oldest first
+abbrev pub waiting_in : {A : Type 0} → ChannelState A → List (List ℕ)
+waiting_in (Queuing queue) = queue.waiting.items
+waiting_in (Sampling sample) = []
+
+-- how many messages can wait
+abbrev pub places_in : {A : Type 0} → ChannelState A → ℕ
+places_in (Queuing queue) = queue.waiting.capacity
+places_in (Sampling sample) = 0
+
+abbrev pub accepted_in : {A : Type 0} → ChannelState A → ℕ
+accepted_in (Queuing queue) = queue.accepted
+accepted_in (Sampling sample) = 0
+
+abbrev pub received_in : {A : Type 0} → ChannelState A → ℕ
+received_in (Queuing queue) = queue.received
+received_in (Sampling sample) = 0
+
+abbrev pub sample_in : {A : Type 0} → ChannelState A → Option Sample
+sample_in (Queuing queue) = None
+sample_in (Sampling sample) = sample

@@ -1,0 +1,153 @@
+//! The state of a channel: the queue of a queuing channel, or the last sample of a sampling channel.
+ghost use Rattle.std.specs.Prelude.{◌≡◌, ◌+◌, ◌<◌, ◌^◌, ◌-◌, ◌==◌, [], ◌∷◌, ◌++◌, false, length, min, drop, slice_get, Some, None, IfOk};
+ghost use Rattle.std.specs.Option.{option_copied};
+ghost use Rattle.circular_buffer.specs.Buffer.{buffer};
+
+use crate::history::Sample;
+use apex_types::Message;
+use circular_buffer::HeapCircularBuffer;
+use std::alloc::{AllocError, Allocator};
+
+/// The messages that wait on a queuing channel, in a ring of as many places as its depth. The counts
+/// of accepted and received messages stay at the greatest number.
+#[derive(Drop)]
+pub(crate) struct Queue<A: Allocator> {
+    pub(crate) waiting: HeapCircularBuffer<Message, A>,
+    pub(crate) accepted: u64,
+    pub(crate) received: u64,
+}
+
+impl<A: Allocator> Queue<A> {
+    /// An empty queue for as many messages as `depth`.
+    pub(crate) fn new(alloc: A, depth: usize) -> Result<Queue<A>, AllocError>
+        ensures waiting { IfOk result (λ queue. queue.waiting ≡ buffer [] depth) }
+        ensures accepted { IfOk result (λ queue. queue.accepted ≡ 0) }
+        ensures received { IfOk result (λ queue. queue.received ≡ 0) }
+    {
+        Ok(Queue {
+            waiting: HeapCircularBuffer::with_capacity(alloc, depth)?,
+            accepted: 0,
+            received: 0,
+        })
+    }
+}
+
+/// The state of a channel of either kind.
+#[derive(Drop)]
+pub(crate) enum ChannelState<A: Allocator> {
+    Queuing(Queue<A>),
+    Sampling(Option<Sample>),
+}
+
+impl<A: Allocator> ChannelState<A> {
+    ghost use Rattle.apex_ports.specs.ChannelStates.{has_queue, waiting_in, places_in, accepted_in, received_in, sample_in};
+
+    /// How many messages wait.
+    pub(crate) fn waiting_count(&self) -> usize
+        ensures { result ≡ length (waiting_in self.now) }
+    {
+        match self {
+            ChannelState::Queuing(queue) => queue.waiting.len(),
+            ChannelState::Sampling(_) => 0,
+        }
+    }
+
+    /// The message at a place; place 0 has the oldest.
+    pub(crate) fn waiting(&self, place: usize) -> Option<&Message>
+        ensures { option_copied result ≡ slice_get (waiting_in self.now) place }
+    {
+        match self {
+            ChannelState::Queuing(queue) => queue.waiting.get(place),
+            ChannelState::Sampling(_) => None,
+        }
+    }
+
+    /// Whether there is no place for one more message.
+    pub(crate) fn is_full(&self) -> bool
+        ensures { result ≡ (length (waiting_in self.now) == places_in self.now) }
+    {
+        match self {
+            ChannelState::Queuing(queue) => queue.waiting.is_full(),
+            ChannelState::Sampling(_) => true,
+        }
+    }
+
+    /// How many messages can wait.
+    pub(crate) fn places(&self) -> usize
+        ensures { result ≡ places_in self.now }
+    {
+        match self {
+            ChannelState::Queuing(queue) => queue.waiting.capacity(),
+            ChannelState::Sampling(_) => 0,
+        }
+    }
+
+    /// How many messages were accepted.
+    pub(crate) fn accepted(&self) -> u64
+        ensures { result ≡ accepted_in self.now }
+    {
+        match self {
+            ChannelState::Queuing(queue) => queue.accepted,
+            ChannelState::Sampling(_) => 0,
+        }
+    }
+
+    /// How many messages were received.
+    pub(crate) fn received(&self) -> u64
+        ensures { result ≡ received_in self.now }
+    {
+        match self {
+            ChannelState::Queuing(queue) => queue.received,
+            ChannelState::Sampling(_) => 0,
+        }
+    }
+
+    /// The sample written last.
+    pub(crate) fn sample(&self) -> Option<&Sample>
+        ensures { option_copied result ≡ sample_in self.now }
+    {
+        match self {
+            ChannelState::Queuing(_) => None,
+            ChannelState::Sampling(sample) => sample.as_ref(),
+        }
+    }
+
+    /// Puts a message last. There is a place for it.
+    pub(crate) fn send(&mut self, message: &Message)
+        requires { length (waiting_in self.old) < places_in self.old }
+        ensures waiting { waiting_in self.new ≡ waiting_in self.old ++ message.now ∷ [] }
+        ensures places { places_in self.new ≡ places_in self.old }
+        ensures accepted { accepted_in self.new ≡ min (accepted_in self.old + 1) (2 ^ 64 - 1) }
+        ensures received { received_in self.new ≡ received_in self.old }
+        ensures sample { sample_in self.new ≡ sample_in self.old }
+        ensures kind { has_queue self.new ≡ has_queue self.old }
+    {
+        match self {
+            ChannelState::Queuing(queue) => {
+                let _ = queue.waiting.push_back(message.copy());
+                queue.accepted = queue.accepted.saturating_add(1);
+            }
+            ChannelState::Sampling(_) => unreachable!(),
+        }
+    }
+
+    /// Takes the oldest message. There is one.
+    pub(crate) fn receive(&mut self) -> Message
+        requires { 0 < length (waiting_in self.old) }
+        ensures message { slice_get (waiting_in self.old) 0 ≡ Some result }
+        ensures waiting { waiting_in self.new ≡ drop 1 (waiting_in self.old) }
+        ensures places { places_in self.new ≡ places_in self.old }
+        ensures accepted { accepted_in self.new ≡ accepted_in self.old }
+        ensures received { received_in self.new ≡ min (received_in self.old + 1) (2 ^ 64 - 1) }
+        ensures sample { sample_in self.new ≡ sample_in self.old }
+        ensures kind { has_queue self.new ≡ has_queue self.old }
+    {
+        match self {
+            ChannelState::Queuing(queue) => {
+                queue.received = queue.received.saturating_add(1);
+                queue.waiting.pop_front().unwrap()
+            }
+            ChannelState::Sampling(_) => unreachable!(),
+        }
+    }
+}

@@ -1,0 +1,198 @@
+//! CREATE_QUEUING_PORT, CREATE_SAMPLING_PORT, GET_QUEUING_PORT_ID and GET_SAMPLING_PORT_ID.
+ghost use Rattle.std.specs.Prelude.{◌≡◌, ◌<◌, length, IfOk};
+ghost use Rattle.apex_types.specs.declared.call.Call.TheVariants as call;
+ghost use Rattle.apex_types.specs.declared.moment.Moment.{Moment};
+ghost use Rattle.apex_types.specs.declared.reply.Reply.TheVariants.{Id};
+ghost use Rattle.apex_config.specs.Configuration.{ports_of};
+ghost use Rattle.apex_ports.specs.Decisions.{Decides};
+ghost use Rattle.apex_ports.specs.History.{entry_of};
+ghost use Rattle.apex_ports.specs.Kept.{IsKept, IsKeptWith};
+ghost use Rattle.apex_ports.specs.Ports.{IsPlace, queuing_named, sampling_named};
+ghost use Rattle.apex_ports.specs.ReplyTable.{create_queuing_reply, create_sampling_reply, id_reply};
+
+use crate::lookup::{queuing_named, sampling_named};
+use crate::modes::is_normal;
+use crate::partition::PortState;
+use crate::state::State;
+use apex_config::Config;
+use apex_types::{Name, Reply, ReturnCode, Validity};
+use std::alloc::Allocator;
+
+/// What a CREATE_QUEUING_PORT asks of a port: the size in bytes, the depth in messages, and raw numbers.
+#[derive(Clone, Copy)]
+pub(crate) struct QueuingAttributes {
+    pub(crate) size: u32,
+    pub(crate) depth: u32,
+    pub(crate) direction: u32,
+    pub(crate) discipline: u32,
+}
+
+/// What a CREATE_SAMPLING_PORT asks of a port: the size in bytes, the refresh period in nanoseconds, and a raw number.
+#[derive(Clone, Copy)]
+pub(crate) struct SamplingAttributes {
+    pub(crate) size: u32,
+    pub(crate) direction: u32,
+    pub(crate) refresh: u64,
+}
+
+/// The greatest QUEUING_DISCIPLINE: FIFO is 0, PRIORITY is 1.
+const PRIORITY: u32 = 1;
+
+/// A port that is created and hasn't read.
+const CREATED: PortState = PortState {
+    created: true,
+    last: Validity::Invalid,
+};
+
+impl<A: Allocator> State<A> {
+    // The identifier of the queuing port that the attributes create, or the code that refuses it.
+    fn queuing_to_create(
+        &self,
+        config: &Config,
+        partition: usize,
+        name: &Name,
+        asked: QueuingAttributes,
+    ) -> Result<u32, ReturnCode>
+        requires partition { partition < length config.now.partitions }
+        requires kept { IsKept config.now self.now.history self.now }
+        ensures place { IfOk result (λ id. IsPlace (ports_of config.now partition) id) }
+        ensures decided { let named = queuing_named config.now partition name.now in
+            let reply = create_queuing_reply config.now self.now.history partition named
+            asked.size asked.depth asked.direction asked.discipline in
+            Decides reply (λ id. Id id) result }
+    {
+        let Some((id, port)) = queuing_named(config, partition, name) else {
+            return Err(ReturnCode::InvalidConfig);
+        };
+        let state = &self.partitions[partition];
+        let channel = config.channel(port.channel);
+        if state.is_created(id) {
+            Err(ReturnCode::NoAction)
+        } else if asked.size != channel.size
+            || asked.depth != channel.kind.depth()
+            || asked.direction != port.direction.number()
+            || asked.discipline > PRIORITY
+        {
+            Err(ReturnCode::InvalidConfig)
+        } else if is_normal(state.mode) {
+            Err(ReturnCode::InvalidMode)
+        } else {
+            Ok(id)
+        }
+    }
+
+    // The identifier of the sampling port that the attributes create, or the code that refuses it.
+    fn sampling_to_create(
+        &self,
+        config: &Config,
+        partition: usize,
+        name: &Name,
+        asked: SamplingAttributes,
+    ) -> Result<u32, ReturnCode>
+        requires partition { partition < length config.now.partitions }
+        requires kept { IsKept config.now self.now.history self.now }
+        ensures place { IfOk result (λ id. IsPlace (ports_of config.now partition) id) }
+        ensures decided { let named = sampling_named config.now partition name.now in
+            let reply = create_sampling_reply config.now self.now.history partition named
+            asked.size asked.direction asked.refresh in
+            Decides reply (λ id. Id id) result }
+    {
+        let Some((id, port)) = sampling_named(config, partition, name) else {
+            return Err(ReturnCode::InvalidConfig);
+        };
+        let state = &self.partitions[partition];
+        let channel = config.channel(port.channel);
+        if state.is_created(id) {
+            Err(ReturnCode::NoAction)
+        } else if asked.size != channel.size
+            || asked.direction != port.direction.number()
+            || asked.refresh != port.kind.refresh()
+        {
+            Err(ReturnCode::InvalidConfig)
+        } else if is_normal(state.mode) {
+            Err(ReturnCode::InvalidMode)
+        } else {
+            Ok(id)
+        }
+    }
+
+    /// CREATE_QUEUING_PORT.
+    pub(crate) fn create_queuing(
+        &mut self,
+        config: &Config,
+        partition: usize,
+        name: &Name,
+        asked: QueuingAttributes,
+    ) -> Reply
+        requires partition { partition < length config.now.partitions }
+        requires kept { IsKept config.now self.old.history self.old }
+        ensures reply { let named = queuing_named config.now partition name.now in
+            result ≡ create_queuing_reply config.now self.old.history partition named
+            asked.size asked.depth asked.direction asked.discipline }
+        ensures kept { (at : Moment) →
+            let asking = call.CreateQueuing name.now asked.size asked.depth asked.direction asked.discipline in
+            IsKeptWith config.now self.old (entry_of partition at asking result) self.new }
+        ensures history { self.new.history ≡ self.old.history }
+    {
+        match self.queuing_to_create(config, partition, name, asked) {
+            Ok(id) => {
+                self.partitions[partition].set_port(id, CREATED);
+                Reply::Id(id)
+            }
+            Err(code) => Reply::Code(code),
+        }
+    }
+
+    /// CREATE_SAMPLING_PORT.
+    pub(crate) fn create_sampling(
+        &mut self,
+        config: &Config,
+        partition: usize,
+        name: &Name,
+        asked: SamplingAttributes,
+    ) -> Reply
+        requires partition { partition < length config.now.partitions }
+        requires kept { IsKept config.now self.old.history self.old }
+        ensures reply { let named = sampling_named config.now partition name.now in
+            result ≡ create_sampling_reply config.now self.old.history partition named
+            asked.size asked.direction asked.refresh }
+        ensures kept { (at : Moment) →
+            let asking = call.CreateSampling name.now asked.size asked.direction asked.refresh in
+            IsKeptWith config.now self.old (entry_of partition at asking result) self.new }
+        ensures history { self.new.history ≡ self.old.history }
+    {
+        match self.sampling_to_create(config, partition, name, asked) {
+            Ok(id) => {
+                self.partitions[partition].set_port(id, CREATED);
+                Reply::Id(id)
+            }
+            Err(code) => Reply::Code(code),
+        }
+    }
+
+    /// GET_QUEUING_PORT_ID.
+    pub(crate) fn queuing_id(&self, config: &Config, partition: usize, name: &Name) -> Reply
+        requires partition { partition < length config.now.partitions }
+        requires kept { IsKept config.now self.now.history self.now }
+        ensures { let named = queuing_named config.now partition name.now in
+            result ≡ id_reply self.now.history partition named }
+    {
+        match queuing_named(config, partition, name) {
+            Some((id, _)) if self.partitions[partition].is_created(id) => Reply::Id(id),
+            _ => Reply::Code(ReturnCode::InvalidConfig),
+        }
+    }
+
+    /// GET_SAMPLING_PORT_ID.
+    pub(crate) fn sampling_id(&self, config: &Config, partition: usize, name: &Name) -> Reply
+        requires partition { partition < length config.now.partitions }
+        requires kept { IsKept config.now self.now.history self.now }
+        ensures { let named = sampling_named config.now partition name.now in
+            result ≡ id_reply self.now.history partition named }
+    {
+        match sampling_named(config, partition, name) {
+            Some((id, _)) if self.partitions[partition].is_created(id) => Reply::Id(id),
+            _ => Reply::Code(ReturnCode::InvalidConfig),
+        }
+    }
+}

@@ -1,0 +1,28 @@
+//! What is asked of a board, and what its log keeps.
+use apex_types::{Call, Message, Moment, Reply};
+
+/// A call of a partition at a moment.
+#[derive(Debug, Drop, PartialEq, Eq)]
+pub struct Request {
+    /// The partition's number, from 0.
+    pub partition: usize,
+    pub at: Moment,
+    pub call: Call,
+}
+
+/// A call with the reply that it got.
+#[derive(Debug, Drop, PartialEq, Eq)]
+pub struct Entry {
+    /// The partition's number, from 0.
+    pub partition: usize,
+    pub at: Moment,
+    pub call: Call,
+    pub reply: Reply,
+}
+
+/// The message that a sampling channel holds, and when it was written.
+#[derive(Debug, Drop, PartialEq, Eq)]
+pub struct Sample {
+    pub message: Message,
+    pub at: Moment,
+}

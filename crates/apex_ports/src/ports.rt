@@ -1,0 +1,74 @@
+//! The ports of a module.
+ghost use Rattle.std.specs.Prelude.{◌≡◌, ◌<◌, ◌∷◌, ◌++◌, [], length, IfOk};
+
+use crate::initial_state::new_counts;
+use crate::state::State;
+use apex_config::Config;
+use apex_types::{Call, Moment, OutOfMemory, Reply};
+use std::alloc::{Allocator, Global};
+use std::marker::Model;
+
+mod readers;
+
+/// The ports of a module: they answer the calls of all partitions, and keep of them what later calls
+/// need and how many there were. All their memory is made by `new`.
+///
+/// To a contract they are their configuration and the history of all calls with their replies, which
+/// no run stores. The history is lawful, and whatever the ports show is what it comes to.
+#[derive(Drop)]
+pub struct Ports<A: Allocator = Global> {
+    config: Config,
+    state: State<A>,
+    calls: Vec<u64, A>,
+}
+
+impl<A: Allocator> Model for Ports<A> {
+    ghost use Rattle.apex_ports.specs.PortsView.{PortsView};
+
+    ghost Value = { PortsView };
+
+    ghost use Rattle.apex_ports.specs.Kept.{IsPortsKept};
+
+    ghost view = { λ ports. record { config = ports.config; history = ports.state.history } };
+
+    ghost invariant = { λ ports. IsPortsKept ports.config ports.state ports.calls };
+}
+
+impl<A: Allocator + Copy> Ports<A> {
+    /// The ports before the first call, every partition in COLD_START. On want of memory the
+    /// configuration is dropped.
+    pub fn new(alloc: A, config: Config) -> Result<Ports<A>, OutOfMemory>
+        ensures config { IfOk result (λ ports. ports.config ≡ config) }
+        ensures history { IfOk result (λ ports. ports.history ≡ []) }
+    {
+        let state = State::new(alloc, &config)?;
+        let calls = new_counts(alloc, config.partitions())?;
+        Ok(Ports {
+            config,
+            state,
+            calls,
+        })
+    }
+}
+
+impl<A: Allocator> Ports<A> {
+    ghost use Rattle.apex_ports.specs.History.{entry_of};
+    ghost use Rattle.apex_ports.specs.ReplyTable.{reply_to};
+    ghost use Rattle.apex_ports.specs.Sound.{IsSound};
+
+    /// One event: the partition makes the call at the moment. It always answers, and takes no memory.
+    pub fn call(&mut self, partition: usize, at: Moment, call: &Call) -> Reply
+        requires { partition < length self.old.config.partitions }
+
+        // The reply is the reply table's, and the history gains just that entry.
+        ensures reply { result ≡ reply_to self.old.config self.old.history partition at call.now }
+        ensures entry { self.new.history ≡ self.old.history ++ entry_of partition at call.now result ∷ [] }
+        ensures config { self.new.config ≡ self.old.config }
+        ensures sound { IsSound self.new.config self.new.history }
+    {
+        let reply = self.state.answer(&self.config, partition, at, call);
+        self.calls[partition] = self.calls[partition].saturating_add(1);
+        self.state.history.push(partition, at, call, &reply);
+        reply
+    }
+}

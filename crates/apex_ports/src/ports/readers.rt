@@ -1,0 +1,114 @@
+//! What the ports of a module show.
+ghost use Rattle.std.specs.Prelude.{◌≡◌, [], ◌<◌, ◌++◌, true, false, length, None, slice_get};
+ghost use Rattle.std.specs.Option.{option_copied};
+
+use crate::history::Sample;
+use crate::ports::Ports;
+use apex_config::Config;
+use apex_types::{Message, Mode, Validity};
+use std::alloc::Allocator;
+
+impl<A: Allocator> Ports<A> {
+    ghost use Rattle.apex_ports.specs.Channels.{accepted_on, received_on, waiting_on, last_write_on};
+    ghost use Rattle.apex_ports.specs.Counts.{count_of};
+    ghost use Rattle.apex_ports.specs.History.{entries_of};
+    ghost use Rattle.apex_ports.specs.Modes.{mode_of};
+    ghost use Rattle.apex_ports.specs.Ports.{is_created, is_queuing, sampling_port};
+    ghost use Rattle.apex_ports.specs.ReplyTable.{validity_shown};
+    ghost use Rattle.apex_ports.specs.Rules.{IsConserved};
+    ghost use Rattle.apex_ports.specs.Sound.{IsSound};
+
+    /// The configuration.
+    pub fn config(&self) -> &Config
+        ensures config { result.now ≡ self.now.config }
+        ensures sound { IsSound self.now.config self.now.history }
+    {
+        &self.config
+    }
+
+    /// The mode of partition `p`.
+    pub fn mode(&self, p: usize) -> Mode
+        requires { p < length self.now.config.partitions }
+        ensures { result ≡ mode_of p self.now.history }
+    {
+        self.state.partitions[p].mode
+    }
+
+    /// How many calls partition `p` made, those that were not made included; at most the greatest u64.
+    pub fn calls(&self, p: usize) -> u64
+        requires { p < length self.now.config.partitions }
+        ensures { result ≡ count_of (entries_of p self.now.history) }
+    {
+        self.calls[p]
+    }
+
+    /// Whether partition `p` has created the port of the identifier since its last restart.
+    pub fn created(&self, p: usize, id: u32) -> bool
+        requires { p < length self.now.config.partitions }
+        ensures { result ≡ is_created p id self.now.history }
+    {
+        self.state.partitions[p].is_created(id)
+    }
+
+    /// What the last read of a created sampling port showed since the port's creation; INVALID for any
+    /// other identifier.
+    pub fn last_validity(&self, p: usize, id: u32) -> Validity
+        requires { p < length self.now.config.partitions }
+        ensures { let port = sampling_port self.now.config self.now.history p id in
+            result ≡ validity_shown self.now.history p id port }
+    {
+        match self.state.sampling_port(&self.config, p, id) {
+            Some(_) => self.state.partitions[p].last_validity(id),
+            None => Validity::Invalid,
+        }
+    }
+
+    /// How many messages channel `c` accepted; at most the greatest u64, and 0 on a sampling channel.
+    pub fn accepted_count(&self, c: usize) -> u64
+        requires { c < length self.now.config.channels }
+        ensures { result ≡ count_of (accepted_on self.now.config c self.now.history) }
+    {
+        self.state.channels[c].accepted()
+    }
+
+    /// How many messages were received from channel `c`; at most the greatest u64, and 0 on a sampling
+    /// channel.
+    pub fn received_count(&self, c: usize) -> u64
+        requires { c < length self.now.config.channels }
+        ensures { result ≡ count_of (received_on self.now.config c self.now.history) }
+    {
+        self.state.channels[c].received()
+    }
+
+    /// How many messages wait on channel `c`; none on a sampling channel.
+    pub fn waiting_count(&self, c: usize) -> usize
+        requires { c < length self.now.config.channels }
+        ensures count { result ≡ length (waiting_on self.now.config c self.now.history) }
+        ensures sampling { is_queuing self.now.config c ≡ false → result ≡ 0 }
+
+        // Never more than the depth wait, and received and waiting messages together are the accepted
+        // ones, in order.
+        ensures conserved { IsConserved self.now.config self.now.history c }
+    {
+        self.state.channels[c].waiting_count()
+    }
+
+    /// The message at place `i` of those that wait on channel `c`; place 0 has the oldest.
+    pub fn waiting(&self, c: usize, i: usize) -> Option<&Message>
+        requires { c < length self.now.config.channels }
+        ensures message { option_copied result ≡ slice_get (waiting_on self.now.config c self.now.history) i }
+        ensures sampling { is_queuing self.now.config c ≡ false → result ≡ None }
+    {
+        self.state.channels[c].waiting(i)
+    }
+
+    /// The message that channel `c` holds, with the moment of its writing; none on a queuing channel, or
+    /// before the first write.
+    pub fn last_sample(&self, c: usize) -> Option<&Sample>
+        requires { c < length self.now.config.channels }
+        ensures sample { option_copied result ≡ last_write_on self.now.config c self.now.history }
+        ensures queuing { is_queuing self.now.config c ≡ true → result ≡ None }
+    {
+        self.state.channels[c].sample()
+    }
+}

@@ -1,0 +1,86 @@
+//! Which service a call asks for. A partition in IDLE gets none.
+ghost use Rattle.std.specs.Prelude.{◌≡◌, ◌<◌, length};
+ghost use Rattle.apex_ports.specs.History.{entry_of};
+ghost use Rattle.apex_ports.specs.Kept.{IsKept, IsKeptWith};
+ghost use Rattle.apex_ports.specs.ReplyTable.{reply_to, service_reply};
+ghost use Rattle.apex_ports.specs.Sound.{IsSound};
+
+use crate::creation::{QueuingAttributes, SamplingAttributes};
+use crate::modes::is_idle;
+use crate::state::State;
+use apex_config::Config;
+use apex_types::{Call, Moment, Reply};
+use std::alloc::Allocator;
+
+impl<A: Allocator> State<A> {
+    /// Answers a call. The history doesn't have its entry yet.
+    pub(crate) fn answer(
+        &mut self,
+        config: &Config,
+        partition: usize,
+        at: Moment,
+        call: &Call,
+    ) -> Reply
+        requires partition { partition < length config.now.partitions }
+        requires sound { IsSound config.now self.old.history }
+        requires kept { IsKept config.now self.old.history self.old }
+        ensures reply { result ≡ reply_to config.now self.old.history partition at call.now }
+        ensures kept { IsKeptWith config.now self.old (entry_of partition at call.now result) self.new }
+        ensures history { self.new.history ≡ self.old.history }
+    {
+        if is_idle(self.partitions[partition].mode) {
+            return Reply::NotMade;
+        }
+        self.serve(config, partition, at, call)
+    }
+
+    // Performs the service that the call asks for.
+    fn serve(&mut self, config: &Config, partition: usize, at: Moment, call: &Call) -> Reply
+        requires partition { partition < length config.now.partitions }
+        requires sound { IsSound config.now self.old.history }
+        requires kept { IsKept config.now self.old.history self.old }
+        ensures reply { result ≡ service_reply config.now self.old.history partition at call.now }
+        ensures kept { IsKeptWith config.now self.old (entry_of partition at call.now result) self.new }
+        ensures history { self.new.history ≡ self.old.history }
+    {
+        match call {
+            Call::CreateSampling {
+                name,
+                size,
+                direction,
+                refresh,
+            } => {
+                let asked = SamplingAttributes {
+                    size: *size,
+                    direction: *direction,
+                    refresh: *refresh,
+                };
+                self.create_sampling(config, partition, name, asked)
+            }
+            Call::WriteSampling { id, message } => self.write(config, partition, at, *id, message),
+            Call::ReadSampling { id } => self.read(config, partition, at, *id),
+            Call::SamplingId { name } => self.sampling_id(config, partition, name),
+            Call::SamplingStatus { id } => self.sampling_status(config, partition, *id),
+            Call::CreateQueuing {
+                name,
+                size,
+                depth,
+                direction,
+                discipline,
+            } => {
+                let asked = QueuingAttributes {
+                    size: *size,
+                    depth: *depth,
+                    direction: *direction,
+                    discipline: *discipline,
+                };
+                self.create_queuing(config, partition, name, asked)
+            }
+            Call::SendQueuing { id, message } => self.send(config, partition, *id, message),
+            Call::ReceiveQueuing { id } => self.receive(config, partition, *id),
+            Call::QueuingId { name } => self.queuing_id(config, partition, name),
+            Call::QueuingStatus { id } => self.queuing_status(config, partition, *id),
+            Call::SetMode { mode } => self.set_mode(config, partition, *mode),
+        }
+    }
+}
