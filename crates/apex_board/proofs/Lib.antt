@@ -1,13 +1,3 @@
-pub mod Appends
-pub mod Idle
-pub mod LawfulSteps
+pub mod JournalSteps
 pub mod LeastRoom
-pub mod Lookups
-pub mod OneChannel
-pub mod PartitionSteps
-pub mod QueueSteps
-pub mod Refused
 pub mod RoomSteps
-pub mod SampleSteps
-pub mod SoundSteps
-pub mod Stays

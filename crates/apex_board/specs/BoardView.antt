@@ -1,10 +1,11 @@
 -- A board as plain data.
 use Rattle.std.specs.Prelude.{ℕ}
 use Rattle.apex_config.specs.Configuration.{Configuration}
-use Rattle.apex_board.specs.History.{History}
+use Rattle.apex_ports.specs.History.{History}
 
--- the configuration, the log, and how many calls can be served without memory
+-- the configuration, the log, how many calls can be served without memory, and how many of them the log alone has room for
 pub record BoardView : Type 0 where
   pub config : Configuration
   pub log : History
   pub room : ℕ
+  pub log_room : ℕ

@@ -1,13 +1,4 @@
 pub mod BoardView
-pub mod Channels
-pub mod History
-pub mod Idle
-pub mod Kept
-pub mod Lawful
-pub mod LawfulLaws
-pub mod Modes
-pub mod OneChannel
-pub mod Ports
-pub mod ReplyTable
-pub mod Refused
+pub mod Journals
+pub mod Recorded
 pub mod Room

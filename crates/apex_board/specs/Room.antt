@@ -1,22 +1,62 @@
 -- How many calls can be served without memory.
-use Rattle.std.specs.Prelude.{ℕ, ◌-◌, ◌==◌, if◌then◌else◌, min, List, [], ◌∷◌}
+use Rattle.std.specs.Prelude.{ℕ, ◌≡◌, ◌+◌, ◌-◌, ◌≤◌, min, List, [], ◌∷◌, Option, Some, None}
 use Rattle.std.specs.Vec.{vec_len, vec_capacity}
 use Rattle.std.specs.declared.vec.Vec.{Vec}
-use Rattle.apex_board.specs.declared.queue.Queue.{Queue}
+use Rattle.apex_types.specs.declared.call.Call.{Call}
+use Rattle.apex_config.specs.Configuration.{Configuration}
+use Rattle.apex_ports.specs.Channels.{message_sent}
+use Rattle.apex_board.specs.declared.journal.Journal.{Journal}
+use Rattle.apex_board.specs.declared.records.Records.{Records}
+use Rattle.apex_board.specs.Journals.{journal_at}
 
 -- the spare places of a vector
 abbrev pub spare : {X A : Type 0} → Vec X A → ℕ
 spare v = vec_capacity v - vec_len v
 
--- the room that a queue leaves of what there is; one without a place asks for none
-abbrev pub room_beside : {A : Type 0} → Queue A → ℕ → ℕ
-room_beside queue room = if queue.waiting.capacity == 0 then room else min room (spare queue.accepted)
+-- the room that a journal leaves of what there is
+abbrev pub room_beside : {A : Type 0} → Option (Journal A) → ℕ → ℕ
+room_beside None room = room
+room_beside (Some journal) room = min room (spare journal.accepted)
 
--- the least room of the queues, and of what there is
-abbrev pub least_room : {A : Type 0} → List (Queue A) → ℕ → ℕ
+-- the least room of the journals, and of what there is
+abbrev pub least_room : {A : Type 0} → List (Option (Journal A)) → ℕ → ℕ
 least_room [] room = room
-least_room (queue ∷ queues) room = least_room queues (room_beside queue room)
+least_room (journal ∷ journals) room = least_room journals (room_beside journal room)
 
--- the least room of the log and of each queue
-abbrev pub room_of : {X A : Type 0} → Vec X A → List (Queue A) → ℕ
-room_of log queues = least_room queues (spare log)
+-- the least room of the log and of each journal
+abbrev pub room_of : {A : Type 0} → Records A → ℕ
+room_of records = least_room records.journals.items (spare records.log)
+
+-- ---- places
+
+-- a channel's journal can store so many more accepted messages without memory, where the channel has one
+abbrev pub HasRoomAt : {A : Type 0} → ℕ → ℕ → List (Option (Journal A)) → Type 0
+HasRoomAt {A} n c journals =
+    (journal : Journal A) → journal_at journals c ≡ Some journal → vec_len journal.accepted + n ≤ vec_capacity journal.accepted
+
+-- each journal can
+abbrev pub HasRoom : {A : Type 0} → ℕ → List (Option (Journal A)) → Type 0
+HasRoom n journals = (c : ℕ) → HasRoomAt n c journals
+
+-- the message that a call sends can be stored without memory
+abbrev pub HasPlaceFor : {A : Type 0} → Configuration → ℕ → Call → List (Option (Journal A)) → Type 0
+HasPlaceFor config partition call journals =
+    (c : ℕ) (message : List ℕ) → message_sent config c partition call ≡ Some message → HasRoomAt 1 c journals
+
+-- no room is lost
+abbrev pub KeepsRoom : {A : Type 0} → List (Option (Journal A)) → List (Option (Journal A)) → Type 0
+KeepsRoom old new = (n c : ℕ) → HasRoomAt n c old → HasRoomAt n c new
+
+-- room for one message at most is used
+abbrev pub KeepsAllButOne : {A : Type 0} → List (Option (Journal A)) → List (Option (Journal A)) → Type 0
+KeepsAllButOne old new = (n c : ℕ) → HasRoomAt (n + 1) c old → HasRoomAt n c new
+
+-- the log has as many spare places at least, and no room is lost
+pub record IsNoSmaller {A : Type 0} (old new : Records A) : Type 0 where
+  pub log : spare old.log ≤ spare new.log
+  pub journals : KeepsRoom old.journals.items new.journals.items
+
+-- the log has one spare place less at most, and room for one message at most is used
+pub record IsOneLessAtMost {A : Type 0} (old new : Records A) : Type 0 where
+  pub log : spare old.log ≤ spare new.log + 1
+  pub journals : KeepsAllButOne old.journals.items new.journals.items

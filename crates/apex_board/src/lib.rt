@@ -1,19 +1,11 @@
-//! The board: the modes, port tables, queues and samples of a module, and the log of all calls.
+//! The board: the ports of a module with the log of all calls and the journals of its queuing channels.
 #![tactic(auto)]
 
 pub mod board;
-mod creation;
-pub mod history;
-pub mod list;
-mod lookup;
-mod making;
-mod modes;
-mod queue;
-mod queuing;
-mod sampling;
-mod serve;
-mod state;
+mod journal;
+mod records;
+pub mod requests;
 
 pub use crate::board::Board;
-pub use crate::history::{Entry, Request, Sample};
-pub use crate::list::{Stopped, run_list};
+pub use crate::requests::{Stopped, run_list};
+pub use apex_ports::{Entry, Request, Sample};

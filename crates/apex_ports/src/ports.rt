@@ -35,11 +35,14 @@ impl<A: Allocator> Model for Ports<A> {
 }
 
 impl<A: Allocator + Copy> Ports<A> {
+    ghost use Rattle.apex_ports.specs.Sound.{IsSound};
+
     /// The ports before the first call, every partition in COLD_START. On want of memory the
     /// configuration is dropped.
     pub fn new(alloc: A, config: Config) -> Result<Ports<A>, OutOfMemory>
         ensures config { IfOk result (λ ports. ports.config ≡ config) }
         ensures history { IfOk result (λ ports. ports.history ≡ []) }
+        ensures sound { IfOk result (λ ports. IsSound ports.config ports.history) }
     {
         let state = State::new(alloc, &config)?;
         let calls = new_counts(alloc, config.partitions())?;

@@ -3,24 +3,32 @@ ghost use Rattle.std.specs.Prelude.{◌≡◌, [], ◌++◌, ◌<◌, ◌≤◌,
 ghost use Rattle.std.specs.Option.{option_copied};
 
 use crate::board::Board;
-use crate::history::{Entry, Sample};
 use apex_config::Config;
+use apex_ports::{Entry, Ports, Sample};
 use apex_types::{Message, Mode, Validity};
 use std::alloc::Allocator;
 
 impl<A: Allocator> Board<A> {
-    ghost use Rattle.apex_board.specs.Channels.{accepted_on, received_on, waiting_on, last_write_on};
-    ghost use Rattle.apex_board.specs.Idle.{IdleIsSilent};
-    ghost use Rattle.apex_board.specs.Lawful.{IsLawful};
-    ghost use Rattle.apex_board.specs.Modes.{mode_of};
-    ghost use Rattle.apex_board.specs.Ports.{is_created, is_queuing, sampling_port};
-    ghost use Rattle.apex_board.specs.ReplyTable.{depth_of, validity_shown};
+    ghost use Rattle.apex_ports.specs.Channels.{accepted_on, received_on, waiting_on, last_write_on};
+    ghost use Rattle.apex_ports.specs.Idle.{IdleIsSilent};
+    ghost use Rattle.apex_ports.specs.Lawful.{IsLawful};
+    ghost use Rattle.apex_ports.specs.Modes.{mode_of};
+    ghost use Rattle.apex_ports.specs.Ports.{is_created, is_queuing, sampling_port};
+    ghost use Rattle.apex_ports.specs.ReplyTable.{depth_of, validity_shown};
+
+    /// The ports alone: the configuration, and the history that the log has.
+    pub fn ports(&self) -> &Ports<A>
+        ensures config { result.now.config ≡ self.now.config }
+        ensures history { result.now.history ≡ self.now.log }
+    {
+        &self.ports
+    }
 
     /// The configuration.
     pub fn config(&self) -> &Config
         ensures { result.now ≡ self.now.config }
     {
-        &self.config
+        self.ports.config()
     }
 
     /// All calls with their replies, oldest first.
@@ -29,7 +37,7 @@ impl<A: Allocator> Board<A> {
         ensures lawful { IsLawful self.now.config self.now.log }
         ensures idle { IdleIsSilent self.now.log }
     {
-        self.state.log.as_slice()
+        self.records.log.as_slice()
     }
 
     /// The messages that channel `c` accepted, oldest first; none on a sampling channel.
@@ -38,7 +46,10 @@ impl<A: Allocator> Board<A> {
         ensures messages { result.now ≡ accepted_on self.now.config c self.now.log }
         ensures sampling { is_queuing self.now.config c ≡ false → result.now ≡ [] }
     {
-        self.state.queues[c].accepted.as_slice()
+        match &self.records.journals[c] {
+            Some(journal) => journal.accepted.as_slice(),
+            None => &[],
+        }
     }
 
     /// The messages that were received from channel `c`, oldest first; none on a sampling channel.
@@ -47,7 +58,10 @@ impl<A: Allocator> Board<A> {
         ensures messages { result.now ≡ received_on self.now.config c self.now.log }
         ensures sampling { is_queuing self.now.config c ≡ false → result.now ≡ [] }
     {
-        self.state.queues[c].received.as_slice()
+        match &self.records.journals[c] {
+            Some(journal) => journal.received.as_slice(),
+            None => &[],
+        }
     }
 
     /// How many messages wait on channel `c`.
@@ -57,17 +71,21 @@ impl<A: Allocator> Board<A> {
 
         // Never more than the depth wait, and received and waiting messages together are the accepted ones, in order.
         ensures depth { result ≤ depth_of self.now.config c }
-        ensures conserved { received_on self.now.config c self.now.log ++ waiting_on self.now.config c self.now.log ≡ accepted_on self.now.config c self.now.log }
+        ensures conserved {
+            received_on self.now.config c self.now.log ++ waiting_on self.now.config c self.now.log
+            ≡ accepted_on self.now.config c self.now.log }
+        ensures sampling { is_queuing self.now.config c ≡ false → result ≡ 0 }
     {
-        self.state.queues[c].waiting.len()
+        self.ports.waiting_count(c)
     }
 
     /// The message at place `i` of those that wait on channel `c`; place 0 has the oldest.
     pub fn waiting(&self, c: usize, i: usize) -> Option<&Message>
         requires { c < length self.now.config.channels }
-        ensures { option_copied result ≡ slice_get (waiting_on self.now.config c self.now.log) i }
+        ensures message { option_copied result ≡ slice_get (waiting_on self.now.config c self.now.log) i }
+        ensures sampling { is_queuing self.now.config c ≡ false → result ≡ None }
     {
-        self.state.queues[c].waiting.get(i)
+        self.ports.waiting(c, i)
     }
 
     /// The message that channel `c` holds, with the moment of its writing; none on a queuing channel, or before the first write.
@@ -76,7 +94,7 @@ impl<A: Allocator> Board<A> {
         ensures sample { option_copied result ≡ last_write_on self.now.config c self.now.log }
         ensures queuing { is_queuing self.now.config c ≡ true → result ≡ None }
     {
-        self.state.samples[c].as_ref()
+        self.ports.last_sample(c)
     }
 
     /// The mode of partition `p`.
@@ -84,7 +102,7 @@ impl<A: Allocator> Board<A> {
         requires { p < length self.now.config.partitions }
         ensures { result ≡ mode_of p self.now.log }
     {
-        self.state.partitions[p].mode
+        self.ports.mode(p)
     }
 
     /// Whether partition `p` has created the port of the identifier since its last restart.
@@ -92,24 +110,31 @@ impl<A: Allocator> Board<A> {
         requires { p < length self.now.config.partitions }
         ensures { result ≡ is_created p id self.now.log }
     {
-        self.state.partitions[p].is_created(id)
+        self.ports.created(p, id)
     }
 
     /// What the last read of a created sampling port showed since the port's creation; INVALID for any other identifier.
     pub fn last_validity(&self, p: usize, id: u32) -> Validity
         requires { p < length self.now.config.partitions }
-        ensures { result ≡ validity_shown self.now.log p id (sampling_port self.now.config self.now.log p id) }
+        ensures {
+            let port = sampling_port self.now.config self.now.log p id in
+            result ≡ validity_shown self.now.log p id port }
     {
-        match self.state.sampling_port(&self.config, p, id) {
-            Some(_) => self.state.partitions[p].last_validity(id),
-            None => Validity::Invalid,
-        }
+        self.ports.last_validity(p, id)
     }
 
     /// How many calls are answered without memory at least.
     pub fn room(&self) -> usize
         ensures { result ≡ self.now.room }
     {
-        self.state.room()
+        self.records.room()
+    }
+
+    /// For how many entries there is room in the log alone: as many calls that are no sends are answered
+    /// without memory.
+    pub fn log_room(&self) -> usize
+        ensures { result ≡ self.now.log_room }
+    {
+        self.records.log_room()
     }
 }

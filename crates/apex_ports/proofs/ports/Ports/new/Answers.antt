@@ -16,3 +16,6 @@ invariant_of-result g c =
         each = λ p count at. c.in_ok-calls.ensures.none p count at;
       });
     }
+
+pub returns-clause-sound : goal.returns-clause-sound
+returns-clause-sound g c = subst (IsSound c.args.config) (sym c.in_ok-state.ensures.history) (sound-nil c.args.config c.partitions.ensures.valid)

@@ -1,0 +1,235 @@
+-- The journals with one of them set.
+use Rattle.std.proofs.Common.{◌≡◌, ◌≢◌, ℕ, zero, suc, ◌<◌, ◌≤◌, ◌==◌, Bool, true, false, if◌then◌else◌, List, [], ◌∷◌, ◌++◌, length, set, get_or, Option, Some, None, refl, sym, ap, ◌∙◌, subst, arith, length-set, length-append}
+use Rattle.std.specs.List.{slice_get}
+use Rattle.std.specs.Option.{option_to_list}
+use Rattle.std.specs.Vec.{vec_len, vec_capacity}
+use Rattle.std.proofs.lemmas.Bool.Decides.{nat_tests}
+use Rattle.std.proofs.lemmas.Option.{slice_get_past}
+use Rattle.apex_config.specs.Configuration.{Configuration}
+use Rattle.apex_ports.specs.declared.history.Entry.{Entry}
+use Rattle.apex_ports.specs.History.{History}
+use Rattle.apex_ports.specs.Modes.{is_code_no_error}
+use Rattle.apex_ports.specs.Kept.{EachAt}
+use Rattle.apex_ports.specs.Ports.{is_queuing, is_queue}
+use Rattle.apex_ports.specs.Channels.{accepted_on, received_on, waiting_on, message_sent, message_accepted, message_received}
+use Rattle.apex_ports.specs.Sound.{IsSound}
+use Rattle.apex_ports.proofs.Appends.{accepted_on-append, received_on-append}
+use Rattle.apex_ports.proofs.Conserved.{always_conserved}
+use Rattle.apex_ports.proofs.Lookups.{place_of}
+use Rattle.apex_ports.proofs.Stays.{accepted_stays, received_stays}
+use Rattle.apex_board.specs.declared.journal.Journal.{Journal}
+use Rattle.apex_board.specs.Journals.{if_there, journal_at, has_journal, accepted_in, received_in, AreJournals, IsFresh}
+
+pub set_here : {A : Type 0} (journals : List (Option (Journal A))) (c : ℕ) (x : Option (Journal A)) → c < length journals → journal_at (set journals c x) c ≡ x
+set_here [] c x within = absurd (omega arith)
+set_here (y ∷ journals) zero x within = refl
+set_here (y ∷ journals) (suc c) x within = set_here journals c x (omega arith)
+
+set_elsewhere : {A : Type 0} (journals : List (Option (Journal A))) (c : ℕ) (x : Option (Journal A)) (d : ℕ) → d ≢ c → journal_at (set journals c x) d ≡ journal_at journals d
+set_elsewhere [] c x d apart = refl
+set_elsewhere (y ∷ journals) zero x zero apart = absurd (apart refl)
+set_elsewhere (y ∷ journals) zero x (suc d) apart = refl
+set_elsewhere (y ∷ journals) (suc c) x zero apart = refl
+set_elsewhere (y ∷ journals) (suc c) x (suc d) apart = set_elsewhere journals c x d (λ e. apart (ap suc e))
+
+pub journal_at-set : {A : Type 0} (journals : List (Option (Journal A))) (c : ℕ) (x : Option (Journal A)) → c < length journals → (d : ℕ) → journal_at (set journals c x) d ≡ (if d == c then x else journal_at journals d)
+journal_at-set journals c x within d = by_place (d == c) refl
+  where
+    by_place : (b : Bool) → (d == c) ≡ b → journal_at (set journals c x) d ≡ (if b then x else journal_at journals d)
+    by_place true is = let here : d ≡ c = grind (arith, nat_tests) in (λ i. journal_at (set journals c x) (here i)) ∙ set_here journals c x within
+    by_place false is = set_elsewhere journals c x d (grind (arith, nat_tests))
+
+-- the journal that an index reads
+pub journal_here : {A : Type 0} (journals : List (Option (Journal A))) (c : ℕ) (x : Option (Journal A)) → c < length journals → x ≡ get_or journals c x → journal_at journals c ≡ x
+journal_here journals c x within is = ap if_there (place_of journals c x within is)
+
+-- a journal that is there
+pub record IsJournal {A : Type 0} (config : Configuration) (h t : History) (c : ℕ) (journal : Journal A) : Type 0 where
+  pub queuing : is_queuing config c ≡ true
+  pub accepted : journal.accepted.items ≡ accepted_on config c h
+  pub received : journal.received.items ≡ received_on config c t
+  pub places : vec_capacity journal.accepted ≤ vec_capacity journal.received
+
+pub journal_is : {A : Type 0} (config : Configuration) (h t : History) (journals : List (Option (Journal A))) (c : ℕ) (journal : Journal A) → AreJournals config h t journals → journal_at journals c ≡ Some journal → IsJournal config h t c journal
+journal_is config h t journals c journal are here = record {
+  queuing = sym (are.kind c) ∙ ap has_journal here;
+  accepted = ap accepted_in (sym here) ∙ are.accepted c;
+  received = ap received_in (sym here) ∙ are.received c;
+  places = are.places c journal here;
+}
+
+-- where one journal is set, and the others stay
+module _ {A : Type 0} (config : Configuration) (h t h' t' : History) (journals : List (Option (Journal A))) (c : ℕ) (new : Journal A) where
+  pub journal_set : AreJournals config h t journals → c < length journals → is_queuing config c ≡ true
+      → new.accepted.items ≡ accepted_on config c h' → new.received.items ≡ received_on config c t' → vec_capacity new.accepted ≤ vec_capacity new.received
+      → ((d : ℕ) → d ≢ c → accepted_on config d h' ≡ accepted_on config d h) → ((d : ℕ) → d ≢ c → received_on config d t' ≡ received_on config d t)
+      → AreJournals config h' t' (set journals c (Some new))
+  journal_set was within queuing accepted received places others_accepted others_received = record {
+    all = length-set journals c (Some new) ∙ was.all;
+    kind = λ d. ap has_journal (at d) ∙ by_kind d (d == c) refl;
+    accepted = λ d. ap accepted_in (at d) ∙ by_accepted d (d == c) refl;
+    received = λ d. ap received_in (at d) ∙ by_received d (d == c) refl;
+    places = λ d journal is. by_places d journal (d == c) refl (sym (at d) ∙ is);
+  }
+    where
+      at : (d : ℕ) → journal_at (set journals c (Some new)) d ≡ (if d == c then Some new else journal_at journals d)
+      at d = journal_at-set journals c (Some new) within d
+
+      by_kind : (d : ℕ) (b : Bool) → (d == c) ≡ b → has_journal (if b then Some new else journal_at journals d) ≡ is_queuing config d
+      by_kind d true is = let here : d ≡ c = grind (arith, nat_tests) in sym (ap (λ (k : ℕ). is_queuing config k) here ∙ queuing)
+      by_kind d false is = was.kind d
+
+      by_accepted : (d : ℕ) (b : Bool) → (d == c) ≡ b → accepted_in (if b then Some new else journal_at journals d) ≡ accepted_on config d h'
+      by_accepted d true is = let here : d ≡ c = grind (arith, nat_tests) in accepted ∙ ap (λ (k : ℕ). accepted_on config k h') (sym here)
+      by_accepted d false is = let apart : d ≢ c = grind (arith, nat_tests) in was.accepted d ∙ sym (others_accepted d apart)
+
+      by_received : (d : ℕ) (b : Bool) → (d == c) ≡ b → received_in (if b then Some new else journal_at journals d) ≡ received_on config d t'
+      by_received d true is = let here : d ≡ c = grind (arith, nat_tests) in received ∙ ap (λ (k : ℕ). received_on config k t') (sym here)
+      by_received d false is = let apart : d ≢ c = grind (arith, nat_tests) in was.received d ∙ sym (others_received d apart)
+
+      by_places : (d : ℕ) (journal : Journal A) (b : Bool) → (d == c) ≡ b → (if b then Some new else journal_at journals d) ≡ Some journal → vec_capacity journal.accepted ≤ vec_capacity journal.received
+      by_places d journal true is found = let same : new ≡ journal = cc in subst (λ (j : Journal A). vec_capacity j.accepted ≤ vec_capacity j.received) same places
+      by_places d journal false is found = was.places d journal found
+
+-- ---- what an entry puts into a journal
+
+-- a channel that accepts a message has a journal
+pub accepts_queuing : (config : Configuration) (h : History) (e : Entry) (c : ℕ) (m : List ℕ) → IsSound config (h ++ e ∷ []) → message_accepted config c e ≡ Some m → is_queuing config c ≡ true
+accepts_queuing config h e c m sound sent = by_kind (is_queuing config c) refl
+  where
+    some_of : (xs : List (List ℕ)) → xs ++ m ∷ [] ≡ [] → ⊥
+    some_of [] none = cc
+    some_of (x ∷ xs) none = cc
+
+    by_kind : (b : Bool) → is_queuing config c ≡ b → is_queuing config c ≡ true
+    by_kind true is = is
+    by_kind false is =
+        let nothing = (always_conserved config (h ++ e ∷ []) c sound).sampling is in
+        let grown : accepted_on config c (h ++ e ∷ []) ≡ accepted_on config c h ++ m ∷ [] = accepted_on-append config c h e ∙ ap (λ o. accepted_on config c h ++ option_to_list o) sent in
+        absurd (some_of (accepted_on config c h) (sym grown ∙ nothing))
+
+-- so does one from which a message is received, and its journal of accepted messages is longer than what was received before
+pub receives_within : (config : Configuration) (h : History) (e : Entry) (c : ℕ) (m : List ℕ) → IsSound config (h ++ e ∷ []) → message_received config c e ≡ Some m → length (received_on config c h) < length (accepted_on config c (h ++ e ∷ []))
+receives_within config h e c m sound taken =
+    let conserved = (always_conserved config (h ++ e ∷ []) c sound).messages in
+    let grown : received_on config c (h ++ e ∷ []) ≡ received_on config c h ++ m ∷ [] = received_on-append config c h e ∙ ap (λ o. received_on config c h ++ option_to_list o) taken in
+    let count = ap (λ (xs : List (List ℕ)). length xs) conserved in
+    let longer = ap (λ (xs : List (List ℕ)). length xs) grown in
+    omega (arith, count, longer, length-append (received_on config c h) (m ∷ []), length-append (received_on config c (h ++ e ∷ [])) (waiting_on config c (h ++ e ∷ [])))
+
+pub receives_queuing : (config : Configuration) (h : History) (e : Entry) (c : ℕ) (m : List ℕ) → IsSound config (h ++ e ∷ []) → message_received config c e ≡ Some m → is_queuing config c ≡ true
+receives_queuing config h e c m sound taken = by_kind (is_queuing config c) refl
+  where
+    by_kind : (b : Bool) → is_queuing config c ≡ b → is_queuing config c ≡ true
+    by_kind true is = is
+    by_kind false is =
+        let within = receives_within config h e c m sound taken in
+        let nothing = ap (λ (xs : List (List ℕ)). length xs) ((always_conserved config (h ++ e ∷ []) c sound).sampling is) in
+        absurd (omega arith)
+
+-- no more is received than was accepted
+pub received_within : (config : Configuration) (h : History) (c : ℕ) → IsSound config h → length (received_on config c h) ≤ length (accepted_on config c h)
+received_within config h c sound =
+    let count = ap (λ (xs : List (List ℕ)). length xs) (always_conserved config h c sound).messages in
+    omega (arith, count, length-append (received_on config c h) (waiting_on config c h))
+
+pub accepted-one : (config : Configuration) (h : History) (e : Entry) (c : ℕ) (m : List ℕ) → message_accepted config c e ≡ Some m → accepted_on config c (h ++ e ∷ []) ≡ accepted_on config c h ++ m ∷ []
+accepted-one config h e c m sent = accepted_on-append config c h e ∙ ap (λ o. accepted_on config c h ++ option_to_list o) sent
+
+pub received-one : (config : Configuration) (h : History) (e : Entry) (c : ℕ) (m : List ℕ) → message_received config c e ≡ Some m → received_on config c (h ++ e ∷ []) ≡ received_on config c h ++ m ∷ []
+received-one config h e c m taken = received_on-append config c h e ∙ ap (λ o. received_on config c h ++ option_to_list o) taken
+
+-- a queuing channel has a journal
+pub no_journal : {A : Type 0} (config : Configuration) (h t : History) (journals : List (Option (Journal A))) (c : ℕ) → AreJournals config h t journals → journal_at journals c ≡ None → is_queuing config c ≡ true → ⊥
+no_journal config h t journals c are none queuing = let none : false ≡ true = ap has_journal (sym none) ∙ are.kind c ∙ queuing in cc
+
+-- what is accepted was sent
+pub accepted_is_sent : (config : Configuration) (e : Entry) (c : ℕ) (m : List ℕ) → message_accepted config c e ≡ Some m → message_sent config c e.partition e.call ≡ Some m
+accepted_is_sent config e c m = by_code (is_code_no_error e.reply)
+  where
+    by_code : (b : Bool) → ◌≡◌ {A = Option (List ℕ)} (if b then message_sent config c e.partition e.call else None) (Some m) → message_sent config c e.partition e.call ≡ Some m
+    by_code true is = is
+    by_code false is = absurd (cc)
+
+-- the other channels
+pub only_accepted : (config : Configuration) (h : History) (e : Entry) (c : ℕ) (m : List ℕ) → ((d : ℕ) → message_accepted config d e ≡ (if c == d then Some m else None)) → (d : ℕ) → d ≢ c → accepted_on config d (h ++ e ∷ []) ≡ accepted_on config d h
+only_accepted config h e c m found d apart =
+    let off : (c == d) ≡ false = grind (arith, nat_tests) in
+    accepted_stays config d h e (found d ∙ (λ i. if off i then Some m else None))
+
+pub only_received : (config : Configuration) (h : History) (e : Entry) (c : ℕ) (m : List ℕ) → ((d : ℕ) → message_received config d e ≡ (if c == d then Some m else None)) → (d : ℕ) → d ≢ c → received_on config d (h ++ e ∷ []) ≡ received_on config d h
+only_received config h e c m found d apart =
+    let off : (c == d) ≡ false = grind (arith, nat_tests) in
+    received_stays config d h e (found d ∙ (λ i. if off i then Some m else None))
+
+pub found_here : (c : ℕ) (m : List ℕ) → ◌≡◌ {A = Option (List ℕ)} (if c == c then Some m else None) (Some m)
+found_here c m = let on : (c == c) ≡ true = grind (arith, nat_tests) in λ i. if on i then Some m else None
+
+-- ---- an entry without a message
+
+pub accepts_nothing : {A : Type 0} (config : Configuration) (h : History) (e : Entry) (journals : List (Option (Journal A))) → AreJournals config h h journals → ((d : ℕ) → message_accepted config d e ≡ None) → AreJournals config (h ++ e ∷ []) h journals
+accepts_nothing config h e journals was none = record {
+  all = was.all;
+  kind = was.kind;
+  accepted = λ d. was.accepted d ∙ sym (accepted_stays config d h e (none d));
+  received = was.received;
+  places = was.places;
+}
+
+pub receives_nothing : {A : Type 0} (config : Configuration) (h : History) (e : Entry) (journals : List (Option (Journal A))) → AreJournals config (h ++ e ∷ []) h journals → ((d : ℕ) → message_received config d e ≡ None) → AreJournals config (h ++ e ∷ []) (h ++ e ∷ []) journals
+receives_nothing config h e journals was none = record {
+  all = was.all;
+  kind = was.kind;
+  accepted = was.accepted;
+  received = λ d. was.received d ∙ sym (received_stays config d h e (none d));
+  places = was.places;
+}
+
+-- ---- new journals
+
+-- where nothing is found, the list has ended
+slice_get_outside : {X : Type 0} (xs : List X) (c : ℕ) → slice_get xs c ≡ None → length xs ≤ c
+slice_get_outside [] c none = omega arith
+slice_get_outside (x ∷ xs) zero none = absurd (cc)
+slice_get_outside (x ∷ xs) (suc c) none = let rest = slice_get_outside xs c none in omega arith
+
+-- a number past the last channel is no queuing channel's
+past_last : (config : Configuration) (c : ℕ) → length config.channels ≤ c → is_queuing config c ≡ false
+past_last config c past = ap is_queue (slice_get_past config.channels c past)
+
+pub fresh_journals : {A : Type 0} (config : Configuration) (journals : List (Option (Journal A))) → length journals ≡ length config.channels → EachAt (IsFresh config) journals → AreJournals config [] [] journals
+fresh_journals {A} config journals all each = record {
+  all = all;
+  kind = λ c. by_kind c (slice_get journals c) refl;
+  accepted = λ c. by_accepted c (slice_get journals c) refl;
+  received = λ c. by_received c (slice_get journals c) refl;
+  places = λ c journal is. by_places c (slice_get journals c) journal refl is;
+}
+  where
+    by_kind : (c : ℕ) (found : Option (Option (Journal A))) → slice_get journals c ≡ found → has_journal (if_there found) ≡ is_queuing config c
+    by_kind c None is = sym (past_last config c (let outside = slice_get_outside journals c is in omega arith))
+    by_kind c (Some None) is = sym (each c None is)
+    by_kind c (Some (Some journal)) is = sym (each c (Some journal) is).0
+
+    by_accepted : (c : ℕ) (found : Option (Option (Journal A))) → slice_get journals c ≡ found → accepted_in (if_there found) ≡ []
+    by_accepted c None is = refl
+    by_accepted c (Some None) is = refl
+    by_accepted c (Some (Some journal)) is = (each c (Some journal) is).1
+
+    by_received : (c : ℕ) (found : Option (Option (Journal A))) → slice_get journals c ≡ found → received_in (if_there found) ≡ []
+    by_received c None is = refl
+    by_received c (Some None) is = refl
+    by_received c (Some (Some journal)) is = (each c (Some journal) is).2
+
+    by_places : (c : ℕ) (found : Option (Option (Journal A))) (journal : Journal A) → slice_get journals c ≡ found → if_there found ≡ Some journal → vec_capacity journal.accepted ≤ vec_capacity journal.received
+    by_places c None journal is here = absurd (cc)
+    by_places c (Some None) journal is here = absurd (cc)
+    by_places c (Some (Some journal')) journal is here =
+        let same : journal' ≡ journal = cc in
+        subst (λ (j : Journal A). vec_capacity j.accepted ≤ vec_capacity j.received) same (each c (Some journal') is).3
+
+-- a journal that is there is one of the list
+pub journal_within : {A : Type 0} (journals : List (Option (Journal A))) (c : ℕ) (journal : Journal A) → journal_at journals c ≡ Some journal → c < length journals
+journal_within [] c journal here = absurd (cc)
+journal_within (x ∷ journals) zero journal here = omega arith
+journal_within (x ∷ journals) (suc c) journal here = let rest = journal_within journals c journal here in omega arith

@@ -1,9 +1,0 @@
-use Rattle.std.proofs.Common.{◌≡◌, [], length}
-use Rattle.apex_board.specs.Kept.{EachAt, IsPartitionKept}
-use Rattle.apex_board.proofs.making.new_partitions.Given as goal
-
-abbrev pub invariant-loop-p : goal.invariant-loop-p
-invariant-loop-p g l = record {
-  count : length l.partitions.items ≡ l.p;
-  kept : EachAt (IsPartitionKept l.config []) l.partitions.items;
-}

@@ -1,0 +1,14 @@
+use Rattle.std.proofs.Common.{◌≡◌, ◌≤◌, ◌+◌, ◌++◌, take}
+use Rattle.apex_ports.specs.History.{requests_of}
+use Rattle.apex_ports.specs.Idle.{StaysIdle}
+use Rattle.apex_ports.specs.Lawful.{IsLawful}
+use Rattle.apex_board.proofs.requests.run_list.Given as goal
+
+abbrev pub invariant-loop-done : goal.invariant-loop-done
+invariant-loop-done g l = record {
+  config : l.board.config ≡ l.fn.board.config;
+  lawful : IsLawful l.board.config l.board.log;
+  requests : requests_of l.board.log ≡ requests_of l.fn.board.log ++ take l.done l.requests;
+  room : l.fn.board.room ≤ l.board.room + l.done;
+  idle : StaysIdle l.fn.board.config l.fn.board.log l.board.log;
+}

@@ -1,9 +1,0 @@
-use Rattle.std.proofs.Common.{◌≡◌, length, None}
-use Rattle.apex_board.specs.Kept.{EachAt}
-use Rattle.apex_board.proofs.state.State.new.Given as goal
-
-abbrev pub invariant-loop : goal.invariant-loop
-invariant-loop g l = record {
-  count : length l.samples.items ≡ l.counter;
-  none : EachAt (λ _ sample. sample ≡ None) l.samples.items;
-}

@@ -1,0 +1,17 @@
+-- What a board's records say of the history.
+use Rattle.std.specs.Prelude.{◌≡◌}
+use Rattle.apex_config.specs.Configuration.{Configuration}
+use Rattle.apex_ports.specs.PortsView.{PortsView}
+use Rattle.apex_ports.specs.Sound.{IsSound}
+use Rattle.apex_board.specs.declared.records.Records.{Records}
+use Rattle.apex_board.specs.Journals.{AreJournals}
+
+-- the journals are those of the log
+abbrev pub AreRecords : {A : Type 0} → Configuration → Records A → Type 0
+AreRecords config records = AreJournals config records.log.items records.log.items records.journals.items
+
+-- what holds of a board: the log is the history of its ports
+pub record IsBoard {A : Type 0} (ports : PortsView) (records : Records A) : Type 0 where
+  pub sound : IsSound ports.config ports.history
+  pub same : records.log.items ≡ ports.history
+  pub recorded : AreRecords ports.config records

@@ -1,0 +1,45 @@
+//! Lists of requests.
+ghost use Rattle.std.specs.Prelude.{◌≡◌, ◌+◌, ◌<◌, ◌≤◌, ◌++◌, length, take, All, IfErr, OnOk, IsOk};
+ghost use Rattle.apex_ports.specs.History.{requests_of};
+ghost use Rattle.apex_ports.specs.Idle.{StaysIdle};
+ghost use Rattle.apex_ports.specs.Lawful.{Answers};
+
+use crate::board::Board;
+use apex_ports::Request;
+use std::alloc::Allocator;
+use thiserror::Error;
+
+/// Memory was wanting at request `done`, counted from 0: the requests before it are applied, and no other.
+#[derive(Clone, Copy, Debug, PartialEq, Eq, Error)]
+#[error("out of memory")]
+pub struct Stopped {
+    pub done: usize,
+}
+
+/// Answers the requests in order.
+pub fn run_list<A: Allocator>(board: &mut Board<A>, requests: &[Request]) -> Result<(), Stopped>
+    requires { All (λ request. request.partition < length board.old.config.partitions) requests.now }
+
+    // The log is the one lawful history of the old requests followed by those that were applied.
+    ensures all { OnOk result (Answers board.new.config (requests_of board.old.log ++ requests.now) board.new.log) }
+    ensures stopped { IfErr result (λ stop. Answers board.new.config (requests_of board.old.log ++ take stop.done requests.now) board.new.log) }
+    ensures within { IfErr result (λ stop. stop.done < length requests.now) }
+    ensures config { board.new.config ≡ board.old.config }
+
+    // With enough room all are applied, each lowers the room by at most one, and no stop comes before the room is used
+    // up. A partition in IDLE stays there.
+    ensures succeeds { length requests.now ≤ board.old.room → IsOk result }
+    ensures room { OnOk result (board.old.room ≤ board.new.room + length requests.now) }
+    ensures stopped_room { IfErr result (λ stop. board.old.room ≤ stop.done) }
+    ensures idle { StaysIdle board.old.config board.old.log board.new.log }
+{
+    // Where this is refused the log grows as it goes.
+    let _ = board.reserve_log(requests.len());
+    for (done, request) in requests.iter().enumerate() {
+        match board.call(request.partition, request.at, &request.call) {
+            Ok(_) => {}
+            Err(_) => return Err(Stopped { done }),
+        }
+    }
+    Ok(())
+}
