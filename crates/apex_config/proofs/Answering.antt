@@ -1,5 +1,5 @@
 -- What reading answers, step by step.
-use Rattle.std.proofs.Common.{◌≡◌, ℕ, Bool, true, false, cond, List, Option, Some, None, Err, refl, ap, ◌∙◌}
+use Rattle.std.proofs.Common.{◌≡◌, ℕ, Bool, true, false, cond, List, Option, Some, None, Err, refl, sym, ap, ◌∙◌}
 use Rattle.std.specs.Str.{is_utf8, IsUtf8}
 use Rattle.std.proofs.lemmas.Str.{IsUtf8-from_is_utf8, is_utf8-from_IsUtf8}
 use Rattle.toml.specs.Data.{Members}
@@ -7,8 +7,10 @@ use Rattle.toml.specs.Parse.{parse_document}
 use Rattle.apex_config.specs.declared.fault.ConfigFault.{ConfigFault}
 use Rattle.apex_config.specs.declared.fault.ConfigFault.TheVariants.{NotToml, Shape}
 use Rattle.apex_config.specs.Configuration.{Configuration}
-use Rattle.apex_config.specs.Reading.{draft_in}
-use Rattle.apex_config.specs.Passes.{config_of, config_of_document, config_of_draft, unless_faulty, first_fault}
+use Rattle.apex_config.specs.Drafts.{draft_in}
+use Rattle.apex_config.specs.Passes.{first_fault}
+use Rattle.apex_config.specs.Meaning.{unless_faulty, config_of_document, config_of}
+use Rattle.apex_config.proofs.Meaning.{config_of_draft, same_of_document}
 
 not_toml_in : (bytes : List ℕ) (b : Bool) → is_utf8 bytes ≡ b → (IsUtf8 bytes → parse_document bytes ≡ None) → cond b (config_of_document (parse_document bytes)) (Err NotToml) ≡ Err NotToml
 not_toml_in bytes true is refused = ap config_of_document (refused (IsUtf8-from_is_utf8 bytes is))
@@ -20,7 +22,7 @@ not_toml bytes refused = not_toml_in bytes (is_utf8 bytes) refl refused
 
 pub is_document : (bytes : List ℕ) (document : Members) → IsUtf8 bytes → parse_document bytes ≡ Some document → config_of bytes ≡ config_of_draft (draft_in document)
 unfolding config_of
-is_document bytes document text parsed = rw (is_utf8-from_IsUtf8 bytes text, parsed)
+is_document bytes document text parsed = rw (is_utf8-from_IsUtf8 bytes text, parsed) (sym (same_of_document document))
 
 pub no_shape : (bytes : List ℕ) (document : Members) → IsUtf8 bytes → parse_document bytes ≡ Some document → draft_in document ≡ None → config_of bytes ≡ Err Shape
 no_shape bytes document text parsed none = is_document bytes document text parsed ∙ ap config_of_draft none

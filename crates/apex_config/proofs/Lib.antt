@@ -3,6 +3,7 @@ pub mod Distinct
 pub mod Each
 pub mod EndCounts
 pub mod FirstPlaces
+pub mod Meaning
 pub mod OnLiterals
 pub mod Places
 pub mod Tables

@@ -1,11 +1,13 @@
 pub mod Configuration
+pub mod Drafts
 pub mod Ends
 pub mod Equality
 pub mod EqualityLaws
 pub mod Examples
 pub mod Fault
 pub mod Limits
+pub mod Meaning
 pub mod Passes
 pub mod Places
-pub mod Reading
 pub mod Table
+pub mod Text

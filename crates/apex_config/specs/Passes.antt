@@ -1,7 +1,8 @@
--- The tests of a configuration whose shape is right, in their order. Each looks at the whole configuration.
-use Rattle.std.specs.Prelude.{ℕ, ◌≡◌, ◌≢◌, Bool, true, false, ◌&&◌, ◌==◌, nat_le, nat_lt, not, if◌then◌else◌, List, [], ◌∷◌, length, map, slice_get, sum_by, count_by, is_ok, Option, Some, None, Result, Ok, Err}
+-- The tests of a draft, in their order. Each looks at the whole draft. Those of kinds, ends and counts are tests of the configuration that
+-- the draft then is; those before them say of a draft what `Meaning` says of the text.
+use Rattle.std.specs.Prelude.{ℕ, Bool, true, false, ◌&&◌, ◌==◌, nat_le, nat_lt, not, if◌then◌else◌, List, [], ◌∷◌, length, map, slice_get, sum_by, count_by, is_ok, Option, Some, None}
 use Rattle.std.specs.List.{list_any, list_all, enumerate_from}
-use Rattle.std.specs.Str.{bytes_eq, is_utf8}
+use Rattle.std.specs.Str.{bytes_eq}
 use Rattle.apex_types.specs.Name.{name_of}
 use Rattle.apex_types.specs.declared.direction.Direction.{Direction}
 use Rattle.apex_types.specs.declared.direction.Direction.TheVariants.{Source, Destination}
@@ -12,12 +13,9 @@ use Rattle.apex_config.specs.declared.channel.Channel.{Channel}
 use Rattle.apex_config.specs.declared.channel.ChannelKind.{ChannelKind}
 use Rattle.apex_config.specs.declared.channel.ChannelKind.TheVariants as channel_kind
 use Rattle.apex_config.specs.declared.fault.ConfigFault.{ConfigFault}
-use Rattle.apex_config.specs.declared.fault.ConfigFault.TheVariants.{NotToml, Shape, BadName, NameTwice, OutOfRange, UnknownChannel, KindDiffers, Sources, Destinations, Counts, OutOfMemory}
+use Rattle.apex_config.specs.declared.fault.ConfigFault.TheVariants.{BadName, NameTwice, OutOfRange, UnknownChannel, KindDiffers, Sources, Destinations, Counts}
 use Rattle.apex_config.specs.declared.limits.TheConstants.{PARTITION_LIMIT, PORT_LIMIT, CHANNEL_LIMIT, SIZE_LIMIT, DEPTH_LIMIT, REFRESH_LIMIT}
-use Rattle.toml.specs.Data.{Members}
-use Rattle.toml.specs.Parse.{parse_document}
 use Rattle.apex_config.specs.Configuration.{PartitionData, Configuration}
-use Rattle.apex_config.specs.Reading.{draft_in}
 
 -- a test of each port
 abbrev pub all_ports : (Port → Bool) → List PartitionData → Bool
@@ -144,25 +142,3 @@ first_fault config =
     else if not (has_destinations config) then Some Destinations
     else if not (has_counts config) then Some Counts
     else None
-
--- ---- the configuration that bytes are, or the fault of the first pass that finds one
-
-abbrev pub unless_faulty : Configuration → Option ConfigFault → Result Configuration ConfigFault
-unless_faulty config None = Ok config
-unless_faulty config (Some fault) = Err fault
-
-abbrev pub config_of_draft : Option Configuration → Result Configuration ConfigFault
-config_of_draft None = Err Shape
-config_of_draft (Some config) = unless_faulty config (first_fault config)
-
-abbrev pub config_of_document : Option Members → Result Configuration ConfigFault
-config_of_document None = Err NotToml
-config_of_document (Some document) = config_of_draft (draft_in document)
-
-unfoldable pub config_of : List ℕ → Result Configuration ConfigFault
-config_of bytes = if is_utf8 bytes then config_of_document (parse_document bytes) else Err NotToml
-
--- What reading answers: the configuration, or the fault of the first pass that finds one, unless memory ran out.
-abbrev pub IsConfigRead : Result Configuration ConfigFault → Result Configuration ConfigFault → Type 0
-IsConfigRead (Ok config) meaning = meaning ≡ Ok config
-IsConfigRead (Err fault) meaning = fault ≢ OutOfMemory → meaning ≡ Err fault

@@ -8,7 +8,7 @@ use Rattle.toml.specs.Data.{Data, Items, no_items, item, Members, no_members, me
 abbrev pub text_at : List ℕ → Members → Option (List ℕ)
 text_at key table = option_and_then as_str (get_member key table)
 
--- A number below zero counts as 0, which is out of all limits.
+-- a number as a natural number; 0 where it is below zero
 abbrev pub natural : ℤ → ℕ
 natural (pos number) = number
 natural (negsuc number) = 0

@@ -1,6 +1,6 @@
 //! Finds the channels of a draft by their names.
 ghost use Rattle.std.specs.Prelude.{◌≡◌, IfOk};
-ghost use Rattle.apex_config.specs.Reading.{channel_number};
+ghost use Rattle.apex_config.specs.Drafts.{channel_number};
 
 use crate::draft::ChannelDraft;
 use std::alloc::{AllocError, Global};

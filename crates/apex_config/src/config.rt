@@ -41,7 +41,7 @@ impl Model for Config {
 }
 
 impl Config {
-    ghost use Rattle.apex_config.specs.Passes.{IsConfigRead, config_of};
+    ghost use Rattle.apex_config.specs.Meaning.{IsConfigRead, config_of};
     ghost use Rattle.apex_config.specs.Configuration.{IsConfiguration, port_of, ports_of, channel_of, partition_name_of, partition_named, id_named};
 
     /// The configuration of these lists.

@@ -1,7 +1,7 @@
 //! Reads the tables of a document as a draft, where their shape is right.
 ghost use Rattle.std.specs.Prelude.{◌≡◌, option_map, IfOk};
 ghost use Rattle.toml.specs.View.{view, table_view, items_view};
-ghost use Rattle.apex_config.specs.Reading.{queuing_port_keys, sampling_port_keys, channel_kind_of, channel_kind_in, channel_in, port_kind_in, direction_in, port_in, partition_in, draft_in};
+ghost use Rattle.apex_config.specs.Drafts.{queuing_port_keys, sampling_port_keys, channel_kind_of, channel_kind_in, channel_in, port_kind_in, direction_in, port_in, partition_in, draft_in};
 ghost use Rattle.apex_config.specs.Table.{each, has_only_keys};
 
 use crate::channel_index::ChannelIndex;
@@ -13,7 +13,7 @@ use std::alloc::{AllocError, Global};
 use toml::{Table, Value};
 
 /// The depth of a queuing channel, or none for a sampling channel.
-#[tactic(auto, unfolding(crate::specs::Reading::channel_kind_in))]
+#[tactic(auto, unfolding(crate::specs::Drafts::channel_kind_in))]
 fn channel_depth(table: &Table) -> Option<Option<u64>>
     ensures { option_map channel_kind_of result ≡ channel_kind_in (table_view table.now) }
 {
@@ -27,7 +27,7 @@ fn channel_depth(table: &Table) -> Option<Option<u64>>
     }
 }
 
-#[tactic(auto, unfolding(crate::specs::Reading::channel_in))]
+#[tactic(auto, unfolding(crate::specs::Drafts::channel_in))]
 fn channel_draft(value: &Value) -> Option<ChannelDraft<'_>>
     ensures { result ≡ channel_in (view value.now) }
 {
@@ -67,7 +67,7 @@ fn has_sampling_port_keys(table: &Table) -> bool
     has_only_keys(table, &["name", "kind", "direction", "channel", "refresh"])
 }
 
-#[tactic(auto, unfolding(crate::specs::Reading::port_kind_in))]
+#[tactic(auto, unfolding(crate::specs::Drafts::port_kind_in))]
 fn port_kind(table: &Table) -> Option<PortKind>
     ensures { result ≡ port_kind_in (table_view table.now) }
 {
@@ -81,7 +81,7 @@ fn port_kind(table: &Table) -> Option<PortKind>
     }
 }
 
-#[tactic(auto, unfolding(crate::specs::Reading::direction_in))]
+#[tactic(auto, unfolding(crate::specs::Drafts::direction_in))]
 fn port_direction(table: &Table) -> Option<Direction>
     ensures { result ≡ direction_in (table_view table.now) }
 {
@@ -92,7 +92,7 @@ fn port_direction(table: &Table) -> Option<Direction>
     }
 }
 
-#[tactic(auto, unfolding(crate::specs::Reading::port_in))]
+#[tactic(auto, unfolding(crate::specs::Drafts::port_in))]
 fn port_draft<'a>(channels: &ChannelIndex<'_, 'a>, value: &'a Value) -> Option<PortDraft<'a>>
     ensures { result ≡ port_in channels.now (view value.now) }
 {
@@ -128,7 +128,7 @@ fn port_drafts<'a>(
     Ok(Some(ports))
 }
 
-#[tactic(auto, unfolding(crate::specs::Reading::partition_in))]
+#[tactic(auto, unfolding(crate::specs::Drafts::partition_in))]
 fn partition_draft<'a>(
     alloc: Global,
     channels: &ChannelIndex<'_, 'a>,
@@ -174,7 +174,7 @@ fn partition_drafts<'a>(
 }
 
 /// The draft that a document is, where its shape is right.
-#[tactic(auto, unfolding(crate::specs::Reading::draft_in))]
+#[tactic(auto, unfolding(crate::specs::Drafts::draft_in))]
 pub fn draft_of_document(alloc: Global, document: &Table) -> Result<Option<Draft<'_>>, AllocError>
     ensures { IfOk result (λ found. found ≡ draft_in (table_view document.now)) }
 {

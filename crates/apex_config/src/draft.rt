@@ -35,7 +35,7 @@ pub struct ChannelDraft<'a> {
 
 impl<'a> Model for ChannelDraft<'a> {
     ghost use Rattle.apex_config.specs.declared.channel.Channel.{Channel};
-    ghost use Rattle.apex_config.specs.Reading.{channel_kind_of};
+    ghost use Rattle.apex_config.specs.Drafts.{channel_kind_of};
 
     ghost Value = { Channel };
 

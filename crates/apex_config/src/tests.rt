@@ -1,7 +1,7 @@
 //! Texts of configurations with the answers that are wanted.
 ghost use Rattle.std.specs.Prelude.{Ok, Err};
 ghost use Rattle.apex_config.specs.Examples.{base};
-ghost use Rattle.apex_config.specs.Passes.{IsConfigRead};
+ghost use Rattle.apex_config.specs.Meaning.{IsConfigRead};
 
 mod counts;
 mod texts;

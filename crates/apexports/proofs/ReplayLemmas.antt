@@ -2,7 +2,7 @@
 use Rattle.std.proofs.Common.{◌≡◌, ℕ, List, [], ◌++◌, Result, Ok, Err, sym, subst, ◌∙◌, String, Global, string_bytes}
 use Rattle.std.specs.Prelude.{IfOk, IfErr, ◌≢◌}
 use Rattle.apex_config.specs.Configuration.{Configuration}
-use Rattle.apex_config.specs.Passes.{config_of}
+use Rattle.apex_config.specs.Meaning.{config_of}
 use Rattle.apex_config.specs.declared.fault.ConfigFault.{ConfigFault}
 use Rattle.apex_config.specs.declared.fault.ConfigFault.TheVariants as config_faults
 use Rattle.apex_board.specs.declared.history.Request.{Request}

@@ -1,5 +1,5 @@
 use Rattle.std.proofs.Common.{sym, ◌∙◌}
-use Rattle.apex_config.specs.Reading.{channel_in}
+use Rattle.apex_config.specs.Drafts.{channel_in}
 use Rattle.apex_config.proofs.Each.{reads_more, reads_none, reads_done}
 use Rattle.apex_config.proofs.document.channel_drafts.Goals as goal
 

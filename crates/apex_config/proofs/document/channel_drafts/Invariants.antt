@@ -1,4 +1,4 @@
-use Rattle.apex_config.specs.Reading.{channel_in}
+use Rattle.apex_config.specs.Drafts.{channel_in}
 use Rattle.apex_config.proofs.Each.{Reads}
 use Rattle.apex_config.proofs.document.channel_drafts.Given as goal
 

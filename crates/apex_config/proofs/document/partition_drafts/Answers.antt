@@ -1,6 +1,6 @@
 use Rattle.std.proofs.Common.{◌≡◌, Some, None, sym, ◌∙◌}
 use Rattle.toml.specs.View.{view}
-use Rattle.apex_config.specs.Reading.{partition_in}
+use Rattle.apex_config.specs.Drafts.{partition_in}
 use Rattle.apex_config.proofs.Each.{reads_more, reads_none, reads_done}
 use Rattle.apex_config.proofs.document.partition_drafts.Goals as goal
 

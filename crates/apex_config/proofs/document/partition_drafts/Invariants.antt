@@ -1,4 +1,4 @@
-use Rattle.apex_config.specs.Reading.{partition_in}
+use Rattle.apex_config.specs.Drafts.{partition_in}
 use Rattle.apex_config.proofs.Each.{Reads}
 use Rattle.apex_config.proofs.document.partition_drafts.Given as goal
 

@@ -1,5 +1,5 @@
 use Rattle.std.proofs.Common.{sym, ◌∙◌}
-use Rattle.apex_config.specs.Reading.{port_in}
+use Rattle.apex_config.specs.Drafts.{port_in}
 use Rattle.apex_config.proofs.Each.{reads_more, reads_none, reads_done}
 use Rattle.apex_config.proofs.document.port_drafts.Goals as goal
 

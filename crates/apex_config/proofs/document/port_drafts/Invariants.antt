@@ -1,4 +1,4 @@
-use Rattle.apex_config.specs.Reading.{port_in}
+use Rattle.apex_config.specs.Drafts.{port_in}
 use Rattle.apex_config.proofs.Each.{Reads}
 use Rattle.apex_config.proofs.document.port_drafts.Given as goal
 

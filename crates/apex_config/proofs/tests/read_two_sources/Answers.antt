@@ -1,5 +1,5 @@
 use Rattle.std.proofs.Common.{subst, ap, ◌∙◌, refl}
-use Rattle.apex_config.specs.Passes.{config_of, IsConfigRead}
+use Rattle.apex_config.specs.Meaning.{config_of, IsConfigRead}
 use Rattle.apex_config.proofs.OnLiterals.{config_on_literals}
 use Rattle.apex_config.proofs.tests.read_two_sources.Goals as goal
 

@@ -1,4 +1,5 @@
--- The configuration that a TOML table is, where its shape is right.
+-- The draft that the code makes of a TOML table, where its form is right: a text's data as a configuration's, whatever they are. What the
+-- text means stands in `Meaning`, and a draft in which no test finds a fault is the configuration that is meant.
 use Rattle.std.specs.Prelude.{ℕ, Bool, if◌then◌else◌, List, [], ◌∷◌, length, position, codes, unwrap_or, Option, Some, None, option_and_then}
 use Rattle.std.specs.Str.{bytes_eq}
 use Rattle.apex_types.specs.declared.direction.Direction.{Direction}
@@ -43,8 +44,7 @@ channel_in value = do
   kind ← channel_kind_in table
   Some (record { name = name; size = size; kind = kind })
 
--- The number of the channel of a name; where there is none, the number of channels, which is no channel's number. Where no two
--- channels have one name, a number stands for one name, so the tests on numbers say of a port what they say of the name in it.
+-- the number of the channel of a name; where there is none, the number of channels, which is no channel's number
 abbrev pub channel_number : List Channel → List ℕ → ℕ
 channel_number channels name = unwrap_or (position (λ channel. bytes_eq channel.name name) channels) (length channels)
 
