@@ -1,0 +1,107 @@
+//! Why a text is refused, and the lines that say so.
+ghost use Rattle.std.specs.Prelude.{◌≡◌};
+ghost use Rattle.apex_texts.specs.declared.fault.TraceFault.TheVariants as trace;
+ghost use Rattle.apex_texts.specs.declared.fault.Fault.TheVariants as fault;
+ghost use Rattle.apex_texts.specs.Replay.{config_fault, trace_fault};
+
+use crate::line_fault::LineFault;
+use apex_config::{ConfigFault, OutOfMemory};
+use std::alloc::{AllocError, AllocFailed};
+use std::error::Error;
+use std::fmt;
+
+/// Why a trace was not read.
+#[derive(Clone, Copy, Debug, PartialEq, Eq)]
+pub enum TraceFault {
+    /// The first faulty line, from 1, and the number of its fault.
+    Line { line: usize, fault: u32 },
+    /// A growth of memory was refused.
+    OutOfMemory,
+}
+
+// Written out, since the words of a line's fault are looked up by its number.
+impl fmt::Display for TraceFault {
+    fn fmt<W: fmt::Write>(&self, f: &mut fmt::Formatter<W>) -> fmt::Result {
+        match self {
+            TraceFault::Line { line, fault } => match LineFault::numbered(*fault) {
+                Some(words) => write!(f, "trace line {line} fault {fault}: {words}"),
+                None => write!(f, "trace line {line} fault {fault}"),
+            },
+            TraceFault::OutOfMemory => write!(f, "out of memory"),
+        }
+    }
+}
+
+impl Error for TraceFault {}
+
+impl<T: Drop> From<AllocFailed<T>> for TraceFault {
+    ghost from_gives = { λ _ given. given ≡ trace.OutOfMemory };
+
+    fn from(_refused: AllocFailed<T>) -> TraceFault {
+        TraceFault::OutOfMemory
+    }
+}
+
+/// Why a replay gave no report. Want of memory is always `Memory`.
+#[derive(Clone, Copy, Debug, PartialEq, Eq)]
+pub enum Fault {
+    /// The configuration is refused.
+    Config(ConfigFault),
+    /// The trace is refused.
+    Trace(TraceFault),
+    /// A growth of memory was refused.
+    Memory,
+}
+
+impl fmt::Display for Fault {
+    fn fmt<W: fmt::Write>(&self, f: &mut fmt::Formatter<W>) -> fmt::Result {
+        match self {
+            Fault::Config(fault) => match fault.number() {
+                Some(number) => write!(f, "config fault {number}: {fault}"),
+                None => write!(f, "{fault}"),
+            },
+            Fault::Trace(fault) => write!(f, "{fault}"),
+            Fault::Memory => write!(f, "out of memory"),
+        }
+    }
+}
+
+impl Error for Fault {}
+
+impl From<ConfigFault> for Fault {
+    ghost from_gives = { λ refused given. given ≡ config_fault refused };
+
+    fn from(fault: ConfigFault) -> Fault {
+        match fault {
+            ConfigFault::OutOfMemory => Fault::Memory,
+            _ => Fault::Config(fault),
+        }
+    }
+}
+
+impl From<TraceFault> for Fault {
+    ghost from_gives = { λ refused given. given ≡ trace_fault refused };
+
+    fn from(fault: TraceFault) -> Fault {
+        match fault {
+            TraceFault::OutOfMemory => Fault::Memory,
+            TraceFault::Line { .. } => Fault::Trace(fault),
+        }
+    }
+}
+
+impl From<OutOfMemory> for Fault {
+    ghost from_gives = { λ _ given. given ≡ fault.Memory };
+
+    fn from(_refused: OutOfMemory) -> Fault {
+        Fault::Memory
+    }
+}
+
+impl From<AllocError> for Fault {
+    ghost from_gives = { λ _ given. given ≡ fault.Memory };
+
+    fn from(_refused: AllocError) -> Fault {
+        Fault::Memory
+    }
+}
