@@ -1,15 +1,18 @@
 -- Each request that is read has a partition of the configuration.
-use Rattle.std.proofs.Common.{◌≡◌, ℕ, ◌<◌, Bool, true, false, cond, List, [], ◌∷◌, length, Option, Some, None, Result, Ok, Err, refl, subst, arith}
+use Rattle.std.proofs.Common.{◌≡◌, ℕ, ◌+◌, ◌<◌, List, [], ◌∷◌, length, Option, Some, None, Result, Ok, Err, refl, subst, arith}
+use Rattle.std.specs.Prelude.{IfOk}
+use Rattle.std.specs.Global.{Vec}
 use Rattle.std.specs.Str.{bytes_eq}
-use Rattle.std.specs.List.{list_all}
+use Rattle.std.specs.Str.Lines.{lines}
+use Rattle.std.proofs.lemmas.List.Elements.{All-nil, All-cons}
 use Rattle.apex_config.specs.Configuration.{Configuration, partition_named}
 use Rattle.apex_board.specs.declared.history.Request.{Request}
 use Rattle.apex_texts.specs.declared.line_fault.LineFault.{LineFault}
 use Rattle.apex_texts.specs.declared.line_fault.LineFault.TheVariants as faults
-use Rattle.apex_texts.specs.Text.{words_of}
-use Rattle.apex_texts.specs.Service.{service_named}
-use Rattle.apex_texts.specs.Arguments.{◌>>=◌, or_fault, name_in, word_at, call_at}
-use Rattle.apex_texts.specs.Trace.{is_ascii, moment_of, partition_of, test_count, request_at, request_of_words, request_of_line}
+use Rattle.apex_texts.specs.declared.fault.TraceFault.{TraceFault}
+use Rattle.apex_texts.specs.Arguments.{◌>>=◌, or_fault, name_in, word_at, moment_of, call_of}
+use Rattle.apex_texts.specs.Lines.{FaultyLine, line_words, item_of_words, item_of_line, before, items_from}
+use Rattle.apex_texts.specs.Trace.{HavePartitions, partition_of, request_at, trace_of, IsTraceRead}
 use Rattle.apex_texts.proofs.TextLemmas.{position_found}
 
 -- a fact of what was read, if anything was
@@ -50,31 +53,36 @@ request-known config moment words =
     of_step (IsKnown config) (word_at partition.1) _ (λ call _.
     of_step (IsKnown config) (moment_of moment) _ (λ at _.
     of_step (IsKnown config) (partition_of config partition.0) _ (λ place is.
-    of_step (IsKnown config) (or_fault faults.UnknownCall (service_named call.0)) _ (λ service _.
-    of_step (IsKnown config) (test_count service call.1) _ (λ counted _.
-    of_step (IsKnown config) (call_at service call.1) _ (λ asked _.
-    of_ok (IsPlace config) (partition_of config partition.0) place (partition-known config partition.0) is)))))))
+    of_step (IsKnown config) (call_of call.0 call.1) _ (λ asked _.
+    of_ok (IsPlace config) (partition_of config partition.0) place (partition-known config partition.0) is)))))
 
 abbrev IsKnownIfSome : Configuration → Option Request → Type 0
 IsKnownIfSome config None = Unit {0}
 IsKnownIfSome config (Some request) = IsKnown config request
 
-unless : (config : Configuration) (b : Bool) (read : Result (Option Request) LineFault) → OfRead (IsKnownIfSome config) read → OfRead (IsKnownIfSome config) (cond b (Ok None) read)
-unless config true read h = tt
-unless config false read h = h
+words-known : (config : Configuration) (words : Option (List ℕ × List (List ℕ))) → OfRead (IsKnownIfSome config) (item_of_words (request_at config) words)
+words-known config None = tt
+words-known config (Some words) =
+    of_step (IsKnownIfSome config) (request_at config words.0 words.1) (λ request. Ok (Some request)) (λ request is. of_ok (IsKnown config) (request_at config words.0 words.1) request (request-known config words.0 words.1) is)
 
-words-known : (config : Configuration) (words : List (List ℕ)) → OfRead (IsKnownIfSome config) (request_of_words config words)
-unfolding request_of_words
-words-known config [] = tt
-words-known config (first ∷ words) =
-    unless config _ (request_at config first words >>= λ request. Ok (Some request))
-    (of_step (IsKnownIfSome config) (request_at config first words) (λ request. Ok (Some request)) (λ request is. of_ok (IsKnown config) (request_at config first words) request (request-known config first words) is))
+line-known : (config : Configuration) (line : List ℕ) → OfRead (IsKnownIfSome config) (item_of_line (request_at config) line)
+unfolding item_of_line
+line-known config line = of_step (IsKnownIfSome config) (line_words line) (item_of_words (request_at config)) (λ words _. words-known config words)
 
-if-known : (config : Configuration) (b : Bool) (read : Result (Option Request) LineFault) → OfRead (IsKnownIfSome config) read → OfRead (IsKnownIfSome config) (cond b read (Err faults.NotAscii))
-if-known config true read h = h
-if-known config false read h = tt
+before-known : (config : Configuration) (number : ℕ) (read : Result (Option Request) LineFault) (after : Result (List Request) FaultyLine)
+    → OfRead (IsKnownIfSome config) read → OfRead (HavePartitions config) after → OfRead (HavePartitions config) (before number read after)
+before-known config number (Err fault) after here rest = tt
+before-known config number (Ok None) after here rest = rest
+before-known config number (Ok (Some request)) (Ok requests) here rest = All-cons (IsKnown config) request requests here rest
+before-known config number (Ok (Some request)) (Err faulty) here rest = tt
 
-pub line-known : (config : Configuration) (line : List ℕ) (request : Request) → request_of_line config line ≡ Ok (Some request) → request.partition < length config.partitions
-unfolding request_of_line
-line-known config line request is =
-    of_ok (IsKnownIfSome config) (request_of_line config line) (Some request) (if-known config (list_all is_ascii line) (request_of_words config (words_of line)) (words-known config (words_of line))) is
+lines-known : (config : Configuration) (number : ℕ) (lines : List (List ℕ)) → OfRead (HavePartitions config) (items_from (request_at config) number lines)
+unfolding items_from
+lines-known config number [] = All-nil (IsKnown config)
+lines-known config number (line ∷ rest) =
+    before-known config number (item_of_line (request_at config) line) (items_from (request_at config) (number + 1) rest) (line-known config line) (lines-known config (number + 1) rest)
+
+-- each request that a reader of a trace answered has a partition
+pub trace-known : (config : Configuration) (text : List ℕ) (answer : Result (Vec Request) TraceFault) → IsTraceRead answer (trace_of config text) → IfOk answer (λ requests. HavePartitions config requests.items)
+trace-known config text (Ok requests) read = of_ok (HavePartitions config) (trace_of config text) requests.items (lines-known config 1 (lines text)) read
+trace-known config text (Err fault) read = tt

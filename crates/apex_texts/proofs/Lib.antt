@@ -1,7 +1,7 @@
 pub mod TextLemmas
 pub mod NumberLemmas
 pub mod AsciiLemmas
-pub mod TraceLemmas
+pub mod LineLemmas
 pub mod KnownLemmas
 pub mod ReportLemmas
 pub mod ReplayLemmas

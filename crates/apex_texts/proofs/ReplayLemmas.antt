@@ -13,7 +13,7 @@ use Rattle.apex_texts.specs.declared.fault.TraceFault.{TraceFault}
 use Rattle.apex_texts.specs.declared.fault.TraceFault.TheVariants as trace_faults
 use Rattle.apex_texts.specs.declared.fault.Fault.{Fault}
 use Rattle.apex_texts.specs.declared.fault.Fault.TheVariants as faults
-use Rattle.apex_texts.specs.Trace.{trace_of, Answers as TraceAnswers}
+use Rattle.apex_texts.specs.Trace.{trace_of, IsTraceRead}
 use Rattle.apex_texts.specs.Report.{report_of}
 use Rattle.apex_texts.specs.Replay.{config_fault, trace_fault, IsReportOf, IsTraceReplay, IsReplay}
 
@@ -47,7 +47,7 @@ config_read (Err (faults.Trace fault)) config trace configuration read replay = 
 config_read (Err faults.Memory) config trace configuration read replay = tt
 
 -- a trace is refused
-pub trace_refused : (fault : TraceFault) (config : Configuration) (trace : List ℕ) → TraceAnswers (Err fault) (trace_of config trace) → IsTraceReplay (Err (trace_fault fault)) config trace
+pub trace_refused : (fault : TraceFault) (config : Configuration) (trace : List ℕ) → IsTraceRead (Err fault) (trace_of config trace) → IsTraceReplay (Err (trace_fault fault)) config trace
 trace_refused (trace_faults.Line line fault) config trace refused = refused
 trace_refused trace_faults.OutOfMemory config trace refused = tt
 

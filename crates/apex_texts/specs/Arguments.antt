@@ -1,8 +1,9 @@
 -- The arguments of a call, from the words of a line: they are read from left to right, and the first fault counts.
-use Rattle.std.specs.Prelude.{◌≡◌, ℕ, List, [], ◌∷◌, Option, Some, None, Result, Ok, Err}
+use Rattle.std.specs.Prelude.{◌≡◌, ℕ, zero, suc, List, [], ◌∷◌, Option, Some, None, Result, Ok, Err}
 use Rattle.apex_types.specs.Name.{name_of}
 use Rattle.apex_types.specs.Message.{message_of_hex}
 use Rattle.apex_types.specs.declared.call.Call.{Call}
+use Rattle.apex_types.specs.declared.moment.Moment.{Moment}
 use Rattle.apex_types.specs.declared.call.Call.TheVariants as calls
 use Rattle.apex_texts.specs.declared.arguments.TheConstants.{MOMENT_LIMIT, NUMBER_LIMIT}
 use Rattle.apex_texts.specs.declared.line_fault.LineFault.{LineFault}
@@ -10,6 +11,7 @@ use Rattle.apex_texts.specs.declared.line_fault.LineFault.TheVariants as faults
 use Rattle.apex_texts.specs.declared.service.Service.{Service}
 use Rattle.apex_texts.specs.declared.service.Service.TheVariants as services
 use Rattle.apex_texts.specs.Text.{number_up_to}
+use Rattle.apex_texts.specs.Service.{service_named, arguments_of}
 
 infixl 10 ◌>>=◌
 abbrev pub ◌>>=◌ : {A B E : Type 0} → Result A E → (A → Result B E) → Result B E
@@ -51,16 +53,16 @@ argument_at read fault words = do
   value ← or_fault fault (read word.0)
   Ok (value, word.1)
 
-unfoldable pub number_at : List (List ℕ) → Result (ℕ × List (List ℕ)) LineFault
+abbrev pub number_at : List (List ℕ) → Result (ℕ × List (List ℕ)) LineFault
 number_at words = argument_at (number_up_to NUMBER_LIMIT) faults.Number words
 
-unfoldable pub period_at : List (List ℕ) → Result (ℕ × List (List ℕ)) LineFault
+abbrev pub period_at : List (List ℕ) → Result (ℕ × List (List ℕ)) LineFault
 period_at words = argument_at (number_up_to MOMENT_LIMIT) faults.Number words
 
-unfoldable pub name_at : List (List ℕ) → Result (List ℕ × List (List ℕ)) LineFault
+abbrev pub name_at : List (List ℕ) → Result (List ℕ × List (List ℕ)) LineFault
 name_at words = argument_at name_in faults.Name words
 
-unfoldable pub message_at : List (List ℕ) → Result (List ℕ × List (List ℕ)) LineFault
+abbrev pub message_at : List (List ℕ) → Result (List ℕ × List (List ℕ)) LineFault
 message_at words = argument_at message_in faults.Message words
 
 -- the call to a service with the arguments that the words are
@@ -107,3 +109,30 @@ call_at services.QueuingStatus words = do
 call_at services.SetMode words = do
   mode ← number_at words
   Ok (calls.SetMode mode.0)
+
+-- as many words as there have to be, and no more
+abbrev pub exactly : ℕ → List (List ℕ) → Result (List (List ℕ)) LineFault
+exactly zero [] = Ok []
+exactly zero (word ∷ words) = Err faults.TooManyWords
+exactly (suc count) [] = Err faults.TooFewWords
+exactly (suc count) (word ∷ words) = do
+  rest ← exactly count words
+  Ok (word ∷ rest)
+
+-- ARGUMENTS: as many words as the service takes, and then what each of them is
+unfoldable pub call_with : Service → List (List ℕ) → Result Call LineFault
+call_with service words = do
+  arguments ← exactly (arguments_of service) words
+  call_at service arguments
+
+-- CALL ARGUMENTS
+unfoldable pub call_of : List ℕ → List (List ℕ) → Result Call LineFault
+call_of word words = do
+  service ← or_fault faults.UnknownCall (service_named word)
+  call_with service words
+
+-- MOMENT
+abbrev pub moment_of : List ℕ → Result Moment LineFault
+moment_of word = do
+  nanoseconds ← or_fault faults.Moment (number_up_to MOMENT_LIMIT word)
+  Ok (record { 0 = nanoseconds })

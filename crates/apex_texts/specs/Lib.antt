@@ -1,8 +1,10 @@
 pub mod Arguments
 pub mod Limits
 pub mod LineFault
+pub mod Lines
 pub mod Replay
 pub mod Report
+pub mod Script
 pub mod Service
 pub mod Text
 pub mod Trace

@@ -12,7 +12,8 @@ use Rattle.apex_texts.specs.declared.fault.TraceFault.{TraceFault}
 use Rattle.apex_texts.specs.declared.fault.TraceFault.TheVariants as trace_faults
 use Rattle.apex_texts.specs.declared.fault.Fault.{Fault}
 use Rattle.apex_texts.specs.declared.fault.Fault.TheVariants as faults
-use Rattle.apex_texts.specs.Trace.{FaultyLine, trace_of}
+use Rattle.apex_texts.specs.Lines.{FaultyLine}
+use Rattle.apex_texts.specs.Trace.{trace_of}
 use Rattle.apex_texts.specs.Report.{report_of}
 
 -- ---- want of memory is one fault, wherever it came

@@ -1,12 +1,12 @@
 //! The arguments of a call, from the words of a line.
-ghost use Rattle.std.specs.Prelude.{◌≡◌};
-ghost use Rattle.apex_texts.specs.Text.{words_of};
-ghost use Rattle.apex_texts.specs.Arguments.{Gives, name_in, message_in, word_at, number_at, period_at, name_at, message_at, call_at};
+ghost use Rattle.std.specs.Prelude.{◌≡◌, [], ◌∷◌};
+ghost use Rattle.apex_texts.specs.Text.{words_of, number_up_to};
+ghost use Rattle.apex_texts.specs.Arguments.{Gives, or_fault, exactly, name_in, message_in, word_at, call_with, call_of, moment_of};
 
 use crate::line_fault::LineFault;
 use crate::service::Service;
 use crate::text::{next_word, number_up_to};
-use apex_types::{Call, Message, Name};
+use apex_types::{Call, Message, Moment, Name};
 use std::str;
 
 /// The greatest moment and the greatest refresh period of a text, in nanoseconds.
@@ -14,6 +14,14 @@ pub const MOMENT_LIMIT: u64 = 9_223_372_036_854_775_807;
 
 /// The greatest of the other numbers of a text.
 pub const NUMBER_LIMIT: u64 = 4_294_967_295;
+
+/// The moment that a word is.
+pub fn moment_of(word: &[u8]) -> Result<Moment, LineFault>
+    ensures { result ≡ moment_of word.now }
+{
+    let nanoseconds = number_up_to(MOMENT_LIMIT, word).ok_or(LineFault::Moment)?;
+    Ok(Moment(nanoseconds))
+}
 
 /// The name that a word is.
 pub fn name_in(word: &[u8]) -> Option<Name>
@@ -42,112 +50,143 @@ pub fn word_at(words: &[u8]) -> Result<(&[u8], &[u8]), LineFault>
     next_word(words).ok_or(LineFault::TooFewWords)
 }
 
-#[tactic(auto, unfolding(crate::specs::Arguments::number_at))]
-fn number_at(words: &[u8]) -> Result<(u32, &[u8]), LineFault>
-    ensures { Gives (λ x. (x.0, words_of x.1.now)) result (number_at (words_of words.now)) }
+fn one_word(words: &[u8]) -> Result<&[u8], LineFault>
+    ensures { Gives (λ x. x.now ∷ []) result (exactly 1 (words_of words.now)) }
 {
     let (word, rest) = word_at(words)?;
+    match next_word(rest) {
+        None => Ok(word),
+        Some(_) => Err(LineFault::TooManyWords),
+    }
+}
+
+fn two_words(words: &[u8]) -> Result<(&[u8], &[u8]), LineFault>
+    ensures { Gives (λ x. x.0.now ∷ x.1.now ∷ []) result (exactly 2 (words_of words.now)) }
+{
+    let (first, rest) = word_at(words)?;
+    Ok((first, one_word(rest)?))
+}
+
+fn four_words(words: &[u8]) -> Result<(&[u8], &[u8], &[u8], &[u8]), LineFault>
+    ensures { Gives (λ x. x.0.now ∷ x.1.now ∷ x.2.now ∷ x.3.now ∷ []) result (exactly 4 (words_of words.now)) }
+{
+    let (first, rest) = word_at(words)?;
+    let (second, rest) = word_at(rest)?;
+    let (third, fourth) = two_words(rest)?;
+    Ok((first, second, third, fourth))
+}
+
+fn five_words(words: &[u8]) -> Result<(&[u8], &[u8], &[u8], &[u8], &[u8]), LineFault>
+    ensures { Gives (λ x. x.0.now ∷ x.1.now ∷ x.2.now ∷ x.3.now ∷ x.4.now ∷ []) result (exactly 5 (words_of words.now)) }
+{
+    let (first, rest) = word_at(words)?;
+    let (second, third, fourth, fifth) = four_words(rest)?;
+    Ok((first, second, third, fourth, fifth))
+}
+
+fn number_of(word: &[u8]) -> Result<u32, LineFault>
+    ensures { result ≡ or_fault LineFault.Number (number_up_to NUMBER_LIMIT word.now) }
+{
     let number = number_up_to(NUMBER_LIMIT, word).ok_or(LineFault::Number)?;
-    Ok((number as u32, rest))
+    Ok(number as u32)
 }
 
-#[tactic(auto, unfolding(crate::specs::Arguments::period_at))]
-fn period_at(words: &[u8]) -> Result<(u64, &[u8]), LineFault>
-    ensures { Gives (λ x. (x.0, words_of x.1.now)) result (period_at (words_of words.now)) }
+fn period_of(word: &[u8]) -> Result<u64, LineFault>
+    ensures { result ≡ or_fault LineFault.Number (number_up_to MOMENT_LIMIT word.now) }
 {
-    let (word, rest) = word_at(words)?;
-    let period = number_up_to(MOMENT_LIMIT, word).ok_or(LineFault::Number)?;
-    Ok((period, rest))
+    number_up_to(MOMENT_LIMIT, word).ok_or(LineFault::Number)
 }
 
-#[tactic(auto, unfolding(crate::specs::Arguments::name_at))]
-fn name_at(words: &[u8]) -> Result<(Name, &[u8]), LineFault>
-    ensures { Gives (λ x. (x.0, words_of x.1.now)) result (name_at (words_of words.now)) }
+fn name_of(word: &[u8]) -> Result<Name, LineFault>
+    ensures { result ≡ or_fault LineFault.Name (name_in word.now) }
 {
-    let (word, rest) = word_at(words)?;
-    Ok((name_in(word).ok_or(LineFault::Name)?, rest))
+    name_in(word).ok_or(LineFault::Name)
 }
 
-#[tactic(auto, unfolding(crate::specs::Arguments::message_at))]
-fn message_at(words: &[u8]) -> Result<(Message, &[u8]), LineFault>
-    ensures { Gives (λ x. (x.0, words_of x.1.now)) result (message_at (words_of words.now)) }
+fn message_of(word: &[u8]) -> Result<Message, LineFault>
+    ensures { result ≡ or_fault LineFault.Message (message_in word.now) }
 {
-    let (word, rest) = word_at(words)?;
-    Ok((message_in(word).ok_or(LineFault::Message)?, rest))
+    message_in(word).ok_or(LineFault::Message)
+}
+
+/// The call that a call word and the words after it ask for. The words are walked once.
+#[tactic(auto, unfolding(crate::specs::Arguments::call_of))]
+pub fn call_of(word: &[u8], words: &[u8]) -> Result<Call, LineFault>
+    ensures { result ≡ call_of word.now (words_of words.now) }
+{
+    let service = Service::named(word).ok_or(LineFault::UnknownCall)?;
+    call_with(service, words)
 }
 
 /// The call to a service with the arguments that the words are.
-#[tactic(auto, unfolding(crate::specs::Arguments::call_at))]
-pub fn call_at(service: Service, words: &[u8]) -> Result<Call, LineFault>
-    ensures { result ≡ call_at service (words_of words.now) }
+#[tactic(auto, unfolding(crate::specs::Arguments::call_with, crate::specs::Arguments::call_at))]
+fn call_with(service: Service, words: &[u8]) -> Result<Call, LineFault>
+    ensures { result ≡ call_with service (words_of words.now) }
 {
     match service {
         Service::CreateSampling => create_sampling(words),
         Service::CreateQueuing => create_queuing(words),
         Service::WriteSampling => {
-            let (id, words) = number_at(words)?;
-            let (message, _) = message_at(words)?;
-            Ok(Call::WriteSampling { id, message })
+            let (id, message) = two_words(words)?;
+            Ok(Call::WriteSampling {
+                id: number_of(id)?,
+                message: message_of(message)?,
+            })
         }
         Service::SendQueuing => {
-            let (id, words) = number_at(words)?;
-            let (message, _) = message_at(words)?;
-            Ok(Call::SendQueuing { id, message })
+            let (id, message) = two_words(words)?;
+            Ok(Call::SendQueuing {
+                id: number_of(id)?,
+                message: message_of(message)?,
+            })
         }
         Service::SamplingId => Ok(Call::SamplingId {
-            name: name_at(words)?.0,
+            name: name_of(one_word(words)?)?,
         }),
         Service::QueuingId => Ok(Call::QueuingId {
-            name: name_at(words)?.0,
+            name: name_of(one_word(words)?)?,
         }),
         Service::ReadSampling => Ok(Call::ReadSampling {
-            id: number_at(words)?.0,
+            id: number_of(one_word(words)?)?,
         }),
         Service::SamplingStatus => Ok(Call::SamplingStatus {
-            id: number_at(words)?.0,
+            id: number_of(one_word(words)?)?,
         }),
         Service::ReceiveQueuing => Ok(Call::ReceiveQueuing {
-            id: number_at(words)?.0,
+            id: number_of(one_word(words)?)?,
         }),
         Service::QueuingStatus => Ok(Call::QueuingStatus {
-            id: number_at(words)?.0,
+            id: number_of(one_word(words)?)?,
         }),
         Service::SetMode => Ok(Call::SetMode {
-            mode: number_at(words)?.0,
+            mode: number_of(one_word(words)?)?,
         }),
     }
 }
 
-#[tactic(auto, unfolding(crate::specs::Arguments::call_at))]
+#[tactic(auto, unfolding(crate::specs::Arguments::call_with, crate::specs::Arguments::call_at))]
 fn create_sampling(words: &[u8]) -> Result<Call, LineFault>
-    ensures { result ≡ call_at Service.CreateSampling (words_of words.now) }
+    ensures { result ≡ call_with Service.CreateSampling (words_of words.now) }
 {
-    let (name, words) = name_at(words)?;
-    let (size, words) = number_at(words)?;
-    let (direction, words) = number_at(words)?;
-    let (refresh, _) = period_at(words)?;
+    let (name, size, direction, refresh) = four_words(words)?;
     Ok(Call::CreateSampling {
-        name,
-        size,
-        direction,
-        refresh,
+        name: name_of(name)?,
+        size: number_of(size)?,
+        direction: number_of(direction)?,
+        refresh: period_of(refresh)?,
     })
 }
 
-#[tactic(auto, unfolding(crate::specs::Arguments::call_at))]
+#[tactic(auto, unfolding(crate::specs::Arguments::call_with, crate::specs::Arguments::call_at))]
 fn create_queuing(words: &[u8]) -> Result<Call, LineFault>
-    ensures { result ≡ call_at Service.CreateQueuing (words_of words.now) }
+    ensures { result ≡ call_with Service.CreateQueuing (words_of words.now) }
 {
-    let (name, words) = name_at(words)?;
-    let (size, words) = number_at(words)?;
-    let (depth, words) = number_at(words)?;
-    let (direction, words) = number_at(words)?;
-    let (discipline, _) = number_at(words)?;
+    let (name, size, depth, direction, discipline) = five_words(words)?;
     Ok(Call::CreateQueuing {
-        name,
-        size,
-        depth,
-        direction,
-        discipline,
+        name: name_of(name)?,
+        size: number_of(size)?,
+        depth: number_of(depth)?,
+        direction: number_of(direction)?,
+        discipline: number_of(discipline)?,
     })
 }

@@ -4,8 +4,10 @@
 mod arguments;
 pub mod fault;
 pub mod line_fault;
+mod lines;
 pub mod replay;
 pub mod report_text;
+pub mod script;
 mod service;
 mod text;
 pub mod trace;
@@ -14,4 +16,5 @@ pub use crate::fault::{Fault, TraceFault};
 pub use crate::line_fault::LineFault;
 pub use crate::replay::{replay_text, replay_trace};
 pub use crate::report_text::report;
+pub use crate::script::{Script, read_script};
 pub use crate::trace::read_trace;

@@ -1,6 +1,6 @@
 //! The services that a trace can ask for, by their call words.
 ghost use Rattle.std.specs.Prelude.{◌≡◌};
-ghost use Rattle.apex_texts.specs.Service.{word_of, arguments_of, service_named, service_of};
+ghost use Rattle.apex_texts.specs.Service.{word_of, service_named, service_of};
 
 use apex_types::Call;
 
@@ -92,18 +92,6 @@ impl Service {
             Service::QueuingId => "queuing-id",
             Service::QueuingStatus => "queuing-status",
             Service::SetMode => "mode",
-        }
-    }
-
-    /// How many arguments the service takes.
-    pub fn arguments(self) -> usize
-        ensures { result ≡ arguments_of self }
-    {
-        match self {
-            Service::CreateSampling => 4,
-            Service::CreateQueuing => 5,
-            Service::WriteSampling | Service::SendQueuing => 2,
-            _ => 1,
         }
     }
 }

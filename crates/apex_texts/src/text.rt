@@ -66,19 +66,6 @@ pub fn next_word(line: &[u8]) -> Option<(&[u8], &[u8])>
     }
 }
 
-/// How many words a line has.
-pub fn count_words(line: &[u8]) -> usize
-    ensures { result ≡ length (words_of line.now) }
-{
-    let mut count = 0;
-    let mut rest = line;
-    while let Some((_, after)) = next_word(rest) {
-        count += 1;
-        rest = after;
-    }
-    count
-}
-
 /// The number that a word of decimal digits is, where it is at most the limit.
 pub fn number_up_to(limit: u64, word: &[u8]) -> Option<u64>
     ensures { result ≡ number_up_to limit word.now }
