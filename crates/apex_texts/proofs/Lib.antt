@@ -5,3 +5,4 @@ pub mod LineLemmas
 pub mod KnownLemmas
 pub mod ReportLemmas
 pub mod ReplayLemmas
+pub mod CheckLemmas

@@ -1,4 +1,6 @@
 pub mod Arguments
+pub mod Check
+pub mod FaultLine
 pub mod Limits
 pub mod LineFault
 pub mod Lines

@@ -1,5 +1,5 @@
--- What is wrong with a line of a trace: the faults and their numbers.
-use Rattle.std.specs.Prelude.{ℕ, Option, Some, None, ◌==◌, if◌then◌else◌}
+-- What is wrong with a line of a trace or a script: the faults, their numbers and their words.
+use Rattle.std.specs.Prelude.{ℕ, List, codes, Option, Some, None, ◌==◌, if◌then◌else◌}
 use Rattle.apex_texts.specs.declared.line_fault.LineFault.{LineFault}
 use Rattle.apex_texts.specs.declared.line_fault.LineFault.TheVariants.{NotAscii, TooFewWords, TooManyWords, Moment, Partition, UnknownCall, Number, Name, Message}
 
@@ -28,3 +28,15 @@ fault_numbered number =
     else if number == 8 then Some Name
     else if number == 9 then Some Message
     else None
+
+-- the printed words of a fault
+abbrev pub words_of : LineFault → List ℕ
+words_of NotAscii = codes "not ASCII"
+words_of TooFewWords = codes "too few words"
+words_of TooManyWords = codes "too many words"
+words_of Moment = codes "moment"
+words_of Partition = codes "partition"
+words_of UnknownCall = codes "unknown call"
+words_of Number = codes "number"
+words_of Name = codes "name"
+words_of Message = codes "message"

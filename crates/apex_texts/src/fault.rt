@@ -1,8 +1,9 @@
 //! Why a text is refused, and the lines that say so.
-ghost use Rattle.std.specs.Prelude.{◌≡◌};
+ghost use Rattle.std.specs.Prelude.{◌≡◌, Some};
 ghost use Rattle.apex_texts.specs.declared.fault.TraceFault.TheVariants as trace;
 ghost use Rattle.apex_texts.specs.declared.fault.Fault.TheVariants as fault;
 ghost use Rattle.apex_texts.specs.Replay.{config_fault, trace_fault};
+ghost use Rattle.apex_texts.specs.FaultLine.{config_words, trace_line, fault_line};
 
 use crate::line_fault::LineFault;
 use apex_config::{ConfigFault, OutOfMemory};
@@ -19,8 +20,9 @@ pub enum TraceFault {
     OutOfMemory,
 }
 
-// Written out, since the words of a line's fault are looked up by its number.
 impl fmt::Display for TraceFault {
+    ghost output = { λ fault. Some (trace_line fault) };
+
     fn fmt<W: fmt::Write>(&self, f: &mut fmt::Formatter<W>) -> fmt::Result {
         match self {
             TraceFault::Line { line, fault } => match LineFault::numbered(*fault) {
@@ -54,15 +56,39 @@ pub enum Fault {
 }
 
 impl fmt::Display for Fault {
+    ghost output = { λ fault. Some (fault_line fault) };
+
     fn fmt<W: fmt::Write>(&self, f: &mut fmt::Formatter<W>) -> fmt::Result {
         match self {
-            Fault::Config(fault) => match fault.number() {
-                Some(number) => write!(f, "config fault {number}: {fault}"),
-                None => write!(f, "{fault}"),
-            },
+            Fault::Config(fault) => {
+                let words = config_words(*fault);
+                match fault.number() {
+                    Some(number) => write!(f, "config fault {number}: {words}"),
+                    None => write!(f, "{words}"),
+                }
+            }
             Fault::Trace(fault) => write!(f, "{fault}"),
             Fault::Memory => write!(f, "out of memory"),
         }
+    }
+}
+
+/// The words of a configuration's fault.
+fn config_words(fault: ConfigFault) -> &'static str
+    ensures { result.now ≡ config_words fault }
+{
+    match fault {
+        ConfigFault::NotToml => "not TOML",
+        ConfigFault::Shape => "shape",
+        ConfigFault::BadName => "name",
+        ConfigFault::NameTwice => "name twice",
+        ConfigFault::OutOfRange => "number out of range",
+        ConfigFault::UnknownChannel => "unknown channel",
+        ConfigFault::KindDiffers => "kind of port and channel differ",
+        ConfigFault::Sources => "not exactly one source",
+        ConfigFault::Destinations => "destinations",
+        ConfigFault::Counts => "count out of limits",
+        ConfigFault::OutOfMemory => "out of memory",
     }
 }
 

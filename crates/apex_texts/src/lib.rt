@@ -2,6 +2,7 @@
 #![tactic(auto)]
 
 mod arguments;
+mod check;
 pub mod fault;
 pub mod line_fault;
 mod lines;
@@ -12,6 +13,7 @@ mod service;
 mod text;
 pub mod trace;
 
+pub use crate::check::check_line;
 pub use crate::fault::{Fault, TraceFault};
 pub use crate::line_fault::LineFault;
 pub use crate::replay::{replay_text, replay_trace};

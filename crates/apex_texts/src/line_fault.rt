@@ -1,38 +1,30 @@
-//! What is wrong with a line of a trace.
-ghost use Rattle.std.specs.Prelude.{◌≡◌};
-ghost use Rattle.apex_texts.specs.LineFault.{number_of, fault_numbered};
+//! What is wrong with a line of a trace or a script.
+ghost use Rattle.std.specs.Prelude.{◌≡◌, Some};
+ghost use Rattle.apex_texts.specs.LineFault.{number_of, fault_numbered, words_of};
 
-use thiserror::Error;
+use std::error::Error;
+use std::fmt;
 
 /// What is wrong with a line, in the order of the numbers.
-#[derive(Clone, Copy, Debug, PartialEq, Eq, Error)]
+#[derive(Clone, Copy, Debug, PartialEq, Eq)]
 pub enum LineFault {
     /// A byte is above 0x7F.
-    #[error("not ASCII")]
     NotAscii,
     /// The line has no call word, or fewer arguments than its call.
-    #[error("too few words")]
     TooFewWords,
     /// The line has more arguments than its call.
-    #[error("too many words")]
     TooManyWords,
     /// The moment is no number, or too great.
-    #[error("moment")]
     Moment,
     /// No partition has the name.
-    #[error("partition")]
     Partition,
     /// The call word is unknown.
-    #[error("unknown call")]
     UnknownCall,
     /// An argument is no number, or too great.
-    #[error("number")]
     Number,
     /// An argument is no name.
-    #[error("name")]
     Name,
     /// An argument is no message.
-    #[error("message")]
     Message,
 }
 
@@ -71,4 +63,31 @@ impl LineFault {
             _ => return None,
         })
     }
+
+    /// The printed words of the fault.
+    pub fn words(self) -> &'static str
+        ensures { result.now ≡ words_of self }
+    {
+        match self {
+            LineFault::NotAscii => "not ASCII",
+            LineFault::TooFewWords => "too few words",
+            LineFault::TooManyWords => "too many words",
+            LineFault::Moment => "moment",
+            LineFault::Partition => "partition",
+            LineFault::UnknownCall => "unknown call",
+            LineFault::Number => "number",
+            LineFault::Name => "name",
+            LineFault::Message => "message",
+        }
+    }
 }
+
+impl fmt::Display for LineFault {
+    ghost output = { λ fault. Some (words_of fault) };
+
+    fn fmt<W: fmt::Write>(&self, f: &mut fmt::Formatter<W>) -> fmt::Result {
+        f.write_str(self.words())
+    }
+}
+
+impl Error for LineFault {}
