@@ -3,8 +3,8 @@ use Rattle.std.specs.Prelude.{ℕ}
 use Rattle.apexports.specs.declared.command_line.WordsFault.{WordsFault}
 use Rattle.apexports.specs.declared.command_line.WordsFault.TheVariants as words
 use Rattle.apex_config.specs.declared.fault.ConfigFault.TheVariants as config_faults
-use Rattle.apexports.specs.declared.fault.Fault.TheVariants as faults
-use Rattle.apexports.specs.declared.fault.TraceFault.TheVariants as trace_faults
+use Rattle.apex_texts.specs.declared.fault.Fault.TheVariants as faults
+use Rattle.apex_texts.specs.declared.fault.TraceFault.TheVariants as trace_faults
 use Rattle.apexports.specs.declared.program.Refusal.{Refusal}
 use Rattle.apexports.specs.declared.program.Refusal.TheVariants.{Usage, Text, File, Output}
 

@@ -2,17 +2,9 @@
 //! each call and a report come out.
 #![tactic(auto)]
 
-mod arguments;
 mod command_line;
-mod fault;
 mod files;
-mod line_fault;
 mod program;
-mod replay;
-mod report;
-mod service;
-mod text;
-mod trace;
 
 use command_line::words_given;
 use files::SystemFiles;

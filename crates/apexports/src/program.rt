@@ -4,10 +4,9 @@ ghost use Rattle.apexports.specs.declared.program.Refusal.TheVariants.{Text};
 ghost use Rattle.apexports.specs.Refusal.{status_of, words_refusal};
 
 use crate::command_line::{Task, WordsFault, task_of};
-use crate::fault::{Fault, TraceFault};
 use crate::files::{FileFault, Opener, read_path};
-use crate::replay::replay_trace;
 use apex_config::{Config, ConfigFault};
+use apex_texts::{Fault, TraceFault, replay_trace};
 use std::alloc::{AllocError, Global};
 use std::convert::AsStr;
 use std::error::Error;

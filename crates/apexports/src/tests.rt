@@ -1,7 +1,3 @@
-//! Tests from outside: what each text gives, with values that were worked out by hand.
-mod creation;
-mod lines;
+//! Tests from outside: what the program does with words, files and outputs that stand in for the system's.
 mod program;
-mod queuing;
-mod sampling;
 mod texts;

@@ -1,8 +1,4 @@
-//! The configurations of the worked examples, and what compares a replay with its report.
-use crate::replay::replay_text;
-use std::process::Abort;
-use std::test::Fail;
-
+//! The configurations of the worked examples.
 /// Two partitions and one queuing channel of two messages.
 pub const REDUCED: &str = r#"[[partition]]
 name = "FMS"
@@ -70,41 +66,3 @@ name = "SPD"
 kind = "sampling"
 size = 4
 "#;
-
-/// Both ports of NAV are created, and both partitions enter NORMAL.
-pub const OPENING: &str = "1 FMS create-queuing NAV_OUT 4 2 0 0
-2 DSP create-queuing NAV_IN 4 2 1 0
-3 FMS mode 3
-4 DSP mode 3
-";
-
-/// What the opening is answered.
-pub const OPENING_REPORT: &str = "1 1 FMS create-queuing NO_ERROR id 1
-2 2 DSP create-queuing NO_ERROR id 1
-3 3 FMS mode NO_ERROR
-4 4 DSP mode NO_ERROR
-";
-
-/// The calls give the report.
-pub fn shows<R: Abort + AllocGlobal>(
-    rt: &R,
-    config: &str,
-    calls: &str,
-    report: &str,
-) -> Result<(), Fail> {
-    let text = replay_text(rt.alloc(), config.as_bytes(), calls.as_bytes())?;
-    assert_eq!(rt; text.as_str(), report);
-    Ok(())
-}
-
-/// The opening and then the calls give the report.
-pub fn shows_after_opening<R: Abort + AllocGlobal>(
-    rt: &R,
-    config: &str,
-    calls: &str,
-    report: &str,
-) -> Result<(), Fail> {
-    let calls = format!(in rt.alloc(); "{OPENING}{calls}")?;
-    let report = format!(in rt.alloc(); "{OPENING_REPORT}{report}")?;
-    shows(rt, config, calls.as_str(), report.as_str())
-}

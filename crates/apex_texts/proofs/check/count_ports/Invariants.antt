@@ -1,0 +1,9 @@
+use Rattle.std.proofs.Common.{◌≡◌, ◌*◌, ◌≤◌, length, take}
+use Rattle.std.specs.Prelude.{sum_by}
+use Rattle.apex_texts.proofs.check.count_ports.Given as goal
+
+abbrev pub invariant-loop-p : goal.invariant-loop-p
+invariant-loop-p l = record {
+  counted : l.ports ≡ sum_by (λ partition. length partition.ports) (take l.p l.config.partitions);
+  bound : l.ports ≤ l.p * 32;
+}

@@ -1,0 +1,8 @@
+use Rattle.std.proofs.Common.{rules, append_assoc}
+use Rattle.std.proofs.lemmas.Result.{IfOk-equal}
+use Rattle.apex_texts.specs.Report.{entry_line}
+use Rattle.apex_texts.proofs.report_text.push_entry.Goals as goal
+
+pub returns : goal.returns
+unfolding entry_line
+returns c = search (rules, IfOk-equal, append_assoc)

@@ -1,0 +1,23 @@
+use Rattle.std.proofs.Common.{◌++◌, append_assoc, decimal, string_bytes}
+use Rattle.std.proofs.lemmas.Result.{IfOk-equal}
+use Rattle.apex_types.specs.Message.{hex_text_of}
+use Rattle.apex_texts.specs.Report.{reply_text}
+use Rattle.apex_texts.proofs.report_text.push_reply.Goals as goal
+
+pub returns-in_ok-push_word-in-Id : goal.returns-in_ok-push_word-in-Id
+unfolding reply_text
+returns-in_ok-push_word-in-Id c =
+    rw c.in-Id.is (IfOk-equal c.push_number.result (string_bytes c.push_number.new.text) (string_bytes c.push_word-in-Id.new.text ++ decimal c.from.result) _ c.push_number.ensures
+    (rw (c.in_ok-push_word-in-Id.ensures, c.from.ensures) (simp append_assoc)))
+
+pub returns-in_ok-push_word-in-Received : goal.returns-in_ok-push_word-in-Received
+unfolding reply_text
+returns-in_ok-push_word-in-Received c =
+    rw c.in-Received.is (IfOk-equal c.push_message.result (string_bytes c.push_message.new.text) (string_bytes c.push_word-in-Received.new.text ++ hex_text_of c.in-Received.message) _ c.push_message.ensures
+    (rw c.in_ok-push_word-in-Received.ensures (simp append_assoc)))
+
+pub returns-in_ok-push_word-in-Read-2 : goal.returns-in_ok-push_word-in-Read-2
+unfolding reply_text
+returns-in_ok-push_word-in-Read-2 c =
+    rw c.in-Read.is (IfOk-equal c.push_word-in-Read-3.result (string_bytes c.push_word-in-Read-3.new.text) (string_bytes c.push_word-in-Read-2.new.text ++ c.word-in-Read.result.now) _ c.push_word-in-Read-3.ensures
+    (rw (c.word-in-Read.ensures, c.in_ok-push_word-in-Read-2.ensures, c.in_ok-push_message-in-Read.ensures, c.in_ok-push_word-in-Read.ensures) (simp append_assoc)))

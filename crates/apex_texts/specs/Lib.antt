@@ -1,0 +1,12 @@
+pub mod Arguments
+pub mod Check
+pub mod FaultLine
+pub mod Limits
+pub mod LineFault
+pub mod Lines
+pub mod Replay
+pub mod Report
+pub mod Script
+pub mod Service
+pub mod Text
+pub mod Trace

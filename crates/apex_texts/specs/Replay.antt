@@ -1,0 +1,52 @@
+-- What a replay gives: the report of the lawful history of the trace's requests, or why a text is refused.
+use Rattle.std.specs.Prelude.{◌≡◌, ℕ, List, Result, Ok, Err, String, string_bytes}
+use Rattle.std.specs.declared.alloc.Global.{Global}
+use Rattle.apex_config.specs.Configuration.{Configuration}
+use Rattle.apex_config.specs.Meaning.{config_of}
+use Rattle.apex_config.specs.declared.fault.ConfigFault.{ConfigFault}
+use Rattle.apex_config.specs.declared.fault.ConfigFault.TheVariants as config_faults
+use Rattle.apex_ports.specs.declared.history.Request.{Request}
+use Rattle.apex_ports.specs.History.{History}
+use Rattle.apex_ports.specs.Lawful.{Answers}
+use Rattle.apex_texts.specs.declared.fault.TraceFault.{TraceFault}
+use Rattle.apex_texts.specs.declared.fault.TraceFault.TheVariants as trace_faults
+use Rattle.apex_texts.specs.declared.fault.Fault.{Fault}
+use Rattle.apex_texts.specs.declared.fault.Fault.TheVariants as faults
+use Rattle.apex_texts.specs.Lines.{FaultyLine}
+use Rattle.apex_texts.specs.Trace.{trace_of}
+use Rattle.apex_texts.specs.Report.{report_of}
+
+-- ---- want of memory is one fault, wherever it came
+
+abbrev pub config_fault : ConfigFault → Fault
+config_fault config_faults.OutOfMemory = faults.Memory
+config_fault fault = faults.Config fault
+
+abbrev pub trace_fault : TraceFault → Fault
+trace_fault trace_faults.OutOfMemory = faults.Memory
+trace_fault fault = faults.Trace fault
+
+-- ---- replays
+
+-- the text is the report of the lawful history of these requests
+abbrev pub IsReportOf : Configuration → List Request → List ℕ → Type 0
+IsReportOf config requests text = (history : History) × Answers config requests history × (text ≡ report_of config history)
+
+-- the trace is refused for this fault
+abbrev pub IsRefused : Result (List Request) FaultyLine → TraceFault → Type 0
+IsRefused meaning (trace_faults.Line line fault) = meaning ≡ Err (record { line = line; fault = fault })
+IsRefused meaning trace_faults.OutOfMemory = ⊥
+
+-- what a replay of a trace's text on a configuration answers
+abbrev pub IsTraceReplay : Result (String Global) Fault → Configuration → List ℕ → Type 0
+IsTraceReplay (Ok text) config trace = (requests : List Request) × (trace_of config trace ≡ Ok requests) × IsReportOf config requests (string_bytes text)
+IsTraceReplay (Err (faults.Config fault)) config trace = ⊥
+IsTraceReplay (Err (faults.Trace fault)) config trace = IsRefused (trace_of config trace) fault
+IsTraceReplay (Err faults.Memory) config trace = Unit {0}
+
+-- what a replay of two texts answers
+abbrev pub IsReplay : Result (String Global) Fault → List ℕ → List ℕ → Type 0
+IsReplay (Ok text) config trace = (configuration : Configuration) × (config_of config ≡ Ok configuration) × IsTraceReplay (Ok text) configuration trace
+IsReplay (Err (faults.Config fault)) config trace = config_of config ≡ Err fault
+IsReplay (Err (faults.Trace fault)) config trace = (configuration : Configuration) × (config_of config ≡ Ok configuration) × IsTraceReplay (Err (faults.Trace fault)) configuration trace
+IsReplay (Err faults.Memory) config trace = Unit {0}

@@ -1,0 +1,192 @@
+//! The arguments of a call, from the words of a line.
+ghost use Rattle.std.specs.Prelude.{◌≡◌, [], ◌∷◌};
+ghost use Rattle.apex_texts.specs.Text.{words_of, number_up_to};
+ghost use Rattle.apex_texts.specs.Arguments.{Gives, or_fault, exactly, name_in, message_in, word_at, call_with, call_of, moment_of};
+
+use crate::line_fault::LineFault;
+use crate::service::Service;
+use crate::text::{next_word, number_up_to};
+use apex_types::{Call, Message, Moment, Name};
+use std::str;
+
+/// The greatest moment and the greatest refresh period of a text, in nanoseconds.
+pub const MOMENT_LIMIT: u64 = 9_223_372_036_854_775_807;
+
+/// The greatest of the other numbers of a text.
+pub const NUMBER_LIMIT: u64 = 4_294_967_295;
+
+/// The moment that a word is.
+pub fn moment_of(word: &[u8]) -> Result<Moment, LineFault>
+    ensures { result ≡ moment_of word.now }
+{
+    let nanoseconds = number_up_to(MOMENT_LIMIT, word).ok_or(LineFault::Moment)?;
+    Ok(Moment(nanoseconds))
+}
+
+/// The name that a word is.
+pub fn name_in(word: &[u8]) -> Option<Name>
+    ensures { result ≡ name_in word.now }
+{
+    let Ok(text) = str::from_utf8(word) else {
+        return None;
+    };
+    Name::read(text).ok()
+}
+
+/// The message that a word of hexadecimal digits is.
+fn message_in(word: &[u8]) -> Option<Message>
+    ensures { result ≡ message_in word.now }
+{
+    let Ok(text) = str::from_utf8(word) else {
+        return None;
+    };
+    Message::from_hex(text).ok()
+}
+
+/// The first of the words, and the words after it.
+pub fn word_at(words: &[u8]) -> Result<(&[u8], &[u8]), LineFault>
+    ensures { Gives (λ x. (x.0.now, words_of x.1.now)) result (word_at (words_of words.now)) }
+{
+    next_word(words).ok_or(LineFault::TooFewWords)
+}
+
+fn one_word(words: &[u8]) -> Result<&[u8], LineFault>
+    ensures { Gives (λ x. x.now ∷ []) result (exactly 1 (words_of words.now)) }
+{
+    let (word, rest) = word_at(words)?;
+    match next_word(rest) {
+        None => Ok(word),
+        Some(_) => Err(LineFault::TooManyWords),
+    }
+}
+
+fn two_words(words: &[u8]) -> Result<(&[u8], &[u8]), LineFault>
+    ensures { Gives (λ x. x.0.now ∷ x.1.now ∷ []) result (exactly 2 (words_of words.now)) }
+{
+    let (first, rest) = word_at(words)?;
+    Ok((first, one_word(rest)?))
+}
+
+fn four_words(words: &[u8]) -> Result<(&[u8], &[u8], &[u8], &[u8]), LineFault>
+    ensures { Gives (λ x. x.0.now ∷ x.1.now ∷ x.2.now ∷ x.3.now ∷ []) result (exactly 4 (words_of words.now)) }
+{
+    let (first, rest) = word_at(words)?;
+    let (second, rest) = word_at(rest)?;
+    let (third, fourth) = two_words(rest)?;
+    Ok((first, second, third, fourth))
+}
+
+fn five_words(words: &[u8]) -> Result<(&[u8], &[u8], &[u8], &[u8], &[u8]), LineFault>
+    ensures { Gives (λ x. x.0.now ∷ x.1.now ∷ x.2.now ∷ x.3.now ∷ x.4.now ∷ []) result (exactly 5 (words_of words.now)) }
+{
+    let (first, rest) = word_at(words)?;
+    let (second, third, fourth, fifth) = four_words(rest)?;
+    Ok((first, second, third, fourth, fifth))
+}
+
+fn number_of(word: &[u8]) -> Result<u32, LineFault>
+    ensures { result ≡ or_fault LineFault.Number (number_up_to NUMBER_LIMIT word.now) }
+{
+    let number = number_up_to(NUMBER_LIMIT, word).ok_or(LineFault::Number)?;
+    Ok(number as u32)
+}
+
+fn period_of(word: &[u8]) -> Result<u64, LineFault>
+    ensures { result ≡ or_fault LineFault.Number (number_up_to MOMENT_LIMIT word.now) }
+{
+    number_up_to(MOMENT_LIMIT, word).ok_or(LineFault::Number)
+}
+
+fn name_of(word: &[u8]) -> Result<Name, LineFault>
+    ensures { result ≡ or_fault LineFault.Name (name_in word.now) }
+{
+    name_in(word).ok_or(LineFault::Name)
+}
+
+fn message_of(word: &[u8]) -> Result<Message, LineFault>
+    ensures { result ≡ or_fault LineFault.Message (message_in word.now) }
+{
+    message_in(word).ok_or(LineFault::Message)
+}
+
+/// The call that a call word and the words after it ask for. The words are walked once.
+#[tactic(auto, unfolding(crate::specs::Arguments::call_of))]
+pub fn call_of(word: &[u8], words: &[u8]) -> Result<Call, LineFault>
+    ensures { result ≡ call_of word.now (words_of words.now) }
+{
+    let service = Service::named(word).ok_or(LineFault::UnknownCall)?;
+    call_with(service, words)
+}
+
+/// The call to a service with the arguments that the words are.
+#[tactic(auto, unfolding(crate::specs::Arguments::call_with, crate::specs::Arguments::call_at))]
+fn call_with(service: Service, words: &[u8]) -> Result<Call, LineFault>
+    ensures { result ≡ call_with service (words_of words.now) }
+{
+    match service {
+        Service::CreateSampling => create_sampling(words),
+        Service::CreateQueuing => create_queuing(words),
+        Service::WriteSampling => {
+            let (id, message) = two_words(words)?;
+            Ok(Call::WriteSampling {
+                id: number_of(id)?,
+                message: message_of(message)?,
+            })
+        }
+        Service::SendQueuing => {
+            let (id, message) = two_words(words)?;
+            Ok(Call::SendQueuing {
+                id: number_of(id)?,
+                message: message_of(message)?,
+            })
+        }
+        Service::SamplingId => Ok(Call::SamplingId {
+            name: name_of(one_word(words)?)?,
+        }),
+        Service::QueuingId => Ok(Call::QueuingId {
+            name: name_of(one_word(words)?)?,
+        }),
+        Service::ReadSampling => Ok(Call::ReadSampling {
+            id: number_of(one_word(words)?)?,
+        }),
+        Service::SamplingStatus => Ok(Call::SamplingStatus {
+            id: number_of(one_word(words)?)?,
+        }),
+        Service::ReceiveQueuing => Ok(Call::ReceiveQueuing {
+            id: number_of(one_word(words)?)?,
+        }),
+        Service::QueuingStatus => Ok(Call::QueuingStatus {
+            id: number_of(one_word(words)?)?,
+        }),
+        Service::SetMode => Ok(Call::SetMode {
+            mode: number_of(one_word(words)?)?,
+        }),
+    }
+}
+
+#[tactic(auto, unfolding(crate::specs::Arguments::call_with, crate::specs::Arguments::call_at))]
+fn create_sampling(words: &[u8]) -> Result<Call, LineFault>
+    ensures { result ≡ call_with Service.CreateSampling (words_of words.now) }
+{
+    let (name, size, direction, refresh) = four_words(words)?;
+    Ok(Call::CreateSampling {
+        name: name_of(name)?,
+        size: number_of(size)?,
+        direction: number_of(direction)?,
+        refresh: period_of(refresh)?,
+    })
+}
+
+#[tactic(auto, unfolding(crate::specs::Arguments::call_with, crate::specs::Arguments::call_at))]
+fn create_queuing(words: &[u8]) -> Result<Call, LineFault>
+    ensures { result ≡ call_with Service.CreateQueuing (words_of words.now) }
+{
+    let (name, size, depth, direction, discipline) = five_words(words)?;
+    Ok(Call::CreateQueuing {
+        name: name_of(name)?,
+        size: number_of(size)?,
+        depth: number_of(depth)?,
+        direction: number_of(direction)?,
+        discipline: number_of(discipline)?,
+    })
+}

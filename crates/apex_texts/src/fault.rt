@@ -1,0 +1,134 @@
+//! Why a text is refused, and the lines that say so.
+ghost use Rattle.std.specs.Prelude.{◌≡◌, Some};
+ghost use Rattle.apex_texts.specs.declared.fault.TraceFault.TheVariants as trace;
+ghost use Rattle.apex_texts.specs.declared.fault.Fault.TheVariants as fault;
+ghost use Rattle.apex_texts.specs.Replay.{config_fault, trace_fault};
+ghost use Rattle.apex_texts.specs.FaultLine.{config_words, trace_line, fault_line};
+
+use crate::line_fault::LineFault;
+use apex_config::ConfigFault;
+use apex_types::OutOfMemory;
+use std::alloc::{AllocError, AllocFailed};
+use std::error::Error;
+use std::fmt;
+
+/// Why a trace was not read.
+#[derive(Clone, Copy, Debug, PartialEq, Eq)]
+pub enum TraceFault {
+    /// The first faulty line, from 1, and the number of its fault.
+    Line { line: usize, fault: u32 },
+    /// A growth of memory was refused.
+    OutOfMemory,
+}
+
+impl fmt::Display for TraceFault {
+    ghost output = { λ fault. Some (trace_line fault) };
+
+    fn fmt<W: fmt::Write>(&self, f: &mut fmt::Formatter<W>) -> fmt::Result {
+        match self {
+            TraceFault::Line { line, fault } => match LineFault::numbered(*fault) {
+                Some(words) => write!(f, "trace line {line} fault {fault}: {words}"),
+                None => write!(f, "trace line {line} fault {fault}"),
+            },
+            TraceFault::OutOfMemory => write!(f, "out of memory"),
+        }
+    }
+}
+
+impl Error for TraceFault {}
+
+impl<T: Drop> From<AllocFailed<T>> for TraceFault {
+    ghost from_gives = { λ _ given. given ≡ trace.OutOfMemory };
+
+    fn from(_refused: AllocFailed<T>) -> TraceFault {
+        TraceFault::OutOfMemory
+    }
+}
+
+/// Why a replay gave no report. Want of memory is always `Memory`.
+#[derive(Clone, Copy, Debug, PartialEq, Eq)]
+pub enum Fault {
+    /// The configuration is refused.
+    Config(ConfigFault),
+    /// The trace is refused.
+    Trace(TraceFault),
+    /// A growth of memory was refused.
+    Memory,
+}
+
+impl fmt::Display for Fault {
+    ghost output = { λ fault. Some (fault_line fault) };
+
+    fn fmt<W: fmt::Write>(&self, f: &mut fmt::Formatter<W>) -> fmt::Result {
+        match self {
+            Fault::Config(fault) => {
+                let words = config_words(*fault);
+                match fault.number() {
+                    Some(number) => write!(f, "config fault {number}: {words}"),
+                    None => write!(f, "{words}"),
+                }
+            }
+            Fault::Trace(fault) => write!(f, "{fault}"),
+            Fault::Memory => write!(f, "out of memory"),
+        }
+    }
+}
+
+/// The words of a configuration's fault.
+fn config_words(fault: ConfigFault) -> &'static str
+    ensures { result.now ≡ config_words fault }
+{
+    match fault {
+        ConfigFault::NotToml => "not TOML",
+        ConfigFault::Shape => "shape",
+        ConfigFault::BadName => "name",
+        ConfigFault::NameTwice => "name twice",
+        ConfigFault::OutOfRange => "number out of range",
+        ConfigFault::UnknownChannel => "unknown channel",
+        ConfigFault::KindDiffers => "kind of port and channel differ",
+        ConfigFault::Sources => "not exactly one source",
+        ConfigFault::Destinations => "destinations",
+        ConfigFault::Counts => "count out of limits",
+        ConfigFault::OutOfMemory => "out of memory",
+    }
+}
+
+impl Error for Fault {}
+
+impl From<ConfigFault> for Fault {
+    ghost from_gives = { λ refused given. given ≡ config_fault refused };
+
+    fn from(fault: ConfigFault) -> Fault {
+        match fault {
+            ConfigFault::OutOfMemory => Fault::Memory,
+            _ => Fault::Config(fault),
+        }
+    }
+}
+
+impl From<TraceFault> for Fault {
+    ghost from_gives = { λ refused given. given ≡ trace_fault refused };
+
+    fn from(fault: TraceFault) -> Fault {
+        match fault {
+            TraceFault::OutOfMemory => Fault::Memory,
+            TraceFault::Line { .. } => Fault::Trace(fault),
+        }
+    }
+}
+
+impl From<OutOfMemory> for Fault {
+    ghost from_gives = { λ _ given. given ≡ fault.Memory };
+
+    fn from(_refused: OutOfMemory) -> Fault {
+        Fault::Memory
+    }
+}
+
+impl From<AllocError> for Fault {
+    ghost from_gives = { λ _ given. given ≡ fault.Memory };
+
+    fn from(_refused: AllocError) -> Fault {
+        Fault::Memory
+    }
+}

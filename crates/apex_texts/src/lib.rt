@@ -1,0 +1,22 @@
+//! The texts of the simulator: traces are read, boards are reported, and a replay does both.
+#![tactic(auto)]
+
+mod arguments;
+mod check;
+pub mod fault;
+pub mod line_fault;
+mod lines;
+pub mod replay;
+pub mod report_text;
+pub mod script;
+mod service;
+mod text;
+pub mod trace;
+
+pub use crate::check::check_line;
+pub use crate::fault::{Fault, TraceFault};
+pub use crate::line_fault::LineFault;
+pub use crate::replay::{replay_text, replay_trace};
+pub use crate::report_text::report;
+pub use crate::script::{Script, read_script};
+pub use crate::trace::read_trace;

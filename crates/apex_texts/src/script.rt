@@ -1,0 +1,61 @@
+//! Scripts: the calls of one partition. A script's line is a trace's line without the partition.
+ghost use Rattle.std.specs.Prelude.{◌≡◌};
+ghost use Rattle.apex_texts.specs.Text.{words_of};
+ghost use Rattle.apex_texts.specs.Script.{IsScriptRead, timed_call_at, script_of};
+
+use crate::arguments::{call_of, moment_of, word_at};
+use crate::fault::TraceFault;
+use crate::line_fault::LineFault;
+use crate::lines::{LineForm, read_lines};
+use apex_types::{Call, Moment};
+use std::alloc::Global;
+use std::marker::Model;
+
+/// The calls of one partition, in order, each with its moment.
+#[derive(Debug, Drop)]
+pub struct Script {
+    pub calls: Vec<(Moment, Call)>,
+}
+
+impl Model for Script {
+    ghost use Rattle.std.specs.Prelude.{List};
+    ghost use Rattle.apex_types.specs.declared.call.Call.{Call};
+    ghost use Rattle.apex_types.specs.declared.moment.Moment.{Moment};
+
+    ghost Value = { List (Moment × Call) };
+
+    ghost view = { λ script. script.calls.items };
+}
+
+/// The calls of a script's lines, in order, or its first faulty line.
+pub fn read_script(alloc: Global, text: &[u8]) -> Result<Script, TraceFault>
+    ensures exact { IsScriptRead result (script_of text.now) }
+{
+    match read_lines(alloc, &ScriptLine, text) {
+        Ok(calls) => Ok(Script { calls }),
+        Err(fault) => Err(fault),
+    }
+}
+
+/// `MOMENT CALL ARGUMENTS`.
+#[derive(Clone, Copy, Drop)]
+struct ScriptLine;
+
+impl LineForm for ScriptLine {
+    type Item = (Moment, Call);
+
+    ghost item_at = { λ _. timed_call_at };
+
+    fn item_at(&self, first: &[u8], words: &[u8]) -> Result<(Moment, Call), LineFault> {
+        timed_call_at(first, words)
+    }
+}
+
+/// The call of a moment and the words after it.
+#[tactic(auto, unfolding(crate::specs::Script::timed_call_at))]
+fn timed_call_at(moment: &[u8], words: &[u8]) -> Result<(Moment, Call), LineFault>
+    ensures { result ≡ timed_call_at moment.now (words_of words.now) }
+{
+    let (call, words) = word_at(words)?;
+    Ok((moment_of(moment)?, call_of(call, words)?))
+}

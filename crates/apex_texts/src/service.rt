@@ -1,0 +1,97 @@
+//! The services that a trace can ask for, by their call words.
+ghost use Rattle.std.specs.Prelude.{◌≡◌};
+ghost use Rattle.apex_texts.specs.Service.{word_of, service_named, service_of};
+
+use apex_types::Call;
+
+/// A service of the standard, as a trace names it.
+#[derive(Clone, Copy, Debug, PartialEq, Eq)]
+pub enum Service {
+    /// CREATE_SAMPLING_PORT.
+    CreateSampling,
+    /// WRITE_SAMPLING_MESSAGE.
+    WriteSampling,
+    /// READ_SAMPLING_MESSAGE.
+    ReadSampling,
+    /// GET_SAMPLING_PORT_ID.
+    SamplingId,
+    /// GET_SAMPLING_PORT_STATUS.
+    SamplingStatus,
+    /// CREATE_QUEUING_PORT.
+    CreateQueuing,
+    /// SEND_QUEUING_MESSAGE.
+    SendQueuing,
+    /// RECEIVE_QUEUING_MESSAGE.
+    ReceiveQueuing,
+    /// GET_QUEUING_PORT_ID.
+    QueuingId,
+    /// GET_QUEUING_PORT_STATUS.
+    QueuingStatus,
+    /// SET_PARTITION_MODE.
+    SetMode,
+}
+
+/// All services.
+pub const SERVICES: [Service; 11] = [
+    Service::CreateSampling,
+    Service::WriteSampling,
+    Service::ReadSampling,
+    Service::SamplingId,
+    Service::SamplingStatus,
+    Service::CreateQueuing,
+    Service::SendQueuing,
+    Service::ReceiveQueuing,
+    Service::QueuingId,
+    Service::QueuingStatus,
+    Service::SetMode,
+];
+
+impl Service {
+    /// The service that a call word names.
+    pub fn named(word: &[u8]) -> Option<Service>
+        ensures { result ≡ service_named word.now }
+    {
+        SERVICES
+            .iter()
+            .copied()
+            .find(|service| service.word().as_bytes() == word)
+    }
+
+    /// The service that a call asks for.
+    pub fn of(call: &Call) -> Service
+        ensures { result ≡ service_of call.now }
+    {
+        match call {
+            Call::CreateSampling { .. } => Service::CreateSampling,
+            Call::WriteSampling { .. } => Service::WriteSampling,
+            Call::ReadSampling { .. } => Service::ReadSampling,
+            Call::SamplingId { .. } => Service::SamplingId,
+            Call::SamplingStatus { .. } => Service::SamplingStatus,
+            Call::CreateQueuing { .. } => Service::CreateQueuing,
+            Call::SendQueuing { .. } => Service::SendQueuing,
+            Call::ReceiveQueuing { .. } => Service::ReceiveQueuing,
+            Call::QueuingId { .. } => Service::QueuingId,
+            Call::QueuingStatus { .. } => Service::QueuingStatus,
+            Call::SetMode { .. } => Service::SetMode,
+        }
+    }
+
+    /// The call word of the service.
+    pub fn word(self) -> &'static str
+        ensures { result.now ≡ word_of self }
+    {
+        match self {
+            Service::CreateSampling => "create-sampling",
+            Service::WriteSampling => "write",
+            Service::ReadSampling => "read",
+            Service::SamplingId => "sampling-id",
+            Service::SamplingStatus => "sampling-status",
+            Service::CreateQueuing => "create-queuing",
+            Service::SendQueuing => "send",
+            Service::ReceiveQueuing => "receive",
+            Service::QueuingId => "queuing-id",
+            Service::QueuingStatus => "queuing-status",
+            Service::SetMode => "mode",
+        }
+    }
+}

@@ -1,0 +1,84 @@
+//! Lines, words and numbers of a text, which is read as bytes.
+ghost use Rattle.std.specs.Prelude.{◌≡◌, ◌<◌, [], ◌∷◌, length, not, position, IfSome, MatchOption};
+ghost use Rattle.std.specs.Str.Lines.{lines, strip_carriage_return};
+ghost use Rattle.apex_texts.specs.Text.{is_line_feed, is_blank, words_of, number_up_to};
+
+/// The first line of a text, and the text after it. A line ends with a line feed or where the text
+/// ends; one carriage return just before a line feed is dropped.
+pub fn next_line(text: &[u8]) -> Option<(&[u8], &[u8])>
+    ensures line { MatchOption result (lines text.now ≡ []) (λ x. lines text.now ≡ x.0.now ∷ lines x.1.now) }
+    ensures shorter { MatchOption result (length text.now ≡ 0) (λ x. length x.1.now < length text.now) }
+{
+    if text.is_empty() {
+        return None;
+    }
+    match line_feed_in(text) {
+        Some(end) => Some((without_carriage_return(&text[..end]), &text[end + 1..])),
+        None => Some((text, &text[text.len()..])),
+    }
+}
+
+fn line_feed_in(text: &[u8]) -> Option<usize>
+    ensures { result ≡ position is_line_feed text.now }
+{
+    text.iter().position(|byte| *byte == b'\n')
+}
+
+fn without_carriage_return(line: &[u8]) -> &[u8]
+    ensures { result.now ≡ strip_carriage_return line.now }
+{
+    match line {
+        [front @ .., b'\r'] => front,
+        _ => line,
+    }
+}
+
+fn is_blank(byte: u8) -> bool
+    ensures { result ≡ is_blank byte }
+{
+    byte == b' ' || byte == b'\t'
+}
+
+fn blank_in(line: &[u8]) -> Option<usize>
+    ensures { result ≡ position is_blank line.now }
+{
+    line.iter().position(|byte| is_blank(*byte))
+}
+
+fn word_in(line: &[u8]) -> Option<usize>
+    ensures { result ≡ position (λ byte. not (is_blank byte)) line.now }
+{
+    line.iter().position(|byte| !is_blank(*byte))
+}
+
+/// The first word of a line, and the line after it. Words are parted by spaces and tabs.
+pub fn next_word(line: &[u8]) -> Option<(&[u8], &[u8])>
+    ensures word { MatchOption result (words_of line.now ≡ []) (λ x. words_of line.now ≡ x.0.now ∷ words_of x.1.now) }
+    ensures shorter { IfSome result (λ x. length x.1.now < length line.now) }
+{
+    let Some(start) = word_in(line) else {
+        return None;
+    };
+    let (_, line) = line.split_at(start);
+    match blank_in(line) {
+        Some(end) => Some(line.split_at(end)),
+        None => Some((line, &line[line.len()..])),
+    }
+}
+
+/// The number that a word of decimal digits is, where it is at most the limit.
+pub fn number_up_to(limit: u64, word: &[u8]) -> Option<u64>
+    ensures { result ≡ number_up_to limit word.now }
+{
+    if word.is_empty() {
+        return None;
+    }
+    let mut value: u64 = 0;
+    for byte in word {
+        if !byte.is_ascii_digit() {
+            return None;
+        }
+        value = value.checked_mul(10)?.checked_add(u64::from(*byte - b'0'))?;
+    }
+    if value <= limit { Some(value) } else { None }
+}

@@ -1,0 +1,57 @@
+//! Reading a trace: the requests of its lines, or its first faulty line.
+ghost use Rattle.std.specs.Prelude.{◌≡◌, IfOk};
+ghost use Rattle.apex_texts.specs.Text.{words_of};
+ghost use Rattle.apex_texts.specs.Trace.{IsTraceRead, HavePartitions, partition_of, request_at, trace_of};
+
+use crate::arguments::{call_of, moment_of, name_in, word_at};
+use crate::fault::TraceFault;
+use crate::line_fault::LineFault;
+use crate::lines::{LineForm, read_lines};
+use apex_board::Request;
+use apex_config::Config;
+use std::alloc::Global;
+
+/// The requests of a trace's lines, in order, or its first faulty line.
+pub fn read_trace(alloc: Global, config: &Config, text: &[u8]) -> Result<Vec<Request>, TraceFault>
+    ensures exact { IsTraceRead result (trace_of config.now text.now) }
+    ensures known { IfOk result (λ requests. HavePartitions config.now requests.items) }
+{
+    read_lines(alloc, &TraceLine { config }, text)
+}
+
+/// `MOMENT PARTITION CALL ARGUMENTS`.
+#[derive(Clone, Copy, Drop)]
+struct TraceLine<'a> {
+    config: &'a Config,
+}
+
+impl LineForm for TraceLine<'_> {
+    type Item = Request;
+
+    ghost item_at = { λ form. request_at form.config.now };
+
+    fn item_at(&self, first: &[u8], words: &[u8]) -> Result<Request, LineFault> {
+        request_at(self.config, first, words)
+    }
+}
+
+/// The request of a moment and the words after it.
+#[tactic(auto, unfolding(crate::specs::Trace::request_at))]
+fn request_at(config: &Config, moment: &[u8], words: &[u8]) -> Result<Request, LineFault>
+    ensures { result ≡ request_at config.now moment.now (words_of words.now) }
+{
+    let (partition, words) = word_at(words)?;
+    let (call, words) = word_at(words)?;
+    Ok(Request {
+        at: moment_of(moment)?,
+        partition: partition_of(config, partition)?,
+        call: call_of(call, words)?,
+    })
+}
+
+fn partition_of(config: &Config, word: &[u8]) -> Result<usize, LineFault>
+    ensures { result ≡ partition_of config.now word.now }
+{
+    let name = name_in(word).ok_or(LineFault::Partition)?;
+    config.partition(&name).ok_or(LineFault::Partition)
+}

@@ -1,0 +1,6 @@
+//! Tests from outside: what each text gives, with values that were worked out by hand.
+mod creation;
+mod lines;
+mod queuing;
+mod sampling;
+mod texts;

@@ -1,7 +1,0 @@
-pub mod TextLemmas
-pub mod NumberLemmas
-pub mod AsciiLemmas
-pub mod TraceLemmas
-pub mod KnownLemmas
-pub mod ReportLemmas
-pub mod ReplayLemmas

@@ -1,6 +1,0 @@
-use Rattle.std.proofs.Common.{◌≡◌, ◌++◌, drop, string_bytes}
-use Rattle.apexports.specs.Report.{partition_lines}
-use Rattle.apexports.proofs.report.push_partitions.Given as goal
-
-abbrev pub invariant-loop-p : goal.invariant-loop-p
-invariant-loop-p l = string_bytes l.text ++ partition_lines l.board.log l.p (drop l.p l.board.config.partitions) ≡ string_bytes l.fn.text ++ partition_lines l.board.log 0 l.board.config.partitions

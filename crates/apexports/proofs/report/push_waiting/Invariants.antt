@@ -1,8 +1,0 @@
-use Rattle.std.proofs.Common.{◌≡◌, ◌++◌, drop, string_bytes}
-use Rattle.apex_board.specs.Channels.{waiting_on}
-use Rattle.apexports.specs.Report.{messages_text}
-use Rattle.apexports.proofs.report.push_waiting.Given as goal
-
-abbrev pub invariant-loop-place : goal.invariant-loop-place
-invariant-loop-place l =
-    string_bytes l.text ++ messages_text (drop l.place (waiting_on l.board.config l.c l.board.log)) ≡ string_bytes l.fn.text ++ messages_text (waiting_on l.board.config l.c l.board.log)

@@ -1,9 +1,0 @@
-use Rattle.std.proofs.Common.{◌≡◌, ◌+◌, ◌≤◌, length}
-use Rattle.apexports.specs.Text.{words_of}
-use Rattle.apexports.proofs.text.count_words.Given as goal
-
-abbrev pub invariant-loop-after : goal.invariant-loop-after
-invariant-loop-after l = record { counted : l.count + length (words_of l.rest) ≡ length (words_of l.line); bound : l.count + length l.rest ≤ length l.line }
-
-abbrev pub decreases-loop-after : goal.decreases-loop-after
-decreases-loop-after l = length l.rest

@@ -1,6 +1,0 @@
-use Rattle.std.proofs.Common.{◌≡◌, drop}
-use Rattle.apexports.specs.Text.{digits_after}
-use Rattle.apexports.proofs.text.number_up_to.Given as goal
-
-abbrev pub invariant-loop-byte : goal.invariant-loop-byte
-invariant-loop-byte l = digits_after l.value (drop l.byte-index l.word) ≡ digits_after 0 l.word
