@@ -1,29 +1,40 @@
 -- A replay of two texts, step by step.
-use Rattle.std.proofs.Common.{◌≡◌, ℕ, List, [], ◌++◌, Result, Ok, Err, sym, subst, ◌∙◌, String, Global, string_bytes}
-use Rattle.std.specs.Prelude.{IfOk, IfErr, ◌≢◌}
+use Rattle.std.proofs.Common.{◌≡◌, ℕ, ◌+◌, List, [], ◌∷◌, ◌++◌, Result, Ok, Err, refl, sym, ap, subst, ◌∙◌, String, Global, string_bytes}
+use Rattle.std.specs.Prelude.{◌≢◌}
+use Rattle.std.specs.Str.Lines.{lines}
 use Rattle.apex_config.specs.Configuration.{Configuration}
 use Rattle.apex_config.specs.Meaning.{config_of}
 use Rattle.apex_config.specs.declared.fault.ConfigFault.{ConfigFault}
 use Rattle.apex_config.specs.declared.fault.ConfigFault.TheVariants as config_faults
-use Rattle.apex_ports.specs.declared.history.Request.{Request}
-use Rattle.apex_board.specs.BoardView.{BoardView}
-use Rattle.apex_ports.specs.History.{requests_of}
-use Rattle.apex_ports.specs.Lawful.{Answers}
+use Rattle.apex_ports.specs.declared.history.Entry.{Entry}
+use Rattle.apex_ports.specs.History.{History, request_of, requests_of}
+use Rattle.apex_ports.specs.PortsView.{PortsView}
 use Rattle.apex_texts.specs.declared.fault.TraceFault.{TraceFault}
 use Rattle.apex_texts.specs.declared.fault.TraceFault.TheVariants as trace_faults
 use Rattle.apex_texts.specs.declared.fault.Fault.{Fault}
 use Rattle.apex_texts.specs.declared.fault.Fault.TheVariants as faults
-use Rattle.apex_texts.specs.Trace.{trace_of, IsTraceRead}
-use Rattle.apex_texts.specs.Report.{report_of}
-use Rattle.apex_texts.specs.Replay.{config_fault, trace_fault, IsReportOf, IsTraceReplay, IsReplay}
+use Rattle.apex_texts.specs.Trace.{request_at, trace_of, IsTraceRead}
+use Rattle.apex_texts.specs.Report.{entry_lines, totals_of, report_of}
+use Rattle.apex_texts.specs.Replay.{config_fault, trace_fault, IsServed, IsTraceReplay, IsReplay}
+use Rattle.apex_texts.specs.Lines.{items_from}
+use Rattle.apex_texts.proofs.LineLemmas.{with_front, with_front-nil}
 
--- the report of a new board on which the requests were run
-pub made_report : (config : Configuration) (requests : List Request) (before after : BoardView) (text : List ℕ) → before.log ≡ [] → before.config ≡ config → after.config ≡ before.config
-    → Answers after.config (requests_of before.log ++ requests) after.log → text ≡ report_of after.config after.log → IsReportOf config requests text
-made_report config requests before after text none same kept answers is =
-    let answered : Answers after.config requests after.log = subst (λ log. Answers after.config (requests_of log ++ requests) after.log) none answers in
-    let both : Answers config requests after.log × (text ≡ report_of config after.log) = subst (λ (given : Configuration). Answers given requests after.log × (text ≡ report_of given after.log)) (kept ∙ same) (answered, is) in
-    (after.log, both.0, both.1)
+-- nothing is read yet
+pub fresh_front : (config : Configuration) (history : History) (trace : List ℕ) → history ≡ [] → with_front (requests_of history) (items_from (request_at config) (0 + 1) (lines trace)) ≡ trace_of config trace
+fresh_front config history trace none = rw none (with_front-nil (items_from (request_at config) 1 (lines trace)))
+
+-- one request more
+pub requests_of-push : (history : History) (entry : Entry) → requests_of (history ++ entry ∷ []) ≡ requests_of history ++ request_of entry ∷ []
+requests_of-push [] entry = refl
+requests_of-push (x ∷ history) entry = ap (λ requests. request_of x ∷ requests) (requests_of-push history entry)
+
+-- the text that was written is the report
+pub served_report : (config : Configuration) (trace : List ℕ) (ports : PortsView) (start calls : List ℕ) (text : String Global) → start ≡ [] → ports.config ≡ config → IsServed config trace ports.history
+    → calls ≡ start ++ entry_lines config 1 ports.history → string_bytes text ≡ calls ++ totals_of ports.config ports.history → IsTraceReplay (Ok text) config trace
+unfolding report_of
+served_report config trace ports start calls text none same served lines totals =
+    let calls_alone : calls ≡ entry_lines config 1 ports.history = lines ∙ ap (λ (front : List ℕ). front ++ entry_lines config 1 ports.history) none in
+    (requests_of ports.history, served.0, (ports.history, (served.1, refl), totals ∙ (λ i. calls_alone i ++ totals_of (same i) ports.history)))
 
 -- a configuration is refused
 pub config_refused : (fault : ConfigFault) (config trace : List ℕ) → (fault ≢ config_faults.OutOfMemory → config_of config ≡ Err fault) → IsReplay (Err (config_fault fault)) config trace
@@ -50,9 +61,3 @@ config_read (Err faults.Memory) config trace configuration read replay = tt
 pub trace_refused : (fault : TraceFault) (config : Configuration) (trace : List ℕ) → IsTraceRead (Err fault) (trace_of config trace) → IsTraceReplay (Err (trace_fault fault)) config trace
 trace_refused (trace_faults.Line line fault) config trace refused = refused
 trace_refused trace_faults.OutOfMemory config trace refused = tt
-
--- what the run answered
-pub replayed : (answer : Result (String Global) Fault) (config : Configuration) (trace : List ℕ) (requests : List Request) → trace_of config trace ≡ Ok requests
-    → IfOk answer (λ text. IsReportOf config requests (string_bytes text)) → IfErr answer (λ fault. fault ≡ faults.Memory) → IsTraceReplay answer config trace
-replayed (Ok text) config trace requests asked made refused = (requests, asked, made)
-replayed (Err fault) config trace requests asked made refused = subst (λ f. IsTraceReplay (Err f) config trace) (sym refused) tt

@@ -1,6 +1,7 @@
 -- The lines of a report, one after the other.
-use Rattle.std.proofs.Common.{◌≡◌, ℕ, suc, ◌+◌, ◌<◌, ◌≤◌, ◌==◌, List, [], ◌∷◌, ◌++◌, length, take, drop, get_or, arith, Option, Some, None, codes, sym, ap, ◌∙◌, append_assoc, add-one, refl}
+use Rattle.std.proofs.Common.{◌≡◌, ℕ, suc, ◌+◌, ◌-◌, ◌^◌, ◌<◌, ◌≤◌, ◌==◌, min, List, [], ◌∷◌, ◌++◌, length, take, drop, get_or, arith, Option, Some, None, codes, sym, ap, ◌∙◌, append_assoc, add-one, refl}
 use Rattle.std.specs.Prelude.{slice_get, option_map}
+use Rattle.std.specs.List.{filter_map}
 use Rattle.std.proofs.Math.Seq.{drop-cons}
 use Rattle.std.proofs.Math.ListN.{drop_of_length-le}
 use Rattle.std.proofs.lemmas.List.{append-nil, length-take-le}
@@ -11,8 +12,10 @@ use Rattle.apex_config.specs.Configuration.{Configuration, PartitionData, partit
 use Rattle.apex_config.specs.declared.channel.Channel.{Channel}
 use Rattle.apex_ports.specs.declared.history.Entry.{Entry}
 use Rattle.apex_ports.specs.History.{History, entries_of}
+use Rattle.apex_ports.specs.Channels.{accepted_on, received_on, message_accepted, message_received}
+use Rattle.apex_ports.specs.Counts.{count_of}
 use Rattle.apex_ports.specs.Lawful.{IsLawful}
-use Rattle.apex_texts.specs.Report.{entry_line, entry_lines, partition_line, partition_lines, messages_text, channel_text, channel_lines, CountCalls}
+use Rattle.apex_texts.specs.Report.{entry_line, line_of, entry_lines, partition_line, partition_lines, messages_text, channel_text, channel_lines}
 
 -- a text that grew by the line that comes next
 pub grows : (old new line rest all total : List ℕ) → new ≡ old ++ line → all ≡ line ++ rest → old ++ all ≡ total → new ++ rest ≡ total
@@ -36,13 +39,59 @@ entry_known config log history i entry lawful same inside is =
     (lawful i entry (ap (λ (entries : List Entry). slice_get entries i) (sym same) ∙ found_at log i entry inside is)).0
 
 pub entry_cut : (config : Configuration) (log : History) (i : ℕ) (entry : Entry) (name : List ℕ) → i < length log → entry ≡ get_or log i entry → partition_name_of config entry.partition ≡ Some name
-    → entry_lines config (i + 1) (drop i log) ≡ entry_line (i + 1) name entry ++ entry_lines config (i + 1 + 1) (drop (i + 1) log)
+    → entry_lines config (i + 1) (drop i log) ≡ entry_line (i + 1) name entry.at entry.call entry.reply ++ entry_lines config (i + 1 + 1) (drop (i + 1) log)
 unfolding entry_lines
 entry_cut config log i entry name inside is named = rw (drop_at log i entry (found_at log i entry inside is), named) refl
 
 pub entry_end : (config : Configuration) (log : History) (i : ℕ) → length log ≤ i → entry_lines config (i + 1) (drop i log) ≡ []
 unfolding entry_lines
 entry_end config log i past = rw (drop_of_length-le log past) refl
+
+-- a log that is one entry longer
+entry_last : (config : Configuration) (first : ℕ) (log : History) (entry : Entry) (number : ℕ) → number ≡ first + length log → entry_lines config first (log ++ entry ∷ []) ≡ entry_lines config first log ++ line_of config number entry
+unfolding entry_lines
+entry_last config first [] entry number is =
+    let here : first ≡ number = omega arith in
+    append-nil (line_of config first entry) ∙ ap (λ (k : ℕ). line_of config k entry) here
+entry_last config first (x ∷ log) entry number is =
+    ap (λ lines. line_of config first x ++ lines) (entry_last config (first + 1) log entry number (omega arith)) ∙ sym (append_assoc (line_of config first x) (entry_lines config (first + 1) log) (line_of config number entry))
+
+-- a text to which the line of the last entry is written
+pub entry_pushed : (config : Configuration) (log new : History) (entry : Entry) (number : ℕ) (before old text : List ℕ) → number ≡ 1 + length log → new ≡ log ++ entry ∷ []
+    → old ≡ before ++ entry_lines config 1 log → text ≡ old ++ line_of config number entry → text ≡ before ++ entry_lines config 1 new
+entry_pushed config log new entry number before old text is grown so_far written =
+    written ∙ (ap (λ front. front ++ line_of config number entry) so_far ∙ (append_assoc before (entry_lines config 1 log) (line_of config number entry)
+        ∙ ap (λ lines. before ++ lines) (sym (entry_last config 1 log entry number is) ∙ ap (entry_lines config 1) (sym grown))))
+
+-- no entry yet
+pub no_entry : (config : Configuration) (log : History) (text : List ℕ) → log ≡ [] → text ≡ text ++ entry_lines config 1 log
+unfolding entry_lines
+no_entry config log text none = rw none (sym (append-nil text))
+
+-- ---- counts
+
+length-filter_map-le : {X Y : Type 0} (f : X → Option Y) (xs : List X) → length (filter_map f xs) ≤ length xs
+length-filter_map-le f [] = omega arith
+length-filter_map-le {X} {Y} f (x ∷ xs) = by_item (f x) refl (length-filter_map-le f xs)
+  where
+    by_item : (found : Option Y) → f x ≡ found → length (filter_map f xs) ≤ length xs → length (filter_map f (x ∷ xs)) ≤ length (x ∷ xs)
+    by_item None is rest = rw is (omega arith)
+    by_item (Some y) is rest = rw is (omega arith)
+
+-- a count is the length, as a history that a program holds is shorter than the greatest number
+exact : {X : Type 0} (xs : List X) (history : History) (count : ℕ) → length xs ≤ length history → length history < 2 ^ 64 → count ≡ count_of xs → count ≡ length xs
+exact xs history count within short is = omega arith
+
+pub calls_exact : (p : ℕ) (history : History) (count : ℕ) → length history < 2 ^ 64 → count ≡ count_of (entries_of p history) → count ≡ length (entries_of p history)
+calls_exact p history count short is =
+    let within : length (entries_of p history) ≤ length history = rw (length-filter (λ (entry : Entry). entry.partition == p) history) (count_by-le-length (λ (entry : Entry). entry.partition == p) history) in
+    exact (entries_of p history) history count within short is
+
+pub accepted_exact : (config : Configuration) (c : ℕ) (history : History) (count : ℕ) → length history < 2 ^ 64 → count ≡ count_of (accepted_on config c history) → count ≡ length (accepted_on config c history)
+accepted_exact config c history count short is = exact (accepted_on config c history) history count (length-filter_map-le (message_accepted config c) history) short is
+
+pub received_exact : (config : Configuration) (c : ℕ) (history : History) (count : ℕ) → length history < 2 ^ 64 → count ≡ count_of (received_on config c history) → count ≡ length (received_on config c history)
+received_exact config c history count short is = exact (received_on config c history) history count (length-filter_map-le (message_received config c) history) short is
 
 -- ---- partitions
 
@@ -61,14 +110,6 @@ partition_cut history config p name named = named_by history config.partitions p
 pub partition_end : (history : History) (partitions : List PartitionData) (p : ℕ) → length partitions ≤ p → partition_lines history p (drop p partitions) ≡ []
 unfolding partition_lines
 partition_end history partitions p past = rw (drop_of_length-le partitions past) refl
-
--- a partition made no more calls than there are
-pub calls_within : (counts : List ℕ) (partitions : ℕ) (log : History) (i p : ℕ) → CountCalls counts partitions (take i log) → p < partitions → i < length log → get_or counts p 0 < length log
-calls_within counts partitions log i p counted known inside =
-    let within : length (entries_of p (take i log)) ≤ length (take i log) = rw (length-filter (λ (entry : Entry). entry.partition == p) (take i log)) (count_by-le-length (λ (entry : Entry). entry.partition == p) (take i log)) in
-    let taken : length (take i log) ≡ i = length-take-le i log (omega (arith, inside)) in
-    let same = counted.1 p known in
-    omega (arith, within, taken, same, inside)
 
 -- ---- channels
 

@@ -5,9 +5,11 @@ use Rattle.apex_config.specs.Configuration.{Configuration}
 use Rattle.apex_config.specs.Meaning.{config_of}
 use Rattle.apex_config.specs.declared.fault.ConfigFault.{ConfigFault}
 use Rattle.apex_config.specs.declared.fault.ConfigFault.TheVariants as config_faults
+use Rattle.apex_ports.specs.declared.history.Entry.{Entry}
 use Rattle.apex_ports.specs.declared.history.Request.{Request}
-use Rattle.apex_ports.specs.History.{History}
-use Rattle.apex_ports.specs.Lawful.{Answers}
+use Rattle.apex_ports.specs.History.{History, entry_of, requests_of}
+use Rattle.apex_ports.specs.Lawful.{IsLawful, Answers}
+use Rattle.apex_ports.specs.ReplyTable.{reply_to}
 use Rattle.apex_texts.specs.declared.fault.TraceFault.{TraceFault}
 use Rattle.apex_texts.specs.declared.fault.TraceFault.TheVariants as trace_faults
 use Rattle.apex_texts.specs.declared.fault.Fault.{Fault}
@@ -27,6 +29,15 @@ trace_fault trace_faults.OutOfMemory = faults.Memory
 trace_fault fault = faults.Trace fault
 
 -- ---- replays
+
+-- the entry that a request makes after a history
+abbrev pub entry_after : Configuration → History → Request → Entry
+entry_after config history request =
+    entry_of request.partition request.at request.call (reply_to config history request.partition request.at request.call)
+
+-- the history is the lawful one of the trace's requests
+abbrev pub IsServed : Configuration → List ℕ → History → Type 0
+IsServed config trace history = (trace_of config trace ≡ Ok (requests_of history)) × IsLawful config history
 
 -- the text is the report of the lawful history of these requests
 abbrev pub IsReportOf : Configuration → List Request → List ℕ → Type 0

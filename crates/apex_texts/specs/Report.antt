@@ -1,5 +1,5 @@
 -- The report of a history: a line for each entry, each partition and each channel.
-use Rattle.std.specs.Prelude.{ℕ, ◌≡◌, ◌<◌, ◌+◌, List, [], ◌∷◌, ◌++◌, length, get_or, codes, decimal, Option, Some, None, unwrap_or}
+use Rattle.std.specs.Prelude.{ℕ, ◌+◌, List, [], ◌∷◌, ◌++◌, length, codes, decimal, Option, Some, None, unwrap_or}
 use Rattle.apex_types.specs.Message.{hex_text_of}
 use Rattle.apex_types.specs.Direction.{word_of as direction_word}
 use Rattle.apex_types.specs.Mode.{word_of as mode_word}
@@ -7,6 +7,8 @@ use Rattle.apex_types.specs.ReturnCode.{word_of as code_word}
 use Rattle.apex_types.specs.Validity.{word_of as validity_word}
 use Rattle.apex_types.specs.declared.direction.Direction.{Direction}
 use Rattle.apex_types.specs.declared.validity.Validity.{Validity}
+use Rattle.apex_types.specs.declared.call.Call.{Call}
+use Rattle.apex_types.specs.declared.moment.Moment.{Moment}
 use Rattle.apex_types.specs.declared.reply.Reply.{Reply}
 use Rattle.apex_types.specs.declared.reply.Reply.TheVariants.{NotMade, Code, Id, Received, Read, QueuingStatus, SamplingStatus}
 use Rattle.apex_config.specs.Configuration.{Configuration, PartitionData, partition_name_of}
@@ -48,21 +50,20 @@ abbrev pub name_of_partition : Configuration → ℕ → List ℕ
 name_of_partition config p = unwrap_or (partition_name_of config p) []
 
 -- NUMBER MOMENT PARTITION CALLWORD REPLY
-unfoldable pub entry_line : ℕ → List ℕ → Entry → List ℕ
-entry_line number name entry =
-    decimal number ++ codes " " ++ decimal entry.at.0 ++ codes " " ++ name ++ codes " " ++ word_of (service_of entry.call) ++ codes " " ++ reply_text entry.reply ++ codes "\n"
+unfoldable pub entry_line : ℕ → List ℕ → Moment → Call → Reply → List ℕ
+entry_line number name at call reply =
+    decimal number ++ codes " " ++ decimal at.0 ++ codes " " ++ name ++ codes " " ++ word_of (service_of call) ++ codes " " ++ reply_text reply ++ codes "\n"
+
+-- the line of an entry with this number
+abbrev pub line_of : Configuration → ℕ → Entry → List ℕ
+line_of config number entry = entry_line number (name_of_partition config entry.partition) entry.at entry.call entry.reply
 
 -- the lines of entries of which the first has this number
 unfoldable pub entry_lines : Configuration → ℕ → History → List ℕ
 entry_lines config number [] = []
-entry_lines config number (entry ∷ rest) = entry_line number (name_of_partition config entry.partition) entry ++ entry_lines config (number + 1) rest
+entry_lines config number (entry ∷ rest) = line_of config number entry ++ entry_lines config (number + 1) rest
 
 -- ---- partitions
-
--- how many calls each partition made, and those that were not made count too
-abbrev pub CountCalls : List ℕ → ℕ → History → Type 0
-CountCalls counts partitions history =
-    (length counts ≡ partitions) × ((p : ℕ) → p < partitions → get_or counts p 0 ≡ length (entries_of p history))
 
 -- `partition NAME mode MODE calls N`, where the calls that were not made count too
 unfoldable pub partition_line : History → ℕ → List ℕ → List ℕ
@@ -102,6 +103,9 @@ channel_lines config history c (channel ∷ rest) = channel_text config history 
 
 -- ---- the whole
 
+-- the lines after those of the calls
+unfoldable pub totals_of : Configuration → History → List ℕ
+totals_of config history = partition_lines history 0 config.partitions ++ channel_lines config history 0 config.channels
+
 unfoldable pub report_of : Configuration → History → List ℕ
-report_of config history =
-    entry_lines config 1 history ++ partition_lines history 0 config.partitions ++ channel_lines config history 0 config.channels
+report_of config history = entry_lines config 1 history ++ totals_of config history

@@ -45,6 +45,14 @@ impl<T: Drop> From<AllocFailed<T>> for TraceFault {
     }
 }
 
+impl From<AllocError> for TraceFault {
+    ghost from_gives = { λ _ given. given ≡ trace.OutOfMemory };
+
+    fn from(_refused: AllocError) -> TraceFault {
+        TraceFault::OutOfMemory
+    }
+}
+
 /// Why a replay gave no report. Want of memory is always `Memory`.
 #[derive(Clone, Copy, Debug, PartialEq, Eq)]
 pub enum Fault {

@@ -1,16 +1,19 @@
 //! A replay: a configuration and a trace in, a report out.
-ghost use Rattle.std.specs.Prelude.{◌≡◌, string_bytes, IfOk, IfErr};
-ghost use Rattle.apex_texts.specs.Trace.{HavePartitions};
-ghost use Rattle.apex_texts.specs.Replay.{IsReportOf, IsTraceReplay, IsReplay};
+ghost use Rattle.std.specs.Prelude.{◌≡◌, ◌<◌, ◌^◌, ◌∷◌, ◌++◌, [], length, string_bytes, OnOk, IfErr};
+ghost use Rattle.apex_ports.specs.Sound.{IsSound};
+ghost use Rattle.apex_texts.specs.Replay.{entry_after, IsServed, IsTraceReplay, IsReplay};
+ghost use Rattle.apex_texts.specs.Report.{line_of, entry_lines};
+ghost use Rattle.apex_texts.specs.Trace.{IsTraceRead, trace_of};
 
-use crate::fault::Fault;
-use crate::report_text::report;
-use crate::trace::read_trace;
-use apex_board::{Board, Request, run_list};
+use crate::fault::{Fault, TraceFault};
+use crate::report_text::{push_entry, push_totals};
+use crate::text::next_line;
+use crate::trace::request_of_line;
 use apex_config::Config;
-use std::alloc::Global;
+use apex_ports::{Ports, Request};
+use std::alloc::{AllocError, Global};
 
-/// The report of a trace's calls on a new board of a configuration, from the two texts.
+/// The report of a trace's calls on new ports of a configuration, from the two texts.
 pub fn replay_text(alloc: Global, config: &[u8], trace: &[u8]) -> Result<String, Fault>
     ensures { IsReplay result config.now trace.now }
 {
@@ -18,23 +21,76 @@ pub fn replay_text(alloc: Global, config: &[u8], trace: &[u8]) -> Result<String,
     replay_trace(alloc, config, trace)
 }
 
-/// The report of a trace's calls on a new board of a configuration, from the trace's text.
+/// The report of a trace's calls on new ports of a configuration, from the trace's text.
+///
+/// Each line is read, served and written before the next one. A faulty line drops the ports and the
+/// text so far, so that nothing of them shows.
 pub fn replay_trace(alloc: Global, config: Config, trace: &[u8]) -> Result<String, Fault>
     ensures { IsTraceReplay result config trace.now }
 {
-    let requests = read_trace(alloc, &config, trace)?;
-    replay(alloc, config, requests.as_slice())
+    let mut ports = Ports::new(alloc, config)?;
+    // Most lines of a report are about as long as two lines of the trace.
+    let mut text = String::with_capacity(alloc, trace.len().saturating_mul(2))?;
+    push_calls(&mut text, &mut ports, trace)?;
+    push_totals(&mut text, &ports)?;
+    Ok(text)
 }
 
-/// The report of these requests on a new board of a configuration.
-fn replay(alloc: Global, config: Config, requests: &[Request]) -> Result<String, Fault>
-    requires { HavePartitions config requests.now }
-    ensures made { IfOk result (λ text. IsReportOf config requests.now (string_bytes text)) }
-    ensures refused { IfErr result (λ fault. fault ≡ Fault.Memory) }
+/// Serves the calls of a trace's lines in order, and writes a line for each.
+fn push_calls(text: &mut String, ports: &mut Ports, trace: &[u8]) -> Result<(), TraceFault>
+    requires fresh { ports.old.history ≡ [] }
+    requires sound { IsSound ports.old.config ports.old.history }
+    ensures config { ports.new.config ≡ ports.old.config }
+    ensures served { OnOk result (IsServed ports.old.config trace.now ports.new.history) }
+    ensures written {
+        OnOk result (string_bytes text.new ≡
+            string_bytes text.old ++ entry_lines ports.old.config 1 ports.new.history) }
+    ensures short { OnOk result (length ports.new.history < 2 ^ 64) }
+    ensures refused {
+        IfErr result (λ fault. IsTraceRead (Err fault) (trace_of ports.old.config trace.now)) }
 {
-    let mut board = Board::new(alloc, config)?;
-    match run_list(&mut board, requests) {
-        Ok(()) => Ok(report(alloc, &board)?),
-        Err(_) => Err(Fault::Memory),
+    let mut rest = trace;
+    let mut line_number: usize = 0;
+    let mut number: u64 = 0;
+    while let Some((line, after)) = next_line(rest) {
+        line_number += 1;
+        match request_of_line(ports.config(), line) {
+            Ok(Some(request)) => {
+                number += 1;
+                push_call(text, ports, number, &request)?;
+            }
+            Ok(None) => {}
+            Err(fault) => {
+                return Err(TraceFault::Line {
+                    line: line_number,
+                    fault: fault.number(),
+                });
+            }
+        }
+        rest = after;
     }
+    Ok(())
+}
+
+/// Serves a request, and writes its line.
+fn push_call(
+    text: &mut String,
+    ports: &mut Ports,
+    number: u64,
+    request: &Request,
+) -> Result<(), AllocError>
+    requires { request.now.partition < length ports.old.config.partitions }
+    ensures config { ports.new.config ≡ ports.old.config }
+    ensures sound { IsSound ports.new.config ports.new.history }
+    ensures history {
+        let entry = entry_after ports.old.config ports.old.history request.now in
+        ports.new.history ≡ ports.old.history ++ entry ∷ [] }
+    ensures written {
+        let entry = entry_after ports.old.config ports.old.history request.now in
+        OnOk result (string_bytes text.new ≡
+            string_bytes text.old ++ line_of ports.old.config number entry) }
+{
+    let reply = ports.call(request.partition, request.at, &request.call);
+    let name = ports.config().partition_name(request.partition).text();
+    push_entry(text, number, name, request.at, &request.call, &reply)
 }

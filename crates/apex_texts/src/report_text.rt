@@ -1,15 +1,16 @@
 //! The report of a board: its log, its partitions and its channels, a line each.
-ghost use Rattle.std.specs.Prelude.{◌≡◌, ◌<◌, ◌++◌, length, decimal, string_bytes, IfOk, OnOk};
+ghost use Rattle.std.specs.Prelude.{◌≡◌, ◌<◌, ◌^◌, ◌++◌, length, decimal, string_bytes, IfOk, OnOk};
 ghost use Rattle.std.specs.Option.{option_copied};
 ghost use Rattle.apex_types.specs.Message.{hex_text_of};
+ghost use Rattle.apex_ports.specs.Channels.{accepted_on, received_on, waiting_on};
 ghost use Rattle.apex_ports.specs.History.{entries_of};
-ghost use Rattle.apex_ports.specs.Channels.{waiting_on};
-ghost use Rattle.apex_texts.specs.Report.{queuing_status_text, sampling_status_text, reply_text, entry_line, entry_lines, partition_line, partition_lines, queue_text, sample_text, channel_text, channel_lines, messages_text, report_of, CountCalls};
+ghost use Rattle.apex_texts.specs.Report.{queuing_status_text, sampling_status_text, reply_text, entry_line, entry_lines, partition_line, partition_lines, queue_text, sample_text, channel_text, channel_lines, messages_text, totals_of, report_of};
 
 use crate::service::Service;
-use apex_board::{Board, Entry, Sample};
+use apex_board::Board;
 use apex_config::{Channel, ChannelKind};
-use apex_types::{Direction, Message, Moment, OutOfMemory, Reply, Validity};
+use apex_ports::{Ports, Sample};
+use apex_types::{Call, Direction, Message, Moment, OutOfMemory, Reply, Validity};
 use itoa::Buffer;
 use std::alloc::{AllocError, Global};
 
@@ -24,10 +25,20 @@ pub fn report(alloc: Global, board: &Board) -> Result<String, OutOfMemory>
     let bytes = board.log().len().saturating_mul(LINE_BYTES);
     let mut text = String::with_capacity(alloc, bytes)?;
     push_log(&mut text, board)?;
-    let calls = count_calls(alloc, board)?;
-    push_partitions(&mut text, board, calls.as_slice())?;
-    push_channels(&mut text, board)?;
+    push_totals(&mut text, board.ports())?;
     Ok(text)
+}
+
+/// The lines after those of the calls: partitions, then channels.
+#[tactic(auto, unfolding(crate::specs::Report::totals_of))]
+pub(crate) fn push_totals(text: &mut String, ports: &Ports) -> Result<(), AllocError>
+    requires { length ports.now.history < 2 ^ 64 }
+    ensures {
+        OnOk result (string_bytes text.new ≡
+            string_bytes text.old ++ totals_of ports.now.config ports.now.history) }
+{
+    push_partitions(text, ports)?;
+    push_channels(text, ports)
 }
 
 fn push_word(text: &mut String, word: &str) -> Result<(), AllocError>
@@ -60,26 +71,35 @@ fn push_log(text: &mut String, board: &Board) -> Result<(), AllocError>
     for entry in log {
         number += 1;
         let name = board.config().partition_name(entry.partition).text();
-        push_entry(text, number, name, entry)?;
+        push_entry(text, number, name, entry.at, &entry.call, &entry.reply)?;
     }
     Ok(())
 }
 
 /// `NUMBER MOMENT PARTITION CALLWORD REPLY`.
 #[tactic(auto, unfolding(crate::specs::Report::entry_line))]
-fn push_entry(text: &mut String, number: u64, name: &str, entry: &Entry) -> Result<(), AllocError>
-    ensures { OnOk result (string_bytes text.new ≡ string_bytes text.old ++ entry_line number name.now entry.now) }
+pub(crate) fn push_entry(
+    text: &mut String,
+    number: u64,
+    name: &str,
+    at: Moment,
+    call: &Call,
+    reply: &Reply,
+) -> Result<(), AllocError>
+    ensures {
+        OnOk result (string_bytes text.new ≡
+            string_bytes text.old ++ entry_line number name.now at call.now reply.now) }
 {
-    let Moment(at) = entry.at;
+    let Moment(nanoseconds) = at;
     push_number(text, number)?;
     push_word(text, " ")?;
-    push_number(text, at)?;
+    push_number(text, nanoseconds)?;
     push_word(text, " ")?;
     push_word(text, name)?;
     push_word(text, " ")?;
-    push_word(text, Service::of(&entry.call).word())?;
+    push_word(text, Service::of(call).word())?;
     push_word(text, " ")?;
-    push_reply(text, &entry.reply)?;
+    push_reply(text, reply)?;
     push_word(text, "\n")
 }
 
@@ -160,59 +180,76 @@ fn push_sampling_status(
     push_word(text, last.word())
 }
 
-/// How many entries of the log each partition has.
-fn count_calls(alloc: Global, board: &Board) -> Result<Vec<u64>, AllocError>
-    ensures { IfOk result (λ calls. CountCalls calls.items (length board.now.config.partitions) board.now.log) }
-{
-    let mut calls = vec![in alloc; 0; board.config().partitions()]?;
-    for entry in board.log() {
-        calls[entry.partition] += 1;
-    }
-    Ok(calls)
-}
-
 /// A line for each partition.
 #[tactic(auto, unfolding(crate::specs::Report::partition_lines))]
-fn push_partitions(text: &mut String, board: &Board, calls: &[u64]) -> Result<(), AllocError>
-    requires { CountCalls calls.now (length board.now.config.partitions) board.now.log }
-    ensures { OnOk result (string_bytes text.new ≡ string_bytes text.old ++ partition_lines board.now.log 0 board.now.config.partitions) }
+fn push_partitions(text: &mut String, ports: &Ports) -> Result<(), AllocError>
+    requires { length ports.now.history < 2 ^ 64 }
+    ensures {
+        OnOk result (string_bytes text.new ≡
+            string_bytes text.old ++ partition_lines ports.now.history 0 ports.now.config.partitions) }
 {
-    for p in 0..board.config().partitions() {
-        let name = board.config().partition_name(p).text();
-        push_partition(text, board, p, name, calls[p])?;
+    for p in 0..ports.config().partitions() {
+        let name = ports.config().partition_name(p).text();
+        push_partition(text, ports, p, name)?;
     }
     Ok(())
 }
 
 /// `partition NAME mode MODE calls N`.
 #[tactic(auto, unfolding(crate::specs::Report::partition_line))]
-fn push_partition(
-    text: &mut String,
-    board: &Board,
-    p: usize,
-    name: &str,
-    calls: u64,
-) -> Result<(), AllocError>
-    requires partition { p < length board.now.config.partitions }
-    requires calls { calls ≡ length (entries_of p board.now.log) }
-    ensures { OnOk result (string_bytes text.new ≡ string_bytes text.old ++ partition_line board.now.log p name.now) }
+fn push_partition(text: &mut String, ports: &Ports, p: usize, name: &str) -> Result<(), AllocError>
+    requires partition { p < length ports.now.config.partitions }
+    requires short { length ports.now.history < 2 ^ 64 }
+    ensures {
+        OnOk result (string_bytes text.new ≡
+            string_bytes text.old ++ partition_line ports.now.history p name.now) }
 {
     push_word(text, "partition ")?;
     push_word(text, name)?;
     push_word(text, " mode ")?;
-    push_word(text, board.mode(p).word())?;
+    push_word(text, ports.mode(p).word())?;
     push_word(text, " calls ")?;
-    push_number(text, calls)?;
+    push_number(text, calls_of(ports, p))?;
     push_word(text, "\n")
+}
+
+// How many calls the partition made: the count is the number, as no program holds more calls.
+fn calls_of(ports: &Ports, p: usize) -> u64
+    requires partition { p < length ports.now.config.partitions }
+    requires short { length ports.now.history < 2 ^ 64 }
+    ensures { result ≡ length (entries_of p ports.now.history) }
+{
+    ports.calls(p)
+}
+
+// How many messages the channel accepted.
+fn accepted_by(ports: &Ports, c: usize) -> u64
+    requires channel { c < length ports.now.config.channels }
+    requires short { length ports.now.history < 2 ^ 64 }
+    ensures { result ≡ length (accepted_on ports.now.config c ports.now.history) }
+{
+    ports.accepted_count(c)
+}
+
+// How many messages were received from the channel.
+fn received_from(ports: &Ports, c: usize) -> u64
+    requires channel { c < length ports.now.config.channels }
+    requires short { length ports.now.history < 2 ^ 64 }
+    ensures { result ≡ length (received_on ports.now.config c ports.now.history) }
+{
+    ports.received_count(c)
 }
 
 /// A line for each channel.
 #[tactic(auto, unfolding(crate::specs::Report::channel_lines))]
-fn push_channels(text: &mut String, board: &Board) -> Result<(), AllocError>
-    ensures { OnOk result (string_bytes text.new ≡ string_bytes text.old ++ channel_lines board.now.config board.now.log 0 board.now.config.channels) }
+fn push_channels(text: &mut String, ports: &Ports) -> Result<(), AllocError>
+    requires { length ports.now.history < 2 ^ 64 }
+    ensures {
+        let lines = channel_lines ports.now.config ports.now.history 0 ports.now.config.channels in
+        OnOk result (string_bytes text.new ≡ string_bytes text.old ++ lines) }
 {
-    for c in 0..board.config().channels() {
-        push_channel(text, board, c, board.config().channel(c))?;
+    for c in 0..ports.config().channels() {
+        push_channel(text, ports, c, ports.config().channel(c))?;
         push_word(text, "\n")?;
     }
     Ok(())
@@ -221,50 +258,58 @@ fn push_channels(text: &mut String, board: &Board) -> Result<(), AllocError>
 #[tactic(auto, unfolding(crate::specs::Report::channel_text))]
 fn push_channel(
     text: &mut String,
-    board: &Board,
+    ports: &Ports,
     c: usize,
     channel: &Channel,
 ) -> Result<(), AllocError>
-    requires { c < length board.now.config.channels }
-    ensures { OnOk result (string_bytes text.new ≡ string_bytes text.old ++ channel_text board.now.config board.now.log c channel.now.name channel.now.kind) }
+    requires channel { c < length ports.now.config.channels }
+    requires short { length ports.now.history < 2 ^ 64 }
+    ensures {
+        let line = channel_text ports.now.config ports.now.history c channel.now.name channel.now.kind in
+        OnOk result (string_bytes text.new ≡ string_bytes text.old ++ line) }
 {
     match channel.kind {
         ChannelKind::Queuing { .. } => {
             push_word(text, "queuing ")?;
             push_word(text, channel.name.text())?;
-            push_queue(text, board, c)
+            push_queue(text, ports, c)
         }
         ChannelKind::Sampling => {
             push_word(text, "sampling ")?;
             push_word(text, channel.name.text())?;
-            push_sample(text, board.last_sample(c))
+            push_sample(text, ports.last_sample(c))
         }
     }
 }
 
 /// ` accepted A received B waiting W`, and the messages that wait, oldest first.
 #[tactic(auto, unfolding(crate::specs::Report::queue_text))]
-fn push_queue(text: &mut String, board: &Board, c: usize) -> Result<(), AllocError>
-    requires { c < length board.now.config.channels }
-    ensures { OnOk result (string_bytes text.new ≡ string_bytes text.old ++ queue_text board.now.config c board.now.log) }
+fn push_queue(text: &mut String, ports: &Ports, c: usize) -> Result<(), AllocError>
+    requires channel { c < length ports.now.config.channels }
+    requires short { length ports.now.history < 2 ^ 64 }
+    ensures {
+        OnOk result (string_bytes text.new ≡
+            string_bytes text.old ++ queue_text ports.now.config c ports.now.history) }
 {
     push_word(text, " accepted ")?;
-    push_number(text, board.accepted(c).len() as u64)?;
+    push_number(text, accepted_by(ports, c))?;
     push_word(text, " received ")?;
-    push_number(text, board.received(c).len() as u64)?;
+    push_number(text, received_from(ports, c))?;
     push_word(text, " waiting ")?;
-    push_number(text, board.waiting_count(c) as u64)?;
-    push_waiting(text, board, c)
+    push_number(text, ports.waiting_count(c) as u64)?;
+    push_waiting(text, ports, c)
 }
 
 /// The messages that wait, each after a space.
 #[tactic(auto, unfolding(crate::specs::Report::messages_text))]
-fn push_waiting(text: &mut String, board: &Board, c: usize) -> Result<(), AllocError>
-    requires { c < length board.now.config.channels }
-    ensures { OnOk result (string_bytes text.new ≡ string_bytes text.old ++ messages_text (waiting_on board.now.config c board.now.log)) }
+fn push_waiting(text: &mut String, ports: &Ports, c: usize) -> Result<(), AllocError>
+    requires { c < length ports.now.config.channels }
+    ensures {
+        let waiting = waiting_on ports.now.config c ports.now.history in
+        OnOk result (string_bytes text.new ≡ string_bytes text.old ++ messages_text waiting) }
 {
-    for place in 0..board.waiting_count(c) {
-        let message = board.waiting(c, place).unwrap();
+    for place in 0..ports.waiting_count(c) {
+        let message = ports.waiting(c, place).unwrap();
         push_word(text, " ")?;
         push_message(text, message)?;
     }

@@ -1,10 +1,15 @@
-use Rattle.std.proofs.lemmas.Result.{err_from_is_err_and}
-use Rattle.apex_texts.proofs.ReplayLemmas.{trace_refused, replayed}
+use Rattle.std.proofs.Common.{◌≡◌, ◌++◌, ◌∙◌, subst, string_bytes}
+use Rattle.apex_config.specs.Configuration.{Configuration}
+use Rattle.apex_texts.specs.Replay.{IsServed}
+use Rattle.apex_texts.specs.Report.{entry_lines}
+use Rattle.apex_texts.proofs.ReplayLemmas.{served_report}
 use Rattle.apex_texts.proofs.replay.replay_trace.Goals as goal
-
-pub returns-in_err-requests : goal.returns-in_err-requests
-returns-in_err-requests c = let p = err_from_is_err_and c.from_residual.result c.from_residual.ensures.1 in rw (p.1, p.2) (trace_refused c.in_err-requests.field-0.0 c.args.config c.args.trace.now c.in_err-requests.ensures.exact)
 
 pub returns : goal.returns
 returns c =
-    replayed c.replay.result c.args.config c.args.trace.now c.in_ok-requests.requests.items c.in_ok-requests.ensures.exact (rw (← c.as_slice.ensures.value) c.replay.ensures.made) c.replay.ensures.refused
+    let same = c.in_ok-ports.ensures.config in
+    served_report c.args.config c.args.trace.now c.push_calls.new.ports (string_bytes c.in_ok-text.text) (string_bytes c.push_calls.new.text) c.push_totals.new.text c.in_ok-text.ensures.bytes
+    (c.in_ok-push_calls.ensures.config ∙ same)
+    (subst (λ (config : Configuration). IsServed config c.args.trace.now c.push_calls.new.ports.history) same c.in_ok-push_calls.ensures.served)
+    (subst (λ (config : Configuration). string_bytes c.push_calls.new.text ≡ string_bytes c.in_ok-text.text ++ entry_lines config 1 c.push_calls.new.ports.history) same c.in_ok-push_calls.ensures.written)
+    c.in_ok-push_totals.ensures

@@ -12,7 +12,7 @@ pub loop-entry-preserved : goal.loop-entry-preserved
 loop-entry-preserved c =
     let named : partition_name_of c.args.board.now.config c.entry-item.result.partition ≡ Some c.text-name.result.now = rw (← c.config.ensures, c.text-name.ensures) c.partition_name.ensures.name in
     let cut = entry_cut c.args.board.now.config c.log-log.result.now c.loop-entry.entry-index c.entry-item.result c.text-name.result.now c.loop-entry-test.true c.entry-item.is named in
-    let grown : string_bytes c.push_entry.new.text ≡ string_bytes c.loop-entry.text ++ entry_line (c.loop-entry.entry-index + 1) c.text-name.result.now c.entry-item.result =
+    let grown : string_bytes c.push_entry.new.text ≡ string_bytes c.loop-entry.text ++ entry_line (c.loop-entry.entry-index + 1) c.text-name.result.now c.entry-item.result.at c.entry-item.result.call c.entry-item.result.reply =
     rw (← c.loop-entry.invariant.number) c.in_ok-push_entry.ensures in
     record {
       number = omega arith;

@@ -5,4 +5,4 @@ use Rattle.apex_texts.proofs.report_text.push_waiting.Given as goal
 
 abbrev pub invariant-loop-place : goal.invariant-loop-place
 invariant-loop-place l =
-    string_bytes l.text ++ messages_text (drop l.place (waiting_on l.board.config l.c l.board.log)) ≡ string_bytes l.fn.text ++ messages_text (waiting_on l.board.config l.c l.board.log)
+    string_bytes l.text ++ messages_text (drop l.place (waiting_on l.ports.config l.c l.ports.history)) ≡ string_bytes l.fn.text ++ messages_text (waiting_on l.ports.config l.c l.ports.history)
