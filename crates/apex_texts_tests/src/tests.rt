@@ -1,6 +1,9 @@
 //! Tests from outside: what each text gives, with values that were worked out by hand.
+mod caller;
 mod creation;
 mod lines;
 mod queuing;
 mod sampling;
+mod scripts;
 mod texts;
+mod words;

@@ -1,2 +1,4 @@
+pub mod Files
 pub mod Limits
 pub mod Refusal
+pub mod Task

@@ -1,10 +1,13 @@
--- Why the program refuses, and the status that it then ends with.
-use Rattle.std.specs.Prelude.{ℕ}
+-- Why the program refuses, the line that says so, and the status that it then ends with.
+use Rattle.std.specs.Prelude.{ℕ, List, ◌++◌, codes}
 use Rattle.apexports.specs.declared.command_line.WordsFault.{WordsFault}
 use Rattle.apexports.specs.declared.command_line.WordsFault.TheVariants as words
 use Rattle.apex_config.specs.declared.fault.ConfigFault.TheVariants as config_faults
 use Rattle.apex_texts.specs.declared.fault.Fault.TheVariants as faults
 use Rattle.apex_texts.specs.declared.fault.TraceFault.TheVariants as trace_faults
+use Rattle.apex_texts.specs.FaultLine.{fault_line}
+use Rattle.apexports.specs.declared.files.FileFault.{FileFault}
+use Rattle.apexports.specs.declared.files.FileFault.TheVariants as files
 use Rattle.apexports.specs.declared.program.Refusal.{Refusal}
 use Rattle.apexports.specs.declared.program.Refusal.TheVariants.{Usage, Text, File, Output}
 
@@ -22,3 +25,10 @@ status_of Output = 3
 abbrev pub words_refusal : WordsFault → Refusal
 words_refusal words.Usage = Usage
 words_refusal words.OutOfMemory = Text faults.Memory
+
+-- the line of a refusal
+abbrev pub refusal_line : Refusal → List ℕ
+refusal_line Usage = codes "usage: apexports check CONFIG | replay CONFIG TRACE | run CONFIG [NAME=SCRIPT]..."
+refusal_line (Text fault) = fault_line fault
+refusal_line (File path) = codes "cannot read " ++ path.now
+refusal_line Output = codes "cannot write"

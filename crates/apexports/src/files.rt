@@ -1,4 +1,9 @@
 //! Reading a file whole, up to a limit.
+ghost use Rattle.std.specs.Prelude.{◌≡◌, ◌≤◌, List, ℕ, Option, None, IfOk, IfSome, OnOk, length};
+ghost use Rattle.std.specs.Io.KnownBytes.{IsAtEnd};
+ghost use Rattle.std.specs.IoError.{error_kind};
+ghost use Rattle.apexports.specs.Files.{file_fault};
+
 use std::alloc::Global;
 use std::fs::File;
 use std::io;
@@ -18,8 +23,12 @@ const PIECE_BYTES: usize = 65_536;
 pub trait Opener {
     type Reader: Read + Drop;
 
+    // The bytes of what lies at a path, where they are known.
+    ghost bytes_at: { Self → List ℕ → Option (List ℕ) } = { λ _ _. None };
+
     /// The reader of what lies at a path.
-    fn open(&self, path: &str) -> io::Result<Self::Reader>;
+    fn open(&self, path: &str) -> io::Result<Self::Reader>
+        ensures { IfOk result (λ reader. IfSome (bytes_at self.now path.now) (λ bytes. Self.Reader.remaining reader ≡ Some bytes)) };
 }
 
 /// The files of the system.
@@ -46,23 +55,31 @@ pub enum FileFault {
 }
 
 impl From<io::Error> for FileFault {
+    ghost from_gives = { λ error given. given ≡ file_fault (error_kind error) };
+
     fn from(error: io::Error) -> FileFault {
-        if error.kind() == ErrorKind::OutOfMemory {
-            FileFault::OutOfMemory
-        } else {
-            FileFault::Unreadable
+        match error.kind() {
+            ErrorKind::OutOfMemory => FileFault::OutOfMemory,
+            _ => FileFault::Unreadable,
         }
     }
 }
 
 /// The bytes of the file at a path.
-pub fn read_path<O: Opener>(alloc: Global, opener: &O, path: &str) -> Result<Vec<u8>, FileFault> {
+pub fn read_path<O: Opener>(alloc: Global, opener: &O, path: &str) -> Result<Vec<u8>, FileFault>
+    ensures whole { IfOk result (λ read. IfSome (O.bytes_at opener.now path.now) (λ bytes. read.items ≡ bytes)) }
+    ensures within { IfOk result (λ read. length read.items ≤ FILE_LIMIT) }
+{
     let mut reader = opener.open(path)?;
     read_all(alloc, &mut reader)
 }
 
-/// All bytes of a reader, where they are few enough and end soon enough.
-pub fn read_all<R: Read>(alloc: Global, reader: &mut R) -> Result<Vec<u8>, FileFault> {
+/// All bytes of a reader up to its end, where they are few enough and the end comes soon enough.
+pub fn read_all<R: Read>(alloc: Global, reader: &mut R) -> Result<Vec<u8>, FileFault>
+    ensures whole { IfOk result (λ read. IfSome (R.remaining reader.old) (λ bytes. read.items ≡ bytes)) }
+    ensures end { OnOk result (IsAtEnd (R.remaining reader.new)) }
+    ensures within { IfOk result (λ read. length read.items ≤ FILE_LIMIT) }
+{
     let mut bytes = Vec::new(alloc);
     let mut piece = [0; PIECE_BYTES];
     for _ in 0..READ_LIMIT {

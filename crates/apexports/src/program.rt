@@ -1,17 +1,19 @@
 //! The program: from the words of the command line to a status.
-ghost use Rattle.std.specs.Prelude.{◌≡◌};
+ghost use Rattle.std.specs.Prelude.{◌≡◌, ◌∷◌, ◌++◌, [], Some, IfSome, IfErr, OnOk};
+ghost use Rattle.std.specs.Io.KnownBytes.{Appends};
 ghost use Rattle.apexports.specs.declared.program.Refusal.TheVariants.{Text};
-ghost use Rattle.apexports.specs.Refusal.{status_of, words_refusal};
+ghost use Rattle.apexports.specs.Refusal.{status_of, words_refusal, refusal_line};
+ghost use Rattle.apexports.specs.Task.{IsFileRead, IsConfigRead, IsCheck, IsFileReplay};
 
 use crate::command_line::{Task, WordsFault, task_of};
 use crate::files::{FileFault, Opener, read_path};
 use apex_config::{Config, ConfigFault};
-use apex_texts::{Fault, TraceFault, replay_trace};
+use apex_texts::{Fault, TraceFault, check_line, replay_trace};
 use std::alloc::{AllocError, Global};
 use std::convert::AsStr;
 use std::error::Error;
-use std::fmt;
 use std::io::Write;
+use std::{fmt, io};
 
 /// Why the program did not do what it was asked to do. Its text is a line for standard error.
 #[derive(Clone, Copy, Debug, PartialEq, Eq)]
@@ -47,6 +49,8 @@ impl Refusal<'_> {
 }
 
 impl fmt::Display for Refusal<'_> {
+    ghost output = { λ refusal. Some (refusal_line refusal) };
+
     fn fmt<W: fmt::Write>(&self, f: &mut fmt::Formatter<W>) -> fmt::Result {
         match self {
             Refusal::Usage => write!(
@@ -96,10 +100,19 @@ pub fn program<S: AsStr, O: Opener, W: Write, E: Write>(
     }
 }
 
-/// Writes the line of a refusal, and answers its status.
-pub fn refuse<E: Write>(refusal: Refusal<'_>, errors: &mut E) -> u8 {
-    let _ = writeln!(errors, "{refusal}");
+/// Writes the line of a refusal, and answers its status. Where the line can't be written the status tells alone.
+pub fn refuse<E: Write>(refusal: Refusal<'_>, errors: &mut E) -> u8
+    ensures { result ≡ status_of refusal.entry }
+{
+    let _ = tell(&refusal, errors);
     refusal.status()
+}
+
+/// Writes the line of a refusal.
+fn tell<E: Write>(refusal: &Refusal<'_>, errors: &mut E) -> io::Result<()>
+    ensures { OnOk result (Appends (E.contents errors.old) (E.contents errors.new) (refusal_line refusal.now ++ 10 ∷ [])) }
+{
+    writeln!(errors, "{refusal}")
 }
 
 fn perform<'a, S: AsStr, O: Opener, W: Write>(
@@ -112,6 +125,14 @@ fn perform<'a, S: AsStr, O: Opener, W: Write>(
         Task::Check { config } => check(alloc, opener, config)?,
         Task::Replay { config, trace } => replay_files(alloc, opener, config, trace)?,
     };
+    print(output, text.as_str())
+}
+
+/// Writes a text whole.
+fn print<'a, W: Write>(output: &mut W, text: &str) -> Result<(), Refusal<'a>>
+    ensures written { OnOk result (Appends (W.contents output.old) (W.contents output.new) text.now) }
+    ensures refused { IfErr result (λ refusal. refusal ≡ Refusal.Output) }
+{
     if output.write_all(text.as_bytes()).is_err() || output.flush().is_err() {
         return Err(Refusal::Output);
     }
@@ -122,7 +143,9 @@ fn read_file<'a, O: Opener>(
     alloc: Global,
     opener: &O,
     path: &'a str,
-) -> Result<Vec<u8>, Refusal<'a>> {
+) -> Result<Vec<u8>, Refusal<'a>>
+    ensures { IsFileRead result (O.bytes_at opener.now path.now) }
+{
     match read_path(alloc, opener, path) {
         Ok(bytes) => Ok(bytes),
         Err(FileFault::Unreadable) => Err(Refusal::File(path)),
@@ -134,7 +157,9 @@ fn read_config<'a, O: Opener>(
     alloc: Global,
     opener: &O,
     path: &'a str,
-) -> Result<Config, Refusal<'a>> {
+) -> Result<Config, Refusal<'a>>
+    ensures { IfSome (O.bytes_at opener.now path.now) (IsConfigRead result) }
+{
     let text = read_file(alloc, opener, path)?;
     match Config::read(alloc, text.as_slice()) {
         Ok(config) => Ok(config),
@@ -142,28 +167,30 @@ fn read_config<'a, O: Opener>(
     }
 }
 
-/// `ok partitions P ports Q channels C`.
-fn check<'a, O: Opener>(alloc: Global, opener: &O, path: &'a str) -> Result<String, Refusal<'a>> {
+/// The line of the configuration in a file.
+fn check<'a, O: Opener>(alloc: Global, opener: &O, path: &'a str) -> Result<String, Refusal<'a>>
+    ensures { IfSome (O.bytes_at opener.now path.now) (IsCheck result) }
+{
     let config = read_config(alloc, opener, path)?;
-    let mut ports: usize = 0;
-    for p in 0..config.partitions() {
-        ports = ports.saturating_add(config.ports(p));
-    }
-    let partitions = config.partitions();
-    let channels = config.channels();
-    match format!(in alloc; "ok partitions {partitions} ports {ports} channels {channels}\n") {
+    match check_line(alloc, &config) {
         Ok(text) => Ok(text),
         Err(AllocError) => Err(Refusal::Text(Fault::Memory)),
     }
 }
 
+/// The report of the trace in a file on the configuration in a file.
 fn replay_files<'a, O: Opener>(
     alloc: Global,
     opener: &O,
     config: &'a str,
     trace: &'a str,
-) -> Result<String, Refusal<'a>> {
+) -> Result<String, Refusal<'a>>
+    ensures { IfSome (O.bytes_at opener.now config.now) (λ c. IfSome (O.bytes_at opener.now trace.now) (IsFileReplay result c)) }
+{
     let config = read_config(alloc, opener, config)?;
     let text = read_file(alloc, opener, trace)?;
-    Ok(replay_trace(alloc, config, text.as_slice())?)
+    match replay_trace(alloc, config, text.as_slice()) {
+        Ok(report) => Ok(report),
+        Err(fault) => Err(Refusal::Text(fault)),
+    }
 }

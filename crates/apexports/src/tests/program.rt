@@ -1,16 +1,16 @@
 //! The whole program on files and writers that stand in for the system's.
-use super::texts::{BASE, REDUCED};
+use super::texts::{BASE, REDUCED, SHARED};
 use crate::files::Opener;
 use crate::program::program;
 use std::alloc::Global;
 use std::io;
-use std::io::{ErrorKind, Read, Write};
+use std::io::{ErrorKind, Read};
 use std::process::Abort;
 use std::test::Fail;
 
 /// What lies at a path.
 #[derive(Clone, Copy, Debug, PartialEq, Eq)]
-enum Content {
+pub enum Content {
     /// A text.
     Text(&'static str),
     /// A read of it fails once so many bytes were given.
@@ -21,13 +21,20 @@ enum Content {
     Slow(usize),
     /// So many spaces.
     Spaces(usize),
+    /// A text in pieces of seven bytes, with an interrupted read before each, and before the end.
+    Interrupted(&'static str),
+    /// So many interrupted reads, and then the end.
+    Interrupts(usize),
+    /// A read of it wants memory.
+    WantsMemory,
 }
 
-/// A reader of some content, of which so many bytes were given.
+/// A reader of some content, of which so many bytes were given in so many reads.
 #[derive(Clone, Copy, Drop)]
-struct FakeFile {
+pub struct FakeFile {
     content: Content,
     given: usize,
+    reads: usize,
 }
 
 impl Read for FakeFile {
@@ -40,6 +47,23 @@ impl Read for FakeFile {
                 self.given += count;
                 return Ok(count);
             }
+            Content::Interrupted(text) => {
+                self.reads = self.reads.saturating_add(1);
+                if self.reads % 2 == 1 {
+                    return Err(io::Error::from(ErrorKind::Interrupted));
+                }
+                let rest = text.as_bytes().get(self.given..).unwrap_or(b"");
+                let count = rest.len().min(buf.len()).min(7);
+                buf[..count].copy_from_slice(&rest[..count]);
+                self.given += count;
+                return Ok(count);
+            }
+            Content::Interrupts(count) if self.reads < count => {
+                self.reads += 1;
+                return Err(io::Error::from(ErrorKind::Interrupted));
+            }
+            Content::Interrupts(_) => 0,
+            Content::WantsMemory => return Err(io::Error::from(ErrorKind::OutOfMemory)),
             Content::FailsAfter(limit) if self.given >= limit => {
                 return Err(io::Error::from(ErrorKind::Other));
             }
@@ -59,7 +83,7 @@ impl Read for FakeFile {
 
 /// The paths of the tests.
 #[derive(Clone, Copy, Drop)]
-struct FakeFiles;
+pub struct FakeFiles;
 
 impl Opener for FakeFiles {
     type Reader = FakeFile;
@@ -77,9 +101,19 @@ impl Opener for FakeFiles {
             "longest" => Content::Spaces(16_777_216),
             "slow" => Content::Slow(16_777_216),
             "too_long" => Content::Spaces(16_777_217),
+            "interrupted.toml" => Content::Interrupted(BASE),
+            "interrupts" => Content::Interrupts(16_777_216),
+            "interrupts_too_often" => Content::Interrupts(16_777_217),
+            "wants_memory" => Content::WantsMemory,
+            "opening_wants_memory" => return Err(io::Error::from(ErrorKind::OutOfMemory)),
+            "shared.toml" => Content::Text(SHARED),
             _ => return Err(io::Error::from(ErrorKind::NotFound)),
         };
-        Ok(FakeFile { content, given: 0 })
+        Ok(FakeFile {
+            content,
+            given: 0,
+            reads: 0,
+        })
     }
 }
 
@@ -130,7 +164,9 @@ fn a_configuration_is_counted(rt: HostRuntime) -> Result<(), Fail> {
     let counted = "ok partitions 3 ports 4 channels 2\n";
     answers(&rt, &["apexports", "check", "base.toml"], 0, counted, "")?;
     let counted = "ok partitions 2 ports 2 channels 1\n";
-    answers(&rt, &["apexports", "check", "reduced.toml"], 0, counted, "")
+    answers(&rt, &["apexports", "check", "reduced.toml"], 0, counted, "")?;
+    let counted = "ok partitions 2 ports 3 channels 1\n";
+    answers(&rt, &["apexports", "check", "shared.toml"], 0, counted, "")
 }
 
 #[test]
@@ -152,7 +188,15 @@ fn refused_texts_run_nothing(rt: HostRuntime) -> Result<(), Fail> {
 
 #[test]
 fn files_that_cannot_be_read(rt: HostRuntime) -> Result<(), Fail> {
-    for path in ["no file", "fails", "fails_later", "endless", "too_long"] {
+    let paths = [
+        "no file",
+        "fails",
+        "fails_later",
+        "endless",
+        "too_long",
+        "interrupts_too_often",
+    ];
+    for path in paths {
         let line = format!(in rt.alloc(); "cannot read {path}\n")?;
         answers(&rt, &["apexports", "check", path], 3, "", line.as_str())?;
         let words = ["apexports", "replay", "reduced.toml", path];
@@ -168,32 +212,31 @@ queuing NAV accepted 0 received 0 waiting 0
 
 #[test]
 fn the_longest_file_is_read(rt: HostRuntime) -> Result<(), Fail> {
-    for path in ["longest", "slow"] {
+    for path in ["longest", "slow", "interrupts"] {
         let words = ["apexports", "replay", "reduced.toml", path];
         answers(&rt, &words, 0, EMPTY_REPORT, "")?;
     }
     Ok(())
 }
 
-/// Standard output that takes nothing.
-#[derive(Clone, Copy, Drop)]
-struct Closed;
-
-impl Write for Closed {
-    fn write(&mut self, _buf: &[u8]) -> io::Result<usize> {
-        Err(io::Error::from(ErrorKind::BrokenPipe))
-    }
-
-    fn flush(&mut self) -> io::Result<()> {
-        Ok(())
-    }
+#[test]
+fn an_interrupted_read_is_no_end(rt: HostRuntime) -> Result<(), Fail> {
+    let counted = "ok partitions 3 ports 4 channels 2\n";
+    answers(
+        &rt,
+        &["apexports", "check", "interrupted.toml"],
+        0,
+        counted,
+        "",
+    )
 }
 
 #[test]
-fn output_that_cannot_be_written(rt: HostRuntime) {
-    let mut told = Vec::new(rt.alloc());
-    let words = ["apexports", "check", "base.toml"];
-    let status = program(rt.alloc(), &words, &FakeFiles, &mut Closed, &mut told);
-    assert_eq!(rt; told.as_slice(), b"cannot write\n".as_slice());
-    assert_eq!(rt; status, 3);
+fn want_of_memory_in_a_file_is_told_as_such(rt: HostRuntime) -> Result<(), Fail> {
+    for path in ["wants_memory", "opening_wants_memory"] {
+        answers(&rt, &["apexports", "check", path], 3, "", "out of memory\n")?;
+        let words = ["apexports", "replay", "reduced.toml", path];
+        answers(&rt, &words, 3, "", "out of memory\n")?;
+    }
+    Ok(())
 }

@@ -66,3 +66,34 @@ name = "SPD"
 kind = "sampling"
 size = 4
 "#;
+
+/// Two partitions and one sampling channel with two destinations.
+pub const SHARED: &str = r#"[[partition]]
+name = "AIR"
+[[partition.port]]
+name = "SPD_OUT"
+kind = "sampling"
+direction = "source"
+channel = "SPD"
+refresh = 50
+
+[[partition]]
+name = "DSP"
+[[partition.port]]
+name = "SPD_LEFT"
+kind = "sampling"
+direction = "destination"
+channel = "SPD"
+refresh = 50
+[[partition.port]]
+name = "SPD_RIGHT"
+kind = "sampling"
+direction = "destination"
+channel = "SPD"
+refresh = 50
+
+[[channel]]
+name = "SPD"
+kind = "sampling"
+size = 4
+"#;

@@ -1,0 +1,111 @@
+//! The printed words of every fault.
+use apex_board::Stopped;
+use apex_config::{ConfigFault, OutOfMemory};
+use apex_texts::{Fault, LineFault, TraceFault};
+use std::test::Fail;
+
+/// The numbers of a line's faults, the faults and their words.
+const LINE_FAULTS: [(u32, LineFault, &str); 9] = [
+    (1, LineFault::NotAscii, "not ASCII"),
+    (2, LineFault::TooFewWords, "too few words"),
+    (3, LineFault::TooManyWords, "too many words"),
+    (4, LineFault::Moment, "moment"),
+    (5, LineFault::Partition, "partition"),
+    (6, LineFault::UnknownCall, "unknown call"),
+    (7, LineFault::Number, "number"),
+    (8, LineFault::Name, "name"),
+    (9, LineFault::Message, "message"),
+];
+
+#[test]
+fn faults_of_a_line(rt: HostRuntime) -> Result<(), Fail> {
+    for (number, fault, words) in LINE_FAULTS {
+        assert_eq!(rt; fault.number(), number);
+        let printed = format!(in rt.alloc(); "{fault}")?;
+        assert_eq!(rt; printed.as_str(), words);
+        let refused = Fault::from(TraceFault::Line {
+            line: 41,
+            fault: number,
+        });
+        let printed = format!(in rt.alloc(); "{refused}")?;
+        let line = format!(in rt.alloc(); "trace line 41 fault {number}: {words}")?;
+        assert_eq!(rt; printed.as_str(), line.as_str());
+    }
+    Ok(())
+}
+
+/// The faults of a configuration, in the order of their numbers, with their words and their lines.
+const CONFIG_FAULTS: [(ConfigFault, &str, &str); 10] = [
+    (ConfigFault::NotToml, "not TOML", "config fault 1: not TOML"),
+    (ConfigFault::Shape, "shape", "config fault 2: shape"),
+    (ConfigFault::BadName, "name", "config fault 3: name"),
+    (
+        ConfigFault::NameTwice,
+        "name twice",
+        "config fault 4: name twice",
+    ),
+    (
+        ConfigFault::OutOfRange,
+        "number out of range",
+        "config fault 5: number out of range",
+    ),
+    (
+        ConfigFault::UnknownChannel,
+        "unknown channel",
+        "config fault 6: unknown channel",
+    ),
+    (
+        ConfigFault::KindDiffers,
+        "kind of port and channel differ",
+        "config fault 7: kind of port and channel differ",
+    ),
+    (
+        ConfigFault::Sources,
+        "not exactly one source",
+        "config fault 8: not exactly one source",
+    ),
+    (
+        ConfigFault::Destinations,
+        "destinations",
+        "config fault 9: destinations",
+    ),
+    (
+        ConfigFault::Counts,
+        "count out of limits",
+        "config fault 10: count out of limits",
+    ),
+];
+
+#[test]
+fn faults_of_a_configuration(rt: HostRuntime) -> Result<(), Fail> {
+    for (fault, words, line) in CONFIG_FAULTS {
+        let printed = format!(in rt.alloc(); "{fault}")?;
+        assert_eq!(rt; printed.as_bytes(), words.as_bytes());
+        let refused = Fault::from(fault);
+        let printed = format!(in rt.alloc(); "{refused}")?;
+        assert_eq!(rt; printed.as_bytes(), line.as_bytes());
+    }
+    Ok(())
+}
+
+#[test]
+fn want_of_memory_has_one_line(rt: HostRuntime) -> Result<(), Fail> {
+    let faults = [
+        Fault::Memory,
+        Fault::from(ConfigFault::OutOfMemory),
+        Fault::from(TraceFault::OutOfMemory),
+        Fault::Config(ConfigFault::OutOfMemory),
+        Fault::Trace(TraceFault::OutOfMemory),
+    ];
+    for fault in faults {
+        let printed = format!(in rt.alloc(); "{fault}")?;
+        assert_eq!(rt; printed.as_str(), "out of memory");
+    }
+    let stopped = Stopped { done: 3 };
+    let printed = format!(in rt.alloc(); "{stopped}")?;
+    assert_eq!(rt; printed.as_str(), "out of memory");
+    let refused = OutOfMemory;
+    let printed = format!(in rt.alloc(); "{refused}")?;
+    assert_eq!(rt; printed.as_str(), "out of memory");
+    Ok(())
+}
