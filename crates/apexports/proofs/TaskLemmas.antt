@@ -2,7 +2,7 @@
 use Rattle.std.proofs.Common.{◌≡◌, ℕ, List, Option, Some, None, Result, Ok, Err, subst, String, Global}
 use Rattle.std.specs.Prelude.{IfSome}
 use Rattle.apex_config.specs.Configuration.{Configuration}
-use Rattle.apex_config.specs.Passes.{config_of}
+use Rattle.apex_config.specs.Meaning.{config_of}
 use Rattle.apex_texts.specs.Replay.{IsTraceReplay}
 use Rattle.apex_texts.specs.declared.fault.Fault.{Fault}
 use Rattle.apex_texts.proofs.ReplayLemmas.{config_read}

@@ -3,7 +3,7 @@ use Rattle.std.specs.Prelude.{◌≡◌, ℕ, List, Option, Result, Ok, Err, Str
 use Rattle.std.specs.Global.{Vec}
 use Rattle.std.specs.declared.alloc.Global.{Global}
 use Rattle.apex_config.specs.Configuration.{Configuration}
-use Rattle.apex_config.specs.Passes.{config_of}
+use Rattle.apex_config.specs.Meaning.{config_of}
 use Rattle.apex_texts.specs.Check.{check_line}
 use Rattle.apex_texts.specs.Replay.{IsReplay}
 use Rattle.apex_texts.specs.declared.fault.Fault.TheVariants as faults
