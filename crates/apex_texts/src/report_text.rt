@@ -44,7 +44,8 @@ fn push_number(text: &mut String, number: u64) -> Result<(), AllocError>
 }
 
 fn push_message(text: &mut String, message: &Message) -> Result<(), AllocError>
-    ensures { OnOk result (string_bytes text.new ≡ string_bytes text.old ++ hex_text_of message.now) }
+    ensures { OnOk result (string_bytes text.new
+        ≡ string_bytes text.old ++ hex_text_of message.now) }
 {
     let digits = message.to_hex();
     push_word(text, digits.as_str())
@@ -53,7 +54,8 @@ fn push_message(text: &mut String, message: &Message) -> Result<(), AllocError>
 /// A line for each entry of the log.
 #[tactic(auto, unfolding(crate::specs::Report::entry_lines))]
 fn push_log(text: &mut String, board: &Board) -> Result<(), AllocError>
-    ensures { OnOk result (string_bytes text.new ≡ string_bytes text.old ++ entry_lines board.now.config 1 board.now.log) }
+    ensures { OnOk result (string_bytes text.new
+        ≡ string_bytes text.old ++ entry_lines board.now.config 1 board.now.log) }
 {
     let log = board.log();
     let mut number: u64 = 0;
@@ -68,7 +70,8 @@ fn push_log(text: &mut String, board: &Board) -> Result<(), AllocError>
 /// `NUMBER MOMENT PARTITION CALLWORD REPLY`.
 #[tactic(auto, unfolding(crate::specs::Report::entry_line))]
 fn push_entry(text: &mut String, number: u64, name: &str, entry: &Entry) -> Result<(), AllocError>
-    ensures { OnOk result (string_bytes text.new ≡ string_bytes text.old ++ entry_line number name.now entry.now) }
+    ensures { OnOk result (string_bytes text.new
+        ≡ string_bytes text.old ++ entry_line number name.now entry.now) }
 {
     let Moment(at) = entry.at;
     push_number(text, number)?;
@@ -127,7 +130,8 @@ fn push_queuing_status(
     size: u32,
     direction: Direction,
 ) -> Result<(), AllocError>
-    ensures { OnOk result (string_bytes text.new ≡ string_bytes text.old ++ queuing_status_text waiting depth size direction) }
+    ensures { OnOk result (string_bytes text.new
+        ≡ string_bytes text.old ++ queuing_status_text waiting depth size direction) }
 {
     push_word(text, "NO_ERROR waiting ")?;
     push_number(text, u64::from(waiting))?;
@@ -148,7 +152,8 @@ fn push_sampling_status(
     direction: Direction,
     last: Validity,
 ) -> Result<(), AllocError>
-    ensures { OnOk result (string_bytes text.new ≡ string_bytes text.old ++ sampling_status_text refresh size direction last) }
+    ensures { OnOk result (string_bytes text.new
+        ≡ string_bytes text.old ++ sampling_status_text refresh size direction last) }
 {
     push_word(text, "NO_ERROR refresh ")?;
     push_number(text, refresh)?;
@@ -162,7 +167,8 @@ fn push_sampling_status(
 
 /// How many entries of the log each partition has.
 fn count_calls(alloc: Global, board: &Board) -> Result<Vec<u64>, AllocError>
-    ensures { IfOk result (λ calls. CountCalls calls.items (length board.now.config.partitions) board.now.log) }
+    ensures { IfOk result
+        (λ calls. CountCalls calls.items (length board.now.config.partitions) board.now.log) }
 {
     let mut calls = vec![in alloc; 0; board.config().partitions()]?;
     for entry in board.log() {
@@ -175,7 +181,8 @@ fn count_calls(alloc: Global, board: &Board) -> Result<Vec<u64>, AllocError>
 #[tactic(auto, unfolding(crate::specs::Report::partition_lines))]
 fn push_partitions(text: &mut String, board: &Board, calls: &[u64]) -> Result<(), AllocError>
     requires { CountCalls calls.now (length board.now.config.partitions) board.now.log }
-    ensures { OnOk result (string_bytes text.new ≡ string_bytes text.old ++ partition_lines board.now.log 0 board.now.config.partitions) }
+    ensures { OnOk result (string_bytes text.new
+        ≡ string_bytes text.old ++ partition_lines board.now.log 0 board.now.config.partitions) }
 {
     for p in 0..board.config().partitions() {
         let name = board.config().partition_name(p).text();
@@ -195,7 +202,8 @@ fn push_partition(
 ) -> Result<(), AllocError>
     requires partition { p < length board.now.config.partitions }
     requires calls { calls ≡ length (entries_of p board.now.log) }
-    ensures { OnOk result (string_bytes text.new ≡ string_bytes text.old ++ partition_line board.now.log p name.now) }
+    ensures { OnOk result (string_bytes text.new
+        ≡ string_bytes text.old ++ partition_line board.now.log p name.now) }
 {
     push_word(text, "partition ")?;
     push_word(text, name)?;
@@ -209,7 +217,8 @@ fn push_partition(
 /// A line for each channel.
 #[tactic(auto, unfolding(crate::specs::Report::channel_lines))]
 fn push_channels(text: &mut String, board: &Board) -> Result<(), AllocError>
-    ensures { OnOk result (string_bytes text.new ≡ string_bytes text.old ++ channel_lines board.now.config board.now.log 0 board.now.config.channels) }
+    ensures { OnOk result (string_bytes text.new
+        ≡ string_bytes text.old ++ channel_lines board.now.config board.now.log 0 board.now.config.channels) }
 {
     for c in 0..board.config().channels() {
         push_channel(text, board, c, board.config().channel(c))?;
@@ -226,7 +235,8 @@ fn push_channel(
     channel: &Channel,
 ) -> Result<(), AllocError>
     requires { c < length board.now.config.channels }
-    ensures { OnOk result (string_bytes text.new ≡ string_bytes text.old ++ channel_text board.now.config board.now.log c channel.now.name channel.now.kind) }
+    ensures { OnOk result (string_bytes text.new
+        ≡ string_bytes text.old ++ channel_text board.now.config board.now.log c channel.now.name channel.now.kind) }
 {
     match channel.kind {
         ChannelKind::Queuing { .. } => {
@@ -246,7 +256,8 @@ fn push_channel(
 #[tactic(auto, unfolding(crate::specs::Report::queue_text))]
 fn push_queue(text: &mut String, board: &Board, c: usize) -> Result<(), AllocError>
     requires { c < length board.now.config.channels }
-    ensures { OnOk result (string_bytes text.new ≡ string_bytes text.old ++ queue_text board.now.config c board.now.log) }
+    ensures { OnOk result (string_bytes text.new
+        ≡ string_bytes text.old ++ queue_text board.now.config c board.now.log) }
 {
     push_word(text, " accepted ")?;
     push_number(text, board.accepted(c).len() as u64)?;
@@ -261,7 +272,8 @@ fn push_queue(text: &mut String, board: &Board, c: usize) -> Result<(), AllocErr
 #[tactic(auto, unfolding(crate::specs::Report::messages_text))]
 fn push_waiting(text: &mut String, board: &Board, c: usize) -> Result<(), AllocError>
     requires { c < length board.now.config.channels }
-    ensures { OnOk result (string_bytes text.new ≡ string_bytes text.old ++ messages_text (waiting_on board.now.config c board.now.log)) }
+    ensures { OnOk result (string_bytes text.new
+        ≡ string_bytes text.old ++ messages_text (waiting_on board.now.config c board.now.log)) }
 {
     for place in 0..board.waiting_count(c) {
         let message = board.waiting(c, place).unwrap();
@@ -274,7 +286,8 @@ fn push_waiting(text: &mut String, board: &Board, c: usize) -> Result<(), AllocE
 /// ` empty`, or ` MESSAGE at MOMENT`.
 #[tactic(auto, unfolding(crate::specs::Report::sample_text))]
 fn push_sample(text: &mut String, sample: Option<&Sample>) -> Result<(), AllocError>
-    ensures { OnOk result (string_bytes text.new ≡ string_bytes text.old ++ sample_text (option_copied sample.entry)) }
+    ensures { OnOk result (string_bytes text.new
+        ≡ string_bytes text.old ++ sample_text (option_copied sample.entry)) }
 {
     match sample {
         None => push_word(text, " empty"),
