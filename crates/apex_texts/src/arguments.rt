@@ -68,7 +68,8 @@ fn two_words(words: &[u8]) -> Result<(&[u8], &[u8]), LineFault>
 }
 
 fn four_words(words: &[u8]) -> Result<(&[u8], &[u8], &[u8], &[u8]), LineFault>
-    ensures { Gives (λ x. x.0.now ∷ x.1.now ∷ x.2.now ∷ x.3.now ∷ []) result (exactly 4 (words_of words.now)) }
+    ensures { Gives (λ x. x.0.now ∷ x.1.now ∷ x.2.now ∷ x.3.now ∷ [])
+        result (exactly 4 (words_of words.now)) }
 {
     let (first, rest) = word_at(words)?;
     let (second, rest) = word_at(rest)?;
@@ -77,7 +78,8 @@ fn four_words(words: &[u8]) -> Result<(&[u8], &[u8], &[u8], &[u8]), LineFault>
 }
 
 fn five_words(words: &[u8]) -> Result<(&[u8], &[u8], &[u8], &[u8], &[u8]), LineFault>
-    ensures { Gives (λ x. x.0.now ∷ x.1.now ∷ x.2.now ∷ x.3.now ∷ x.4.now ∷ []) result (exactly 5 (words_of words.now)) }
+    ensures { Gives (λ x. x.0.now ∷ x.1.now ∷ x.2.now ∷ x.3.now ∷ x.4.now ∷ [])
+        result (exactly 5 (words_of words.now)) }
 {
     let (first, rest) = word_at(words)?;
     let (second, third, fourth, fifth) = four_words(rest)?;

@@ -55,7 +55,8 @@ fn push_number(text: &mut String, number: u64) -> Result<(), AllocError>
 }
 
 fn push_message(text: &mut String, message: &Message) -> Result<(), AllocError>
-    ensures { OnOk result (string_bytes text.new ≡ string_bytes text.old ++ hex_text_of message.now) }
+    ensures { OnOk result (string_bytes text.new
+        ≡ string_bytes text.old ++ hex_text_of message.now) }
 {
     let digits = message.to_hex();
     push_word(text, digits.as_str())
@@ -64,7 +65,8 @@ fn push_message(text: &mut String, message: &Message) -> Result<(), AllocError>
 /// A line for each entry of the log.
 #[tactic(auto, unfolding(crate::specs::Report::entry_lines))]
 fn push_log(text: &mut String, board: &Board) -> Result<(), AllocError>
-    ensures { OnOk result (string_bytes text.new ≡ string_bytes text.old ++ entry_lines board.now.config 1 board.now.log) }
+    ensures { OnOk result (string_bytes text.new
+        ≡ string_bytes text.old ++ entry_lines board.now.config 1 board.now.log) }
 {
     let log = board.log();
     let mut number: u64 = 0;
@@ -147,7 +149,8 @@ fn push_queuing_status(
     size: u32,
     direction: Direction,
 ) -> Result<(), AllocError>
-    ensures { OnOk result (string_bytes text.new ≡ string_bytes text.old ++ queuing_status_text waiting depth size direction) }
+    ensures { OnOk result (string_bytes text.new
+        ≡ string_bytes text.old ++ queuing_status_text waiting depth size direction) }
 {
     push_word(text, "NO_ERROR waiting ")?;
     push_number(text, u64::from(waiting))?;
@@ -168,7 +171,8 @@ fn push_sampling_status(
     direction: Direction,
     last: Validity,
 ) -> Result<(), AllocError>
-    ensures { OnOk result (string_bytes text.new ≡ string_bytes text.old ++ sampling_status_text refresh size direction last) }
+    ensures { OnOk result (string_bytes text.new
+        ≡ string_bytes text.old ++ sampling_status_text refresh size direction last) }
 {
     push_word(text, "NO_ERROR refresh ")?;
     push_number(text, refresh)?;
@@ -319,7 +323,8 @@ fn push_waiting(text: &mut String, ports: &Ports, c: usize) -> Result<(), AllocE
 /// ` empty`, or ` MESSAGE at MOMENT`.
 #[tactic(auto, unfolding(crate::specs::Report::sample_text))]
 fn push_sample(text: &mut String, sample: Option<&Sample>) -> Result<(), AllocError>
-    ensures { OnOk result (string_bytes text.new ≡ string_bytes text.old ++ sample_text (option_copied sample.entry)) }
+    ensures { OnOk result (string_bytes text.new
+        ≡ string_bytes text.old ++ sample_text (option_copied sample.entry)) }
 {
     match sample {
         None => push_word(text, " empty"),

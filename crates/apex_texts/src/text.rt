@@ -6,8 +6,10 @@ ghost use Rattle.apex_texts.specs.Text.{is_line_feed, is_blank, words_of, number
 /// The first line of a text, and the text after it. A line ends with a line feed or where the text
 /// ends; one carriage return just before a line feed is dropped.
 pub fn next_line(text: &[u8]) -> Option<(&[u8], &[u8])>
-    ensures line { MatchOption result (lines text.now ≡ []) (λ x. lines text.now ≡ x.0.now ∷ lines x.1.now) }
-    ensures shorter { MatchOption result (length text.now ≡ 0) (λ x. length x.1.now < length text.now) }
+    ensures line { MatchOption result (lines text.now ≡ [])
+        (λ x. lines text.now ≡ x.0.now ∷ lines x.1.now) }
+    ensures shorter { MatchOption result (length text.now ≡ 0)
+        (λ x. length x.1.now < length text.now) }
 {
     if text.is_empty() {
         return None;
@@ -53,7 +55,8 @@ fn word_in(line: &[u8]) -> Option<usize>
 
 /// The first word of a line, and the line after it. Words are parted by spaces and tabs.
 pub fn next_word(line: &[u8]) -> Option<(&[u8], &[u8])>
-    ensures word { MatchOption result (words_of line.now ≡ []) (λ x. words_of line.now ≡ x.0.now ∷ words_of x.1.now) }
+    ensures word { MatchOption result (words_of line.now ≡ [])
+        (λ x. words_of line.now ≡ x.0.now ∷ words_of x.1.now) }
     ensures shorter { IfSome result (λ x. length x.1.now < length line.now) }
 {
     let Some(start) = word_in(line) else {

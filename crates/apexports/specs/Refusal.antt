@@ -6,8 +6,6 @@ use Rattle.apex_config.specs.declared.fault.ConfigFault.TheVariants as config_fa
 use Rattle.apex_texts.specs.declared.fault.Fault.TheVariants as faults
 use Rattle.apex_texts.specs.declared.fault.TraceFault.TheVariants as trace_faults
 use Rattle.apex_texts.specs.FaultLine.{fault_line}
-use Rattle.apexports.specs.declared.files.FileFault.{FileFault}
-use Rattle.apexports.specs.declared.files.FileFault.TheVariants as files
 use Rattle.apexports.specs.declared.program.Refusal.{Refusal}
 use Rattle.apexports.specs.declared.program.Refusal.TheVariants.{Usage, Text, File, Output}
 

@@ -28,7 +28,9 @@ pub trait Opener {
 
     /// The reader of what lies at a path.
     fn open(&self, path: &str) -> io::Result<Self::Reader>
-        ensures { IfOk result (λ reader. IfSome (bytes_at self.now path.now) (λ bytes. Self.Reader.remaining reader ≡ Some bytes)) };
+        ensures { IfOk result
+            (λ reader. IfSome (bytes_at self.now path.now)
+            (λ bytes. Self.Reader.remaining reader ≡ Some bytes)) };
 }
 
 /// The files of the system.
@@ -67,7 +69,8 @@ impl From<io::Error> for FileFault {
 
 /// The bytes of the file at a path.
 pub fn read_path<O: Opener>(alloc: Global, opener: &O, path: &str) -> Result<Vec<u8>, FileFault>
-    ensures whole { IfOk result (λ read. IfSome (O.bytes_at opener.now path.now) (λ bytes. read.items ≡ bytes)) }
+    ensures whole { IfOk result
+        (λ read. IfSome (O.bytes_at opener.now path.now) (λ bytes. read.items ≡ bytes)) }
     ensures within { IfOk result (λ read. length read.items ≤ FILE_LIMIT) }
 {
     let mut reader = opener.open(path)?;
@@ -76,7 +79,8 @@ pub fn read_path<O: Opener>(alloc: Global, opener: &O, path: &str) -> Result<Vec
 
 /// All bytes of a reader up to its end, where they are few enough and the end comes soon enough.
 pub fn read_all<R: Read>(alloc: Global, reader: &mut R) -> Result<Vec<u8>, FileFault>
-    ensures whole { IfOk result (λ read. IfSome (R.remaining reader.old) (λ bytes. read.items ≡ bytes)) }
+    ensures whole { IfOk result
+        (λ read. IfSome (R.remaining reader.old) (λ bytes. read.items ≡ bytes)) }
     ensures end { OnOk result (IsAtEnd (R.remaining reader.new)) }
     ensures within { IfOk result (λ read. length read.items ≤ FILE_LIMIT) }
 {

@@ -110,7 +110,8 @@ pub fn refuse<E: Write>(refusal: Refusal<'_>, errors: &mut E) -> u8
 
 /// Writes the line of a refusal.
 fn tell<E: Write>(refusal: &Refusal<'_>, errors: &mut E) -> io::Result<()>
-    ensures { OnOk result (Appends (E.contents errors.old) (E.contents errors.new) (refusal_line refusal.now ++ 10 ∷ [])) }
+    ensures { OnOk result
+        (Appends (E.contents errors.old) (E.contents errors.new) (refusal_line refusal.now ++ 10 ∷ [])) }
 {
     writeln!(errors, "{refusal}")
 }
@@ -130,7 +131,8 @@ fn perform<'a, S: AsStr, O: Opener, W: Write>(
 
 /// Writes a text whole.
 fn print<'a, W: Write>(output: &mut W, text: &str) -> Result<(), Refusal<'a>>
-    ensures written { OnOk result (Appends (W.contents output.old) (W.contents output.new) text.now) }
+    ensures written { OnOk result
+        (Appends (W.contents output.old) (W.contents output.new) text.now) }
     ensures refused { IfErr result (λ refusal. refusal ≡ Refusal.Output) }
 {
     if output.write_all(text.as_bytes()).is_err() || output.flush().is_err() {
@@ -185,7 +187,8 @@ fn replay_files<'a, O: Opener>(
     config: &'a str,
     trace: &'a str,
 ) -> Result<String, Refusal<'a>>
-    ensures { IfSome (O.bytes_at opener.now config.now) (λ c. IfSome (O.bytes_at opener.now trace.now) (IsFileReplay result c)) }
+    ensures { IfSome (O.bytes_at opener.now config.now)
+        (λ c. IfSome (O.bytes_at opener.now trace.now) (IsFileReplay result c)) }
 {
     let config = read_config(alloc, opener, config)?;
     let text = read_file(alloc, opener, trace)?;

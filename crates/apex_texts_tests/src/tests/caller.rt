@@ -9,7 +9,8 @@ use std::test::Fail;
 
 /// How many calls a script has.
 fn count_calls(alloc: Global, text: &[u8]) -> Result<usize, TraceFault>
-    ensures { IfOk result (λ count. option_map length (value_of (script_of text.now)) ≡ Some count) }
+    ensures { IfOk result
+        (λ count. option_map length (value_of (script_of text.now)) ≡ Some count) }
 {
     let script = read_script(alloc, text)?;
     Ok(script.calls.len())

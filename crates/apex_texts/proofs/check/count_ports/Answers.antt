@@ -1,4 +1,4 @@
-use Rattle.std.proofs.Common.{◌≡◌, ◌<◌, length, sym, ap, ◌∙◌, arith}
+use Rattle.std.proofs.Common.{◌<◌, length, arith}
 use Rattle.apex_texts.proofs.CheckLemmas.{ports_more}
 use Rattle.apex_texts.proofs.check.count_ports.Goals as goal
 
