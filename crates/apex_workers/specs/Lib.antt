@@ -1,0 +1,6 @@
+pub mod Collected
+pub mod Facts
+pub mod Fault
+pub mod Held
+pub mod Partition
+pub mod Places

@@ -1,0 +1,17 @@
+//! Workers: each partition's script is run by a thread of its own, and all share one board behind a lock.
+#![tactic(auto)]
+
+pub mod fault;
+pub mod gate;
+pub mod locked;
+pub mod replies;
+pub mod script;
+pub mod shared;
+mod worker;
+
+pub use crate::fault::RunFault;
+pub use crate::gate::{Gate, Held, OpenGate};
+pub use crate::locked::LockedBoard;
+pub use crate::replies::Replies;
+pub use crate::script::Script;
+pub use crate::shared::{AskFault, SharedBoard};
