@@ -100,7 +100,7 @@ send_finds_place config h c p id m false (Some port) is accepted source =
     let here : (port.channel == c) ≡ true = (and_true (is_source port.direction) (port.channel == c) at_port).1 in
     let channel : port.channel ≡ c = grind (arith, nat_tests) in
     let place : (length (waiting_on config port.channel h) == depth_of config port.channel) ≡ false =
-        last_test (length m == 0) _ (not (is_source port.direction)) (length (waiting_on config port.channel h) == depth_of config port.channel) accepted
+    last_test (length m == 0) _ (not (is_source port.direction)) (length (waiting_on config port.channel h) == depth_of config port.channel) accepted
     in
     let free : length (waiting_on config port.channel h) ≢ depth_of config port.channel = grind (arith, nat_tests) in
     subst (λ (d : ℕ). length (waiting_on config d h) ≢ depth_of config d) channel free

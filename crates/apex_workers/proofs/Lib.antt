@@ -1,1 +1,3 @@
 pub mod Conservation
+pub mod Lists
+pub mod Ready

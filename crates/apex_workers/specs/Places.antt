@@ -1,8 +1,9 @@
 -- Places for the replies of all partitions.
-use Rattle.std.specs.Prelude.{ℕ, ◌≡◌, ◌≤◌, List, [], ◌∷◌, ◌++◌, length, slice_get, Some, Vec, vec_len, vec_capacity, Result, Ok, Err}
+use Rattle.std.specs.Prelude.{ℕ, ◌≡◌, ◌≤◌, ◌+◌, List, [], ◌∷◌, ◌++◌, length, slice_get, Some, Vec, vec_len, vec_capacity, Result, Ok, Err}
 use Rattle.apex_types.specs.declared.call.Call.{Call}
 use Rattle.apex_types.specs.declared.moment.Moment.{Moment}
 use Rattle.apex_types.specs.declared.reply.Reply.{Reply}
+use Rattle.apex_workers.specs.declared.fault.RunFault.{RunFault}
 
 -- so many places are enough for the partition's script
 abbrev pub IsEnoughFor : List (List (Moment × Call)) → ℕ → ℕ → Type 0
@@ -18,3 +19,8 @@ AnswersAll scripts partition replies =
 pub record AreReady {A : Type 0} (scripts : List (List (Moment × Call))) (lists : List (Vec Reply A)) : Type 0 where
   pub within : length lists ≤ length scripts
   pub each : (p : ℕ) (list : Vec Reply A) → slice_get lists p ≡ Some list → (list.items ≡ []) × IsEnoughFor scripts p (vec_capacity list)
+
+-- the vector has the replies of the lower partitions and those of the next one, in the places that it had
+abbrev pub AddsReplies : {A : Type 0} → Result (Vec (List Reply) A) RunFault → Result (List Reply) RunFault → Vec (List Reply) A → Type 0
+AddsReplies (Ok lower) (Ok next) all = (all.items ≡ lower.items ++ next ∷ []) × (vec_len all ≡ vec_len lower + 1) × (vec_capacity all ≡ vec_capacity lower)
+AddsReplies _ _ all = ⊥

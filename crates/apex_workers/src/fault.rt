@@ -16,10 +16,7 @@ pub enum RunFault {
     OutOfMemory,
     /// The gate refused the `n`-th call of the partition, counted from 1.
     #[error("partition {partition} held at call {n}")]
-    Held {
-        partition: usize,
-        n: usize,
-    },
+    Held { partition: usize, n: usize },
     /// No thread could be made for a worker.
     #[error("worker not started")]
     WorkerNotStarted,

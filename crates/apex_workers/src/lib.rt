@@ -8,6 +8,7 @@ pub mod replies;
 pub mod script;
 pub mod shared;
 mod worker;
+mod workers;
 
 pub use crate::fault::RunFault;
 pub use crate::gate::{Gate, Held, OpenGate};
