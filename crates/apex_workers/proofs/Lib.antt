@@ -1,3 +1,4 @@
 pub mod Conservation
+pub mod Equal
 pub mod Lists
 pub mod Ready

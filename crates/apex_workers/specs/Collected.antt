@@ -1,8 +1,9 @@
 -- A log beside the scripts and the replies of all partitions.
-use Rattle.std.specs.Prelude.{ℕ, ◌≡◌, ◌<◌, List, length, slice_get, Some, All}
+use Rattle.std.specs.Prelude.{ℕ, ◌≡◌, ◌<◌, ◌≤◌, List, length, take, slice_get, Some}
 use Rattle.apex_types.specs.declared.call.Call.{Call}
 use Rattle.apex_types.specs.declared.moment.Moment.{Moment}
 use Rattle.apex_types.specs.declared.reply.Reply.{Reply}
+use Rattle.apex_board.specs.declared.history.Entry.{Entry}
 use Rattle.apex_board.specs.History.{History}
 use Rattle.apex_workers.specs.Partition.{calls_of, replies_of}
 
@@ -15,3 +16,21 @@ HasScripts history scripts =
 abbrev pub HasReplies : History → List (List Reply) → Type 0
 HasReplies history replies =
     (partition : ℕ) (own : List Reply) → slice_get replies partition ≡ Some own → replies_of partition history ≡ own
+
+-- the call and the reply at a place are those of the entry
+abbrev pub IsNext : Entry → List (Moment × Call) → List Reply → ℕ → Type 0
+IsNext entry script replies place =
+    (slice_get script place ≡ Some (entry.at, entry.call)) × (slice_get replies place ≡ Some entry.reply)
+
+-- so many of the partition's calls, with their replies, are all that the history has of it
+pub record IsServed (history : History) (partition : ℕ) (script : List (Moment × Call)) (own : List Reply) (done : ℕ) : Type 0 where
+  pub calls : calls_of partition history ≡ take done script
+  pub replies : replies_of partition history ≡ take done own
+  pub within_script : done ≤ length script
+  pub within_replies : done ≤ length own
+
+-- for each partition how many of its calls the history has
+pub record AreCounted (history : History) (scripts : List (List (Moment × Call))) (replies : List (List Reply)) (counts : List ℕ) : Type 0 where
+  pub all : length counts ≡ length scripts
+  pub each : (p : ℕ) (script : List (Moment × Call)) (own : List Reply) (done : ℕ)
+      → slice_get scripts p ≡ Some script → slice_get replies p ≡ Some own → slice_get counts p ≡ Some done → IsServed history p script own done

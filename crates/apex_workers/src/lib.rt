@@ -1,6 +1,7 @@
 //! Workers: each partition's script is run by a thread of its own, and all share one board behind a lock.
 #![tactic(auto)]
 
+mod comparison;
 pub mod fault;
 pub mod gate;
 pub mod locked;
