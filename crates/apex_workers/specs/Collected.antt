@@ -1,5 +1,5 @@
 -- A log beside the scripts and the replies of all partitions.
-use Rattle.std.specs.Prelude.{ℕ, ◌≡◌, ◌<◌, ◌≤◌, List, length, take, slice_get, Some}
+use Rattle.std.specs.Prelude.{ℕ, ◌≡◌, ◌<◌, ◌≤◌, List, length, take, slice_get, slice_index, Some}
 use Rattle.apex_types.specs.declared.call.Call.{Call}
 use Rattle.apex_types.specs.declared.moment.Moment.{Moment}
 use Rattle.apex_types.specs.declared.reply.Reply.{Reply}
@@ -32,5 +32,11 @@ pub record IsServed (history : History) (partition : ℕ) (script : List (Moment
 -- for each partition how many of its calls the history has
 pub record AreCounted (history : History) (scripts : List (List (Moment × Call))) (replies : List (List Reply)) (counts : List ℕ) : Type 0 where
   pub all : length counts ≡ length scripts
-  pub each : (p : ℕ) (script : List (Moment × Call)) (own : List Reply) (done : ℕ)
-      → slice_get scripts p ≡ Some script → slice_get replies p ≡ Some own → slice_get counts p ≡ Some done → IsServed history p script own done
+  pub each : (p : ℕ) (script : List (Moment × Call)) (own : List Reply)
+      → slice_get scripts p ≡ Some script → slice_get replies p ≡ Some own → IsServed history p script own (slice_index counts p)
+
+-- each partition has as many calls and as many replies as were counted
+abbrev pub AreComplete : List (List (Moment × Call)) → List (List Reply) → List ℕ → Type 0
+AreComplete scripts replies counts =
+    (p : ℕ) (script : List (Moment × Call)) (own : List Reply)
+    → slice_get scripts p ≡ Some script → slice_get replies p ≡ Some own → (slice_index counts p ≡ length script) × (slice_index counts p ≡ length own)
