@@ -96,7 +96,7 @@ counted_more h e scripts replies counts script own counted script_at own_at next
         let same_script : script ≡ other = cc in
         let same_own : own ≡ others = cc in
         let count : get_or (set counts e.partition (get_or counts e.partition 0 + 1)) e.partition 0 ≡ suc (get_or counts e.partition 0) =
-            get_or-set_same counts e.partition (get_or counts e.partition 0 + 1) 0 (omega arith) ∙ omega arith
+        get_or-set_same counts e.partition (get_or counts e.partition 0 + 1) 0 (omega arith) ∙ omega arith
         in
         let call : slice_get other (get_or counts e.partition 0) ≡ Some (e.at, e.call) = subst (λ (xs : List (Moment × Call)). slice_get xs (get_or counts e.partition 0) ≡ Some (e.at, e.call)) same_script next.0 in
         let reply : slice_get others (get_or counts e.partition 0) ≡ Some e.reply = subst (λ (xs : List Reply). slice_get xs (get_or counts e.partition 0) ≡ Some e.reply) same_own next.1 in
@@ -113,7 +113,7 @@ counted_more h e scripts replies counts script own counted script_at own_at next
     by_test p other others here there false test =
         let apart : e.partition ≢ p = grind (arith, nat_tests) in
         let count : get_or (set counts e.partition (get_or counts e.partition 0 + 1)) p 0 ≡ get_or counts p 0 =
-            get_or-set_other counts e.partition p (get_or counts e.partition 0 + 1) 0 (λ h. apart (sym h))
+        get_or-set_other counts e.partition p (get_or counts e.partition 0 + 1) 0 (λ h. apart (sym h))
         in
         subst (λ (done : ℕ). IsServed (h ++ e ∷ []) p other others done) (sym count)
         (served_still h e p other others (get_or counts p 0) apart (counted.each p other others here there))

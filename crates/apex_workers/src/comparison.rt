@@ -52,11 +52,7 @@ fn count_entries<A: Allocator>(
 }
 
 /// Whether all calls and all replies of each partition were counted.
-fn are_complete<A: Allocator>(
-    scripts: &[Script],
-    replies: &[Replies<A>],
-    counts: &[usize],
-) -> bool
+fn are_complete<A: Allocator>(scripts: &[Script], replies: &[Replies<A>], counts: &[usize]) -> bool
     requires counts { length counts.now ≡ length scripts.now }
     requires each { length replies.now ≡ length scripts.now }
     ensures { OnTrue result (AreComplete scripts.now replies.now counts.now) }
@@ -92,12 +88,7 @@ fn is_same_reply(reply: &Reply, other: &Reply) -> bool
 }
 
 /// Whether the call at a place of the script, with the reply at the same place, is the entry's.
-fn is_next<A: Allocator>(
-    entry: &Entry,
-    script: &Script,
-    replies: &Replies<A>,
-    place: usize,
-) -> bool
+fn is_next<A: Allocator>(entry: &Entry, script: &Script, replies: &Replies<A>, place: usize) -> bool
     ensures next { IsTrue result ↔ IsNext entry.now script.now replies.now place }
     ensures within { OnTrue result (place + 1 < 2 ^ 64) }
 {

@@ -119,18 +119,15 @@ fn collected<A: Allocator>(
     ensures config { IfOk result (λ finished. finished.board.config ≡ config.now) }
     ensures lawful { IfOk result (λ finished. IsLawful config.now finished.board.log) }
     ensures calls { IfOk result (λ finished. HasScripts finished.board.log scripts.now) }
-    ensures same { IfOk result (λ finished. finished.replies ≡ replies) }
+    ensures count { IfOk result (λ finished. vec_len finished.replies ≡ length scripts.now) }
     ensures replies { IfOk result (λ finished. HasReplies finished.board.log finished.replies.items) }
     ensures stranger { IfErr result (λ fault. fault ≡ RunFault.Stranger) }
 {
-    let matches = board.config().eq(config)
-        && is_collected(
-            board.log(),
-            scripts,
-            replies.as_slice(),
-            counts.as_mut_slice(),
-        );
-    if !matches {
+    if !board.config().eq(config) {
+        return Err(RunFault::Stranger);
+    }
+    let log = board.log();
+    if !is_collected(log, scripts, replies.as_slice(), counts.as_mut_slice()) {
         return Err(RunFault::Stranger);
     }
     Ok(Finished { board, replies })

@@ -17,13 +17,13 @@ loop-entry-preserved g c =
     let all = c.loop-entry.invariant.all in
     let entry_at : slice_get log i ≡ Some e = slice_get_read log (length log) i e refl (omega arith) c.entry-item.is in
     let one_more : take (i + 1) log ≡ take i log ++ e ∷ [] =
-        let next : i + 1 ≡ suc i = omega arith in ap (λ n. take n log) next ∙ take_one_more log i e entry_at
+    let next : i + 1 ≡ suc i = omega arith in ap (λ n. take n log) next ∙ take_one_more log i e entry_at
     in
     let script_at : slice_get scripts e.partition ≡ Some c.index-scripts-p.result =
-        slice_get_read scripts (length scripts) e.partition c.index-scripts-p.result refl (omega arith) c.index-scripts-p.is
+    slice_get_read scripts (length scripts) e.partition c.index-scripts-p.result refl (omega arith) c.index-scripts-p.is
     in
     let own_at : slice_get replies e.partition ≡ Some c.index-replies-p.result =
-        slice_get_read replies (length replies) e.partition c.index-replies-p.result refl (omega arith) c.index-replies-p.is
+    slice_get_read replies (length replies) e.partition c.index-replies-p.result refl (omega arith) c.index-replies-p.is
     in
     subst (λ (h : History). AreCounted h scripts replies (set counts e.partition (get_or counts e.partition 0 + 1))) (sym one_more)
     (counted_more (take i log) e scripts replies counts c.index-scripts-p.result c.index-replies-p.result c.loop-entry.invariant script_at own_at (c.if-not-is_next.ensures.next.0 (search rules)))
