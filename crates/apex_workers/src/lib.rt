@@ -9,6 +9,8 @@ pub mod replies;
 pub mod run;
 pub mod script;
 pub mod shared;
+#[cfg(test)]
+mod tests;
 mod worker;
 mod workers;
 

@@ -63,7 +63,7 @@ pub fn run_scripts<R: Threads + Wait + Sync, A: Allocator + Copy + Send, G: Gate
 }
 
 /// An empty vector for each script, with places for all replies to it.
-fn lists_for<A: Allocator + Copy>(
+pub(crate) fn lists_for<A: Allocator + Copy>(
     alloc: A,
     scripts: &[Script],
 ) -> Result<Vec<Vec<Reply, A>, A>, AllocError>
@@ -79,7 +79,7 @@ fn lists_for<A: Allocator + Copy>(
 }
 
 /// Runs all workers in one scope.
-fn run_all<R: Threads + Wait + Sync, S: SharedBoard, G: Gate, A: Allocator + Send>(
+pub(crate) fn run_all<R: Threads + Wait + Sync, S: SharedBoard, G: Gate, A: Allocator + Send>(
     rt: &R,
     board: &S,
     gate: &G,
