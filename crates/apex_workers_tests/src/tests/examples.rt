@@ -85,25 +85,24 @@ pub(crate) fn script_of(alloc: Global, calls: &[Call]) -> Result<Script, AllocEr
     Ok(Script { calls: timed })
 }
 
+fn sender(alloc: Global) -> Result<Script, Fail> {
+    let create = create_queuing("NAV_OUT", 4, 2, 0)?;
+    Ok(script_of(alloc, &[create, GO_NORMAL, send("01")?])?)
+}
+
 /// The scripts of FMS and DSP: each creates its port of NAV and goes into NORMAL, and FMS sends a message.
 pub(crate) fn sender_and_receiver(alloc: Global) -> Result<[Script; 2], Fail> {
-    Ok([
-        script_of(
-            alloc,
-            &[create_queuing("NAV_OUT", 4, 2, 0)?, GO_NORMAL, send("01")?],
-        )?,
-        script_of(alloc, &[create_queuing("NAV_IN", 4, 2, 1)?, GO_NORMAL])?,
-    ])
+    let create = create_queuing("NAV_IN", 4, 2, 1)?;
+    Ok([sender(alloc)?, script_of(alloc, &[create, GO_NORMAL])?])
 }
 
 /// The same, and DSP receives as its third call.
 pub(crate) fn sender_and_waiting_receiver(alloc: Global) -> Result<[Script; 2], Fail> {
-    let [sender, _] = sender_and_receiver(alloc)?;
-    let receiver = script_of(
-        alloc,
-        &[create_queuing("NAV_IN", 4, 2, 1)?, GO_NORMAL, RECEIVE],
-    )?;
-    Ok([sender, receiver])
+    let create = create_queuing("NAV_IN", 4, 2, 1)?;
+    Ok([
+        sender(alloc)?,
+        script_of(alloc, &[create, GO_NORMAL, RECEIVE])?,
+    ])
 }
 
 pub(crate) fn config_of<R: AllocGlobal>(rt: &R, text: &str) -> Result<Config, Fail> {

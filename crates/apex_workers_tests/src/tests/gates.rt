@@ -1,5 +1,5 @@
 //! Gates that make workers wait for each other, and gates that refuse.
-ghost use Rattle.std.specs.Prelude.{◌≡◌, ◌≤◌, ◌⊎◌, Unit};
+ghost use Rattle.std.specs.Prelude.{◌≡◌, ◌≤◌, ◌⊎◌};
 
 use apex_workers::{Gate, Held};
 use std::sync::atomic::{AtomicBool, Ordering};
