@@ -3,6 +3,7 @@ use Rattle.std.specs.Prelude.{ℕ, ◌≡◌, ◌<◌, ◌≤◌, List, length, 
 use Rattle.apex_types.specs.declared.call.Call.{Call}
 use Rattle.apex_types.specs.declared.moment.Moment.{Moment}
 use Rattle.apex_types.specs.declared.reply.Reply.{Reply}
+use Rattle.apex_config.specs.Configuration.{Configuration}
 use Rattle.apex_board.specs.declared.history.Entry.{Entry}
 use Rattle.apex_board.specs.History.{History}
 use Rattle.apex_workers.specs.Partition.{calls_of, replies_of}
@@ -16,6 +17,17 @@ HasScripts history scripts =
 abbrev pub HasReplies : History → List (List Reply) → Type 0
 HasReplies history replies =
     (partition : ℕ) (own : List Reply) → slice_get replies partition ≡ Some own → replies_of partition history ≡ own
+
+-- the log is what was handed out to the workers and what they got: each entry is of a partition that has a script, and each
+-- partition made the calls of its script and got its replies
+pub record IsCollected (history : History) (scripts : List (List (Moment × Call))) (replies : List (List Reply)) : Type 0 where
+  pub known : (k : ℕ) (entry : Entry) → slice_get history k ≡ Some entry → entry.partition < length scripts
+  pub calls : HasScripts history scripts
+  pub answers : HasReplies history replies
+
+-- and the board has the configuration that was handed in
+abbrev pub IsCollectedFor : Configuration → List (List (Moment × Call)) → Configuration → History → List (List Reply) → Type 0
+IsCollectedFor config scripts board_config history replies = (board_config ≡ config) × IsCollected history scripts replies
 
 -- the call and the reply at a place are those of the entry
 abbrev pub IsNext : Entry → List (Moment × Call) → List Reply → ℕ → Type 0
@@ -32,6 +44,7 @@ pub record IsServed (history : History) (partition : ℕ) (script : List (Moment
 -- for each partition how many of its calls the history has
 pub record AreCounted (history : History) (scripts : List (List (Moment × Call))) (replies : List (List Reply)) (counts : List ℕ) : Type 0 where
   pub all : length counts ≡ length scripts
+  pub known : (k : ℕ) (entry : Entry) → slice_get history k ≡ Some entry → entry.partition < length scripts
   pub each : (p : ℕ) (script : List (Moment × Call)) (own : List Reply)
       → slice_get scripts p ≡ Some script → slice_get replies p ≡ Some own → IsServed history p script own (slice_index counts p)
 

@@ -1,7 +1,7 @@
 //! What the workers left, beside what was handed out to them.
 ghost use Rattle.std.specs.Prelude.{◌≡◌, ◌↔◌, ◌+◌, ◌^◌, ◌<◌, length, replicate, IsTrue};
-ghost use Rattle.std.specs.Bool.{OnTrue};
-ghost use Rattle.apex_workers.specs.Collected.{IsNext, AreCounted, AreComplete, HasScripts, HasReplies};
+ghost use Rattle.std.specs.Bool.{OnTrue, OnFalse};
+ghost use Rattle.apex_workers.specs.Collected.{IsNext, AreCounted, AreComplete, IsCollected};
 
 use crate::replies::Replies;
 use crate::script::Script;
@@ -20,8 +20,7 @@ pub(crate) fn is_collected<A: Allocator>(
 ) -> bool
     requires none { counts.old ≡ replicate (length scripts.now) 0 }
     requires each { length replies.now ≡ length scripts.now }
-    ensures scripts { OnTrue result (HasScripts log.now scripts.now) }
-    ensures replies { OnTrue result (HasReplies log.now replies.now) }
+    ensures { IsTrue result ↔ IsCollected log.now scripts.now replies.now }
 {
     count_entries(log, scripts, replies, counts) && are_complete(scripts, replies, counts)
 }
@@ -35,7 +34,8 @@ fn count_entries<A: Allocator>(
 ) -> bool
     requires none { counts.old ≡ replicate (length scripts.now) 0 }
     requires each { length replies.now ≡ length scripts.now }
-    ensures { OnTrue result (AreCounted log.now scripts.now replies.now counts.new) }
+    ensures counted { OnTrue result (AreCounted log.now scripts.now replies.now counts.new) }
+    ensures refused { OnFalse result (¬ IsCollected log.now scripts.now replies.now) }
 {
     for entry in log {
         let p = entry.partition;
@@ -55,15 +55,21 @@ fn count_entries<A: Allocator>(
 fn are_complete<A: Allocator>(scripts: &[Script], replies: &[Replies<A>], counts: &[usize]) -> bool
     requires counts { length counts.now ≡ length scripts.now }
     requires each { length replies.now ≡ length scripts.now }
-    ensures { OnTrue result (AreComplete scripts.now replies.now counts.now) }
+    ensures { IsTrue result ↔ AreComplete scripts.now replies.now counts.now }
 {
     for (p, count) in counts.iter().enumerate() {
-        let script = &scripts[p];
-        if *count != script.calls.len() || *count != replies[p].list().len() {
+        if !is_complete(&scripts[p], &replies[p], *count) {
             return false;
         }
     }
     true
+}
+
+/// Whether so many calls and so many replies are all of them.
+fn is_complete<A: Allocator>(script: &Script, replies: &Replies<A>, count: usize) -> bool
+    ensures { IsTrue result ↔ (count ≡ length script.now) × (count ≡ length replies.now) }
+{
+    count == script.calls.len() && count == replies.list().len()
 }
 
 /// Whether the two moments are one.

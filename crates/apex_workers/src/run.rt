@@ -1,8 +1,8 @@
 //! A run: one worker for each partition.
-ghost use Rattle.std.specs.Prelude.{◌≡◌, ◌<◌, ◌≤◌, [], length, replicate, vec_len, vec_capacity, IfOk, IfErr};
+ghost use Rattle.std.specs.Prelude.{◌≡◌, ◌<◌, ◌≤◌, [], length, replicate, vec_len, vec_capacity, IfOk, IfErr, IsOk};
 ghost use Rattle.std.specs.Thread.{IsSync, IsSend};
 ghost use Rattle.apex_board.specs.Lawful.{IsLawful};
-ghost use Rattle.apex_workers.specs.Collected.{HasScripts, HasReplies};
+ghost use Rattle.apex_workers.specs.Collected.{HasScripts, HasReplies, IsCollectedFor};
 ghost use Rattle.apex_workers.specs.Held.{NamesHeldCall};
 ghost use Rattle.apex_workers.specs.Places.{AreReady};
 
@@ -122,6 +122,9 @@ fn collected<A: Allocator>(
     ensures count { IfOk result (λ finished. vec_len finished.replies ≡ length scripts.now) }
     ensures replies { IfOk result (λ finished. HasReplies finished.board.log finished.replies.items) }
     ensures stranger { IfErr result (λ fault. fault ≡ RunFault.Stranger) }
+
+    // It is refused only where something differs.
+    ensures same { IsCollectedFor config.now scripts.now board.config board.log replies.items → IsOk result }
 {
     if !board.config().eq(config) {
         return Err(RunFault::Stranger);

@@ -1,7 +1,24 @@
 use Rattle.std.proofs.Common.{◌≡◌, ◌<◌, get_or, length, Some, refl, sym, ap, ◌∙◌, arith, below_more}
 use Rattle.std.specs.List.{slice_get}
+use Rattle.std.proofs.lemmas.Bool.{false≢true}
 use Rattle.std.proofs.lemmas.Option.{slice_get_read, slice_get_within}
 use Rattle.apex_workers.proofs.comparison.are_complete.Goals as goal
+
+pub returns-then-not-is_complete : goal.returns-then-not-is_complete
+returns-then-not-is_complete g c =
+    let p = c.loop-p.p in
+    let place = c.loop-p-test.true in
+    let counts = c.requires.counts in
+    let each = c.requires.each in
+    let script_at : slice_get c.args.scripts.now p ≡ Some c.index-scripts-p.result =
+    slice_get_read c.args.scripts.now (length c.args.scripts.now) p c.index-scripts-p.result refl (omega arith) c.index-scripts-p.is
+    in
+    let own_at : slice_get c.args.replies.now p ≡ Some c.index-replies-p.result =
+    slice_get_read c.args.replies.now (length c.args.replies.now) p c.index-replies-p.result refl (omega arith) c.index-replies-p.is
+    in (
+      λ t. absurd (false≢true t),
+      λ complete. c.if-not-is_complete.ensures.1 (complete p c.index-scripts-p.result c.index-replies-p.result script_at own_at),
+    )
 
 pub loop-p-preserved : goal.loop-p-preserved
 loop-p-preserved g c =
@@ -16,15 +33,13 @@ loop-p-preserved g c =
     let own_same : Some c.index-replies-p.result ≡ Some own = sym own_at ∙ there in
     let script_is : c.index-scripts-p.result ≡ script = cc in
     let own_is : c.index-replies-p.result ≡ own = cc in
-    let calls : length c.script.inside.calls.items ≡ length script = ap length (c.script.view_is ∙ script_is) in
-    let list : length c.list.result.now ≡ length own = ap length (c.list.ensures ∙ own_is) in
-    let counted = c.if-count-len.false in
-    let counted_too = c.if-count-list.false in
-    let all = c.len.ensures in
-    let vector = c.script.inside.calls.ok.0 in
-    (omega arith, omega arith))
+    let all = c.if-not-is_complete.ensures.0 refl in
+    (all.0 ∙ ap length script_is, all.1 ∙ ap length own_is))
 
 pub returns : goal.returns
-returns g c = λ p script own here there.
-    let within = slice_get_within c.args.scripts.now p script here in
-    c.loop-p.invariant p (omega arith) script own here there
+returns g c = (
+  λ t p script own here there.
+      let within = slice_get_within c.args.scripts.now p script here in
+      c.loop-p.invariant p (omega arith) script own here there,
+  λ complete. refl,
+)
