@@ -1,5 +1,5 @@
 -- On each channel of a lawful history nothing is lost, and no more wait than the depth.
-use Rattle.std.proofs.Common.{◌≡◌, ◌≢◌, ℕ, suc, ◌+◌, ◌<◌, ◌≤◌, ◌==◌, Bool, true, false, ◌&&◌, not, if◌then◌else◌, List, [], ◌∷◌, ◌++◌, length, take, drop, slice_get, Option, Some, None, refl, sym, ap, ◌∙◌, subst, arith, append_assoc, append-nil, length-append}
+use Rattle.std.proofs.Common.{◌≡◌, ◌≢◌, ℕ, suc, ◌≤◌, ◌==◌, Bool, true, false, ◌&&◌, not, if◌then◌else◌, List, [], ◌∷◌, ◌++◌, length, take, drop, slice_get, Option, Some, None, refl, sym, ap, ◌∙◌, subst, arith, append_assoc, append-nil, length-append}
 use Rattle.std.specs.Option.{option_to_list}
 use Rattle.std.specs.List.{filter_map}
 use Rattle.std.proofs.lemmas.Bool.Decides.{nat_tests}
@@ -18,7 +18,7 @@ use Rattle.apex_board.specs.Lawful.{IsLawful, IsLawfulEntry}
 use Rattle.apex_board.specs.Modes.{mode_of, is_idle, is_accepted}
 use Rattle.apex_board.specs.Ports.{is_created, queuing_only, queuing_port, is_source, is_source_of, is_destination_of}
 use Rattle.apex_board.specs.Channels.{message_accepted, message_received, message_in, accepted_on, received_on, waiting_on}
-use Rattle.apex_board.specs.ReplyTable.{depth_of, size_of, send_reply, receive_reply, oldest_reply, reply_to}
+use Rattle.apex_board.specs.ReplyTable.{depth_of, send_reply, receive_reply, oldest_reply, reply_to}
 use Rattle.apex_workers.specs.Facts.{IsConserved, IsWithinDepth}
 
 -- ---- lists of messages

@@ -29,8 +29,10 @@ impl<A: Allocator> LockedBoard<A> {
     /// Lends the board, once no other thread has it. Which log it has by then no contract says.
     pub fn lock<R: Wait>(&self, rt: &R) -> MutexGuard<'_, Board<A>>
         ensures lawful { IsLawful (mutex_guard_value result).config (mutex_guard_value result).log }
-        ensures conserved { IsConserved (mutex_guard_value result).config (mutex_guard_value result).log }
-        ensures depth { IsWithinDepth (mutex_guard_value result).config (mutex_guard_value result).log }
+        ensures conserved { IsConserved
+            (mutex_guard_value result).config (mutex_guard_value result).log }
+        ensures depth { IsWithinDepth
+            (mutex_guard_value result).config (mutex_guard_value result).log }
         ensures idle { IdleIsSilent (mutex_guard_value result).log }
     {
         let guard = self.board.lock(rt);
@@ -79,13 +81,17 @@ fn ask_lent<A: Allocator>(
     call: &Call,
 ) -> Result<Reply, AskFault>
     // The reply is the reply table's, and the log gains just that entry.
-    ensures reply { IfOk result (λ reply. reply ≡ reply_to board.old.config board.old.log partition at call.now) }
-    ensures entry { IfOk result (λ reply. board.new.log ≡ board.old.log ++ entry_of partition at call.now reply ∷ []) }
+    ensures reply { IfOk result (λ reply.
+        reply ≡ reply_to board.old.config board.old.log partition at call.now) }
+    ensures entry { IfOk result (λ reply.
+        board.new.log ≡ board.old.log ++ entry_of partition at call.now reply ∷ []) }
     ensures config { board.new.config ≡ board.old.config }
 
     // A refusal changes nothing. It is for the partition, or for memory where there is no room.
-    ensures partition { IsErrOf result fault.NoPartition ↔ (length board.old.config.partitions ≤ partition) }
-    ensures succeeds { partition < length board.old.config.partitions → 1 ≤ board.old.room → IsOk result }
+    ensures partition { IsErrOf result fault.NoPartition
+        ↔ (length board.old.config.partitions ≤ partition) }
+    ensures succeeds { partition < length board.old.config.partitions
+        → 1 ≤ board.old.room → IsOk result }
     ensures refused { OnErr result (board.new.log ≡ board.old.log) }
 {
     if partition >= board.config().partitions() {

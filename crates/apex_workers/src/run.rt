@@ -48,8 +48,10 @@ pub fn run_scripts<R: Threads + Wait + Sync, A: Allocator + Copy + Send, G: Gate
     ensures calls { IfOk result (λ finished. HasScripts finished.board.log scripts.now) }
 
     // Each partition has its replies.
-    ensures count { IfOk result (λ finished. vec_len finished.replies ≡ length config.now.partitions) }
-    ensures replies { IfOk result (λ finished. HasReplies finished.board.log finished.replies.items) }
+    ensures count { IfOk result (λ finished.
+        vec_len finished.replies ≡ length config.now.partitions) }
+    ensures replies { IfOk result (λ finished.
+        HasReplies finished.board.log finished.replies.items) }
 
     // Where a worker was held, the gate may refuse the call that the fault names.
     ensures held { IfErr result (NamesHeldCall (G.may_refuse gate.now) scripts.now) }
@@ -101,7 +103,8 @@ pub(crate) fn run_all<R: Threads + Wait + Sync, S: SharedBoard, G: Gate, A: Allo
             requires none { room.items ≡ [] }
             requires places { vec_len empty ≤ vec_capacity room }
             ensures count { IfOk result (λ replies. vec_len replies ≡ vec_len empty) }
-            ensures held { IfErr result (NamesHeldCall (G.may_refuse gate.entry.now) scripts.entry.now) }
+            ensures held { IfErr result
+                (NamesHeldCall (G.may_refuse gate.entry.now) scripts.entry.now) }
         { run_workers(scope, rt, board, gate, scripts, empty, room) },
     )
 }
@@ -120,11 +123,13 @@ fn collected<A: Allocator>(
     ensures lawful { IfOk result (λ finished. IsLawful config.now finished.board.log) }
     ensures calls { IfOk result (λ finished. HasScripts finished.board.log scripts.now) }
     ensures count { IfOk result (λ finished. vec_len finished.replies ≡ length scripts.now) }
-    ensures replies { IfOk result (λ finished. HasReplies finished.board.log finished.replies.items) }
+    ensures replies { IfOk result (λ finished.
+        HasReplies finished.board.log finished.replies.items) }
     ensures stranger { IfErr result (λ fault. fault ≡ RunFault.Stranger) }
 
     // It is refused only where something differs.
-    ensures same { IsCollectedFor config.now scripts.now board.config board.log replies.items → IsOk result }
+    ensures same { IsCollectedFor config.now scripts.now board.config board.log replies.items
+        → IsOk result }
 {
     if !board.config().eq(config) {
         return Err(RunFault::Stranger);

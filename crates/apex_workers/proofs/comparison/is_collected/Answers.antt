@@ -1,4 +1,3 @@
-use Rattle.std.proofs.Common.{rules}
 use Rattle.apex_workers.proofs.Counting.{complete_of, is_collected_of}
 use Rattle.apex_workers.proofs.comparison.is_collected.Goals as goal
 

@@ -1,4 +1,4 @@
-use Rattle.std.proofs.Common.{rules, ◌≡◌, ◌∙◌, ◌++◌, ◌+◌, ◌∷◌, [], IfOk, subst, sym, length, ◌<◌, vec_len, vec_capacity, arith}
+use Rattle.std.proofs.Common.{rules, ◌≡◌, ◌∙◌, ◌+◌, IfOk, subst, sym, length, ◌<◌, vec_len, vec_capacity, arith}
 use Rattle.apex_workers.specs.Places.{AreReady, IsEnoughFor}
 use Rattle.apex_workers.proofs.Ready.{ready_front, ready_last, partition_within, one_more_reply}
 use Rattle.apex_workers.proofs.workers.+run_workers.Goals as goal
