@@ -12,13 +12,13 @@ use Rattle.apex_types.specs.declared.reply.Reply.TheVariants.{NotMade, Code}
 use Rattle.apex_types.specs.declared.return_code.ReturnCode.TheVariants.{NoError, NotAvailable, InvalidParam, InvalidConfig, InvalidMode}
 use Rattle.apex_config.specs.Configuration.{Configuration, port_of, is_queuing_port}
 use Rattle.apex_config.specs.declared.port.Port.{Port}
-use Rattle.apex_board.specs.declared.history.Entry.{Entry}
-use Rattle.apex_board.specs.History.{History, entry_of}
-use Rattle.apex_board.specs.Lawful.{IsLawful, IsLawfulEntry}
-use Rattle.apex_board.specs.Modes.{mode_of, is_idle, is_accepted}
-use Rattle.apex_board.specs.Ports.{is_created, queuing_only, queuing_port, is_source, is_source_of, is_destination_of}
-use Rattle.apex_board.specs.Channels.{message_accepted, message_received, message_in, accepted_on, received_on, waiting_on}
-use Rattle.apex_board.specs.ReplyTable.{depth_of, send_reply, receive_reply, oldest_reply, reply_to}
+use Rattle.apex_ports.specs.declared.history.Entry.{Entry}
+use Rattle.apex_ports.specs.History.{History, entry_of}
+use Rattle.apex_ports.specs.Lawful.{IsLawful, IsLawfulEntry}
+use Rattle.apex_ports.specs.Modes.{mode_of, is_idle, is_accepted}
+use Rattle.apex_ports.specs.Ports.{is_created, queuing_only, queuing_port, is_source, is_source_of, is_destination_of}
+use Rattle.apex_ports.specs.Channels.{message_accepted, message_received, message_in, accepted_on, received_on, waiting_on}
+use Rattle.apex_ports.specs.ReplyTable.{depth_of, send_reply, receive_reply, oldest_reply, reply_to}
 use Rattle.apex_workers.specs.Facts.{IsConserved, IsWithinDepth}
 
 -- ---- lists of messages

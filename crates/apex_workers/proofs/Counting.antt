@@ -9,8 +9,8 @@ use Rattle.std.proofs.Math.Seq.{take-length}
 use Rattle.apex_types.specs.declared.call.Call.{Call}
 use Rattle.apex_types.specs.declared.moment.Moment.{Moment}
 use Rattle.apex_types.specs.declared.reply.Reply.{Reply}
-use Rattle.apex_board.specs.declared.history.Entry.{Entry}
-use Rattle.apex_board.specs.History.{History, entries_of}
+use Rattle.apex_ports.specs.declared.history.Entry.{Entry}
+use Rattle.apex_ports.specs.History.{History, entries_of}
 use Rattle.apex_workers.specs.Partition.{calls_of, replies_of}
 use Rattle.apex_workers.specs.Collected.{HasScripts, HasReplies, IsCollected, IsNext, IsServed, AreCounted, AreComplete}
 use Rattle.apex_workers.proofs.Lists.{slice_get_end, slice_get_before}

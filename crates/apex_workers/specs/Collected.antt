@@ -4,8 +4,8 @@ use Rattle.apex_types.specs.declared.call.Call.{Call}
 use Rattle.apex_types.specs.declared.moment.Moment.{Moment}
 use Rattle.apex_types.specs.declared.reply.Reply.{Reply}
 use Rattle.apex_config.specs.Configuration.{Configuration}
-use Rattle.apex_board.specs.declared.history.Entry.{Entry}
-use Rattle.apex_board.specs.History.{History}
+use Rattle.apex_ports.specs.declared.history.Entry.{Entry}
+use Rattle.apex_ports.specs.History.{History}
 use Rattle.apex_workers.specs.Partition.{calls_of, replies_of}
 
 -- each partition made the calls of its script, each once and in order

@@ -1,9 +1,9 @@
 -- What holds of the channels of every board.
 use Rattle.std.specs.Prelude.{ℕ, ◌≡◌, ◌≤◌, ◌++◌, length}
 use Rattle.apex_config.specs.Configuration.{Configuration}
-use Rattle.apex_board.specs.History.{History}
-use Rattle.apex_board.specs.Channels.{accepted_on, received_on, waiting_on}
-use Rattle.apex_board.specs.ReplyTable.{depth_of}
+use Rattle.apex_ports.specs.History.{History}
+use Rattle.apex_ports.specs.Channels.{accepted_on, received_on, waiting_on}
+use Rattle.apex_ports.specs.ReplyTable.{depth_of}
 
 -- on each channel the received messages followed by those that wait are the accepted ones, in order
 abbrev pub IsConserved : Configuration → History → Type 0

@@ -3,7 +3,7 @@ use Rattle.std.specs.Prelude.{ℕ, List, map}
 use Rattle.apex_types.specs.declared.call.Call.{Call}
 use Rattle.apex_types.specs.declared.moment.Moment.{Moment}
 use Rattle.apex_types.specs.declared.reply.Reply.{Reply}
-use Rattle.apex_board.specs.History.{History, entries_of}
+use Rattle.apex_ports.specs.History.{History, entries_of}
 
 -- the calls of the partition, in order, each with its moment
 abbrev pub calls_of : ℕ → History → List (Moment × Call)

@@ -4,7 +4,7 @@ ghost use Rattle.apex_workers.specs.Fault.{number_of, fault_of};
 ghost use Rattle.apex_workers.specs.declared.fault.RunFault.TheVariants as fault;
 
 use crate::shared::AskFault;
-use apex_config::OutOfMemory;
+use apex_types::OutOfMemory;
 use std::alloc::AllocError;
 use thiserror::Error;
 

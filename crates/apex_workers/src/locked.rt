@@ -15,8 +15,8 @@ pub struct LockedBoard<A: Allocator = Global> {
 }
 
 impl<A: Allocator> LockedBoard<A> {
-    ghost use Rattle.apex_board.specs.Idle.{IdleIsSilent};
-    ghost use Rattle.apex_board.specs.Lawful.{IsLawful};
+    ghost use Rattle.apex_ports.specs.Idle.{IdleIsSilent};
+    ghost use Rattle.apex_ports.specs.Lawful.{IsLawful};
     ghost use Rattle.apex_workers.specs.Facts.{IsConserved, IsWithinDepth};
 
     /// The board behind a lock that is free.
@@ -69,8 +69,8 @@ impl<A: Allocator + Send> SharedBoard for LockedBoard<A> {
     }
 }
 
-ghost use Rattle.apex_board.specs.History.{entry_of};
-ghost use Rattle.apex_board.specs.ReplyTable.{reply_to};
+ghost use Rattle.apex_ports.specs.History.{entry_of};
+ghost use Rattle.apex_ports.specs.ReplyTable.{reply_to};
 ghost use Rattle.apex_workers.specs.declared.shared.AskFault.TheVariants as fault;
 
 /// One call on the board that is lent.

@@ -1,7 +1,7 @@
 //! A run: one worker for each partition.
 ghost use Rattle.std.specs.Prelude.{◌≡◌, ◌<◌, ◌≤◌, [], length, replicate, vec_len, vec_capacity, IfOk, IfErr, IsOk};
 ghost use Rattle.std.specs.Thread.{IsSync, IsSend};
-ghost use Rattle.apex_board.specs.Lawful.{IsLawful};
+ghost use Rattle.apex_ports.specs.Lawful.{IsLawful};
 ghost use Rattle.apex_workers.specs.Collected.{HasScripts, HasReplies, IsCollectedFor};
 ghost use Rattle.apex_workers.specs.Held.{NamesHeldCall};
 ghost use Rattle.apex_workers.specs.Places.{AreReady};

@@ -2,7 +2,7 @@
 ghost use Rattle.std.specs.Prelude.{◌<◌};
 
 use crate::tests::texts::{AIR, DSP, FMS};
-use apex_board::Board;
+use apex_board::{Board, Request, Stopped, run_list};
 use apex_config::Config;
 use apex_types::{Call, Message, Moment, Name, OutOfMemory, Reply, ReturnCode, Validity};
 use std::alloc::{AllocGlobal, Allocator};
@@ -140,4 +140,19 @@ pub(crate) fn answers<A: Allocator>(
         answer(rt, board, row)?;
     }
     Ok(())
+}
+
+/// Answers the list, whose partitions the board has.
+pub(crate) fn run<A: Allocator>(
+    rt: &impl Abort,
+    board: &mut Board<A>,
+    requests: &[Request],
+) -> Result<(), Stopped> {
+    let partitions = board.config().partitions();
+    assert!(rt;
+        requests
+            .iter()
+            .all(|request| request.partition < partitions)
+    );
+    run_list(board, requests)
 }

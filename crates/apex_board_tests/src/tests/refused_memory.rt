@@ -3,10 +3,10 @@ ghost use Rattle.std.specs.Prelude.{◌<◌, length};
 
 use crate::tests::examples::{
     NO_ERROR, NOT_AVAILABLE, Row, answer, answers, ask, board_of, create_queuing, queuing_ports,
-    read, receive, received, sampling_ports, send, shown, write,
+    read, receive, received, run, sampling_ports, send, shown, write,
 };
 use crate::tests::texts::{AIR, BASE, DSP, FMS, NAV};
-use apex_board::{Board, Request, Stopped, run_list};
+use apex_board::{Board, Request};
 use apex_config::Config;
 use apex_types::Validity::Valid;
 use apex_types::{Moment, Reply};
@@ -111,21 +111,6 @@ fn requests_of(rows: &[Row], alloc: Global) -> Result<Vec<Request>, AllocError> 
         })?;
     }
     Ok(requests)
-}
-
-// The list, whose partitions the board has.
-fn run<A: Allocator>(
-    rt: &impl Abort,
-    board: &mut Board<A>,
-    requests: &[Request],
-) -> Result<(), Stopped> {
-    let partitions = board.config().partitions();
-    assert!(rt;
-        requests
-            .iter()
-            .all(|request| request.partition < partitions)
-    );
-    run_list(board, requests)
 }
 
 #[test]

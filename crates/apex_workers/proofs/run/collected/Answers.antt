@@ -1,8 +1,8 @@
 use Rattle.std.proofs.Common.{◌≡◌, List, refl, sym, ◌∙◌, subst}
 use Rattle.apex_types.specs.declared.reply.Reply.{Reply}
 use Rattle.apex_config.specs.Configuration.{Configuration}
-use Rattle.apex_board.specs.History.{History}
-use Rattle.apex_board.specs.Lawful.{IsLawful}
+use Rattle.apex_ports.specs.History.{History}
+use Rattle.apex_ports.specs.Lawful.{IsLawful}
 use Rattle.apex_workers.specs.Collected.{HasScripts, HasReplies}
 use Rattle.apex_workers.proofs.run.collected.Goals as goal
 

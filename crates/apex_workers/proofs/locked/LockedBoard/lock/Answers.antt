@@ -1,7 +1,7 @@
 use Rattle.std.proofs.Common.{subst}
 use Rattle.std.specs.Sync.Mutex.{mutex_guard_value}
 use Rattle.apex_board.specs.BoardView.{BoardView}
-use Rattle.apex_board.specs.Lawful.{IsLawful}
+use Rattle.apex_ports.specs.Lawful.{IsLawful}
 use Rattle.apex_workers.proofs.Conservation.{is_conserved, is_within_depth}
 use Rattle.apex_workers.proofs.locked.LockedBoard.lock.Goals as goal
 

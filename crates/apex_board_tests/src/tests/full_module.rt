@@ -1,0 +1,193 @@
+//! A module of 16 partitions with 32 ports each, and of 64 channels: each port is created and used.
+ghost use Rattle.std.specs.Prelude.{◌<◌};
+
+use crate::tests::examples::{
+    NO_ERROR, Row, answers, board_of, create_queuing, create_sampling, receive,
+};
+use crate::tests::many_calls::ports_answer;
+use apex_config::Config;
+use apex_ports::Ports;
+use apex_types::{Call, Message, Reply, Validity};
+use refusing::Switch;
+use std::alloc::Global;
+use std::test::Fail;
+
+/// The queuing channels, which come first; the other 32 are sampling channels.
+const QUEUING: u32 = 32;
+
+/// Which channel a port has, by its place from 0. Places 0 and 1 are the sources of two queuing channels, 2 and 3 the
+/// destinations of the next partition's two; 4 and 5 are the sources of two sampling channels, and the others
+/// destinations of 26 more.
+fn channel_at(partition: u32, place: u32) -> u32
+    requires partition { partition < 16 }
+    requires place { place < 32 }
+{
+    if is_queuing(place) {
+        (2 * partition + place) % 32
+    } else {
+        QUEUING + (2 * partition + place + 28) % 32
+    }
+}
+
+fn is_queuing(place: u32) -> bool {
+    place < 4
+}
+
+fn is_source(place: u32) -> bool {
+    matches!(place, 0 | 1 | 4 | 5)
+}
+
+fn port_text(alloc: Global, partition: u32, place: u32) -> Result<String, Fail>
+    requires partition { partition < 16 }
+    requires place { place < 32 }
+{
+    let channel = channel_at(partition, place);
+    let direction = if is_source(place) {
+        "source"
+    } else {
+        "destination"
+    };
+    let kind = if is_queuing(place) {
+        "\"queuing\""
+    } else {
+        "\"sampling\"\nrefresh = 50"
+    };
+    Ok(format!(in alloc;
+        "[[partition.port]]\nname = \"P{place}\"\ndirection = \"{direction}\"\nchannel = \"C{channel}\"\nkind = {kind}\n"
+    )?)
+}
+
+fn partition_text(alloc: Global, partition: u32) -> Result<String, Fail>
+    requires { partition < 16 }
+{
+    let mut text = format!(in alloc; "[[partition]]\nname = \"A{partition}\"\n")?;
+    for place in 0..32 {
+        let port = port_text(alloc, partition, place)?;
+        text.push_str(port.as_str())?;
+    }
+    Ok(text)
+}
+
+fn channel_text(alloc: Global, channel: u32) -> Result<String, Fail> {
+    let kind = if channel < QUEUING {
+        "\"queuing\"\ndepth = 8"
+    } else {
+        "\"sampling\""
+    };
+    Ok(format!(in alloc; "[[channel]]\nname = \"C{channel}\"\nsize = 4\nkind = {kind}\n")?)
+}
+
+fn module_text(alloc: Global) -> Result<String, Fail> {
+    let mut text = String::new(alloc);
+    for channel in 0..64 {
+        let channel = channel_text(alloc, channel)?;
+        text.push_str(channel.as_str())?;
+    }
+    for partition in 0..16 {
+        let partition = partition_text(alloc, partition)?;
+        text.push_str(partition.as_str())?;
+    }
+    Ok(text)
+}
+
+/// The creation of a port. Identifiers are counted from 1.
+fn creation(alloc: Global, partition: u32, place: u32) -> Result<Row, Fail>
+    requires { place < 32 }
+{
+    let name = format!(in alloc; "P{place}")?;
+    let direction = if is_source(place) { 0 } else { 1 };
+    let call = if is_queuing(place) {
+        create_queuing(name.as_str(), 4, 8, direction, 0)?
+    } else {
+        create_sampling(name.as_str(), 4, direction, 50)?
+    };
+    Ok((partition as usize, 1, call, Reply::Id(place + 1)))
+}
+
+/// The one message that goes through a channel: the channel's number in four bytes.
+fn message_of(channel: u32) -> Result<Message, Fail> {
+    Ok(Message::from_bytes(&channel.to_be_bytes())?)
+}
+
+/// The use of a port: its channel's message is sent or written, or received or read.
+fn usage(partition: u32, place: u32) -> Result<Row, Fail>
+    requires partition { partition < 16 }
+    requires place { place < 32 }
+{
+    let message = message_of(channel_at(partition, place))?;
+    let id = place + 1;
+    let (call, reply) = match (is_queuing(place), is_source(place)) {
+        (true, true) => (Call::SendQueuing { id, message }, NO_ERROR),
+        (true, false) => (receive(id), Reply::Received(message)),
+        (false, true) => (Call::WriteSampling { id, message }, NO_ERROR),
+        (false, false) => {
+            let validity = Validity::Valid;
+            (Call::ReadSampling { id }, Reply::Read { message, validity })
+        }
+    };
+    Ok((partition as usize, 2, call, reply))
+}
+
+/// Every port is created, then every source is used, then every destination.
+fn module_rows(alloc: Global) -> Result<Vec<Row>, Fail> {
+    let mut rows = Vec::with_capacity(alloc, 1024)?;
+    for partition in 0..16 {
+        for place in 0..32 {
+            rows.push(creation(alloc, partition, place)?)?;
+        }
+    }
+    for source in [true, false] {
+        for partition in 0..16 {
+            for place in 0..32 {
+                if is_source(place) == source {
+                    rows.push(usage(partition, place)?)?;
+                }
+            }
+        }
+    }
+    Ok(rows)
+}
+
+#[test]
+fn board_serves_full_module(rt: HostRuntime) -> Result<(), Fail> {
+    let text = module_text(rt.alloc())?;
+    let rows = module_rows(rt.alloc())?;
+    let mut board = board_of(&rt, text.as_str())?;
+    answers(&rt, &mut board, rows.as_slice())?;
+    assert_eq!(rt; board.log().len(), 1024);
+    assert!(rt; board.config().channels() == 64);
+    for c in 0..64usize {
+        let queued = if c < 32 { 1 } else { 0 };
+        assert_eq!(rt; board.accepted(c).len(), queued);
+        assert_eq!(rt; board.received(c).len(), queued);
+        assert_eq!(rt; board.waiting_count(c), 0);
+        assert_eq!(rt; board.last_sample(c).is_some(), c >= 32);
+    }
+    Ok(())
+}
+
+#[test]
+fn ports_serve_full_module(rt: HostRuntime) -> Result<(), Fail> {
+    let text = module_text(rt.alloc())?;
+    let rows = module_rows(rt.alloc())?;
+    let config = Config::read(rt.alloc(), text.as_bytes())?;
+    let switch = Switch::new(rt.alloc());
+    let mut ports = Ports::new(&switch, config)?;
+    switch.refuse_all();
+    for row in &rows {
+        ports_answer(&rt, &mut ports, row);
+    }
+    assert_eq!(rt; switch.requests(), 0);
+    assert!(rt; ports.config().partitions() == 16);
+    for p in 0..16usize {
+        assert_eq!(rt; ports.calls(p), 64);
+    }
+    assert!(rt; ports.config().channels() == 64);
+    for c in 0..64usize {
+        let queued = if c < 32 { 1 } else { 0 };
+        assert_eq!(rt; ports.accepted_count(c), queued);
+        assert_eq!(rt; ports.received_count(c), queued);
+        assert_eq!(rt; ports.last_sample(c).is_some(), c >= 32);
+    }
+    Ok(())
+}
