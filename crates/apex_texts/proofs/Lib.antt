@@ -1,3 +1,4 @@
+pub mod SearchLemmas
 pub mod TextLemmas
 pub mod NumberLemmas
 pub mod AsciiLemmas

@@ -83,5 +83,5 @@ fn line_words(line: &[u8]) -> Result<Option<(&[u8], &[u8])>, LineFault>
 fn is_ascii(line: &[u8]) -> bool
     ensures { result ≡ list_all is_ascii line.now }
 {
-    line.iter().all(|byte| *byte < 128)
+    line.is_ascii()
 }

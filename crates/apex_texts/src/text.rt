@@ -3,6 +3,8 @@ ghost use Rattle.std.specs.Prelude.{◌≡◌, ◌<◌, [], ◌∷◌, length, n
 ghost use Rattle.std.specs.Str.Lines.{lines, strip_carriage_return};
 ghost use Rattle.apex_texts.specs.Text.{is_line_feed, is_blank, words_of, number_up_to};
 
+use memchr::{memchr, memchr2};
+
 /// The first line of a text, and the text after it. A line ends with a line feed or where the text
 /// ends; one carriage return just before a line feed is dropped.
 pub fn next_line(text: &[u8]) -> Option<(&[u8], &[u8])>
@@ -23,7 +25,7 @@ pub fn next_line(text: &[u8]) -> Option<(&[u8], &[u8])>
 fn line_feed_in(text: &[u8]) -> Option<usize>
     ensures { result ≡ position is_line_feed text.now }
 {
-    text.iter().position(|byte| *byte == b'\n')
+    memchr(b'\n', text)
 }
 
 fn without_carriage_return(line: &[u8]) -> &[u8]
@@ -44,7 +46,7 @@ fn is_blank(byte: u8) -> bool
 fn blank_in(line: &[u8]) -> Option<usize>
     ensures { result ≡ position is_blank line.now }
 {
-    line.iter().position(|byte| is_blank(*byte))
+    memchr2(b' ', b'\t', line)
 }
 
 fn word_in(line: &[u8]) -> Option<usize>
