@@ -2,7 +2,7 @@
 ghost use Rattle.std.specs.Prelude.{◌<◌};
 
 use crate::tests::examples::{
-    NO_ERROR, Row, answers, board_of, create_queuing, create_sampling, receive,
+    NO_ERROR, Row, answers, board_of, create_queuing, create_sampling, read, receive,
 };
 use crate::tests::many_calls::ports_answer;
 use apex_config::Config;
@@ -109,23 +109,36 @@ fn message_of(channel: u32) -> Result<Message, Fail> {
     Ok(Message::from_bytes(&channel.to_be_bytes())?)
 }
 
+fn queuing_usage(partition: usize, id: u32, source: bool, message: Message) -> Row {
+    if source {
+        (partition, 2, Call::SendQueuing { id, message }, NO_ERROR)
+    } else {
+        (partition, 2, receive(id), Reply::Received(message))
+    }
+}
+
+fn sampling_usage(partition: usize, id: u32, source: bool, message: Message) -> Row {
+    if source {
+        return (partition, 2, Call::WriteSampling { id, message }, NO_ERROR);
+    }
+    let shown = Reply::Read {
+        message,
+        validity: Validity::Valid,
+    };
+    (partition, 2, read(id), shown)
+}
+
 /// The use of a port: its channel's message is sent or written, or received or read.
 fn usage(partition: u32, place: u32) -> Result<Row, Fail>
     requires partition { partition < 16 }
     requires place { place < 32 }
 {
     let message = message_of(channel_at(partition, place))?;
-    let id = place + 1;
-    let (call, reply) = match (is_queuing(place), is_source(place)) {
-        (true, true) => (Call::SendQueuing { id, message }, NO_ERROR),
-        (true, false) => (receive(id), Reply::Received(message)),
-        (false, true) => (Call::WriteSampling { id, message }, NO_ERROR),
-        (false, false) => {
-            let validity = Validity::Valid;
-            (Call::ReadSampling { id }, Reply::Read { message, validity })
-        }
-    };
-    Ok((partition as usize, 2, call, reply))
+    let source = is_source(place);
+    if is_queuing(place) {
+        return Ok(queuing_usage(partition as usize, place + 1, source, message));
+    }
+    Ok(sampling_usage(partition as usize, place + 1, source, message))
 }
 
 /// Every port is created, then every source is used, then every destination.
