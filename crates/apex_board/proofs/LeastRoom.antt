@@ -16,11 +16,14 @@ beside_from (Some journal) n room enough places = let fits = places journal refl
 
 beside_means : {A : Type 0} (journal : Option (Journal A)) (n room : ℕ) → n ≤ room_beside journal room → (n ≤ room) × Fits n journal
 beside_means None n room enough = (enough, λ j is. absurd (cc))
-beside_means {A} (Some journal) n room enough = (omega arith, λ j is.
-    let same : journal ≡ j = cc in
-    let within = journal.accepted.ok.1 in
-    let fits : vec_len journal.accepted + n ≤ vec_capacity journal.accepted = omega (arith, within) in
-    subst (λ (x : Journal A). vec_len x.accepted + n ≤ vec_capacity x.accepted) same fits)
+beside_means {A} (Some journal) n room enough = (
+  omega arith,
+  λ j is.
+      let same : journal ≡ j = cc in
+      let within = journal.accepted.ok.1 in
+      let fits : vec_len journal.accepted + n ≤ vec_capacity journal.accepted = omega (arith, within) in
+      subst (λ (x : Journal A). vec_len x.accepted + n ≤ vec_capacity x.accepted) same fits,
+)
 
 least_from : {A : Type 0} (journals : List (Option (Journal A))) (n room : ℕ) → n ≤ room → HasRoom n journals → n ≤ least_room journals room
 least_from [] n room enough each = enough

@@ -29,10 +29,11 @@ impl<A: Allocator> Model for Board<A> {
     ghost use Rattle.apex_board.specs.Room.{room_of, spare};
 
     ghost view = { λ board. record {
-        config = board.ports.config;
-        log = board.records.log.items;
-        room = room_of board.records;
-        log_room = spare board.records.log } };
+      config = board.ports.config;
+      log = board.records.log.items;
+      room = room_of board.records;
+      log_room = spare board.records.log;
+    } };
 
     ghost invariant = { λ board. IsBoard board.ports board.records };
 }
@@ -89,11 +90,9 @@ impl<A: Allocator> Board<A> {
         requires { partition < length self.old.config.partitions }
 
         // The reply is the reply table's, and the log gains just that entry.
-        ensures reply {
-            IfOk result (λ reply. reply ≡ reply_to self.old.config self.old.log partition at call.now) }
-        ensures entry {
-            IfOk result (λ reply.
-                self.new.log ≡ self.old.log ++ entry_of partition at call.now reply ∷ []) }
+        ensures reply { IfOk result (λ reply. reply ≡ reply_to self.old.config self.old.log partition at call.now) }
+        ensures entry { IfOk result (λ reply.
+            self.new.log ≡ self.old.log ++ entry_of partition at call.now reply ∷ []) }
         ensures config { self.new.config ≡ self.old.config }
 
         // Want of memory changes nothing but the room, and doesn't come where there is room. A call that
@@ -110,12 +109,12 @@ impl<A: Allocator> Board<A> {
 
         // One channel at most changes, none by a refused send, and a partition in IDLE stays there and sends nothing.
         ensures one_channel { ChangesOneChannel self.old.config self.old.log self.new.log }
-        ensures refused_send {
-            IfOk result (λ reply. is_send call.now ≡ true → is_code_no_error reply ≡ false →
-                SameChannels self.old.config self.old.log self.new.log) }
+        ensures refused_send { IfOk result (λ reply. is_send call.now ≡ true → is_code_no_error reply ≡ false →
+            SameChannels self.old.config self.old.log self.new.log) }
         ensures idle { StaysIdle self.old.config self.old.log self.new.log }
     {
-        self.records.make_room(self.ports.config(), partition, call)?;
+        self.records
+            .make_room(self.ports.config(), partition, call)?;
         let reply = self.ports.call(partition, at, call);
         let entry = Entry {
             partition,

@@ -36,8 +36,7 @@ impl<A: Allocator> Journal<A> {
         requires received { vec_len self.old.received ≤ vec_len self.old.accepted }
         requires places { vec_capacity self.old.accepted ≤ vec_capacity self.old.received }
         ensures ok { OnOk result (vec_len self.new.accepted + messages ≤ vec_capacity self.new.accepted) }
-        ensures succeeds {
-            vec_len self.old.accepted + messages ≤ vec_capacity self.old.accepted → IsOk result }
+        ensures succeeds { vec_len self.old.accepted + messages ≤ vec_capacity self.old.accepted → IsOk result }
         ensures accepted { self.new.accepted.items ≡ self.old.accepted.items }
         ensures received { self.new.received.items ≡ self.old.received.items }
         ensures len { vec_len self.new.accepted ≡ vec_len self.old.accepted }
@@ -74,13 +73,17 @@ pub(crate) fn new_journal<A: Allocator + Copy>(
 }
 
 /// The message that an entry put into a channel, and the channel's number.
-pub(crate) fn accepted_message<'a>(config: &Config, entry: &'a Entry) -> Option<(usize, &'a Message)>
+pub(crate) fn accepted_message<'a>(
+    config: &Config,
+    entry: &'a Entry,
+) -> Option<(usize, &'a Message)>
     ensures found { (c : ℕ) → message_accepted config.now c entry.now ≡ message_for c result }
     ensures channel { IfSome result (λ found. found.0 < length config.now.channels) }
 {
-    let (Call::SendQueuing { id, message }, Reply::Code(ReturnCode::NoError)) =
-        (&entry.call, &entry.reply)
-    else {
+    let (Call::SendQueuing { id, message }, Reply::Code(ReturnCode::NoError)) = (
+        &entry.call,
+        &entry.reply,
+    ) else {
         return None;
     };
     let port = config.port(entry.partition, *id)?;
@@ -91,7 +94,10 @@ pub(crate) fn accepted_message<'a>(config: &Config, entry: &'a Entry) -> Option<
 }
 
 /// The message that an entry took out of a channel, and the channel's number.
-pub(crate) fn received_message<'a>(config: &Config, entry: &'a Entry) -> Option<(usize, &'a Message)>
+pub(crate) fn received_message<'a>(
+    config: &Config,
+    entry: &'a Entry,
+) -> Option<(usize, &'a Message)>
     ensures found { (c : ℕ) → message_received config.now c entry.now ≡ message_for c result }
     ensures channel { IfSome result (λ found. found.0 < length config.now.channels) }
 {

@@ -72,8 +72,7 @@ impl<A: Allocator> Records<A> {
         ensures len { vec_len self.new.log ≡ vec_len self.old.log }
         ensures capacity { vec_capacity self.old.log ≤ vec_capacity self.new.log }
         ensures grows { KeepsRoom self.old.journals.items self.new.journals.items }
-        ensures succeeds {
-            vec_len self.old.log + calls ≤ vec_capacity self.old.log →
+        ensures succeeds { vec_len self.old.log + calls ≤ vec_capacity self.old.log →
             HasRoom calls self.old.journals.items → IsOk result }
     {
         self.log.reserve(calls)?;
@@ -121,8 +120,7 @@ impl<A: Allocator> Records<A> {
         ensures len { vec_len self.new.log ≡ vec_len self.old.log }
         ensures capacity { vec_capacity self.old.log ≤ vec_capacity self.new.log }
         ensures room { KeepsRoom self.old.journals.items self.new.journals.items }
-        ensures succeeds {
-            vec_len self.old.log < vec_capacity self.old.log →
+        ensures succeeds { vec_len self.old.log < vec_capacity self.old.log →
             (is_send call.now ≡ true → HasRoom 1 self.old.journals.items) → IsOk result }
     {
         self.log.reserve(1)?;
@@ -140,8 +138,7 @@ impl<A: Allocator> Records<A> {
         requires sound { IsSound config.now (self.old.log.items ++ entry ∷ []) }
         requires recorded { AreRecords config.now self.old }
         requires free { vec_len self.old.log < vec_capacity self.old.log }
-        requires place {
-            HasPlaceFor config.now entry.partition entry.call self.old.journals.items }
+        requires place { HasPlaceFor config.now entry.partition entry.call self.old.journals.items }
         ensures log { self.new.log.items ≡ self.old.log.items ++ entry ∷ [] }
         ensures recorded { AreRecords config.now self.new }
         ensures len { vec_len self.new.log ≡ vec_len self.old.log + 1 }
@@ -157,10 +154,8 @@ impl<A: Allocator> Records<A> {
     fn push_accepted(&mut self, config: &Config, entry: &Entry)
         requires sound { IsSound config.now (self.old.log.items ++ entry.now ∷ []) }
         requires recorded { AreRecords config.now self.old }
-        requires place {
-            HasPlaceFor config.now entry.now.partition entry.now.call self.old.journals.items }
-        ensures recorded {
-            let log = self.old.log.items in
+        requires place { HasPlaceFor config.now entry.now.partition entry.now.call self.old.journals.items }
+        ensures recorded { let log = self.old.log.items in
             AreJournals config.now (log ++ entry.now ∷ []) log self.new.journals.items }
         ensures log { self.new.log ≡ self.old.log }
         ensures room { KeepsAllButOne self.old.journals.items self.new.journals.items }
@@ -177,11 +172,9 @@ impl<A: Allocator> Records<A> {
     // Puts the message that an entry received into its channel's journal.
     fn push_received(&mut self, config: &Config, entry: &Entry)
         requires sound { IsSound config.now (self.old.log.items ++ entry.now ∷ []) }
-        requires recorded {
-            let log = self.old.log.items in
+        requires recorded { let log = self.old.log.items in
             AreJournals config.now (log ++ entry.now ∷ []) log self.old.journals.items }
-        ensures recorded {
-            let log = self.old.log.items ++ entry.now ∷ [] in
+        ensures recorded { let log = self.old.log.items ++ entry.now ∷ [] in
             AreJournals config.now log log self.new.journals.items }
         ensures log { self.new.log ≡ self.old.log }
         ensures room { KeepsRoom self.old.journals.items self.new.journals.items }

@@ -61,7 +61,7 @@ pub entry_pushed : (config : Configuration) (log new : History) (entry : Entry) 
     → old ≡ before ++ entry_lines config 1 log → text ≡ old ++ line_of config number entry → text ≡ before ++ entry_lines config 1 new
 entry_pushed config log new entry number before old text is grown so_far written =
     written ∙ (ap (λ front. front ++ line_of config number entry) so_far ∙ (append_assoc before (entry_lines config 1 log) (line_of config number entry)
-        ∙ ap (λ lines. before ++ lines) (sym (entry_last config 1 log entry number is) ∙ ap (entry_lines config 1) (sym grown))))
+    ∙ ap (λ lines. before ++ lines) (sym (entry_last config 1 log entry number is) ∙ ap (entry_lines config 1) (sym grown))))
 
 -- no entry yet
 pub no_entry : (config : Configuration) (log : History) (text : List ℕ) → log ≡ [] → text ≡ text ++ entry_lines config 1 log

@@ -42,12 +42,10 @@ fn push_calls(text: &mut String, ports: &mut Ports, trace: &[u8]) -> Result<(), 
     requires sound { IsSound ports.old.config ports.old.history }
     ensures config { ports.new.config ≡ ports.old.config }
     ensures served { OnOk result (IsServed ports.old.config trace.now ports.new.history) }
-    ensures written {
-        OnOk result (string_bytes text.new ≡
-            string_bytes text.old ++ entry_lines ports.old.config 1 ports.new.history) }
+    ensures written { OnOk result (string_bytes text.new ≡
+        string_bytes text.old ++ entry_lines ports.old.config 1 ports.new.history) }
     ensures short { OnOk result (length ports.new.history < 2 ^ 64) }
-    ensures refused {
-        IfErr result (λ fault. IsTraceRead (Err fault) (trace_of ports.old.config trace.now)) }
+    ensures refused { IfErr result (λ fault. IsTraceRead (Err fault) (trace_of ports.old.config trace.now)) }
 {
     let mut rest = trace;
     let mut line_number: usize = 0;
@@ -82,13 +80,11 @@ fn push_call(
     requires { request.now.partition < length ports.old.config.partitions }
     ensures config { ports.new.config ≡ ports.old.config }
     ensures sound { IsSound ports.new.config ports.new.history }
-    ensures history {
-        let entry = entry_after ports.old.config ports.old.history request.now in
+    ensures history { let entry = entry_after ports.old.config ports.old.history request.now in
         ports.new.history ≡ ports.old.history ++ entry ∷ [] }
-    ensures written {
-        let entry = entry_after ports.old.config ports.old.history request.now in
+    ensures written { let entry = entry_after ports.old.config ports.old.history request.now in
         OnOk result (string_bytes text.new ≡
-            string_bytes text.old ++ line_of ports.old.config number entry) }
+        string_bytes text.old ++ line_of ports.old.config number entry) }
 {
     let reply = ports.call(request.partition, request.at, &request.call);
     let name = ports.config().partition_name(request.partition).text();

@@ -33,9 +33,8 @@ pub fn report(alloc: Global, board: &Board) -> Result<String, OutOfMemory>
 #[tactic(auto, unfolding(crate::specs::Report::totals_of))]
 pub(crate) fn push_totals(text: &mut String, ports: &Ports) -> Result<(), AllocError>
     requires { length ports.now.history < 2 ^ 64 }
-    ensures {
-        OnOk result (string_bytes text.new ≡
-            string_bytes text.old ++ totals_of ports.now.config ports.now.history) }
+    ensures { OnOk result (string_bytes text.new ≡
+        string_bytes text.old ++ totals_of ports.now.config ports.now.history) }
 {
     push_partitions(text, ports)?;
     push_channels(text, ports)
@@ -88,9 +87,8 @@ pub(crate) fn push_entry(
     call: &Call,
     reply: &Reply,
 ) -> Result<(), AllocError>
-    ensures {
-        OnOk result (string_bytes text.new ≡
-            string_bytes text.old ++ entry_line number name.now at call.now reply.now) }
+    ensures { OnOk result (string_bytes text.new ≡
+        string_bytes text.old ++ entry_line number name.now at call.now reply.now) }
 {
     let Moment(nanoseconds) = at;
     push_number(text, number)?;
@@ -188,9 +186,8 @@ fn push_sampling_status(
 #[tactic(auto, unfolding(crate::specs::Report::partition_lines))]
 fn push_partitions(text: &mut String, ports: &Ports) -> Result<(), AllocError>
     requires { length ports.now.history < 2 ^ 64 }
-    ensures {
-        OnOk result (string_bytes text.new ≡
-            string_bytes text.old ++ partition_lines ports.now.history 0 ports.now.config.partitions) }
+    ensures { OnOk result (string_bytes text.new ≡
+        string_bytes text.old ++ partition_lines ports.now.history 0 ports.now.config.partitions) }
 {
     for p in 0..ports.config().partitions() {
         let name = ports.config().partition_name(p).text();
@@ -204,9 +201,8 @@ fn push_partitions(text: &mut String, ports: &Ports) -> Result<(), AllocError>
 fn push_partition(text: &mut String, ports: &Ports, p: usize, name: &str) -> Result<(), AllocError>
     requires partition { p < length ports.now.config.partitions }
     requires short { length ports.now.history < 2 ^ 64 }
-    ensures {
-        OnOk result (string_bytes text.new ≡
-            string_bytes text.old ++ partition_line ports.now.history p name.now) }
+    ensures { OnOk result (string_bytes text.new ≡
+        string_bytes text.old ++ partition_line ports.now.history p name.now) }
 {
     push_word(text, "partition ")?;
     push_word(text, name)?;
@@ -248,8 +244,7 @@ fn received_from(ports: &Ports, c: usize) -> u64
 #[tactic(auto, unfolding(crate::specs::Report::channel_lines))]
 fn push_channels(text: &mut String, ports: &Ports) -> Result<(), AllocError>
     requires { length ports.now.history < 2 ^ 64 }
-    ensures {
-        let lines = channel_lines ports.now.config ports.now.history 0 ports.now.config.channels in
+    ensures { let lines = channel_lines ports.now.config ports.now.history 0 ports.now.config.channels in
         OnOk result (string_bytes text.new ≡ string_bytes text.old ++ lines) }
 {
     for c in 0..ports.config().channels() {
@@ -268,8 +263,7 @@ fn push_channel(
 ) -> Result<(), AllocError>
     requires channel { c < length ports.now.config.channels }
     requires short { length ports.now.history < 2 ^ 64 }
-    ensures {
-        let line = channel_text ports.now.config ports.now.history c channel.now.name channel.now.kind in
+    ensures { let line = channel_text ports.now.config ports.now.history c channel.now.name channel.now.kind in
         OnOk result (string_bytes text.new ≡ string_bytes text.old ++ line) }
 {
     match channel.kind {
@@ -291,9 +285,8 @@ fn push_channel(
 fn push_queue(text: &mut String, ports: &Ports, c: usize) -> Result<(), AllocError>
     requires channel { c < length ports.now.config.channels }
     requires short { length ports.now.history < 2 ^ 64 }
-    ensures {
-        OnOk result (string_bytes text.new ≡
-            string_bytes text.old ++ queue_text ports.now.config c ports.now.history) }
+    ensures { OnOk result (string_bytes text.new ≡
+        string_bytes text.old ++ queue_text ports.now.config c ports.now.history) }
 {
     push_word(text, " accepted ")?;
     push_number(text, accepted_by(ports, c))?;
@@ -308,8 +301,7 @@ fn push_queue(text: &mut String, ports: &Ports, c: usize) -> Result<(), AllocErr
 #[tactic(auto, unfolding(crate::specs::Report::messages_text))]
 fn push_waiting(text: &mut String, ports: &Ports, c: usize) -> Result<(), AllocError>
     requires { c < length ports.now.config.channels }
-    ensures {
-        let waiting = waiting_on ports.now.config c ports.now.history in
+    ensures { let waiting = waiting_on ports.now.config c ports.now.history in
         OnOk result (string_bytes text.new ≡ string_bytes text.old ++ messages_text waiting) }
 {
     for place in 0..ports.waiting_count(c) {

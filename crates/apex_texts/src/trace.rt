@@ -8,8 +8,8 @@ use crate::arguments::{call_of, moment_of, name_in, word_at};
 use crate::fault::TraceFault;
 use crate::line_fault::LineFault;
 use crate::lines::{LineForm, item_of_line, read_lines};
-use apex_ports::Request;
 use apex_config::Config;
+use apex_ports::Request;
 use std::alloc::Global;
 
 /// The requests of a trace's lines, in order, or its first faulty line.
@@ -23,9 +23,8 @@ pub fn read_trace(alloc: Global, config: &Config, text: &[u8]) -> Result<Vec<Req
 /// The request of a line; none where the line has no words or is a comment.
 pub(crate) fn request_of_line(config: &Config, line: &[u8]) -> Result<Option<Request>, LineFault>
     ensures exact { result ≡ item_of_line (request_at config.now) line.now }
-    ensures known {
-        IfOk result (λ found.
-            IfSome found (λ request. request.partition < length config.now.partitions)) }
+    ensures known { IfOk result (λ found.
+        IfSome found (λ request. request.partition < length config.now.partitions)) }
 {
     item_of_line(&TraceLine { config }, line)
 }

@@ -71,8 +71,7 @@ impl<A: Allocator> Board<A> {
 
         // Never more than the depth wait, and received and waiting messages together are the accepted ones, in order.
         ensures depth { result ≤ depth_of self.now.config c }
-        ensures conserved {
-            received_on self.now.config c self.now.log ++ waiting_on self.now.config c self.now.log
+        ensures conserved { received_on self.now.config c self.now.log ++ waiting_on self.now.config c self.now.log
             ≡ accepted_on self.now.config c self.now.log }
         ensures sampling { is_queuing self.now.config c ≡ false → result ≡ 0 }
     {
@@ -116,8 +115,7 @@ impl<A: Allocator> Board<A> {
     /// What the last read of a created sampling port showed since the port's creation; INVALID for any other identifier.
     pub fn last_validity(&self, p: usize, id: u32) -> Validity
         requires { p < length self.now.config.partitions }
-        ensures {
-            let port = sampling_port self.now.config self.now.log p id in
+        ensures { let port = sampling_port self.now.config self.now.log p id in
             result ≡ validity_shown self.now.log p id port }
     {
         self.ports.last_validity(p, id)

@@ -77,6 +77,7 @@ loop-line-preserved c =
 
 pub returns-clause-served : goal.returns-clause-served
 returns-clause-served c =
-    let config = c.args.ports.now.config in
-    (ends (request_at config) (requests_of c.loop-line.ports.history) (c.loop-line.line_number + 1) (lines c.loop-line.rest.now) (trace_of config c.args.trace.now) c.in_default.ensures.line c.loop-line.invariant.read,
-    rw (← c.loop-line.invariant.config) c.loop-line.invariant.sound.lawful)
+    let config = c.args.ports.now.config in (
+      ends (request_at config) (requests_of c.loop-line.ports.history) (c.loop-line.line_number + 1) (lines c.loop-line.rest.now) (trace_of config c.args.trace.now) c.in_default.ensures.line c.loop-line.invariant.read,
+      rw (← c.loop-line.invariant.config) c.loop-line.invariant.sound.lawful,
+    )
