@@ -1,6 +1,6 @@
 -- Each request that is read has a partition of the configuration.
 use Rattle.std.proofs.Common.{◌≡◌, ℕ, ◌+◌, ◌<◌, List, [], ◌∷◌, length, Option, Some, None, Result, Ok, Err, refl, sym, subst, arith}
-use Rattle.std.specs.Prelude.{IfOk, IfSome}
+use Rattle.std.specs.Prelude.{IfOk}
 use Rattle.std.specs.Global.{Vec}
 use Rattle.std.specs.Str.{bytes_eq}
 use Rattle.std.specs.Str.Lines.{lines}
@@ -82,14 +82,9 @@ lines-known config number [] = All-nil (IsKnown config)
 lines-known config number (line ∷ rest) =
     before-known config number (item_of_line (request_at config) line) (items_from (request_at config) (number + 1) rest) (line-known config line) (lines-known config (number + 1) rest)
 
--- so has that of a line
-pub request-of-line-known : (config : Configuration) (line : List ℕ) (answer : Result (Option Request) LineFault) → answer ≡ item_of_line (request_at config) line → IfOk answer (λ found. IfSome found (λ request. request.partition < length config.partitions))
-request-of-line-known config line answer is = of_answer answer (subst (λ (read : Result (Option Request) LineFault). OfRead (IsKnownIfSome config) read) (sym is) (line-known config line))
-  where
-    of_answer : (read : Result (Option Request) LineFault) → OfRead (IsKnownIfSome config) read → IfOk read (λ found. IfSome found (λ request. request.partition < length config.partitions))
-    of_answer (Ok None) known = tt
-    of_answer (Ok (Some request)) known = known
-    of_answer (Err fault) known = tt
+-- a partition that is read is the configuration's
+pub place-known : (config : Configuration) (word : List ℕ) (place : ℕ) → Ok place ≡ partition_of config word → place < length config.partitions
+place-known config word place is = of_ok (IsPlace config) (partition_of config word) place (partition-known config word) (sym is)
 
 -- each request that a reader of a trace answered has a partition
 pub trace-known : (config : Configuration) (text : List ℕ) (answer : Result (Vec Request) TraceFault) → IsTraceRead answer (trace_of config text) → IfOk answer (λ requests. HavePartitions config requests.items)

@@ -3,6 +3,7 @@ ghost use Rattle.std.specs.Prelude.{◌≡◌, Some};
 ghost use Rattle.apex_texts.specs.declared.fault.TraceFault.TheVariants as trace;
 ghost use Rattle.apex_texts.specs.declared.fault.Fault.TheVariants as fault;
 ghost use Rattle.apex_texts.specs.Replay.{config_fault, trace_fault};
+ghost use Rattle.apex_texts.specs.LineFault.{number_of};
 ghost use Rattle.apex_texts.specs.FaultLine.{config_words, trace_line, fault_line};
 
 use crate::line_fault::LineFault;
@@ -19,6 +20,18 @@ pub enum TraceFault {
     Line { line: usize, fault: u32 },
     /// A growth of memory was refused.
     OutOfMemory,
+}
+
+impl TraceFault {
+    /// The fault of a line, which is numbered from 1.
+    pub(crate) fn at(line: usize, fault: LineFault) -> TraceFault
+        ensures { result ≡ TraceFault.Line line (number_of fault) }
+    {
+        TraceFault::Line {
+            line,
+            fault: fault.number(),
+        }
+    }
 }
 
 impl fmt::Display for TraceFault {

@@ -6,9 +6,10 @@ ghost use Rattle.apex_texts.specs.Report.{line_of, entry_lines};
 ghost use Rattle.apex_texts.specs.Trace.{IsTraceRead, trace_of};
 
 use crate::fault::{Fault, TraceFault};
+use crate::lines::line_words;
 use crate::report_text::{push_entry, push_totals};
 use crate::text::next_line;
-use crate::trace::request_of_line;
+use crate::trace::request_at;
 use apex_config::Config;
 use apex_ports::{Ports, Request};
 use std::alloc::{AllocError, Global};
@@ -52,18 +53,16 @@ fn push_calls(text: &mut String, ports: &mut Ports, trace: &[u8]) -> Result<(), 
     let mut number: u64 = 0;
     while let Some((line, after)) = next_line(rest) {
         line_number += 1;
-        match request_of_line(ports.config(), line) {
-            Ok(Some(request)) => {
-                number += 1;
-                push_call(text, ports, number, &request)?;
-            }
+        match line_words(line) {
+            Ok(Some((first, words))) => match request_at(ports.config(), first, words) {
+                Ok(request) => {
+                    number += 1;
+                    push_call(text, ports, number, &request)?;
+                }
+                Err(fault) => return Err(TraceFault::at(line_number, fault)),
+            },
             Ok(None) => {}
-            Err(fault) => {
-                return Err(TraceFault::Line {
-                    line: line_number,
-                    fault: fault.number(),
-                });
-            }
+            Err(fault) => return Err(TraceFault::at(line_number, fault)),
         }
         rest = after;
     }

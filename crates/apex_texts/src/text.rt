@@ -3,7 +3,7 @@ ghost use Rattle.std.specs.Prelude.{◌≡◌, ◌<◌, [], ◌∷◌, length, n
 ghost use Rattle.std.specs.Str.Lines.{lines, strip_carriage_return};
 ghost use Rattle.apex_texts.specs.Text.{is_line_feed, is_blank, words_of, number_up_to};
 
-use memchr::memchr;
+use memchr::{memchr, memchr2};
 
 /// The first line of a text, and the text after it. A line ends with a line feed or where the text
 /// ends; one carriage return just before a line feed is dropped.
@@ -46,7 +46,7 @@ fn is_blank(byte: u8) -> bool
 fn blank_in(line: &[u8]) -> Option<usize>
     ensures { result ≡ position is_blank line.now }
 {
-    line.iter().position(|byte| is_blank(*byte))
+    memchr2(b' ', b'\t', line)
 }
 
 fn word_in(line: &[u8]) -> Option<usize>

@@ -1,13 +1,12 @@
 //! Reading a trace: the requests of its lines, or its first faulty line.
-ghost use Rattle.std.specs.Prelude.{◌≡◌, ◌<◌, length, IfOk, IfSome};
-ghost use Rattle.apex_texts.specs.Lines.{item_of_line};
+ghost use Rattle.std.specs.Prelude.{◌≡◌, ◌<◌, length, IfOk};
 ghost use Rattle.apex_texts.specs.Text.{words_of};
 ghost use Rattle.apex_texts.specs.Trace.{IsTraceRead, HavePartitions, partition_of, request_at, trace_of};
 
 use crate::arguments::{call_of, moment_of, name_in, word_at};
 use crate::fault::TraceFault;
 use crate::line_fault::LineFault;
-use crate::lines::{LineForm, item_of_line, read_lines};
+use crate::lines::{LineForm, read_lines};
 use apex_config::Config;
 use apex_ports::Request;
 use std::alloc::Global;
@@ -18,15 +17,6 @@ pub fn read_trace(alloc: Global, config: &Config, text: &[u8]) -> Result<Vec<Req
     ensures known { IfOk result (λ requests. HavePartitions config.now requests.items) }
 {
     read_lines(alloc, &TraceLine { config }, text)
-}
-
-/// The request of a line; none where the line has no words or is a comment.
-pub(crate) fn request_of_line(config: &Config, line: &[u8]) -> Result<Option<Request>, LineFault>
-    ensures exact { result ≡ item_of_line (request_at config.now) line.now }
-    ensures known { IfOk result (λ found.
-        IfSome found (λ request. request.partition < length config.now.partitions)) }
-{
-    item_of_line(&TraceLine { config }, line)
 }
 
 /// `MOMENT PARTITION CALL ARGUMENTS`.
@@ -47,8 +37,13 @@ impl LineForm for TraceLine<'_> {
 
 /// The request of a moment and the words after it.
 #[tactic(auto, unfolding(crate::specs::Trace::request_at))]
-fn request_at(config: &Config, moment: &[u8], words: &[u8]) -> Result<Request, LineFault>
-    ensures { result ≡ request_at config.now moment.now (words_of words.now) }
+pub(crate) fn request_at(
+    config: &Config,
+    moment: &[u8],
+    words: &[u8],
+) -> Result<Request, LineFault>
+    ensures exact { result ≡ request_at config.now moment.now (words_of words.now) }
+    ensures known { IfOk result (λ request. request.partition < length config.now.partitions) }
 {
     let (partition, words) = word_at(words)?;
     let (call, words) = word_at(words)?;

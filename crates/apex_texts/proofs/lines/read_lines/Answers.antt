@@ -7,7 +7,7 @@ use Rattle.apex_texts.proofs.lines.read_lines.Goals as goal
 pub returns-in-Err : goal.returns-in-Err
 returns-in-Err g c =
     let item_at = g.F.LineForm.item_at c.args.form.now in
-    rw c.number.ensures (refuses item_at c.loop-line.items.items (c.loop-line.number + 1) (lines c.loop-line.rest.now) c.in-Some.line.now (lines c.in-Some.after.now) c.in-Err.fault
+    rw c.at.ensures (refuses item_at c.loop-line.items.items (c.loop-line.number + 1) (lines c.loop-line.rest.now) c.in-Some.line.now (lines c.in-Some.after.now) c.in-Err.fault
     (items_of item_at c.args.text.now) c.in-Some.ensures.line (sym c.item_of_line.ensures ∙ c.in-Err.is) c.loop-line.invariant.read)
 
 pub loop-line-preserved-in_ok-push-in-Ok-Some : goal.loop-line-preserved-in_ok-push-in-Ok-Some
