@@ -90,7 +90,8 @@ impl<A: Allocator> Board<A> {
         requires { partition < length self.old.config.partitions }
 
         // The reply is the reply table's, and the log gains just that entry.
-        ensures reply { IfOk result (λ reply. reply ≡ reply_to self.old.config self.old.log partition at call.now) }
+        ensures reply { IfOk result
+            (λ reply. reply ≡ reply_to self.old.config self.old.log partition at call.now) }
         ensures entry { IfOk result (λ reply.
             self.new.log ≡ self.old.log ++ entry_of partition at call.now reply ∷ []) }
         ensures config { self.new.config ≡ self.old.config }
@@ -109,7 +110,8 @@ impl<A: Allocator> Board<A> {
 
         // One channel at most changes, none by a refused send, and a partition in IDLE stays there and sends nothing.
         ensures one_channel { ChangesOneChannel self.old.config self.old.log self.new.log }
-        ensures refused_send { IfOk result (λ reply. is_send call.now ≡ true → is_code_no_error reply ≡ false →
+        ensures refused_send { IfOk result
+            (λ reply. is_send call.now ≡ true → is_code_no_error reply ≡ false →
             SameChannels self.old.config self.old.log self.new.log) }
         ensures idle { StaysIdle self.old.config self.old.log self.new.log }
     {

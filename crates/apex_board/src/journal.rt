@@ -35,8 +35,10 @@ impl<A: Allocator> Journal<A> {
     pub(crate) fn make_room(&mut self, messages: usize) -> Result<(), AllocError>
         requires received { vec_len self.old.received ≤ vec_len self.old.accepted }
         requires places { vec_capacity self.old.accepted ≤ vec_capacity self.old.received }
-        ensures ok { OnOk result (vec_len self.new.accepted + messages ≤ vec_capacity self.new.accepted) }
-        ensures succeeds { vec_len self.old.accepted + messages ≤ vec_capacity self.old.accepted → IsOk result }
+        ensures ok { OnOk result
+            (vec_len self.new.accepted + messages ≤ vec_capacity self.new.accepted) }
+        ensures succeeds { vec_len self.old.accepted + messages ≤ vec_capacity self.old.accepted →
+            IsOk result }
         ensures accepted { self.new.accepted.items ≡ self.old.accepted.items }
         ensures received { self.new.received.items ≡ self.old.received.items }
         ensures len { vec_len self.new.accepted ≡ vec_len self.old.accepted }

@@ -116,7 +116,8 @@ impl<A: Allocator> Records<A> {
         ensures log { self.new.log.items ≡ self.old.log.items }
         ensures recorded { AreRecords config.now self.new }
         ensures entry { OnOk result (vec_len self.new.log < vec_capacity self.new.log) }
-        ensures place { OnOk result (HasPlaceFor config.now partition call.now self.new.journals.items) }
+        ensures place { OnOk result
+            (HasPlaceFor config.now partition call.now self.new.journals.items) }
         ensures len { vec_len self.new.log ≡ vec_len self.old.log }
         ensures capacity { vec_capacity self.old.log ≤ vec_capacity self.new.log }
         ensures room { KeepsRoom self.old.journals.items self.new.journals.items }
@@ -154,7 +155,8 @@ impl<A: Allocator> Records<A> {
     fn push_accepted(&mut self, config: &Config, entry: &Entry)
         requires sound { IsSound config.now (self.old.log.items ++ entry.now ∷ []) }
         requires recorded { AreRecords config.now self.old }
-        requires place { HasPlaceFor config.now entry.now.partition entry.now.call self.old.journals.items }
+        requires place { HasPlaceFor config.now entry.now.partition entry.now.call
+            self.old.journals.items }
         ensures recorded { let log = self.old.log.items in
             AreJournals config.now (log ++ entry.now ∷ []) log self.new.journals.items }
         ensures log { self.new.log ≡ self.old.log }

@@ -18,11 +18,14 @@ pub struct Stopped {
 
 /// Answers the requests in order.
 pub fn run_list<A: Allocator>(board: &mut Board<A>, requests: &[Request]) -> Result<(), Stopped>
-    requires { All (λ request. request.partition < length board.old.config.partitions) requests.now }
+    requires { All
+        (λ request. request.partition < length board.old.config.partitions) requests.now }
 
     // The log is the one lawful history of the old requests followed by those that were applied.
-    ensures all { OnOk result (Answers board.new.config (requests_of board.old.log ++ requests.now) board.new.log) }
-    ensures stopped { IfErr result (λ stop. Answers board.new.config (requests_of board.old.log ++ take stop.done requests.now) board.new.log) }
+    ensures all { OnOk result (Answers board.new.config (requests_of board.old.log
+        ++ requests.now) board.new.log) }
+    ensures stopped { IfErr result (λ stop. Answers board.new.config (requests_of board.old.log
+        ++ take stop.done requests.now) board.new.log) }
     ensures within { IfErr result (λ stop. stop.done < length requests.now) }
     ensures config { board.new.config ≡ board.old.config }
 

@@ -67,7 +67,8 @@ fn new_partitions<A: Allocator + Copy>(
 
 fn new_ports<A: Allocator>(alloc: A, count: usize) -> Result<Vec<PortState, A>, AllocError>
     ensures count { IfOk result (λ ports. length ports.items ≡ count) }
-    ensures created { IfOk result (λ ports. (id : ℕ) → created_in (state_at ports.items id) ≡ false) }
+    ensures created { IfOk result (λ ports. (id : ℕ) →
+        created_in (state_at ports.items id) ≡ false) }
     ensures last { IfOk result (λ ports. (id : ℕ) → last_in (state_at ports.items id) ≡ Invalid) }
 {
     let mut ports = Vec::with_capacity(alloc, count)?;

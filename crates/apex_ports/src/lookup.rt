@@ -15,10 +15,13 @@ impl<A: Allocator> State<A> {
     fn created_port<'a>(&self, config: &'a Config, partition: usize, id: u32) -> Option<&'a Port>
         requires partition { partition < length config.now.partitions }
         requires kept { IsKept config.now self.now.history self.now }
-        ensures port { option_copied result ≡ created_port config.now self.now.history partition id }
-        ensures configured { IfSome result (λ port. port_of config.now partition id ≡ Some port.now) }
+        ensures port { option_copied result
+            ≡ created_port config.now self.now.history partition id }
+        ensures configured { IfSome result
+            (λ port. port_of config.now partition id ≡ Some port.now) }
         ensures linked { IfSome result (λ port. port.now.channel < length config.now.channels) }
-        ensures kind { IfSome result (λ port. is_queuing config.now port.now.channel ≡ is_queuing_port port.now.kind) }
+        ensures kind { IfSome result
+            (λ port. is_queuing config.now port.now.channel ≡ is_queuing_port port.now.kind) }
     {
         if self.partitions[partition].is_created(id) {
             config.port(partition, id)
@@ -36,9 +39,12 @@ impl<A: Allocator> State<A> {
     ) -> Option<&'a Port>
         requires partition { partition < length config.now.partitions }
         requires kept { IsKept config.now self.now.history self.now }
-        ensures port { option_copied result ≡ queuing_port config.now self.now.history partition id }
-        ensures configured { IfSome result (λ port. port_of config.now partition id ≡ Some port.now) }
-        ensures queuing { IfSome result (λ port. queuing_only (port_of config.now partition id) ≡ Some port.now) }
+        ensures port { option_copied result
+            ≡ queuing_port config.now self.now.history partition id }
+        ensures configured { IfSome result
+            (λ port. port_of config.now partition id ≡ Some port.now) }
+        ensures queuing { IfSome result
+            (λ port. queuing_only (port_of config.now partition id) ≡ Some port.now) }
         ensures kind { IfSome result (λ port. is_queuing config.now port.now.channel ≡ true) }
         ensures linked { IfSome result (λ port. port.now.channel < length config.now.channels) }
     {
@@ -58,9 +64,11 @@ impl<A: Allocator> State<A> {
     ) -> Option<&'a Port>
         requires partition { partition < length config.now.partitions }
         requires kept { IsKept config.now self.now.history self.now }
-        ensures port { option_copied result ≡ sampling_port config.now self.now.history partition id }
+        ensures port { option_copied result
+            ≡ sampling_port config.now self.now.history partition id }
         ensures kind { IfSome result (λ port. is_queuing config.now port.now.channel ≡ false) }
-        ensures configured { IfSome result (λ port. port_of config.now partition id ≡ Some port.now) }
+        ensures configured { IfSome result
+            (λ port. port_of config.now partition id ≡ Some port.now) }
         ensures linked { IfSome result (λ port. port.now.channel < length config.now.channels) }
     {
         let port = self.created_port(config, partition, id)?;

@@ -21,7 +21,8 @@ impl<A: Allocator> State<A> {
     pub(crate) fn set_mode(&mut self, config: &Config, partition: usize, number: u32) -> Reply
         requires partition { partition < length config.now.partitions }
         requires kept { IsKept config.now self.old.history self.old }
-        ensures reply { result ≡ set_mode_reply (mode_of partition self.old.history) (mode_numbered number) }
+        ensures reply { result
+            ≡ set_mode_reply (mode_of partition self.old.history) (mode_numbered number) }
         ensures kept { (at : Moment) →
             let entry = entry_of partition at (call.SetMode number) result in
             IsKeptWith config.now self.old entry self.new }
@@ -40,7 +41,8 @@ impl<A: Allocator> State<A> {
 // The mode that a partition in the present mode changes to, or the code that refuses the change.
 fn mode_change(present: Mode, number: u32) -> Result<Mode, ReturnCode>
     ensures mode { IfOk result (λ mode. mode_numbered number ≡ Some mode) }
-    ensures decided { Decides (set_mode_reply present (mode_numbered number)) (λ _. Code NoError) result }
+    ensures decided { Decides (set_mode_reply present (mode_numbered number))
+        (λ _. Code NoError) result }
 {
     let Some(mode) = Mode::from_number(number) else {
         return Err(ReturnCode::InvalidParam);

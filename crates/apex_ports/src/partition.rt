@@ -56,7 +56,8 @@ impl<A: Allocator> PartitionState<A> {
     pub(crate) fn set_port(&mut self, id: u32, port: PortState)
         requires first { 0 < id }
         requires last { id ≤ length self.old.ports.items }
-        ensures ports { (other : ℕ) → state_at self.new.ports.items other ≡ (if other == id then Some port else state_at self.old.ports.items other) }
+        ensures ports { (other : ℕ) → state_at self.new.ports.items other
+            ≡ (if other == id then Some port else state_at self.old.ports.items other) }
         ensures count { length self.new.ports.items ≡ length self.old.ports.items }
         ensures mode { self.new.mode ≡ self.old.mode }
     {
@@ -67,9 +68,13 @@ impl<A: Allocator> PartitionState<A> {
     pub(crate) fn set_mode(&mut self, mode: Mode)
         ensures mode { self.new.mode ≡ mode }
         ensures count { length self.new.ports.items ≡ length self.old.ports.items }
-        ensures restart { (id : ℕ) → is_start mode ≡ true → created_in (state_at self.new.ports.items id) ≡ false }
-        ensures stay { (id : ℕ) → is_start mode ≡ false → created_in (state_at self.new.ports.items id) ≡ created_in (state_at self.old.ports.items id) }
-        ensures last { (id : ℕ) → last_in (state_at self.new.ports.items id) ≡ last_in (state_at self.old.ports.items id) }
+        ensures restart { (id : ℕ) → is_start mode ≡ true →
+            created_in (state_at self.new.ports.items id) ≡ false }
+        ensures stay { (id : ℕ) → is_start mode ≡ false →
+            created_in (state_at self.new.ports.items id)
+            ≡ created_in (state_at self.old.ports.items id) }
+        ensures last { (id : ℕ) → last_in (state_at self.new.ports.items id)
+            ≡ last_in (state_at self.old.ports.items id) }
     {
         self.mode = mode;
         match mode {

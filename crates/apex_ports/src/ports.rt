@@ -65,7 +65,8 @@ impl<A: Allocator> Ports<A> {
 
         // The reply is the reply table's, and the history gains just that entry.
         ensures reply { result ≡ reply_to self.old.config self.old.history partition at call.now }
-        ensures entry { self.new.history ≡ self.old.history ++ entry_of partition at call.now result ∷ [] }
+        ensures entry { self.new.history ≡ self.old.history
+            ++ entry_of partition at call.now result ∷ [] }
         ensures config { self.new.config ≡ self.old.config }
         ensures sound { IsSound self.new.config self.new.history }
     {

@@ -33,8 +33,10 @@ impl<A: Allocator> State<A> {
         ensures decided { let port = queuing_port config.now self.now.history partition id in
             Decides (send_reply config.now self.now.history port message.now) (λ _. Code NoError) result }
         ensures channel { IfOk result (λ channel. channel < length config.now.channels) }
-        ensures source { IfOk result (λ channel. is_source_of channel (port_of config.now partition id) ≡ true) }
-        ensures place { IfOk result (λ c. length (waiting_on config.now c self.now.history) < depth_of config.now c) }
+        ensures source { IfOk result
+            (λ channel. is_source_of channel (port_of config.now partition id) ≡ true) }
+        ensures place { IfOk result
+            (λ c. length (waiting_on config.now c self.now.history) < depth_of config.now c) }
     {
         let Some(port) = self.queuing_port(config, partition, id) else {
             return Err(ReturnCode::InvalidParam);
@@ -69,7 +71,8 @@ impl<A: Allocator> State<A> {
             Decides (receive_reply config.now self.now.history port)
             (λ c. oldest_reply (waiting_on config.now c self.now.history)) result }
         ensures channel { IfOk result (λ channel. channel < length config.now.channels) }
-        ensures destination { IfOk result (λ channel. is_destination_of channel (port_of config.now partition id) ≡ true) }
+        ensures destination { IfOk result
+            (λ channel. is_destination_of channel (port_of config.now partition id) ≡ true) }
         ensures some { IfOk result (λ c. 0 < length (waiting_on config.now c self.now.history)) }
     {
         let Some(port) = self.queuing_port(config, partition, id) else {

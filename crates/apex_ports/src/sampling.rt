@@ -33,7 +33,8 @@ impl<A: Allocator> State<A> {
         ensures decided { let port = sampling_port config.now self.now.history partition id in
             Decides (write_reply config.now port message.now) (λ _. Code NoError) result }
         ensures channel { IfOk result (λ channel. channel < length config.now.channels) }
-        ensures source { IfOk result (λ channel. is_source_of channel (port_of config.now partition id) ≡ true) }
+        ensures source { IfOk result
+            (λ channel. is_source_of channel (port_of config.now partition id) ≡ true) }
         ensures kind { IfOk result (λ channel. is_queuing config.now channel ≡ false) }
     {
         let Some(port) = self.sampling_port(config, partition, id) else {
@@ -94,7 +95,8 @@ impl<A: Allocator> State<A> {
         requires kept { IsKept config.now self.old.history self.old }
         ensures reply { let port = sampling_port config.now self.old.history partition id in
             result ≡ write_reply config.now port message.now }
-        ensures kept { let entry = entry_of partition at (call.WriteSampling id message.now) result in
+        ensures kept { let asking = call.WriteSampling id message.now in
+            let entry = entry_of partition at asking result in
             IsKeptWith config.now self.old entry self.new }
         ensures history { self.new.history ≡ self.old.history }
     {

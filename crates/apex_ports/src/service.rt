@@ -25,7 +25,8 @@ impl<A: Allocator> State<A> {
         requires sound { IsSound config.now self.old.history }
         requires kept { IsKept config.now self.old.history self.old }
         ensures reply { result ≡ reply_to config.now self.old.history partition at call.now }
-        ensures kept { IsKeptWith config.now self.old (entry_of partition at call.now result) self.new }
+        ensures kept { let entry = entry_of partition at call.now result in
+            IsKeptWith config.now self.old entry self.new }
         ensures history { self.new.history ≡ self.old.history }
     {
         if is_idle(self.partitions[partition].mode) {
@@ -40,7 +41,8 @@ impl<A: Allocator> State<A> {
         requires sound { IsSound config.now self.old.history }
         requires kept { IsKept config.now self.old.history self.old }
         ensures reply { result ≡ service_reply config.now self.old.history partition at call.now }
-        ensures kept { IsKeptWith config.now self.old (entry_of partition at call.now result) self.new }
+        ensures kept { let entry = entry_of partition at call.now result in
+            IsKeptWith config.now self.old entry self.new }
         ensures history { self.new.history ≡ self.old.history }
     {
         match call {

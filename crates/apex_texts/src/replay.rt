@@ -46,7 +46,8 @@ fn push_calls(text: &mut String, ports: &mut Ports, trace: &[u8]) -> Result<(), 
     ensures written { OnOk result (string_bytes text.new ≡
         string_bytes text.old ++ entry_lines ports.old.config 1 ports.new.history) }
     ensures short { OnOk result (length ports.new.history < 2 ^ 64) }
-    ensures refused { IfErr result (λ fault. IsTraceRead (Err fault) (trace_of ports.old.config trace.now)) }
+    ensures refused { IfErr result
+        (λ fault. IsTraceRead (Err fault) (trace_of ports.old.config trace.now)) }
 {
     let mut rest = trace;
     let mut line_number: usize = 0;

@@ -244,7 +244,8 @@ fn received_from(ports: &Ports, c: usize) -> u64
 #[tactic(auto, unfolding(crate::specs::Report::channel_lines))]
 fn push_channels(text: &mut String, ports: &Ports) -> Result<(), AllocError>
     requires { length ports.now.history < 2 ^ 64 }
-    ensures { let lines = channel_lines ports.now.config ports.now.history 0 ports.now.config.channels in
+    ensures { let config = ports.now.config in
+        let lines = channel_lines config ports.now.history 0 config.channels in
         OnOk result (string_bytes text.new ≡ string_bytes text.old ++ lines) }
 {
     for c in 0..ports.config().channels() {
@@ -263,7 +264,8 @@ fn push_channel(
 ) -> Result<(), AllocError>
     requires channel { c < length ports.now.config.channels }
     requires short { length ports.now.history < 2 ^ 64 }
-    ensures { let line = channel_text ports.now.config ports.now.history c channel.now.name channel.now.kind in
+    ensures { let found = channel.now in
+        let line = channel_text ports.now.config ports.now.history c found.name found.kind in
         OnOk result (string_bytes text.new ≡ string_bytes text.old ++ line) }
 {
     match channel.kind {

@@ -37,11 +37,7 @@ impl LineForm for TraceLine<'_> {
 
 /// The request of a moment and the words after it.
 #[tactic(auto, unfolding(crate::specs::Trace::request_at))]
-pub(crate) fn request_at(
-    config: &Config,
-    moment: &[u8],
-    words: &[u8],
-) -> Result<Request, LineFault>
+pub(crate) fn request_at(config: &Config, moment: &[u8], words: &[u8]) -> Result<Request, LineFault>
     ensures exact { result ≡ request_at config.now moment.now (words_of words.now) }
     ensures known { IfOk result (λ request. request.partition < length config.now.partitions) }
 {

@@ -71,7 +71,8 @@ impl<A: Allocator> Board<A> {
 
         // Never more than the depth wait, and received and waiting messages together are the accepted ones, in order.
         ensures depth { result ≤ depth_of self.now.config c }
-        ensures conserved { received_on self.now.config c self.now.log ++ waiting_on self.now.config c self.now.log
+        ensures conserved { received_on self.now.config c self.now.log
+            ++ waiting_on self.now.config c self.now.log
             ≡ accepted_on self.now.config c self.now.log }
         ensures sampling { is_queuing self.now.config c ≡ false → result ≡ 0 }
     {
@@ -81,7 +82,8 @@ impl<A: Allocator> Board<A> {
     /// The message at place `i` of those that wait on channel `c`; place 0 has the oldest.
     pub fn waiting(&self, c: usize, i: usize) -> Option<&Message>
         requires { c < length self.now.config.channels }
-        ensures message { option_copied result ≡ slice_get (waiting_on self.now.config c self.now.log) i }
+        ensures message { option_copied result
+            ≡ slice_get (waiting_on self.now.config c self.now.log) i }
         ensures sampling { is_queuing self.now.config c ≡ false → result ≡ None }
     {
         self.ports.waiting(c, i)

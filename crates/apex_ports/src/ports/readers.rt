@@ -96,7 +96,8 @@ impl<A: Allocator> Ports<A> {
     /// The message at place `i` of those that wait on channel `c`; place 0 has the oldest.
     pub fn waiting(&self, c: usize, i: usize) -> Option<&Message>
         requires { c < length self.now.config.channels }
-        ensures message { option_copied result ≡ slice_get (waiting_on self.now.config c self.now.history) i }
+        ensures message { option_copied result
+            ≡ slice_get (waiting_on self.now.config c self.now.history) i }
         ensures sampling { is_queuing self.now.config c ≡ false → result ≡ None }
     {
         self.state.channels[c].waiting(i)
