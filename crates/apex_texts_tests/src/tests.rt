@@ -2,6 +2,7 @@
 mod caller;
 mod creation;
 mod lines;
+mod long_trace;
 mod queuing;
 mod sampling;
 mod scripts;

@@ -1,7 +1,8 @@
 //! The printed words of every fault.
 use apex_board::Stopped;
-use apex_config::{ConfigFault, OutOfMemory};
+use apex_config::ConfigFault;
 use apex_texts::{Fault, LineFault, TraceFault};
+use apex_types::OutOfMemory;
 use std::test::Fail;
 
 /// The numbers of a line's faults, the faults and their words.
