@@ -15,7 +15,7 @@ use Rattle.apex_config.specs.declared.port.Port.{Port}
 use Rattle.apex_ports.specs.declared.history.Entry.{Entry}
 use Rattle.apex_ports.specs.History.{History, entry_of}
 use Rattle.apex_ports.specs.Lawful.{IsLawful, IsLawfulEntry}
-use Rattle.apex_ports.specs.Modes.{mode_of, is_idle, is_accepted}
+use Rattle.apex_ports.specs.Modes.{mode_of, is_idle, is_code_no_error}
 use Rattle.apex_ports.specs.Ports.{is_created, queuing_only, queuing_port, is_source, is_source_of, is_destination_of}
 use Rattle.apex_ports.specs.Channels.{message_accepted, message_received, message_in, accepted_on, received_on, waiting_on}
 use Rattle.apex_ports.specs.ReplyTable.{depth_of, send_reply, receive_reply, oldest_reply, reply_to}
@@ -80,7 +80,7 @@ is_configured false configured port h = absurd cc
 
 -- the last test of a send that was accepted
 last_test : (empty long wrong full : Bool)
-    → is_accepted (if empty then Code InvalidParam else if long then Code InvalidConfig else if wrong then Code InvalidMode else if full then Code NotAvailable else Code NoError) ≡ true
+    → is_code_no_error (if empty then Code InvalidParam else if long then Code InvalidConfig else if wrong then Code InvalidMode else if full then Code NotAvailable else Code NoError) ≡ true
     → full ≡ false
 last_test true long wrong full h = absurd cc
 last_test false true wrong full h = absurd cc
@@ -90,7 +90,7 @@ last_test false false false false h = refl
 
 -- an accepted send found a place
 send_finds_place : (config : Configuration) (h : History) (c p id : ℕ) (m : List ℕ) (idle : Bool) (port : Option Port)
-    → queuing_port config h p id ≡ port → is_accepted (if idle then NotMade else send_reply config h port m) ≡ true
+    → queuing_port config h p id ≡ port → is_code_no_error (if idle then NotMade else send_reply config h port m) ≡ true
     → is_source_of c (port_of config p id) ≡ true → length (waiting_on config c h) ≢ depth_of config c
 send_finds_place config h c p id m true port is accepted source = absurd cc
 send_finds_place config h c p id m false None is accepted source = absurd cc
@@ -148,14 +148,14 @@ step : (config : Configuration) (h : History) (c p : ℕ) (at : Moment) (call : 
 step config h c p at (SendQueuing id n) reply is leaves =
     leaves_more _ _ _ (message_accepted config c (entry_of p at (SendQueuing id n) reply)) None
     (λ m sent.
-    let both = chosen (is_accepted reply) (is_source_of c (port_of config p id)) n m sent in
-    let accepted : is_accepted (reply_to config h p at (SendQueuing id n)) ≡ true = ap is_accepted (sym is) ∙ both.0 in
+    let both = chosen (is_code_no_error reply) (is_source_of c (port_of config p id)) n m sent in
+    let accepted : is_code_no_error (reply_to config h p at (SendQueuing id n)) ≡ true = ap is_code_no_error (sym is) ∙ both.0 in
     (send_finds_place config h c p id n (is_idle (mode_of p h)) (queuing_port config h p id) refl accepted both.1, refl))
     (λ m taken. absurd cc)
     leaves
 step config h c p at (ReceiveQueuing id) reply is leaves =
     leaves_more _ _ _ (message_accepted config c (entry_of p at (ReceiveQueuing id) reply)) (message_received config c (entry_of p at (ReceiveQueuing id) reply))
-    (λ m sent. absurd (neither (is_accepted reply) m sent))
+    (λ m sent. absurd (neither (is_code_no_error reply) m sent))
     (λ m taken.
     let both = one_of (is_destination_of c (port_of config p id)) (message_in reply) m taken in
     let received : message_in (reply_to config h p at (ReceiveQueuing id)) ≡ Some m = ap message_in (sym is) ∙ both.1 in
@@ -163,7 +163,7 @@ step config h c p at (ReceiveQueuing id) reply is leaves =
     leaves
 step config h c p at call reply is leaves =
     leaves_more _ _ _ (message_accepted config c (entry_of p at call reply)) (message_received config c (entry_of p at call reply))
-    (λ m sent. absurd (neither (is_accepted reply) m sent)) (λ m taken. absurd cc) leaves
+    (λ m sent. absurd (neither (is_code_no_error reply) m sent)) (λ m taken. absurd cc) leaves
 
 -- ---- whole histories
 
