@@ -1,5 +1,0 @@
-pub mod Conservation
-pub mod Counting
-pub mod Equal
-pub mod Lists
-pub mod Ready
