@@ -16,6 +16,7 @@
 #include <stdio.h>
 #include <stdlib.h>
 #include <string.h>
+#include <sys/syscall.h>
 #include <unistd.h>
 
 extern void *__libc_malloc(size_t size);
@@ -54,6 +55,9 @@ static int is_refused(void) {
 }
 
 __attribute__((destructor)) static void report(void) {
+    if (!is_counting) {
+        return;
+    }
     is_counting = 0;
     const char *path = getenv("REFUSE_REPORT");
     if (path == NULL) {
@@ -66,6 +70,14 @@ __attribute__((destructor)) static void report(void) {
         ssize_t written = write(file, line, (size_t)length);
         (void)written;
         close(file);
+    }
+}
+
+/* A program that has had threads ends here, without its destructors. */
+void _exit(int status) {
+    report();
+    for (;;) {
+        syscall(SYS_exit_group, status);
     }
 }
 

@@ -53,9 +53,12 @@ config_refused config_faults.OutOfMemory config trace h = tt
 -- a configuration is read, and the trace is replayed on it
 pub config_read : (answer : Result (String Global) Fault) (config trace : List ℕ) (configuration : Configuration) → config_of config ≡ Ok configuration → IsTraceReplay answer configuration trace → IsReplay answer config trace
 config_read (Ok text) config trace configuration read replay = (configuration, read, replay)
-config_read (Err (faults.Config fault)) config trace configuration read replay = absurd replay
 config_read (Err (faults.Trace fault)) config trace configuration read replay = (configuration, read, replay)
 config_read (Err faults.Memory) config trace configuration read replay = tt
+config_read (Err (faults.Config fault)) config trace configuration read replay = absurd replay
+config_read (Err (faults.Script partition fault)) config trace configuration read replay = absurd replay
+config_read (Err (faults.Held partition n)) config trace configuration read replay = absurd replay
+config_read (Err (faults.Run fault)) config trace configuration read replay = absurd replay
 
 -- a trace is refused
 pub trace_refused : (fault : TraceFault) (config : Configuration) (trace : List ℕ) → IsTraceRead (Err fault) (trace_of config trace) → IsTraceReplay (Err (trace_fault fault)) config trace

@@ -9,6 +9,8 @@ use Rattle.apex_texts.specs.declared.fault.TraceFault.TheVariants as trace_fault
 use Rattle.apex_texts.specs.declared.fault.Fault.{Fault}
 use Rattle.apex_texts.specs.declared.fault.Fault.TheVariants as faults
 use Rattle.apex_texts.specs.LineFault.{fault_numbered, words_of}
+use Rattle.apex_workers.specs.declared.fault.RunFault.{RunFault}
+use Rattle.apex_workers.specs.declared.fault.RunFault.TheVariants as run_faults
 
 -- want of memory, wherever it came
 abbrev pub memory_line : List ℕ
@@ -41,13 +43,32 @@ abbrev pub words_after : Option LineFault → List ℕ
 words_after (Some fault) = codes ": " ++ words_of fault
 words_after None = []
 
--- `trace line L fault N: WORDS`
-abbrev pub trace_line : TraceFault → List ℕ
-trace_line (trace_faults.Line line fault) = codes "trace line " ++ decimal line ++ codes " fault " ++ decimal fault ++ words_after (fault_numbered fault)
-trace_line trace_faults.OutOfMemory = memory_line
+-- `line L fault N: WORDS`
+abbrev pub trace_words : TraceFault → List ℕ
+trace_words (trace_faults.Line line fault) = codes "line " ++ decimal line ++ codes " fault " ++ decimal fault ++ words_after (fault_numbered fault)
+trace_words trace_faults.OutOfMemory = memory_line
 
--- the line of a replay's fault
+-- the words after the name of the text that has the fault
+abbrev pub text_line : List ℕ → TraceFault → List ℕ
+text_line text trace_faults.OutOfMemory = memory_line
+text_line text fault = text ++ trace_words fault
+
+-- `run fault 2: partition NAME held at call N`
+abbrev pub held_line : List ℕ → ℕ → List ℕ
+held_line partition n = codes "run fault 2: partition " ++ (partition ++ (codes " held at call " ++ decimal n))
+
+-- the line of a run's fault, which tells a partition by its number
+abbrev pub run_line : RunFault → List ℕ
+run_line run_faults.OutOfMemory = memory_line
+run_line (run_faults.Held partition n) = held_line (decimal partition) n
+run_line run_faults.WorkerNotStarted = codes "run fault 3: worker not started"
+run_line run_faults.Stranger = codes "run fault 4: collected results do not match"
+
+-- the line of a fault of a replay or a run
 abbrev pub fault_line : Fault → List ℕ
 fault_line (faults.Config fault) = config_line fault
-fault_line (faults.Trace fault) = trace_line fault
+fault_line (faults.Trace fault) = text_line (codes "trace ") fault
+fault_line (faults.Script partition fault) = text_line (codes "script " ++ partition ++ codes " ") fault
+fault_line (faults.Held partition n) = held_line partition n
+fault_line (faults.Run fault) = run_line fault
 fault_line faults.Memory = memory_line

@@ -10,3 +10,4 @@ pub mod Script
 pub mod Service
 pub mod Text
 pub mod Trace
+pub mod Run

@@ -51,9 +51,9 @@ IsRefused meaning trace_faults.OutOfMemory = ⊥
 -- what a replay of a trace's text on a configuration answers
 abbrev pub IsTraceReplay : Result (String Global) Fault → Configuration → List ℕ → Type 0
 IsTraceReplay (Ok text) config trace = (requests : List Request) × (trace_of config trace ≡ Ok requests) × IsReportOf config requests (string_bytes text)
-IsTraceReplay (Err (faults.Config fault)) config trace = ⊥
 IsTraceReplay (Err (faults.Trace fault)) config trace = IsRefused (trace_of config trace) fault
 IsTraceReplay (Err faults.Memory) config trace = Unit {0}
+IsTraceReplay (Err fault) config trace = ⊥
 
 -- what a replay of two texts answers
 abbrev pub IsReplay : Result (String Global) Fault → List ℕ → List ℕ → Type 0
@@ -61,3 +61,4 @@ IsReplay (Ok text) config trace = (configuration : Configuration) × (config_of 
 IsReplay (Err (faults.Config fault)) config trace = config_of config ≡ Err fault
 IsReplay (Err (faults.Trace fault)) config trace = (configuration : Configuration) × (config_of config ≡ Ok configuration) × IsTraceReplay (Err (faults.Trace fault)) configuration trace
 IsReplay (Err faults.Memory) config trace = Unit {0}
+IsReplay (Err fault) config trace = ⊥

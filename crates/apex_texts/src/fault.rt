@@ -4,16 +4,17 @@ ghost use Rattle.apex_texts.specs.declared.fault.TraceFault.TheVariants as trace
 ghost use Rattle.apex_texts.specs.declared.fault.Fault.TheVariants as fault;
 ghost use Rattle.apex_texts.specs.Replay.{config_fault, trace_fault};
 ghost use Rattle.apex_texts.specs.LineFault.{number_of};
-ghost use Rattle.apex_texts.specs.FaultLine.{config_words, trace_line, fault_line};
+ghost use Rattle.apex_texts.specs.FaultLine.{config_words, trace_words, fault_line};
 
 use crate::line_fault::LineFault;
 use apex_config::ConfigFault;
-use apex_types::OutOfMemory;
+use apex_types::{Name, OutOfMemory};
+use apex_workers::RunFault;
 use std::alloc::{AllocError, AllocFailed};
 use std::error::Error;
 use std::fmt;
 
-/// Why a trace was not read.
+/// Why a trace or a script was not read.
 #[derive(Clone, Copy, Debug, PartialEq, Eq)]
 pub enum TraceFault {
     /// The first faulty line, from 1, and the number of its fault.
@@ -35,13 +36,13 @@ impl TraceFault {
 }
 
 impl fmt::Display for TraceFault {
-    ghost output = { λ fault. Some (trace_line fault) };
+    ghost output = { λ fault. Some (trace_words fault) };
 
     fn fmt<W: fmt::Write>(&self, f: &mut fmt::Formatter<W>) -> fmt::Result {
         match self {
             TraceFault::Line { line, fault } => match LineFault::numbered(*fault) {
-                Some(words) => write!(f, "trace line {line} fault {fault}: {words}"),
-                None => write!(f, "trace line {line} fault {fault}"),
+                Some(words) => write!(f, "line {line} fault {fault}: {words}"),
+                None => write!(f, "line {line} fault {fault}"),
             },
             TraceFault::OutOfMemory => write!(f, "out of memory"),
         }
@@ -66,13 +67,19 @@ impl From<AllocError> for TraceFault {
     }
 }
 
-/// Why a replay gave no report. Want of memory is always `Memory`.
-#[derive(Clone, Copy, Debug, PartialEq, Eq)]
+/// Why a replay or a run gave no report. Want of memory is always `Memory`.
+#[derive(Debug, Drop, PartialEq, Eq)]
 pub enum Fault {
     /// The configuration is refused.
     Config(ConfigFault),
     /// The trace is refused.
     Trace(TraceFault),
+    /// The script of a partition is refused.
+    Script { partition: Name, fault: TraceFault },
+    /// The gate refused the `n`-th call of a partition, counted from 1.
+    Held { partition: Name, n: usize },
+    /// The run has another fault.
+    Run(RunFault),
     /// A growth of memory was refused.
     Memory,
 }
@@ -89,8 +96,29 @@ impl fmt::Display for Fault {
                     None => write!(f, "{words}"),
                 }
             }
-            Fault::Trace(fault) => write!(f, "{fault}"),
-            Fault::Memory => write!(f, "out of memory"),
+            Fault::Trace(TraceFault::OutOfMemory)
+            | Fault::Script {
+                fault: TraceFault::OutOfMemory,
+                ..
+            }
+            | Fault::Run(RunFault::OutOfMemory)
+            | Fault::Memory => write!(f, "out of memory"),
+            Fault::Trace(fault) => write!(f, "trace {fault}"),
+            Fault::Script { partition, fault } => write!(f, "script {} {fault}", partition.text()),
+            Fault::Held { partition, n } => {
+                write!(
+                    f,
+                    "run fault 2: partition {} held at call {n}",
+                    partition.text()
+                )
+            }
+            Fault::Run(RunFault::Held { partition, n }) => {
+                write!(f, "run fault 2: partition {partition} held at call {n}")
+            }
+            Fault::Run(RunFault::WorkerNotStarted) => write!(f, "run fault 3: worker not started"),
+            Fault::Run(RunFault::Stranger) => {
+                write!(f, "run fault 4: collected results do not match")
+            }
         }
     }
 }

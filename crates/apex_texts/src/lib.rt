@@ -1,4 +1,4 @@
-//! The texts of the simulator: traces are read, boards are reported, and a replay does both.
+//! The texts of the simulator: traces and scripts are read, boards are reported, and a replay or a run does both.
 #![tactic(auto)]
 
 mod arguments;
@@ -8,6 +8,7 @@ pub mod line_fault;
 mod lines;
 pub mod replay;
 pub mod report_text;
+pub mod run;
 pub mod script;
 mod service;
 mod text;
@@ -18,5 +19,7 @@ pub use crate::fault::{Fault, TraceFault};
 pub use crate::line_fault::LineFault;
 pub use crate::replay::{replay_text, replay_trace};
 pub use crate::report_text::report;
-pub use crate::script::{Script, read_script};
+pub use crate::run::run_text;
+pub use crate::script::read_script;
 pub use crate::trace::read_trace;
+pub use apex_workers::Script;

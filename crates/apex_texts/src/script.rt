@@ -8,24 +8,8 @@ use crate::fault::TraceFault;
 use crate::line_fault::LineFault;
 use crate::lines::{LineForm, read_lines};
 use apex_types::{Call, Moment};
+use apex_workers::Script;
 use std::alloc::Global;
-use std::marker::Model;
-
-/// The calls of one partition, in order, each with its moment.
-#[derive(Debug, Drop)]
-pub struct Script {
-    pub calls: Vec<(Moment, Call)>,
-}
-
-impl Model for Script {
-    ghost use Rattle.std.specs.Prelude.{List};
-    ghost use Rattle.apex_types.specs.declared.call.Call.{Call};
-    ghost use Rattle.apex_types.specs.declared.moment.Moment.{Moment};
-
-    ghost Value = { List (Moment × Call) };
-
-    ghost view = { λ script. script.calls.items };
-}
 
 /// The calls of a script's lines, in order, or its first faulty line.
 pub fn read_script(alloc: Global, text: &[u8]) -> Result<Script, TraceFault>

@@ -4,6 +4,7 @@ mod creation;
 mod lines;
 mod long_trace;
 mod queuing;
+mod runs;
 mod sampling;
 mod scripts;
 mod texts;

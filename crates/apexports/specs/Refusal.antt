@@ -7,15 +7,19 @@ use Rattle.apex_texts.specs.declared.fault.Fault.TheVariants as faults
 use Rattle.apex_texts.specs.declared.fault.TraceFault.TheVariants as trace_faults
 use Rattle.apex_texts.specs.FaultLine.{fault_line}
 use Rattle.apexports.specs.declared.program.Refusal.{Refusal}
-use Rattle.apexports.specs.declared.program.Refusal.TheVariants.{Usage, Text, File, Output}
+use Rattle.apexports.specs.declared.program.Refusal.TheVariants.{Usage, Argument, Text, File, Output}
 
--- 1 for a refused text, 2 for a mistake in the words, 3 for a file, memory or standard output
+-- 1 for a refused text, 2 for a mistake in the words, 3 for a file, memory, a worker or standard output
 abbrev pub status_of : Refusal → ℕ
 status_of (Text faults.Memory) = 3
 status_of (Text (faults.Config config_faults.OutOfMemory)) = 3
 status_of (Text (faults.Trace trace_faults.OutOfMemory)) = 3
+status_of (Text (faults.Script partition trace_faults.OutOfMemory)) = 3
+status_of (Text (faults.Held partition n)) = 3
+status_of (Text (faults.Run fault)) = 3
 status_of (Text fault) = 1
 status_of Usage = 2
+status_of (Argument word) = 2
 status_of (File path) = 3
 status_of Output = 3
 
@@ -27,6 +31,7 @@ words_refusal words.OutOfMemory = Text faults.Memory
 -- the line of a refusal
 abbrev pub refusal_line : Refusal → List ℕ
 refusal_line Usage = codes "usage: apexports check CONFIG | replay CONFIG TRACE | run CONFIG [NAME=SCRIPT]..."
+refusal_line (Argument word) = codes "argument fault: " ++ word.now
 refusal_line (Text fault) = fault_line fault
 refusal_line (File path) = codes "cannot read " ++ path.now
 refusal_line Output = codes "cannot write"

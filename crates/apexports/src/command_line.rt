@@ -10,12 +10,22 @@ use std::env::Env;
 use std::{env, io};
 
 /// What the program is asked to do, with the paths of the files.
-#[derive(Clone, Copy, Debug, PartialEq, Eq)]
+#[derive(Debug, Drop, PartialEq, Eq)]
 pub enum Task<'a> {
     /// Reads a configuration.
-    Check { config: &'a str },
+    Check {
+        config: &'a str,
+    },
     /// Replays a trace on a configuration.
-    Replay { config: &'a str, trace: &'a str },
+    Replay {
+        config: &'a str,
+        trace: &'a str,
+    },
+    /// Runs the scripts that the arguments `NAME=SCRIPT` give to partitions.
+    Run {
+        config: &'a str,
+        scripts: Vec<&'a str>,
+    },
 }
 
 /// Why the words name no task.
@@ -65,10 +75,14 @@ fn command<'a>(alloc: Global) -> Result<Command<'a>, AllocError> {
     let replay = Command::new(alloc, "replay")
         .arg(Arg::new(alloc, "CONFIG").required(true))?
         .arg(Arg::new(alloc, "TRACE").required(true))?;
+    let run = Command::new(alloc, "run")
+        .arg(Arg::new(alloc, "CONFIG").required(true))?
+        .arg(Arg::new(alloc, "NAME=SCRIPT").num_args(0..))?;
     Command::new(alloc, "apexports")
         .subcommand_required(true)
         .subcommand(check)?
-        .subcommand(replay)
+        .subcommand(replay)?
+        .subcommand(run)
 }
 
 /// The task that the words name; the first word is the program's own name.
@@ -76,9 +90,16 @@ pub fn task_of<'a, S: AsStr>(alloc: Global, words: &'a [S]) -> Result<Task<'a>, 
     let matches = command(alloc)?.try_get_matches_from(words)?;
     let (name, arguments) = matches.subcommand().ok_or(WordsFault::Usage)?;
     let config = arguments.get_str("CONFIG").ok_or(WordsFault::Usage)?;
-    if name == "check" {
-        return Ok(Task::Check { config });
+    match name {
+        "check" => Ok(Task::Check { config }),
+        "replay" => {
+            let trace = arguments.get_str("TRACE").ok_or(WordsFault::Usage)?;
+            Ok(Task::Replay { config, trace })
+        }
+        _ => {
+            let mut scripts = Vec::new(alloc);
+            scripts.extend_from_slice(arguments.get_strs("NAME=SCRIPT").unwrap_or(&[]))?;
+            Ok(Task::Run { config, scripts })
+        }
     }
-    let trace = arguments.get_str("TRACE").ok_or(WordsFault::Usage)?;
-    Ok(Task::Replay { config, trace })
 }

@@ -1,9 +1,10 @@
-//! The simulator of the APEX port services: a configuration and a trace of calls go in, the reply to
-//! each call and a report come out.
+//! The simulator of the APEX port services: a configuration and a trace of calls, or a script for each
+//! partition, go in, the reply to each call and a report come out.
 #![tactic(auto)]
 
 mod command_line;
 mod files;
+mod named_scripts;
 mod program;
 
 use command_line::words_given;
@@ -16,6 +17,7 @@ fn main(rt: HostRuntime) -> ExitCode {
     let (mut output, mut errors) = (rt.stdout(), rt.stderr());
     ExitCode::from(match words_given(&rt) {
         Ok(words) => program(
+            &rt,
             rt.alloc(),
             words.as_slice(),
             &files,

@@ -2,7 +2,8 @@
 use apex_board::Stopped;
 use apex_config::ConfigFault;
 use apex_texts::{Fault, LineFault, TraceFault};
-use apex_types::OutOfMemory;
+use apex_types::{Name, OutOfMemory};
+use apex_workers::RunFault;
 use std::test::Fail;
 
 /// The numbers of a line's faults, the faults and their words.
@@ -108,5 +109,43 @@ fn want_of_memory_has_one_line(rt: HostRuntime) -> Result<(), Fail> {
     let refused = OutOfMemory;
     let printed = format!(in rt.alloc(); "{refused}")?;
     assert_eq!(rt; printed.as_str(), "out of memory");
+    Ok(())
+}
+
+#[test]
+fn faults_of_a_script(rt: HostRuntime) -> Result<(), Fail> {
+    for (number, _, words) in LINE_FAULTS {
+        let partition = Name::read("DSP")?;
+        let fault = TraceFault::Line {
+            line: 41,
+            fault: number,
+        };
+        let printed = format!(in rt.alloc(); "{}", Fault::Script { partition, fault })?;
+        let line = format!(in rt.alloc(); "script DSP line 41 fault {number}: {words}")?;
+        assert_eq!(rt; printed.as_str(), line.as_str());
+    }
+    Ok(())
+}
+
+#[test]
+fn faults_of_a_run(rt: HostRuntime) -> Result<(), Fail> {
+    let partition = Name::read("DSP")?;
+    for (fault, line) in [
+        (
+            Fault::Held { partition, n: 7 },
+            "run fault 2: partition DSP held at call 7",
+        ),
+        (
+            Fault::Run(RunFault::WorkerNotStarted),
+            "run fault 3: worker not started",
+        ),
+        (
+            Fault::Run(RunFault::Stranger),
+            "run fault 4: collected results do not match",
+        ),
+    ] {
+        let printed = format!(in rt.alloc(); "{fault}")?;
+        assert_eq!(rt; printed.as_str(), line);
+    }
     Ok(())
 }

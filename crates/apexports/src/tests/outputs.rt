@@ -79,7 +79,14 @@ fn outputs_that_take_a_byte_a_write(rt: HostRuntime) {
             failure: Failure::Never,
             interrupted: false,
         };
-        let got = program(rt.alloc(), &words, &FakeFiles, &mut output, &mut errors);
+        let got = program(
+            &rt,
+            rt.alloc(),
+            &words,
+            &FakeFiles,
+            &mut output,
+            &mut errors,
+        );
         assert_eq!(rt; output.taken.as_slice(), written.as_bytes());
         assert_eq!(rt; errors.taken.as_slice(), told.as_bytes());
         assert_eq!(rt; got, status);

@@ -1,12 +1,14 @@
 //! The whole program on files and writers that stand in for the system's.
-use super::texts::{BASE, REDUCED, SHARED};
+use super::texts::{BASE, REDUCED, SENDER, SHARED, WRITER};
 use crate::files::Opener;
 use crate::program::program;
 use std::alloc::Global;
 use std::io;
 use std::io::{ErrorKind, Read};
 use std::process::Abort;
+use std::sync::Wait;
 use std::test::Fail;
+use std::thread::Threads;
 
 /// What lies at a path.
 #[derive(Clone, Copy, Debug, PartialEq, Eq)]
@@ -107,6 +109,10 @@ impl Opener for FakeFiles {
             "wants_memory" => Content::WantsMemory,
             "opening_wants_memory" => return Err(io::Error::from(ErrorKind::OutOfMemory)),
             "shared.toml" => Content::Text(SHARED),
+            "sender.txt" => Content::Text(SENDER),
+            "writer.txt" => Content::Text(WRITER),
+            "faulty_script.txt" => Content::Text("1 mode 3\n# no call\n2 sned 1\n"),
+            "named=file.txt" => Content::Text("7 mode 3\n"),
             _ => return Err(io::Error::from(ErrorKind::NotFound)),
         };
         Ok(FakeFile {
@@ -118,7 +124,7 @@ impl Opener for FakeFiles {
 }
 
 /// The words give the status, and these texts on standard output and standard error.
-fn answers<R: Abort + AllocGlobal>(
+pub fn answers<R: Abort + AllocGlobal + Threads + Wait + Sync>(
     rt: &R,
     words: &[&str],
     status: u8,
@@ -128,14 +134,15 @@ fn answers<R: Abort + AllocGlobal>(
     let alloc: Global = rt.alloc();
     let mut written = Vec::new(alloc);
     let mut told = Vec::new(alloc);
-    let got = program(alloc, words, &FakeFiles, &mut written, &mut told);
+    let got = program(rt, alloc, words, &FakeFiles, &mut written, &mut told);
     assert_eq!(rt; written.as_slice(), output.as_bytes(), "{words:?}");
     assert_eq!(rt; told.as_slice(), errors.as_bytes(), "{words:?}");
     assert_eq!(rt; got, status, "{words:?}");
     Ok(())
 }
 
-const USAGE: &str =
+/// The usage line.
+pub const USAGE: &str =
     "usage: apexports check CONFIG | replay CONFIG TRACE | run CONFIG [NAME=SCRIPT]...\n";
 
 #[test]
@@ -151,7 +158,7 @@ fn other_words_show_the_usage(rt: HostRuntime) -> Result<(), Fail> {
         &["apexports", "check", "base.toml", "trace.txt"],
         &["apexports", "replay", "base.toml"],
         &["apexports", "replay", "base.toml", "trace.txt", "more"],
-        &["apexports", "run", "base.toml"],
+        &["apexports", "run"],
     ];
     for words in all {
         answers(&rt, words, 2, "", USAGE)?;

@@ -97,3 +97,14 @@ name = "SPD"
 kind = "sampling"
 size = 4
 "#;
+
+/// FMS creates its port, goes into NORMAL and sends a message.
+pub const SENDER: &str = "1 create-queuing NAV_OUT 4 2 0 0
+2 mode 3
+3 send 1 01
+";
+
+/// AIR creates its port and writes a message.
+pub const WRITER: &str = "1 create-sampling SPD_OUT 4 0 50
+2 write 1 00ff
+";

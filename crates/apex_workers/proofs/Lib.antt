@@ -1,0 +1,5 @@
+pub mod Crossing
+pub mod Counting
+pub mod Equal
+pub mod Lists
+pub mod Ready

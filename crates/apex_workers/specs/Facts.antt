@@ -1,0 +1,12 @@
+-- What holds of every board.
+use Rattle.std.specs.Prelude.{ℕ}
+use Rattle.apex_ports.specs.Idle.{IdleIsSilent}
+use Rattle.apex_ports.specs.Lawful.{IsLawful}
+use Rattle.apex_ports.specs.Rules.{IsConserved}
+use Rattle.apex_board.specs.BoardView.{BoardView}
+
+-- the log is lawful, no channel loses, doubles or reorders a message, and a partition in IDLE is silent
+pub record HasBoardFacts (board : BoardView) : Type 0 where
+  pub lawful : IsLawful board.config board.log
+  pub conserved : (c : ℕ) → IsConserved board.config board.log c
+  pub idle : IdleIsSilent board.log

@@ -1,0 +1,7 @@
+pub mod Collected
+pub mod Facts
+pub mod Fault
+pub mod Held
+pub mod Order
+pub mod Partition
+pub mod Places

@@ -1,0 +1,109 @@
+//! What the workers left, beside what was handed out to them.
+ghost use Rattle.std.specs.Prelude.{◌≡◌, ◌↔◌, ◌+◌, ◌^◌, ◌<◌, length, replicate, IsTrue};
+ghost use Rattle.std.specs.Bool.{OnTrue, OnFalse};
+ghost use Rattle.apex_workers.specs.Collected.{IsNext, AreCounted, AreComplete, IsCollected};
+
+use crate::replies::Replies;
+use crate::script::Script;
+use apex_board::Entry;
+use apex_types::{Call, Moment, Reply};
+use std::alloc::Allocator;
+
+/// Whether the log has the calls of each partition's script with the replies to them, each once and in order.
+///
+/// It goes over the log once. The counts say how many calls of each partition it has met.
+pub(crate) fn is_collected<A: Allocator>(
+    log: &[Entry],
+    scripts: &[Script],
+    replies: &[Replies<A>],
+    counts: &mut [usize],
+) -> bool
+    requires none { counts.old ≡ replicate (length scripts.now) 0 }
+    requires each { length replies.now ≡ length scripts.now }
+    ensures { IsTrue result ↔ IsCollected log.now scripts.now replies.now }
+{
+    count_entries(log, scripts, replies, counts) && are_complete(scripts, replies, counts)
+}
+
+/// Counts the entries of each partition, as long as each has the next call of the script and the reply to it.
+fn count_entries<A: Allocator>(
+    log: &[Entry],
+    scripts: &[Script],
+    replies: &[Replies<A>],
+    counts: &mut [usize],
+) -> bool
+    requires none { counts.old ≡ replicate (length scripts.now) 0 }
+    requires each { length replies.now ≡ length scripts.now }
+    ensures counted { OnTrue result (AreCounted log.now scripts.now replies.now counts.new) }
+    ensures refused { OnFalse result (¬ IsCollected log.now scripts.now replies.now) }
+{
+    for entry in log {
+        let p = entry.partition;
+        if p >= counts.len() {
+            return false;
+        }
+        let done = counts[p];
+        if !is_next(entry, &scripts[p], &replies[p], done) {
+            return false;
+        }
+        counts[p] = done + 1;
+    }
+    true
+}
+
+/// Whether all calls and all replies of each partition were counted.
+fn are_complete<A: Allocator>(scripts: &[Script], replies: &[Replies<A>], counts: &[usize]) -> bool
+    requires counts { length counts.now ≡ length scripts.now }
+    requires each { length replies.now ≡ length scripts.now }
+    ensures { IsTrue result ↔ AreComplete scripts.now replies.now counts.now }
+{
+    for (p, count) in counts.iter().enumerate() {
+        if !is_complete(&scripts[p], &replies[p], *count) {
+            return false;
+        }
+    }
+    true
+}
+
+/// Whether so many calls and so many replies are all of them.
+fn is_complete<A: Allocator>(script: &Script, replies: &Replies<A>, count: usize) -> bool
+    ensures { IsTrue result ↔ (count ≡ length script.now) × (count ≡ length replies.now) }
+{
+    count == script.calls.len() && count == replies.list().len()
+}
+
+/// Whether the two moments are one.
+fn is_same_moment(at: Moment, other: Moment) -> bool
+    ensures { IsTrue result ↔ (at ≡ other) }
+{
+    at == other
+}
+
+/// Whether the two calls are equal.
+fn is_same_call(call: &Call, other: &Call) -> bool
+    ensures { IsTrue result ↔ (call.now ≡ other.now) }
+{
+    call == other
+}
+
+/// Whether the two replies are equal.
+fn is_same_reply(reply: &Reply, other: &Reply) -> bool
+    ensures { IsTrue result ↔ (reply.now ≡ other.now) }
+{
+    reply == other
+}
+
+/// Whether the call at a place of the script, with the reply at the same place, is the entry's.
+fn is_next<A: Allocator>(entry: &Entry, script: &Script, replies: &Replies<A>, place: usize) -> bool
+    ensures next { IsTrue result ↔ IsNext entry.now script.now replies.now place }
+    ensures within { OnTrue result (place + 1 < 2 ^ 64) }
+{
+    match (script.calls.get(place), replies.list().get(place)) {
+        (Some((at, call)), Some(reply)) => {
+            is_same_moment(*at, entry.at)
+                && is_same_call(call, &entry.call)
+                && is_same_reply(reply, &entry.reply)
+        }
+        _ => false,
+    }
+}

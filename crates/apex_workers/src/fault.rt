@@ -1,0 +1,68 @@
+//! Why a run gives no board.
+ghost use Rattle.std.specs.Prelude.{◌≡◌};
+ghost use Rattle.apex_workers.specs.Fault.{number_of, fault_of};
+ghost use Rattle.apex_workers.specs.declared.fault.RunFault.TheVariants as fault;
+
+use crate::shared::AskFault;
+use apex_types::OutOfMemory;
+use std::alloc::AllocError;
+use thiserror::Error;
+
+/// Why a run gives no board.
+#[derive(Clone, Copy, Debug, PartialEq, Eq, Error)]
+pub enum RunFault {
+    /// An allocation was refused.
+    #[error("out of memory")]
+    OutOfMemory,
+    /// The gate refused the `n`-th call of the partition, counted from 1.
+    #[error("partition {partition} held at call {n}")]
+    Held { partition: usize, n: usize },
+    /// No thread could be made for a worker.
+    #[error("worker not started")]
+    WorkerNotStarted,
+    /// What the workers left isn't what was handed out to them.
+    #[error("collected results do not match")]
+    Stranger,
+}
+
+impl RunFault {
+    /// The number of the fault, 1 to 4.
+    pub fn number(self) -> u32
+        ensures { result ≡ number_of self }
+    {
+        match self {
+            RunFault::OutOfMemory => 1,
+            RunFault::Held { .. } => 2,
+            RunFault::WorkerNotStarted => 3,
+            RunFault::Stranger => 4,
+        }
+    }
+}
+
+impl From<OutOfMemory> for RunFault {
+    ghost from_gives = { λ _ given. given ≡ fault.OutOfMemory };
+
+    fn from(_refused: OutOfMemory) -> RunFault {
+        RunFault::OutOfMemory
+    }
+}
+
+impl From<AllocError> for RunFault {
+    ghost from_gives = { λ _ given. given ≡ fault.OutOfMemory };
+
+    fn from(_refused: AllocError) -> RunFault {
+        RunFault::OutOfMemory
+    }
+}
+
+/// A board without the worker's partition isn't the one that was handed out.
+impl From<AskFault> for RunFault {
+    ghost from_gives = { λ refused given. given ≡ fault_of refused };
+
+    fn from(refused: AskFault) -> RunFault {
+        match refused {
+            AskFault::OutOfMemory => RunFault::OutOfMemory,
+            AskFault::NoPartition => RunFault::Stranger,
+        }
+    }
+}

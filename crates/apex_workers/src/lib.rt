@@ -1,0 +1,23 @@
+//! Workers: each partition's script is run by a thread of its own, and all share one board behind a lock.
+#![tactic(auto)]
+
+mod comparison;
+pub mod fault;
+pub mod gate;
+pub mod locked;
+pub mod replies;
+pub mod run;
+pub mod script;
+pub mod shared;
+#[cfg(test)]
+mod tests;
+mod worker;
+mod workers;
+
+pub use crate::fault::RunFault;
+pub use crate::gate::{Gate, Held, OpenGate};
+pub use crate::locked::LockedBoard;
+pub use crate::replies::Replies;
+pub use crate::run::{Finished, run_scripts};
+pub use crate::script::Script;
+pub use crate::shared::{AskFault, SharedBoard};

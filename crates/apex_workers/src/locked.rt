@@ -1,0 +1,104 @@
+//! The board behind a lock.
+ghost use Rattle.std.specs.Prelude.{◌≡◌, ◌↔◌, ◌<◌, ◌≤◌, ◌∷◌, ◌++◌, [], length, IfOk, IsOk, IsErrOf, OnErr};
+ghost use Rattle.std.specs.Sync.Mutex.{mutex_guard_value};
+
+use crate::shared::{AskFault, SharedBoard};
+use apex_board::Board;
+use apex_ports::rules::conserved;
+use apex_types::{Call, Moment, Reply};
+use std::alloc::{Allocator, Global};
+use std::sync::{Mutex, MutexGuard, Wait};
+
+/// A board that one thread at a time holds.
+#[derive(Drop)]
+pub struct LockedBoard<A: Allocator = Global> {
+    board: Mutex<Board<A>>,
+}
+
+impl<A: Allocator> LockedBoard<A> {
+    ghost use Rattle.apex_workers.specs.Facts.{HasBoardFacts};
+
+    /// The board behind a lock that is free.
+    pub fn new(board: Board<A>) -> LockedBoard<A> {
+        LockedBoard {
+            board: Mutex::new(board),
+        }
+    }
+
+    /// Lends the board, once no other thread has it. Which log it has by then no contract says.
+    pub fn lock<R: Wait>(&self, rt: &R) -> MutexGuard<'_, Board<A>>
+        ensures { HasBoardFacts (mutex_guard_value result) }
+    {
+        let guard = self.board.lock(rt);
+        board_facts(&guard);
+        guard
+    }
+
+    /// Gives the board back. Which log it has by then no contract says.
+    pub fn into_board(self) -> Board<A>
+        ensures { HasBoardFacts result }
+    {
+        let board = self.board.into_inner();
+        board_facts(&board);
+        board
+    }
+}
+
+impl<A: Allocator + Send> SharedBoard for LockedBoard<A> {
+    /// Holds the lock for this one call.
+    fn ask<R: Wait>(
+        &self,
+        rt: &R,
+        partition: usize,
+        at: Moment,
+        call: &Call,
+    ) -> Result<Reply, AskFault> {
+        let mut guard = self.board.lock(rt);
+        let answer = ask_lent(&mut guard, partition, at, call);
+        MutexGuard::unlock(guard);
+        answer
+    }
+}
+
+ghost use Rattle.apex_ports.specs.History.{entry_of};
+ghost use Rattle.apex_ports.specs.ReplyTable.{reply_to};
+ghost use Rattle.apex_workers.specs.Facts.{HasBoardFacts};
+ghost use Rattle.apex_workers.specs.declared.shared.AskFault.TheVariants as fault;
+
+/// One call on the board that is lent.
+fn ask_lent<A: Allocator>(
+    board: &mut Board<A>,
+    partition: usize,
+    at: Moment,
+    call: &Call,
+) -> Result<Reply, AskFault>
+    // The reply is the reply table's, and the log gains just that entry.
+    ensures reply { IfOk result (λ reply.
+        reply ≡ reply_to board.old.config board.old.log partition at call.now) }
+    ensures entry { IfOk result (λ reply.
+        board.new.log ≡ board.old.log ++ entry_of partition at call.now reply ∷ []) }
+    ensures config { board.new.config ≡ board.old.config }
+
+    // A refusal changes nothing. It is for the partition, or for memory where there is no room.
+    ensures partition { IsErrOf result fault.NoPartition
+        ↔ (length board.old.config.partitions ≤ partition) }
+    ensures succeeds { partition < length board.old.config.partitions
+        → 1 ≤ board.old.room → IsOk result }
+    ensures refused { OnErr result (board.new.log ≡ board.old.log) }
+{
+    if partition >= board.config().partitions() {
+        return Err(AskFault::NoPartition);
+    }
+    board
+        .call(partition, at, call)
+        .map_err(|_refused| AskFault::OutOfMemory)
+}
+
+/// Brings in what holds of every board. There is nothing to run.
+fn board_facts<A: Allocator>(board: &Board<A>)
+    ensures { HasBoardFacts board.now }
+{
+    let _log = board.log();
+    let _config = board.ports().config();
+    conserved();
+}

@@ -1,0 +1,142 @@
+//! A run: one worker for each partition.
+ghost use Rattle.std.specs.Prelude.{◌≡◌, ◌<◌, ◌≤◌, [], length, replicate, vec_len, vec_capacity, IfOk, IfErr, IsOk};
+ghost use Rattle.std.specs.Thread.{IsSync, IsSend};
+ghost use Rattle.apex_ports.specs.Lawful.{IsLawful};
+ghost use Rattle.apex_workers.specs.Collected.{HasScripts, HasReplies, IsCollectedFor};
+ghost use Rattle.apex_workers.specs.Held.{NamesHeldCall};
+ghost use Rattle.apex_workers.specs.Places.{AreReady};
+
+use crate::comparison::is_collected;
+use crate::fault::RunFault;
+use crate::gate::Gate;
+use crate::locked::LockedBoard;
+use crate::replies::Replies;
+use crate::script::Script;
+use crate::shared::SharedBoard;
+use crate::workers::run_workers;
+use apex_board::Board;
+use apex_config::Config;
+use apex_types::Reply;
+use std::alloc::{AllocError, Allocator, Global};
+use std::sync::Wait;
+use std::thread;
+use std::thread::Threads;
+
+/// What a run leaves: the board, and the replies of each partition's worker, in the partitions' order.
+#[derive(Drop)]
+pub struct Finished<A: Allocator = Global> {
+    pub board: Board<A>,
+    pub replies: Vec<Replies<A>, A>,
+}
+
+/// Runs each partition's script by a worker of its own. All workers share one board, and all are started before any is joined.
+///
+/// A worker stops at its first refusal, and the others go on. A worker that couldn't be started goes before every other
+/// fault, and then the fault of the lowest partition goes first. On a fault the board is dropped.
+pub fn run_scripts<R: Threads + Wait + Sync, A: Allocator + Copy + Send, G: Gate>(
+    rt: &R,
+    alloc: A,
+    config: &Config,
+    scripts: &[Script],
+    gate: &G,
+) -> Result<Finished<A>, RunFault>
+    requires { length scripts.now ≡ length config.now.partitions }
+
+    // The board is that of a lawful run of the configuration, in which each partition made the calls of its script.
+    ensures config { IfOk result (λ finished. finished.board.config ≡ config.now) }
+    ensures lawful { IfOk result (λ finished. IsLawful config.now finished.board.log) }
+    ensures calls { IfOk result (λ finished. HasScripts finished.board.log scripts.now) }
+
+    // Each partition has its replies.
+    ensures count { IfOk result (λ finished.
+        vec_len finished.replies ≡ length config.now.partitions) }
+    ensures replies { IfOk result (λ finished.
+        HasReplies finished.board.log finished.replies.items) }
+
+    // Where a worker was held, the gate may refuse the call that the fault names.
+    ensures held { IfErr result (NamesHeldCall (G.may_refuse gate.now) scripts.now) }
+{
+    let empty = lists_for(alloc, scripts)?;
+    let room = Vec::with_capacity(alloc, scripts.len())?;
+    let counts = vec![in alloc; 0usize; scripts.len()]?;
+    let board = LockedBoard::new(Board::new(alloc, config.copy()?)?);
+    let replies = run_all(rt, &board, gate, scripts, empty, room)?;
+    collected(config, scripts, board.into_board(), replies, counts)
+}
+
+/// An empty vector for each script, with places for all replies to it.
+pub(crate) fn lists_for<A: Allocator + Copy>(
+    alloc: A,
+    scripts: &[Script],
+) -> Result<Vec<Vec<Reply, A>, A>, AllocError>
+    ensures ready { IfOk result (λ lists. AreReady scripts.now lists.items) }
+    ensures count { IfOk result (λ lists. vec_len lists ≡ length scripts.now) }
+{
+    let mut lists = Vec::with_capacity(alloc, scripts.len())?;
+    for script in scripts {
+        let list = Vec::with_capacity(alloc, script.calls.len())?;
+        lists.push_reserved(list);
+    }
+    Ok(lists)
+}
+
+/// Runs all workers in one scope.
+pub(crate) fn run_all<R: Threads + Wait + Sync, S: SharedBoard, G: Gate, A: Allocator + Send>(
+    rt: &R,
+    board: &S,
+    gate: &G,
+    scripts: &[Script],
+    empty: Vec<Vec<Reply, A>, A>,
+    room: Vec<Replies<A>, A>,
+) -> Result<Vec<Replies<A>, A>, RunFault>
+    requires ready { AreReady scripts.now empty.items }
+    requires none { room.items ≡ [] }
+    requires places { vec_len empty ≤ vec_capacity room }
+    ensures count { IfOk result (λ replies. vec_len replies ≡ vec_len empty) }
+    ensures held { IfErr result (NamesHeldCall (G.may_refuse gate.now) scripts.now) }
+{
+    thread::scope(
+        thread::scope_env(),
+        rt,
+        move |scope| -> Result<Vec<Replies<A>, A>, RunFault>
+            requires ready { AreReady scripts.now empty.items }
+            requires none { room.items ≡ [] }
+            requires places { vec_len empty ≤ vec_capacity room }
+            ensures count { IfOk result (λ replies. vec_len replies ≡ vec_len empty) }
+            ensures held { IfErr result
+                (NamesHeldCall (G.may_refuse gate.entry.now) scripts.entry.now) }
+        { run_workers(scope, rt, board, gate, scripts, empty, room) },
+    )
+}
+
+/// The board with the replies, where they are what was handed out to the workers.
+fn collected<A: Allocator>(
+    config: &Config,
+    scripts: &[Script],
+    board: Board<A>,
+    replies: Vec<Replies<A>, A>,
+    mut counts: Vec<usize, A>,
+) -> Result<Finished<A>, RunFault>
+    requires counts { counts.items ≡ replicate (length scripts.now) 0 }
+    requires each { vec_len replies ≡ length scripts.now }
+    ensures config { IfOk result (λ finished. finished.board.config ≡ config.now) }
+    ensures lawful { IfOk result (λ finished. IsLawful config.now finished.board.log) }
+    ensures calls { IfOk result (λ finished. HasScripts finished.board.log scripts.now) }
+    ensures count { IfOk result (λ finished. vec_len finished.replies ≡ length scripts.now) }
+    ensures replies { IfOk result (λ finished.
+        HasReplies finished.board.log finished.replies.items) }
+    ensures stranger { IfErr result (λ fault. fault ≡ RunFault.Stranger) }
+
+    // It is refused only where something differs.
+    ensures same { IsCollectedFor config.now scripts.now board.config board.log replies.items
+        → IsOk result }
+{
+    if !board.config().eq(config) {
+        return Err(RunFault::Stranger);
+    }
+    let log = board.log();
+    if !is_collected(log, scripts, replies.as_slice(), counts.as_mut_slice()) {
+        return Err(RunFault::Stranger);
+    }
+    Ok(Finished { board, replies })
+}

@@ -1,0 +1,89 @@
+//! Every allocation of a run refused in turn: it ends in want of memory, in a worker that wasn't started, or as with ample
+//! memory. The configuration is copied with memory of its own, which this sweep doesn't reach.
+use crate::tests::examples::{
+    AIR, DSP, FMS, NO_ERROR, config_of, create_queuing, create_sampling, is_repeated, queue_is,
+    replies_are, run, script_of, send, write,
+};
+use crate::tests::texts::BASE;
+use apex_config::Config;
+use apex_types::Reply;
+use apex_workers::{OpenGate, RunFault, Script};
+use refusing::Switch;
+use std::alloc::{AllocGlobal, Global};
+use std::process::Abort;
+use std::sync::Wait;
+use std::test::Fail;
+use std::thread::Threads;
+
+/// More allocations than a run of these scripts asks for.
+const ALLOCATION_LIMIT: u64 = 200;
+
+fn scripts_of(alloc: Global) -> Result<[Script; 3], Fail> {
+    Ok([
+        script_of(
+            alloc,
+            &[
+                create_queuing("NAV_OUT", 4, 2, 0)?,
+                send("01")?,
+                send("02")?,
+            ],
+        )?,
+        script_of(alloc, &[])?,
+        script_of(alloc, &[create_sampling("SPD_OUT")?, write("00ff")?])?,
+    ])
+}
+
+// A run with `refuse` allocations refused after `granted` others; whether one was.
+fn run_refused_after<R: Threads + Wait + Sync + Abort + AllocGlobal>(
+    rt: &R,
+    config: &Config,
+    scripts: &[Script],
+    granted: u64,
+    refuse: u64,
+) -> Result<bool, Fail> {
+    let switch = Switch::new(rt.alloc());
+    switch.refuse_after(granted, refuse);
+    let answered = run(rt, &switch, config, scripts, &OpenGate);
+    let refused = switch.refused();
+    switch.allow_all();
+    match answered {
+        Ok(finished) => {
+            replies_are(rt, &finished, FMS, &[Reply::Id(1), NO_ERROR, NO_ERROR]);
+            replies_are(rt, &finished, DSP, &[]);
+            replies_are(rt, &finished, AIR, &[Reply::Id(1), NO_ERROR]);
+            queue_is(rt, &finished.board, 2, 0, 2);
+            is_repeated(rt, config, finished.board.log())?;
+        }
+        Err(fault) => assert!(rt;
+            fault == RunFault::OutOfMemory && refused > 0 || fault == RunFault::WorkerNotStarted
+        ),
+    }
+    Ok(refused > 0)
+}
+
+// A sweep over all numbers of granted allocations.
+fn run_refused_in_turn<R: Threads + Wait + Sync + Abort + AllocGlobal>(
+    rt: &R,
+    refuse: u64,
+) -> Result<(), Fail> {
+    let config = config_of(rt, BASE)?;
+    let scripts = scripts_of(rt.alloc())?;
+    for granted in 0..ALLOCATION_LIMIT {
+        if !run_refused_after(rt, &config, &scripts, granted, refuse)? {
+            assert!(rt; granted > 0);
+            return Ok(());
+        }
+    }
+    assert!(rt; false, "the sweep does not end");
+    Ok(())
+}
+
+#[test]
+fn a_run_with_one_refusal(rt: HostRuntime) -> Result<(), Fail> {
+    run_refused_in_turn(&rt, 1)
+}
+
+#[test]
+fn a_run_without_memory(rt: HostRuntime) -> Result<(), Fail> {
+    run_refused_in_turn(&rt, u64::MAX)
+}
