@@ -118,9 +118,17 @@ impl Config {
         ensures found { result ≡ partition_named self.now name.now }
         ensures valid { IsConfiguration self.now }
     {
+        self.partition_called(name.text().as_bytes())
+    }
+
+    /// The partition whose name is this text, if there is one.
+    pub fn partition_called(&self, text: &[u8]) -> Option<usize>
+        ensures found { result ≡ partition_named self.now text.now }
+        ensures valid { IsConfiguration self.now }
+    {
         self.partitions
             .iter()
-            .position(|partition| partition.name() == name)
+            .position(|partition| partition.name().text().as_bytes() == text)
     }
 
     /// The name of a partition.

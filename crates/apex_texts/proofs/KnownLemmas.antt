@@ -10,7 +10,7 @@ use Rattle.apex_ports.specs.declared.history.Request.{Request}
 use Rattle.apex_texts.specs.declared.line_fault.LineFault.{LineFault}
 use Rattle.apex_texts.specs.declared.line_fault.LineFault.TheVariants as faults
 use Rattle.apex_texts.specs.declared.fault.TraceFault.{TraceFault}
-use Rattle.apex_texts.specs.Arguments.{◌>>=◌, or_fault, name_in, word_at, moment_of, call_of}
+use Rattle.apex_texts.specs.Arguments.{◌>>=◌, or_fault, word_at, moment_of, call_of}
 use Rattle.apex_texts.specs.Lines.{FaultyLine, line_words, item_of_words, item_of_line, before, items_from}
 use Rattle.apex_texts.specs.Trace.{HavePartitions, partition_of, request_at, trace_of, IsTraceRead}
 use Rattle.apex_texts.proofs.TextLemmas.{position_found}
@@ -44,7 +44,7 @@ named-place : (config : Configuration) (name : List ℕ) (place : ℕ) → parti
 named-place config name place is = omega (arith, position_found (λ partition. bytes_eq partition.name name) config.partitions place is)
 
 partition-known : (config : Configuration) (word : List ℕ) → OfRead (IsPlace config) (partition_of config word)
-partition-known config word = of_step (IsPlace config) (or_fault faults.Partition (name_in word)) _ (λ name _. of_option config faults.Partition (partition_named config name) (named-place config name))
+partition-known config word = of_option config faults.Partition (partition_named config word) (named-place config word)
 
 request-known : (config : Configuration) (moment : List ℕ) (words : List (List ℕ)) → OfRead (IsKnown config) (request_at config moment words)
 unfolding request_at

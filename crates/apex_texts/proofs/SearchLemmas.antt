@@ -6,7 +6,7 @@ use Rattle.std.specs.Bool.{MatchBool}
 use Rattle.std.specs.Str.{IsAscii, IsNotAscii}
 use Rattle.std.proofs.lemmas.Bool.Decides.{nat_tests}
 use Rattle.std.proofs.lemmas.List.Sums.{fails_before_first, passes_at_first}
-use Rattle.memchr.specs.Find.{IsFirst, IsFirstByte, Passes}
+use Rattle.memchr.specs.Find.{IsFirstByte}
 use Rattle.apex_texts.specs.Lines.{is_ascii}
 
 module _ (p : ℕ → Bool) (xs : List ℕ) where

@@ -6,14 +6,12 @@ use Rattle.apex_ports.specs.declared.history.Request.{Request}
 use Rattle.apex_texts.specs.declared.line_fault.LineFault.{LineFault}
 use Rattle.apex_texts.specs.declared.line_fault.LineFault.TheVariants as faults
 use Rattle.apex_texts.specs.declared.fault.TraceFault.{TraceFault}
-use Rattle.apex_texts.specs.Arguments.{◌>>=◌, or_fault, name_in, word_at, moment_of, call_of}
+use Rattle.apex_texts.specs.Arguments.{◌>>=◌, or_fault, word_at, moment_of, call_of}
 use Rattle.apex_texts.specs.Lines.{FaultyLine, items_of, IsRead}
 
--- PARTITION: the place of the partition that has the name
+-- PARTITION: the place of the partition whose name the word is
 abbrev pub partition_of : Configuration → List ℕ → Result ℕ LineFault
-partition_of config word = do
-  name ← or_fault faults.Partition (name_in word)
-  or_fault faults.Partition (partition_named config name)
+partition_of config word = or_fault faults.Partition (partition_named config word)
 
 -- MOMENT PARTITION CALL ARGUMENTS, with the faults in the order in which a line is looked at
 unfoldable pub request_at : Configuration → List ℕ → List (List ℕ) → Result Request LineFault

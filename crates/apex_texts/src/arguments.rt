@@ -1,7 +1,8 @@
 //! The arguments of a call, from the words of a line.
 ghost use Rattle.std.specs.Prelude.{◌≡◌, [], ◌∷◌};
 ghost use Rattle.apex_texts.specs.Text.{words_of, number_up_to};
-ghost use Rattle.apex_texts.specs.Arguments.{Gives, or_fault, exactly, name_in, message_in, word_at, call_with, call_of, moment_of};
+ghost use Rattle.apex_texts.specs.Service.{service_named};
+ghost use Rattle.apex_texts.specs.Arguments.{Gives, or_fault, exactly, name_in, message_in, word_at, call_with, moment_of};
 
 use crate::line_fault::LineFault;
 use crate::service::Service;
@@ -31,16 +32,6 @@ pub fn name_in(word: &[u8]) -> Option<Name>
         return None;
     };
     Name::read(text).ok()
-}
-
-/// The message that a word of hexadecimal digits is.
-fn message_in(word: &[u8]) -> Option<Message>
-    ensures { result ≡ message_in word.now }
-{
-    let Ok(text) = str::from_utf8(word) else {
-        return None;
-    };
-    Message::from_hex(text).ok()
 }
 
 /// The first of the words, and the words after it.
@@ -108,21 +99,22 @@ fn name_of(word: &[u8]) -> Result<Name, LineFault>
 fn message_of(word: &[u8]) -> Result<Message, LineFault>
     ensures { result ≡ or_fault LineFault.Message (message_in word.now) }
 {
-    message_in(word).ok_or(LineFault::Message)
+    let Ok(text) = str::from_utf8(word) else {
+        return Err(LineFault::Message);
+    };
+    Message::from_hex(text).map_err(|_| LineFault::Message)
 }
 
-/// The call that a call word and the words after it ask for. The words are walked once.
-#[tactic(auto, unfolding(crate::specs::Arguments::call_of))]
-pub fn call_of(word: &[u8], words: &[u8]) -> Result<Call, LineFault>
-    ensures { result ≡ call_of word.now (words_of words.now) }
+/// The service that a call word names.
+pub fn service_at(word: &[u8]) -> Result<Service, LineFault>
+    ensures { result ≡ or_fault LineFault.UnknownCall (service_named word.now) }
 {
-    let service = Service::named(word).ok_or(LineFault::UnknownCall)?;
-    call_with(service, words)
+    Service::named(word).ok_or(LineFault::UnknownCall)
 }
 
-/// The call to a service with the arguments that the words are.
+/// The call to a service with the arguments that the words are. The words are walked once.
 #[tactic(auto, unfolding(crate::specs::Arguments::call_with, crate::specs::Arguments::call_at))]
-fn call_with(service: Service, words: &[u8]) -> Result<Call, LineFault>
+pub fn call_with(service: Service, words: &[u8]) -> Result<Call, LineFault>
     ensures { result ≡ call_with service (words_of words.now) }
 {
     match service {

@@ -1,5 +1,5 @@
 //! The report of a board: its log, its partitions and its channels, a line each.
-ghost use Rattle.std.specs.Prelude.{◌≡◌, ◌<◌, ◌^◌, ◌++◌, length, decimal, string_bytes, IfOk, OnOk};
+ghost use Rattle.std.specs.Prelude.{◌≡◌, ◌<◌, ◌^◌, ◌∷◌, ◌++◌, [], length, decimal, string_bytes, IfOk, OnOk};
 ghost use Rattle.std.specs.Option.{option_copied};
 ghost use Rattle.apex_types.specs.Message.{hex_text_of};
 ghost use Rattle.apex_ports.specs.Channels.{accepted_on, received_on, waiting_on};
@@ -10,7 +10,7 @@ use crate::service::Service;
 use apex_board::Board;
 use apex_config::{Channel, ChannelKind};
 use apex_ports::{Ports, Sample};
-use apex_types::{Call, Direction, Message, Moment, OutOfMemory, Reply, Validity};
+use apex_types::{Call, Direction, HEX_LIMIT, Message, Moment, OutOfMemory, Reply, Validity};
 use itoa::Buffer;
 use std::alloc::{AllocError, Global};
 
@@ -46,6 +46,13 @@ fn push_word(text: &mut String, word: &str) -> Result<(), AllocError>
     text.push_str(word)
 }
 
+fn push_ascii(text: &mut String, character: char) -> Result<(), AllocError>
+    requires { character < 128 }
+    ensures { OnOk result (string_bytes text.new ≡ string_bytes text.old ++ character ∷ []) }
+{
+    text.push(character)
+}
+
 fn push_number(text: &mut String, number: u64) -> Result<(), AllocError>
     ensures { OnOk result (string_bytes text.new ≡ string_bytes text.old ++ decimal number) }
 {
@@ -57,8 +64,8 @@ fn push_message(text: &mut String, message: &Message) -> Result<(), AllocError>
     ensures { OnOk result (string_bytes text.new
         ≡ string_bytes text.old ++ hex_text_of message.now) }
 {
-    let digits = message.to_hex();
-    push_word(text, digits.as_str())
+    let mut digits = [0; HEX_LIMIT];
+    push_word(text, message.hex_in(&mut digits))
 }
 
 /// A line for each entry of the log.
@@ -92,15 +99,15 @@ pub(crate) fn push_entry(
 {
     let Moment(nanoseconds) = at;
     push_number(text, number)?;
-    push_word(text, " ")?;
+    push_ascii(text, ' ')?;
     push_number(text, nanoseconds)?;
-    push_word(text, " ")?;
+    push_ascii(text, ' ')?;
     push_word(text, name)?;
-    push_word(text, " ")?;
+    push_ascii(text, ' ')?;
     push_word(text, Service::of(call).word())?;
-    push_word(text, " ")?;
+    push_ascii(text, ' ')?;
     push_reply(text, reply)?;
-    push_word(text, "\n")
+    push_ascii(text, '\n')
 }
 
 #[tactic(auto, unfolding(crate::specs::Report::reply_text))]

@@ -3,7 +3,7 @@ ghost use Rattle.std.specs.Prelude.{◌≡◌};
 ghost use Rattle.apex_texts.specs.Text.{words_of};
 ghost use Rattle.apex_texts.specs.Script.{IsScriptRead, timed_call_at, script_of};
 
-use crate::arguments::{call_of, moment_of, word_at};
+use crate::arguments::{call_with, moment_of, service_at, word_at};
 use crate::fault::TraceFault;
 use crate::line_fault::LineFault;
 use crate::lines::{LineForm, read_lines};
@@ -36,10 +36,10 @@ impl LineForm for ScriptLine {
 }
 
 /// The call of a moment and the words after it.
-#[tactic(auto, unfolding(crate::specs::Script::timed_call_at))]
+#[tactic(auto, unfolding(crate::specs::Script::timed_call_at, crate::specs::Arguments::call_of))]
 fn timed_call_at(moment: &[u8], words: &[u8]) -> Result<(Moment, Call), LineFault>
     ensures { result ≡ timed_call_at moment.now (words_of words.now) }
 {
     let (call, words) = word_at(words)?;
-    Ok((moment_of(moment)?, call_of(call, words)?))
+    Ok((moment_of(moment)?, call_with(service_at(call)?, words)?))
 }

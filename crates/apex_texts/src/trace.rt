@@ -3,7 +3,7 @@ ghost use Rattle.std.specs.Prelude.{◌≡◌, ◌<◌, length, IfOk};
 ghost use Rattle.apex_texts.specs.Text.{words_of};
 ghost use Rattle.apex_texts.specs.Trace.{IsTraceRead, HavePartitions, partition_of, request_at, trace_of};
 
-use crate::arguments::{call_of, moment_of, name_in, word_at};
+use crate::arguments::{call_with, moment_of, service_at, word_at};
 use crate::fault::TraceFault;
 use crate::line_fault::LineFault;
 use crate::lines::{LineForm, read_lines};
@@ -36,7 +36,7 @@ impl LineForm for TraceLine<'_> {
 }
 
 /// The request of a moment and the words after it.
-#[tactic(auto, unfolding(crate::specs::Trace::request_at))]
+#[tactic(auto, unfolding(crate::specs::Trace::request_at, crate::specs::Arguments::call_of))]
 pub(crate) fn request_at(config: &Config, moment: &[u8], words: &[u8]) -> Result<Request, LineFault>
     ensures exact { result ≡ request_at config.now moment.now (words_of words.now) }
     ensures known { IfOk result (λ request. request.partition < length config.now.partitions) }
@@ -46,13 +46,12 @@ pub(crate) fn request_at(config: &Config, moment: &[u8], words: &[u8]) -> Result
     Ok(Request {
         at: moment_of(moment)?,
         partition: partition_of(config, partition)?,
-        call: call_of(call, words)?,
+        call: call_with(service_at(call)?, words)?,
     })
 }
 
 fn partition_of(config: &Config, word: &[u8]) -> Result<usize, LineFault>
     ensures { result ≡ partition_of config.now word.now }
 {
-    let name = name_in(word).ok_or(LineFault::Partition)?;
-    config.partition(&name).ok_or(LineFault::Partition)
+    config.partition_called(word).ok_or(LineFault::Partition)
 }

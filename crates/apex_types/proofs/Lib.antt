@@ -1,4 +1,3 @@
 pub mod HexText
 pub mod NameLemmas
 pub mod ReadText
-pub mod Text

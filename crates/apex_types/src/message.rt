@@ -102,7 +102,17 @@ impl Message {
         ensures text { result.bytes ≡ hex_text_of self.now }
         ensures reads_back { message_of_hex (hex_text_of self.now) ≡ Ok self.now }
     {
-        hex_text(self.bytes.as_slice())
+        let mut digits = [0; HEX_LIMIT];
+        let mut text = ArrayString::new();
+        text.push_str(hex_text(self.bytes.as_slice(), &mut digits));
+        text
+    }
+
+    /// The text of `to_hex`, with its digits in the caller's buffer.
+    pub fn hex_in<'a>(&self, digits: &'a mut [u8; HEX_LIMIT]) -> &'a str
+        ensures { result.now ≡ hex_text_of self.now }
+    {
+        hex_text(self.bytes.as_slice(), digits)
     }
 
     /// The bytes of the message.
@@ -128,19 +138,17 @@ fn has_hex_digits(text: &[u8]) -> bool
     text.iter().all(|byte| byte.is_ascii_hexdigit())
 }
 
-fn hex_text(bytes: &[u8]) -> ArrayString<HEX_LIMIT>
+fn hex_text<'a>(bytes: &[u8], digits: &'a mut [u8; HEX_LIMIT]) -> &'a str
     requires { length bytes.now ≤ MESSAGE_LIMIT }
-    ensures text { result.bytes ≡ hex_text_of bytes.now }
+    ensures text { result.now ≡ hex_text_of bytes.now }
+    ensures length { length result.now ≤ HEX_LIMIT }
     ensures reads_back { message_of_hex (hex_text_of bytes.now) ≡ Ok bytes.now }
 {
-    let mut text = ArrayString::new();
     if bytes.is_empty() {
-        text.push_str("-");
-        return text;
+        return "-";
     }
-    let mut digits = [0; HEX_LIMIT];
     let digits = &mut digits[..2 * bytes.len()];
     hex::encode_to_slice(bytes, digits).unwrap();
-    text.push_str(str::from_utf8(digits).unwrap());
-    text
+    // SAFETY: hexadecimal digits are ASCII.
+    unsafe { str::from_utf8_unchecked(digits) }
 }

@@ -70,7 +70,8 @@ impl Name {
     pub fn text(&self) -> &str
         ensures { result.now ≡ self.now }
     {
-        str::from_utf8(self.bytes.as_slice()).unwrap()
+        // SAFETY: the bytes of a name are ASCII.
+        unsafe { str::from_utf8_unchecked(self.bytes.as_slice()) }
     }
 
     /// An equal name.

@@ -1,13 +1,13 @@
-use Rattle.std.proofs.Common.{◌≡◌, ◌+◌, ◌++◌, ◌∷◌, [], length, Ok, Some, None, Err, refl, sym, ap, subst, ◌∙◌, arith, string_bytes, length-append}
+use Rattle.std.proofs.Common.{◌≡◌, ◌+◌, ◌++◌, ◌∷◌, [], length, Ok, Some, None, Err, refl, sym, ap, ◌∙◌, arith, string_bytes, length-append}
 use Rattle.std.specs.Str.Lines.{lines}
 use Rattle.apex_config.specs.Configuration.{Configuration}
-use Rattle.apex_ports.specs.History.{History, request_of, requests_of}
-use Rattle.apex_texts.specs.Lines.{line_words, item_of_line, items_from}
+use Rattle.apex_ports.specs.History.{requests_of}
+use Rattle.apex_texts.specs.Lines.{line_words}
 use Rattle.apex_texts.specs.Replay.{entry_after}
-use Rattle.apex_texts.specs.Report.{line_of, entry_lines}
+use Rattle.apex_texts.specs.Report.{line_of}
 use Rattle.apex_texts.specs.Text.{words_of}
 use Rattle.apex_texts.specs.Trace.{request_at, trace_of}
-use Rattle.apex_texts.proofs.LineLemmas.{with_front, goes_on, skips, refuses, ends, item-nothing, item-refused, item-read, item-faulty}
+use Rattle.apex_texts.proofs.LineLemmas.{goes_on, skips, refuses, ends, item-nothing, item-refused, item-read, item-faulty}
 use Rattle.apex_texts.proofs.ReplayLemmas.{fresh_front, requests_of-push}
 use Rattle.apex_texts.proofs.ReportLemmas.{entry_pushed, no_entry}
 use Rattle.apex_texts.proofs.replay.push_calls.Goals as goal

@@ -1,14 +1,14 @@
 use Rattle.std.proofs.Common.{◌≡◌, sym, subst, arith, rules}
 use Rattle.std.specs.Str.{IsAscii}
+use Rattle.std.proofs.lemmas.Str.{IsUtf8-from_ascii}
 use Rattle.hex.specs.Hex.{encode_lower}
 use Rattle.apex_types.proofs.HexText.{digits_are_ascii, text_reads_back}
-use Rattle.apex_types.proofs.Text.{ascii_is_read}
 use Rattle.apex_types.proofs.message.hex_text.Goals as goal
 
-pub unwrap-requires-2 : goal.unwrap-requires-2
-unwrap-requires-2 c =
+pub from_utf8_unchecked-requires : goal.from_utf8_unchecked-requires
+from_utf8_unchecked-requires c =
     let digits : c.encode_to_slice.new.output ≡ encode_lower c.args.bytes.now = search rules in
-    ascii_is_read c.from_utf8.result _ _ _ c.from_utf8.ensures.cases (subst IsAscii (sym digits) (digits_are_ascii c.args.bytes.now))
+    IsUtf8-from_ascii _ (subst IsAscii (sym digits) (digits_are_ascii c.args.bytes.now))
 
 pub returns-clause-reads_back : goal.returns-clause-reads_back
 returns-clause-reads_back c = text_reads_back c.args.bytes.now (λ i. let fits = c.type_inv.bytes i in omega arith) c.requires
