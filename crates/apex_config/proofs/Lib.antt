@@ -4,7 +4,6 @@ pub mod Each
 pub mod EndCounts
 pub mod FirstPlaces
 pub mod Meaning
-pub mod OnLiterals
 pub mod Places
 pub mod Tables
 pub mod WithoutFault

@@ -3,7 +3,6 @@ pub mod Drafts
 pub mod Ends
 pub mod Equality
 pub mod EqualityLaws
-pub mod Examples
 pub mod Fault
 pub mod Limits
 pub mod Meaning

@@ -22,6 +22,3 @@ pub use crate::limits::{
     CHANNEL_LIMIT, DEPTH_LIMIT, PARTITION_LIMIT, PORT_LIMIT, REFRESH_LIMIT, SIZE_LIMIT,
 };
 pub use crate::port::{Port, PortKind};
-
-#[cfg(test)]
-mod tests;

@@ -1,7 +1,7 @@
 use Rattle.std.proofs.Common.{subst, ap, ◌∙◌, refl}
 use Rattle.apex_config.specs.Meaning.{config_of, IsConfigRead}
-use Rattle.apex_config.proofs.OnLiterals.{config_on_literals}
-use Rattle.apex_config.proofs.tests.read_two_sources.Goals as goal
+use Rattle.apex_config_tests.proofs.OnLiterals.{config_on_literals}
+use Rattle.apex_config_tests.proofs.tests.read_two_sources.Goals as goal
 
 pub returns : goal.returns
 unfolding config_on_literals

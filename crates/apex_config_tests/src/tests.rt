@@ -1,13 +1,13 @@
 //! Texts of configurations with the answers that are wanted.
 ghost use Rattle.std.specs.Prelude.{Ok, Err};
-ghost use Rattle.apex_config.specs.Examples.{base};
+ghost use Rattle.apex_config_tests.specs.Examples.{base};
 ghost use Rattle.apex_config.specs.Meaning.{IsConfigRead};
 
 mod counts;
 mod texts;
 
 use crate::tests::texts::{BASE, INLINE, TWO_SOURCES};
-use crate::{ChannelKind, Config, ConfigFault, PortKind};
+use apex_config::{ChannelKind, Config, ConfigFault, PortKind};
 use apex_types::{Direction, Name};
 use std::alloc::Global;
 use std::test::Fail;

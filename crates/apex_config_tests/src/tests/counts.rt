@@ -2,7 +2,7 @@
 ghost use Rattle.std.specs.Prelude.{◌<◌};
 
 use crate::tests::fault_of;
-use crate::{ChannelKind, Config, PortKind};
+use apex_config::{ChannelKind, Config, PortKind};
 use apex_types::Direction;
 use std::alloc::Global;
 use std::test::Fail;
