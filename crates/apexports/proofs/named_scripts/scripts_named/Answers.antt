@@ -38,9 +38,9 @@ loop-argument-preserved g c =
     let read = subst (λ (path : List ℕ). IfSome (files path) (λ bytes. script_of bytes ≡ Ok c.in_ok-scripts-2.field-0)) c.in-Some.ensures.path c.in_ok-scripts-2.ensures in
     record {
       scripts = subst (λ (done : Arguments). AreScripts files config done (set scripts p c.in_ok-scripts-2.field-0)) (sym one_more)
-        (scripts_more files config (take i arguments) argument p scripts c.in_ok-scripts-2.field-0 names (omega arith) first read before.scripts);
+          (scripts_more files config (take i arguments) argument p scripts c.in_ok-scripts-2.field-0 names (omega arith) first read before.scripts);
       flags = subst (λ (done : Arguments). AreFlags config done (set named p true)) (sym one_more)
-        (flags_more config (take i arguments) argument p named names i_named before.flags);
+          (flags_more config (take i arguments) argument p named names i_named before.flags);
       count = before.count;
     }
 
@@ -57,7 +57,7 @@ returns-in_default g c =
     let here : slice_get arguments i ≡ Some argument = slice_get-get_or arguments i absent (omega arith) in
     refused_itself files config arguments i argument c.loop-argument.scripts.items here before.scripts
     (elim c.in_default.branch [
-      in_default-via-in-Some+else-not-index w ↦
+      | in_default-via-in-Some+else-not-index w ↦
           let known : w.in-Some.p < length config.partitions = w.in-Some.ensures.known in
           let ok = c.loop-argument.named.ok in
           let count = before.count in
