@@ -1,5 +1,5 @@
 -- What a replay and a run of files give, where their bytes are known.
-use Rattle.std.proofs.Common.{◌≡◌, ℕ, List, take, Bor, Option, Some, None, Result, Ok, Err, subst, String, Global, string_bytes}
+use Rattle.std.proofs.Common.{◌≡◌, ℕ, List, take, Bor, Option, Some, None, Result, Ok, Err, subst, String, Global}
 use Rattle.std.specs.Prelude.{IfSome, MatchOption}
 use Rattle.apex_types.specs.declared.call.Call.{Call}
 use Rattle.apex_types.specs.declared.moment.Moment.{Moment}

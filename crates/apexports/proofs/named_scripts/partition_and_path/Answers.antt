@@ -1,4 +1,3 @@
-use Rattle.std.proofs.Common.{◌∙◌}
 use Rattle.apexports.proofs.ScriptLemmas.{uncut}
 use Rattle.apexports.proofs.named_scripts.partition_and_path.Goals as goal
 
