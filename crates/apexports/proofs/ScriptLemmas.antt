@@ -9,7 +9,7 @@ use Rattle.std.proofs.lemmas.List.{length-replicate, get_or-replicate}
 use Rattle.std.proofs.lemmas.List.Elements.{All-nil, All-push, filter-append}
 use Rattle.std.proofs.lemmas.List.Folds.{list_any_none}
 use Rattle.std.proofs.lemmas.List.Sums.{fails_before_first}
-use Rattle.std.proofs.lemmas.Option.{slice_get_within, slice_get-get_or, get_or_from_slice_get}
+use Rattle.std.proofs.lemmas.Option.{slice_get_within, slice_get-get_or, slice_get_read, get_or_from_slice_get}
 use Rattle.std.proofs.lemmas.Str.Pattern.{IsSplitOnceResult, split_once_first}
 use Rattle.apex_types.specs.declared.call.Call.{Call}
 use Rattle.apex_types.specs.declared.moment.Moment.{Moment}
@@ -68,6 +68,10 @@ has_last (y ∷ xs) x = refl
 has_none : (xs : Arguments) → has_argument xs ≡ false → xs ≡ []
 has_none [] none = refl
 has_none (x ∷ xs) none = absurd (false≢true (sym none))
+
+-- a flag that was read
+pub flag_read : (named : List Bool) (p : ℕ) (flag is : Bool) → p < length named → flag ≡ get_or named p flag → flag ≡ is → get_or named p false ≡ is
+flag_read named p flag is within read test = get_or_from_slice_get named p flag false (slice_get_read named (length named) p flag refl within read) ∙ test
 
 pub flags_none : (config : Configuration) (n : ℕ) → AreFlags config [] (replicate n false)
 flags_none config n p within = get_or-replicate n p false false (omega (arith, length-replicate n false))

@@ -47,7 +47,8 @@ fn empty_scripts(alloc: Global, count: usize) -> Result<Vec<Script>, AllocError>
 
 /// The partition that an argument `NAME=SCRIPT` names, and the path after the first `=`.
 fn partition_and_path<'a>(config: &Config, argument: &'a str) -> Option<(usize, &'a str)>
-    ensures partition { partition_in config.now argument.now ≡ option_map (λ found. found.0) result }
+    ensures partition { partition_in config.now argument.now
+        ≡ option_map (λ found. found.0) result }
     ensures path { IfSome result (λ found. found.1.now ≡ path_in argument.now) }
     ensures known { IfSome result (λ found. found.0 < length config.now.partitions) }
 {

@@ -1,11 +1,11 @@
-use Rattle.std.proofs.Common.{◌≡◌, ℕ, suc, ◌+◌, ◌<◌, true, false, List, [], ◌∷◌, ◌++◌, length, take, set, get_or, Some, Ok, Err, Bor, refl, sym, ap, ◌∙◌, subst, arith}
+use Rattle.std.proofs.Common.{◌≡◌, ℕ, suc, ◌+◌, ◌<◌, true, false, List, [], ◌∷◌, ◌++◌, length, take, set, get_or, Some, Ok, Err, Bor, sym, ap, ◌∙◌, subst, arith}
 use Rattle.std.specs.Prelude.{IfSome}
 use Rattle.std.specs.List.{slice_get}
-use Rattle.std.proofs.lemmas.Option.{slice_get-get_or, slice_get_read, get_or_from_slice_get}
+use Rattle.std.proofs.lemmas.Option.{slice_get-get_or}
 use Rattle.apex_workers.proofs.Counting.{take_one_more}
 use Rattle.apex_texts.specs.Script.{script_of}
 use Rattle.apexports.specs.Scripts.{Arguments, AreScripts, IsScriptFile, partition_in, arguments_for}
-use Rattle.apexports.proofs.ScriptLemmas.{AreFlags, has_argument, scripts_more, flags_more, is_new, named_before, not_new, given_refusal, refused_itself, refused_file}
+use Rattle.apexports.proofs.ScriptLemmas.{AreFlags, has_argument, flag_read, scripts_more, flags_more, is_new, named_before, not_new, given_refusal, refused_itself, refused_file}
 use Rattle.apexports.proofs.named_scripts.scripts_named.Goals as goal
 use Rattle.apexports.proofs.named_scripts.scripts_named.Goals.{in_default-via-in-Some+else-not-index, in_default-via-in_default}
 
@@ -32,7 +32,7 @@ loop-argument-preserved g c =
     let known : p < length config.partitions = c.in-Some.ensures.known in
     let ok = c.loop-argument.named.ok in
     let i_named : p < length named = let count = before.count in omega arith in
-    let unnamed : get_or named p false ≡ false = let is = c.index.ensures in let test = c.if-not-index.true in cc in
+    let unnamed = flag_read named p c.index.result.now false i_named c.index.ensures c.if-not-index.true in
     let first : has_argument (arguments_for config p (take i arguments)) ≡ false = sym (before.flags p i_named) ∙ unnamed in
     let count = before.scripts.count in
     let read = subst (λ (path : List ℕ). IfSome (files path) (λ bytes. script_of bytes ≡ Ok c.in_ok-scripts-2.field-0)) c.in-Some.ensures.path c.in_ok-scripts-2.ensures in
@@ -61,11 +61,8 @@ returns-in_default g c =
           let known : w.in-Some.p < length config.partitions = w.in-Some.ensures.known in
           let ok = c.loop-argument.named.ok in
           let count = before.count in
-          let flags = c.loop-argument.named.items in
-          let within : w.in-Some.p < length flags = omega arith in
-          let flag : get_or flags w.in-Some.p false ≡ true =
-          get_or_from_slice_get flags w.in-Some.p w.index.result.now false (slice_get_read flags (length flags) w.in-Some.p w.index.result.now refl within w.index.ensures) ∙ w.if-not-index.false
-          in
+          let within : w.in-Some.p < length c.loop-argument.named.items = omega arith in
+          let flag = flag_read c.loop-argument.named.items w.in-Some.p w.index.result.now true within w.index.ensures w.if-not-index.false in
           named_before config (take i arguments) argument.now w.in-Some.p w.in-Some.ensures.partition (sym (before.flags w.in-Some.p within) ∙ flag)
       | in_default-via-in_default w ↦ not_new config (take i arguments) argument.now w.in_default.ensures.partition
     ])
@@ -87,7 +84,7 @@ returns-in_err-scripts-2 g c =
     let known : p < length config.partitions = c.in-Some.ensures.known in
     let ok = c.loop-argument.named.ok in
     let i_named : p < length named = let count = before.count in omega arith in
-    let unnamed : get_or named p false ≡ false = let is = c.index.ensures in let test = c.if-not-index.true in cc in
+    let unnamed = flag_read named p c.index.result.now false i_named c.index.ensures c.if-not-index.true in
     let first : has_argument (arguments_for config p (take i arguments)) ≡ false = sym (before.flags p i_named) ∙ unnamed in
     let refusal = c.in_err-scripts-2.field-0.0 in
     let read = subst (λ (path : List ℕ). IsScriptFile files config p path (Err refusal)) c.in-Some.ensures.path c.in_err-scripts-2.ensures in
