@@ -1,4 +1,5 @@
 pub mod Files
 pub mod Limits
 pub mod Refusal
+pub mod Scripts
 pub mod Task

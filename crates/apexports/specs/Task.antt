@@ -1,25 +1,25 @@
 -- What a task gives, where the bytes of its files are known: the text to print, or the fault of a text that is refused.
-use Rattle.std.specs.Prelude.{◌≡◌, ℕ, List, Option, Some, Result, Ok, Err, String, string_bytes, IfSome}
+use Rattle.std.specs.Prelude.{◌≡◌, ℕ, List, Result, Ok, Err, String, string_bytes, IfSome}
 use Rattle.std.specs.Global.{Vec}
 use Rattle.std.specs.declared.alloc.Global.{Global}
 use Rattle.apex_types.specs.declared.call.Call.{Call}
 use Rattle.apex_types.specs.declared.moment.Moment.{Moment}
-use Rattle.apex_config.specs.Configuration.{Configuration, partition_name_of}
+use Rattle.apex_config.specs.Configuration.{Configuration}
 use Rattle.apex_config.specs.Meaning.{config_of}
 use Rattle.apex_texts.specs.Check.{check_line}
 use Rattle.apex_texts.specs.Replay.{IsReplay}
 use Rattle.apex_texts.specs.Run.{IsRunReport}
-use Rattle.apex_texts.specs.Script.{IsScriptRead, script_of}
 use Rattle.apex_texts.specs.declared.fault.Fault.TheVariants as faults
 use Rattle.apexports.specs.declared.program.Refusal.{Refusal}
-use Rattle.apexports.specs.declared.program.Refusal.TheVariants.{Argument, Text, File}
+use Rattle.apexports.specs.declared.program.Refusal.TheVariants.{Text, File}
+use Rattle.apexports.specs.Scripts.{FileBytes, Arguments, AreScripts, AreArgumentsRefused}
 
--- the bytes of a file, whole; a file that can't be read is told by its path, or memory is wanting
-abbrev pub IsFileRead : Result (Vec ℕ) Refusal → Option (List ℕ) → Type 0
-IsFileRead (Ok read) bytes = IfSome bytes (λ known. read.items ≡ known)
-IsFileRead (Err (File path)) bytes = Unit {0}
-IsFileRead (Err (Text faults.Memory)) bytes = Unit {0}
-IsFileRead (Err refusal) bytes = ⊥
+-- the bytes of the file at a path, whole; a file that can't be read is told by its path, or memory is wanting
+abbrev pub IsFileRead : FileBytes → List ℕ → Result (Vec ℕ) Refusal → Type 0
+IsFileRead files path (Ok read) = IfSome (files path) (λ bytes. read.items ≡ bytes)
+IsFileRead files path (Err (File told)) = told.now ≡ path
+IsFileRead files path (Err (Text faults.Memory)) = Unit {0}
+IsFileRead files path (Err refusal) = ⊥
 
 -- the configuration that the bytes are, or their fault
 abbrev pub IsConfigRead : Result Configuration Refusal → List ℕ → Type 0
@@ -44,25 +44,13 @@ IsFileReplay (Err (Text fault)) config trace = IsReplay (Err fault) config trace
 IsFileReplay (Err (File path)) config trace = Unit {0}
 IsFileReplay (Err refusal) config trace = ⊥
 
--- the script of partition p in a file: the calls that the bytes are, or their fault with the partition's name
-abbrev pub IsScriptFile : Configuration → ℕ → Result (List (Moment × Call)) Refusal → List ℕ → Type 0
-IsScriptFile config p (Ok calls) bytes = script_of bytes ≡ Ok calls
-IsScriptFile config p (Err (Text (faults.Script name fault))) bytes = (partition_name_of config p ≡ Some name) × IsScriptRead (Err fault) (script_of bytes)
-IsScriptFile config p (Err (Text faults.Memory)) bytes = Unit {0}
-IsScriptFile config p (Err (File path)) bytes = Unit {0}
-IsScriptFile config p (Err refusal) bytes = ⊥
-
--- an argument of a run, its file or the text of it is refused, or memory is wanting
-abbrev pub IsArgumentRefusal : Refusal → Type 0
-IsArgumentRefusal (Argument word) = Unit {0}
-IsArgumentRefusal (File path) = Unit {0}
-IsArgumentRefusal (Text (faults.Script name fault)) = Unit {0}
-IsArgumentRefusal (Text faults.Memory) = Unit {0}
-IsArgumentRefusal refusal = ⊥
-
--- the run of scripts on the configuration that the bytes are: no call is held, since the gate is open
-abbrev pub IsFileRun : Result (String Global) Refusal → List ℕ → Type 0
-IsFileRun (Ok text) config = (configuration : Configuration) × (config_of config ≡ Ok configuration) × (scripts : List (List (Moment × Call))) × IsRunReport configuration scripts (string_bytes text)
-IsFileRun (Err (Text (faults.Config fault))) config = config_of config ≡ Err fault
-IsFileRun (Err (Text (faults.Run fault))) config = Unit {0}
-IsFileRun (Err refusal) config = IsArgumentRefusal refusal
+-- the run of the scripts that the arguments name, on the configuration that the bytes are: no call is held, since the gate is open
+abbrev pub IsFileRun : FileBytes → Arguments → Result (String Global) Refusal → List ℕ → Type 0
+IsFileRun files arguments (Ok text) config =
+    (configuration : Configuration) × (config_of config ≡ Ok configuration)
+    × (scripts : List (List (Moment × Call))) × AreScripts files configuration arguments scripts × IsRunReport configuration scripts (string_bytes text)
+IsFileRun files arguments (Err (Text (faults.Config fault))) config = config_of config ≡ Err fault
+IsFileRun files arguments (Err (Text (faults.Run fault))) config = Unit {0}
+IsFileRun files arguments (Err (Text faults.Memory)) config = Unit {0}
+IsFileRun files arguments (Err (File path)) config = Unit {0}
+IsFileRun files arguments (Err refusal) config = (configuration : Configuration) × (config_of config ≡ Ok configuration) × AreArgumentsRefused files configuration arguments refusal

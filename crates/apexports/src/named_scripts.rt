@@ -1,6 +1,7 @@
 //! The scripts that the arguments of `run` give to partitions.
-ghost use Rattle.std.specs.Prelude.{◌≡◌, ◌<◌, [], length, replicate, vec_len, IfOk, IfErr, IfSome};
-ghost use Rattle.apexports.specs.Task.{IsArgumentRefusal, IsScriptFile};
+ghost use Rattle.std.specs.Prelude.{◌≡◌, ◌<◌, [], length, replicate, IfOk, IfSome};
+ghost use Rattle.std.specs.Option.{option_map};
+ghost use Rattle.apexports.specs.Scripts.{AreArgumentsRead, IsScriptFile, partition_in, path_in};
 
 use crate::files::Opener;
 use crate::program::{Refusal, read_file};
@@ -16,18 +17,17 @@ pub fn scripts_named<'a, O: Opener>(
     config: &Config,
     arguments: &[&'a str],
 ) -> Result<Vec<Script>, Refusal<'a>>
-    ensures count { IfOk result (λ scripts. vec_len scripts ≡ length config.now.partitions) }
-    ensures refused { IfErr result IsArgumentRefusal }
+    ensures { AreArgumentsRead (O.bytes_at opener.now) config.now arguments.now result }
 {
     let mut scripts = empty_scripts(alloc, config.partitions())?;
     let mut named = vec![in alloc; false; config.partitions()]?;
     for argument in arguments {
-        let (p, path) = partition_and_path(config, argument)?;
-        if named[p] {
-            return Err(Refusal::Argument(argument));
-        }
-        named[p] = true;
+        let (p, path) = match partition_and_path(config, argument) {
+            Some((p, path)) if !named[p] => (p, path),
+            _ => return Err(Refusal::Argument(argument)),
+        };
         scripts[p] = script_at(alloc, opener, config, p, path)?;
+        named[p] = true;
     }
     Ok(scripts)
 }
@@ -46,23 +46,15 @@ fn empty_scripts(alloc: Global, count: usize) -> Result<Vec<Script>, AllocError>
 }
 
 /// The partition that an argument `NAME=SCRIPT` names, and the path after the first `=`.
-fn partition_and_path<'a>(
-    config: &Config,
-    argument: &'a str,
-) -> Result<(usize, &'a str), Refusal<'a>>
-    ensures known { IfOk result (λ found. found.0 < length config.now.partitions) }
-    ensures refused { IfErr result (λ refusal. refusal ≡ Refusal.Argument argument.entry) }
+fn partition_and_path<'a>(config: &Config, argument: &'a str) -> Option<(usize, &'a str)>
+    ensures partition { partition_in config.now argument.now
+        ≡ option_map (λ found. found.0) result }
+    ensures path { IfSome result (λ found. found.1.now ≡ path_in argument.now) }
+    ensures known { IfSome result (λ found. found.0 < length config.now.partitions) }
 {
-    let Some((name, path)) = argument.split_once('=') else {
-        return Err(Refusal::Argument(argument));
-    };
-    let Ok(name) = Name::read(name) else {
-        return Err(Refusal::Argument(argument));
-    };
-    match config.partition(&name) {
-        Some(p) => Ok((p, path)),
-        None => Err(Refusal::Argument(argument)),
-    }
+    let (name, path) = argument.split_once('=')?;
+    let name = Name::read(name).ok()?;
+    Some((config.partition(&name)?, path))
 }
 
 /// The script of partition `p` in a file.
@@ -74,8 +66,7 @@ fn script_at<'a, O: Opener>(
     path: &'a str,
 ) -> Result<Script, Refusal<'a>>
     requires { p < length config.now.partitions }
-    ensures script { IfSome (O.bytes_at opener.now path.now) (IsScriptFile config.now p result) }
-    ensures refused { IfErr result IsArgumentRefusal }
+    ensures { IsScriptFile (O.bytes_at opener.now) config.now p path.now result }
 {
     let text = read_file(alloc, opener, path)?;
     match read_script(alloc, text.as_slice()) {

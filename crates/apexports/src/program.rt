@@ -171,7 +171,7 @@ pub(crate) fn read_file<'a, O: Opener>(
     opener: &O,
     path: &'a str,
 ) -> Result<Vec<u8>, Refusal<'a>>
-    ensures { IsFileRead result (O.bytes_at opener.now path.now) }
+    ensures { IsFileRead (O.bytes_at opener.now) path.now result }
 {
     match read_path(alloc, opener, path) {
         Ok(bytes) => Ok(bytes),
@@ -229,7 +229,8 @@ fn run_files<'a, R: Threads + Wait + Sync, O: Opener>(
     config: &'a str,
     arguments: &[&'a str],
 ) -> Result<String, Refusal<'a>>
-    ensures { IfSome (O.bytes_at opener.now config.now) (IsFileRun result) }
+    ensures { IfSome (O.bytes_at opener.now config.now)
+        (IsFileRun (O.bytes_at opener.now) arguments.now result) }
 {
     let config = read_config(alloc, opener, config)?;
     let scripts = scripts_named(alloc, opener, &config, arguments)?;

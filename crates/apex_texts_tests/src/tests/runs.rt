@@ -3,7 +3,7 @@ ghost use Rattle.std.specs.Prelude.{ℕ, ◌≡◌};
 
 use super::texts::REDUCED;
 use apex_config::Config;
-use apex_texts::{Fault, read_script, run_text};
+use apex_texts::{Fault, read_script, replay_text, run_text};
 use apex_types::Name;
 use apex_workers::{Gate, Held};
 use std::alloc::AllocGlobal;
@@ -17,6 +17,15 @@ use std::thread::Threads;
 const SENDER: &[u8] = b"1 create-queuing NAV_OUT 4 2 0 0\n2 mode 3\n3 send 1 01\n";
 
 const RECEIVER: &[u8] = b"1 create-queuing NAV_IN 4 2 1 0\n2 mode 3\n3 receive 1\n";
+
+/// The calls of both scripts, the sender's first.
+const IN_TURN: &[u8] = b"1 FMS create-queuing NAV_OUT 4 2 0 0
+2 FMS mode 3
+3 FMS send 1 01
+1 DSP create-queuing NAV_IN 4 2 1 0
+2 DSP mode 3
+3 DSP receive 1
+";
 
 /// The text of a run of the sender and the receiver.
 fn text_of<R: Threads + Wait + Sync + Abort + AllocGlobal, G: Gate>(
@@ -98,6 +107,17 @@ partition DSP mode NORMAL calls 3
 queuing NAV accepted 1 received 1 waiting 0
 ";
     assert_eq!(rt; text.as_str(), wanted);
+    Ok(())
+}
+
+#[test]
+fn a_run_reports_as_the_replay_of_its_calls(rt: HostRuntime) -> Result<(), Fail> {
+    let gate = InTurn {
+        is_sent: AtomicBool::new(false),
+    };
+    let text = text_of(&rt, &gate)??;
+    let replay = replay_text(rt.alloc(), REDUCED.as_bytes(), IN_TURN)?;
+    assert_eq!(rt; text.as_str(), replay.as_str());
     Ok(())
 }
 

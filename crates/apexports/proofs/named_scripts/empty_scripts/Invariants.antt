@@ -1,4 +1,4 @@
-use Rattle.std.proofs.Common.{◌≡◌, ◌≤◌, [], replicate, vec_len, vec_capacity}
+use Rattle.std.proofs.Common.{◌≡◌, ◌≤◌, [], replicate, vec_capacity}
 use Rattle.apexports.proofs.named_scripts.empty_scripts.Given as goal
 
 abbrev pub invariant-loop : goal.invariant-loop
