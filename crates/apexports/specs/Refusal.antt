@@ -1,7 +1,7 @@
 -- Why the program refuses, the line that says so, and the status that it then ends with.
 use Rattle.std.specs.Prelude.{ℕ, List, ◌++◌, codes}
-use Rattle.apexports.specs.declared.command_line.WordsFault.{WordsFault}
-use Rattle.apexports.specs.declared.command_line.WordsFault.TheVariants as words
+use Rattle.apex_command_line.specs.declared.WordsFault.{WordsFault}
+use Rattle.apex_command_line.specs.declared.WordsFault.TheVariants as words
 use Rattle.apex_config.specs.declared.fault.ConfigFault.TheVariants as config_faults
 use Rattle.apex_texts.specs.declared.fault.Fault.TheVariants as faults
 use Rattle.apex_texts.specs.declared.fault.TraceFault.TheVariants as trace_faults

@@ -2,12 +2,11 @@
 //! partition, go in, the reply to each call and a report come out.
 #![tactic(auto)]
 
-mod command_line;
 mod files;
 mod named_scripts;
 mod program;
 
-use command_line::words_given;
+use apex_command_line::words_given;
 use files::SystemFiles;
 use program::{program, refuse};
 use std::process::ExitCode;

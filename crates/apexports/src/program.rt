@@ -6,9 +6,9 @@ ghost use Rattle.apexports.specs.declared.program.Refusal.TheVariants.{Text};
 ghost use Rattle.apexports.specs.Refusal.{status_of, words_refusal, refusal_line};
 ghost use Rattle.apexports.specs.Task.{IsFileRead, IsConfigRead, IsCheck, IsFileReplay, IsFileRun};
 
-use crate::command_line::{Task, WordsFault, task_of};
 use crate::files::{FileFault, Opener, read_path};
 use crate::named_scripts::scripts_named;
+use apex_command_line::{Task, WordsFault, task_of};
 use apex_config::{Config, ConfigFault};
 use apex_texts::{Fault, TraceFault, check_line, replay_trace, run_text};
 use apex_workers::OpenGate;

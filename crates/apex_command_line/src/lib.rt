@@ -1,6 +1,8 @@
-//! The words of the command line.
+//! The words of the command line. Apart from the program, whose proofs then need nothing of `clap`.
+#![tactic(auto)]
+
 ghost use Rattle.std.specs.Prelude.{◌≡◌};
-ghost use Rattle.apexports.specs.declared.command_line.WordsFault.TheVariants.{OutOfMemory};
+ghost use Rattle.apex_command_line.specs.declared.WordsFault.TheVariants.{OutOfMemory};
 
 use clap::error::ErrorKind;
 use clap::{Arg, Command};
