@@ -1,7 +1,6 @@
 -- What a send, a receive and a write do to the state of a channel.
-use Rattle.std.proofs.Common.{◌≡◌, ◌≢◌, ◌⊎◌, ⊎_elim, ℕ, ◌+◌, ◌-◌, ◌^◌, Bool, true, false, if◌then◌else◌, min, List, [], ◌∷◌, ◌++◌, length, drop, set, Option, Some, None, refl, sym, ap, ◌∙◌}
+use Rattle.std.proofs.Common.{◌≡◌, ◌≢◌, ⊎_elim, ℕ, ◌+◌, ◌-◌, ◌^◌, true, false, if◌then◌else◌, min, List, [], ◌∷◌, ◌++◌, drop, set, Option, Some, None, refl, sym, ap, ◌∙◌}
 use Rattle.std.specs.List.{slice_get}
-use Rattle.apex_types.specs.declared.call.Call.{Call}
 use Rattle.apex_types.specs.declared.call.Call.TheVariants.{SendQueuing, ReceiveQueuing, WriteSampling}
 use Rattle.apex_types.specs.declared.moment.Moment.{Moment}
 use Rattle.apex_types.specs.declared.reply.Reply.TheVariants.{Code, Received}
@@ -9,7 +8,6 @@ use Rattle.apex_types.specs.declared.return_code.ReturnCode.TheVariants.{NoError
 use Rattle.apex_config.specs.Configuration.{Configuration, port_of}
 use Rattle.apex_config.specs.declared.port.Port.{Port}
 use Rattle.apex_ports.specs.declared.history.Entry.{Entry}
-use Rattle.apex_ports.specs.declared.history.Sample.{Sample}
 use Rattle.apex_ports.specs.declared.partition.PartitionState.{PartitionState}
 use Rattle.apex_ports.specs.declared.channel.ChannelState.{ChannelState}
 use Rattle.apex_ports.specs.declared.channel.ChannelState.TheVariants.{Queuing, Sampling}
@@ -17,14 +15,14 @@ use Rattle.apex_ports.specs.ChannelStates.{has_queue, waiting_in, places_in, acc
 use Rattle.apex_ports.specs.Counts.{count_of}
 use Rattle.apex_ports.specs.History.{History, entry_of}
 use Rattle.apex_ports.specs.Ports.{is_source_of, is_destination_of}
-use Rattle.apex_ports.specs.Channels.{accepted_on, received_on, message_accepted, message_received, sample_written, sample_at}
+use Rattle.apex_ports.specs.Channels.{accepted_on, received_on, message_accepted, message_received, sample_at}
 use Rattle.apex_ports.specs.Kept.{IsChannelKept, AreKept}
 use Rattle.apex_ports.specs.ReplyTable.{oldest_reply}
 use Rattle.apex_ports.specs.Rules.{IsConserved}
 use Rattle.apex_ports.proofs.Counts.{count-push}
 use Rattle.apex_ports.proofs.Histories.{accepted-sent, received-received, waiting-sent, waiting-received}
 use Rattle.apex_ports.proofs.OneChannel.{LiesElsewhere, port_elsewhere, sends_elsewhere, receives_elsewhere, writes_elsewhere}
-use Rattle.apex_ports.proofs.Stays.{none_or_none, leaves_partition, leaves_channel, channel_changes, accepted_stays, received_stays, waiting_stays, sample_stays, sample_changes}
+use Rattle.apex_ports.proofs.Stays.{leaves_partition, leaves_channel, channel_changes, accepted_stays, received_stays, waiting_stays, sample_stays, sample_changes}
 
 -- a port of the channel lies on no other
 source_elsewhere : (port : Option Port) (c d : ℕ) → is_source_of c port ≡ true → d ≢ c → LiesElsewhere d port

@@ -19,11 +19,11 @@ use Rattle.apex_ports.specs.Modes.{mode_of, is_idle, is_code_no_error}
 use Rattle.apex_ports.specs.Ports.{is_created, queuing_only, sampling_only, queuing_port, sampling_port, is_queuing, is_queue, is_source, is_source_of, is_destination_of}
 use Rattle.apex_ports.specs.Channels.{accepted_on, received_on, waiting_on, message_in, message_sent, message_accepted, message_received, sample_at}
 use Rattle.apex_ports.specs.LawfulLaws.{along_lawful}
-use Rattle.apex_ports.specs.ReplyTable.{depth_of, depth_in, size_of, send_reply, oldest_reply, receive_reply, write_reply, reply_to, service_reply}
+use Rattle.apex_ports.specs.ReplyTable.{depth_of, depth_in, send_reply, oldest_reply, receive_reply, write_reply, reply_to}
 use Rattle.apex_ports.specs.Rules.{IsConserved, AlwaysConserved}
 use Rattle.apex_ports.specs.Sound.{IsSound}
 use Rattle.apex_ports.proofs.Histories.{accepted-sent, received-received, waiting-sent, waiting-received}
-use Rattle.apex_ports.proofs.Stays.{IsElsewhere, LeavesChannel, leaves_channel, accepted_stays, received_stays, waiting_stays, sample_stays, none_or_none, and_true}
+use Rattle.apex_ports.proofs.Stays.{LeavesChannel, leaves_channel, accepted_stays, received_stays, waiting_stays, sample_stays, none_or_none, and_true}
 
 -- ---- what a reply of the table says of the port
 

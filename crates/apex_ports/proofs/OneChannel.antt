@@ -8,7 +8,6 @@ use Rattle.apex_types.specs.declared.reply.Reply.{Reply}
 use Rattle.apex_config.specs.Configuration.{Configuration, port_of}
 use Rattle.apex_config.specs.declared.port.Port.{Port}
 use Rattle.apex_ports.specs.History.{History, entry_of}
-use Rattle.apex_ports.specs.Modes.{is_code_no_error}
 use Rattle.apex_ports.specs.Ports.{is_source, is_source_of, is_destination_of}
 use Rattle.apex_ports.specs.OneChannel.{SameChannel, ChangesOneChannel}
 use Rattle.apex_ports.proofs.Refused.{same_channel}

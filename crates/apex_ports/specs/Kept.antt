@@ -1,5 +1,5 @@
 -- What the state says of the history: each part is what the definitions filter out of it.
-use Rattle.std.specs.Prelude.{ℕ, ◌≡◌, ◌-◌, ◌==◌, Bool, true, false, if◌then◌else◌, List, [], ◌∷◌, ◌++◌, length, slice_get, Option, Some, None}
+use Rattle.std.specs.Prelude.{ℕ, ◌≡◌, ◌-◌, ◌==◌, Bool, false, if◌then◌else◌, List, [], ◌∷◌, ◌++◌, length, slice_get, Option, Some, None}
 use Rattle.apex_types.specs.declared.validity.Validity.{Validity}
 use Rattle.apex_types.specs.declared.validity.Validity.TheVariants.{Invalid}
 use Rattle.std.specs.declared.vec.Vec.{Vec}

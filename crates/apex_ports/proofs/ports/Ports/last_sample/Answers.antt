@@ -1,4 +1,4 @@
-use Rattle.std.proofs.Common.{◌≡◌, ◌<◌, true, None, length, sym, subst, ◌∙◌}
+use Rattle.std.proofs.Common.{◌≡◌, ◌<◌, true, length, sym, subst, ◌∙◌}
 use Rattle.std.specs.Option.{option_copied}
 use Rattle.apex_ports.specs.Channels.{last_write_on}
 use Rattle.apex_ports.specs.Ports.{is_queuing}

@@ -1,4 +1,4 @@
-use Rattle.std.proofs.Common.{◌≡◌, ◌<◌, false, length, sym, subst, ◌∙◌, arith}
+use Rattle.std.proofs.Common.{◌≡◌, ◌<◌, false, length, sym, subst, ◌∙◌}
 use Rattle.apex_ports.specs.Channels.{waiting_on}
 use Rattle.apex_ports.specs.Ports.{is_queuing}
 use Rattle.apex_ports.specs.PortsView.{PortsView}

@@ -1,5 +1,4 @@
-use Rattle.std.proofs.Common.{rules, ◌≡◌, Some, None, sym, ap, ◌∙◌}
-use Rattle.std.specs.Option.{option_copied}
+use Rattle.std.proofs.Common.{rules, ◌≡◌, Some, None, sym, ◌∙◌}
 use Rattle.apex_ports.specs.Channels.{last_write_on}
 use Rattle.apex_ports.proofs.Lookups.{channel_at, is_place}
 use Rattle.apex_ports.proofs.state.State.sample_shown.Goals as goal

@@ -1,5 +1,4 @@
-use Rattle.std.proofs.Common.{◌<◌, length, arith}
-use Rattle.apex_ports.specs.ChannelStates.{waiting_in, places_in}
+use Rattle.std.proofs.Common.{arith}
 use Rattle.apex_ports.proofs.ChannelSteps.{sent_keeps}
 use Rattle.apex_ports.proofs.Conserved.{always_conserved}
 use Rattle.apex_ports.proofs.Lookups.{channel_at, waiting_count_is}
