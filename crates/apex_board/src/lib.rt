@@ -8,4 +8,4 @@ pub mod requests;
 
 pub use crate::board::Board;
 pub use crate::requests::{Stopped, run_list};
-pub use apex_ports::{Entry, Request, Sample};
+pub use apex_ports::{Entry, Request};

@@ -4,7 +4,6 @@ ghost use Rattle.apex_types.specs.declared.call.Call.TheVariants as call;
 ghost use Rattle.apex_types.specs.declared.reply.Reply.TheVariants.{Code, Read};
 ghost use Rattle.apex_types.specs.declared.return_code.ReturnCode.TheVariants.{NoError};
 ghost use Rattle.apex_config.specs.Configuration.{port_of, ports_of};
-ghost use Rattle.apex_ports.specs.Channels.{validity_at as validity_of_age};
 ghost use Rattle.apex_ports.specs.Decisions.{Decides};
 ghost use Rattle.apex_ports.specs.History.{entry_of};
 ghost use Rattle.apex_ports.specs.Kept.{IsKept, IsKeptWith};
@@ -12,11 +11,10 @@ ghost use Rattle.apex_ports.specs.Ports.{IsPlace, is_queuing, sampling_port, is_
 ghost use Rattle.apex_ports.specs.ReplyTable.{write_reply, read_reply, sampling_status_reply};
 
 use crate::channel::ChannelState;
-use crate::history::Sample;
 use crate::partition::PortState;
 use crate::state::State;
 use apex_config::Config;
-use apex_types::{Direction, Message, Moment, Reply, ReturnCode, Validity};
+use apex_types::{Direction, Message, Moment, Reply, ReturnCode, Sample, Validity};
 use std::alloc::Allocator;
 
 impl<A: Allocator> State<A> {
@@ -78,7 +76,7 @@ impl<A: Allocator> State<A> {
         let Some(sample) = self.channels[port.channel].sample() else {
             return Err(ReturnCode::NoAction);
         };
-        let validity = validity_at(now, sample.at, port.kind.refresh());
+        let validity = sample.validity(now, port.kind.refresh());
         Ok((&sample.message, validity))
     }
 
@@ -151,16 +149,5 @@ impl<A: Allocator> State<A> {
             direction: port.direction,
             last: self.partitions[partition].last_validity(id),
         }
-    }
-}
-
-// VALID up to the refresh period after the write, that moment included, over unbounded numbers.
-fn validity_at(now: Moment, written: Moment, refresh: u64) -> Validity
-    ensures { result ≡ validity_of_age now.0 written.0 refresh }
-{
-    if now.0.saturating_sub(written.0) <= refresh {
-        Validity::Valid
-    } else {
-        Validity::Invalid
     }
 }

@@ -2,10 +2,9 @@
 ghost use Rattle.std.specs.Prelude.{◌≡◌, [], ◌<◌, ◌++◌, true, false, length, None, slice_get};
 ghost use Rattle.std.specs.Option.{option_copied};
 
-use crate::history::Sample;
 use crate::ports::Ports;
 use apex_config::Config;
-use apex_types::{Message, Mode, Validity};
+use apex_types::{Message, Mode, Sample, Validity};
 use std::alloc::Allocator;
 
 impl<A: Allocator> Ports<A> {
