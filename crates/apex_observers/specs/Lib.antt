@@ -1,0 +1,4 @@
+pub mod History
+pub mod OneChannel
+pub mod Published
+pub mod Shown
