@@ -125,9 +125,10 @@ impl<A: Allocator> Publisher<A> {
         message: &Message,
         at: Moment,
     ) -> Result<(), OutOfMemory>
-        ensures { MatchResult result
+        ensures writes { MatchResult result
             (λ _. self.new ≡ followed_by self.old (record { message = message.now; at = at }))
             (λ _. self.new ≡ self.old) }
+        ensures channel { self.new.channel ≡ self.old.channel }
     {
         let sample = Sample {
             message: message.copy(),
