@@ -9,8 +9,8 @@ pub record Published : Type 0 where
   pub writes : List Sample
 
 -- the same, and one write more
-abbrev pub followed_by : Published → Sample → Published
-followed_by published sample = record { channel = published.channel; writes = published.writes ++ sample ∷ [] }
+abbrev pub with_write : Published → Sample → Published
+with_write published sample = record { channel = published.channel; writes = published.writes ++ sample ∷ [] }
 
 -- the last write
 abbrev pub last_of : List Sample → Option Sample

@@ -84,7 +84,10 @@ impl<A: Allocator> Observer<A> {
     }
 }
 
-/// What is published now, and the writes up to it. `None` where there is no publisher, or the version lacks known writes.
+/// What is published now, and the writes up to it. `None` where the publisher has ended.
+///
+/// It is `None` too where the version lacks writes that are known. Receipts are given out for published writes alone, so
+/// that no such version is met; but nothing ties a receipt to what is published when it is learned.
 fn look<A: Allocator>(
     reader: ChannelReader<A>,
     known: &Receipt,

@@ -1,7 +1,7 @@
 //! Publishers.
 ghost use Rattle.std.specs.Prelude.{◌≡◌, ◌<◌, ◌^◌, [], drop, Some, IfOk, MatchResult};
 ghost use Rattle.left_right.specs.Sides.{view as known_by};
-ghost use Rattle.apex_observers.specs.Published.{followed_by};
+ghost use Rattle.apex_observers.specs.Published.{with_write};
 
 use crate::history::Count;
 use crate::observer::Observer;
@@ -119,6 +119,8 @@ impl<A: Allocator> Publisher<A> {
     }
 
     /// Publishes a write. It waits for reads in progress. On want of memory nothing is published.
+    ///
+    /// `new` took the memory that a publication needs. Were one refused all the same, the channel would refuse all later ones.
     pub fn publish<R: Wait>(
         &mut self,
         rt: &R,
@@ -126,7 +128,7 @@ impl<A: Allocator> Publisher<A> {
         at: Moment,
     ) -> Result<(), OutOfMemory>
         ensures writes { MatchResult result
-            (λ _. self.new ≡ followed_by self.old (record { message = message.now; at = at }))
+            (λ _. self.new ≡ with_write self.old (record { message = message.now; at = at }))
             (λ _. self.new ≡ self.old) }
         ensures channel { self.new.channel ≡ self.old.channel }
     {
@@ -134,7 +136,10 @@ impl<A: Allocator> Publisher<A> {
             message: message.copy(),
             at,
         };
-        let next = self.receipt.with(&self.count, &sample).ok_or(OutOfMemory)?;
+        let next = self
+            .receipt
+            .followed_by(&self.count, &sample)
+            .ok_or(OutOfMemory)?;
         let version = Version::new(sample, next.copy());
         replace_with(&mut self.writer, (rt, version), |writer, (rt, version)| {
             show(rt, writer, version)

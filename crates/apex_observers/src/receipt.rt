@@ -2,7 +2,7 @@
 ghost use Rattle.std.specs.Prelude.{◌≡◌, [], IfSome, MatchBool};
 ghost use mathlib.Core.List.{IsPrefix};
 ghost use Rattle.apex_observers.specs.History.{count_of};
-ghost use Rattle.apex_observers.specs.Published.{followed_by};
+ghost use Rattle.apex_observers.specs.Published.{with_write};
 
 use crate::history::{Add, Count, Counted, Nothing};
 use apex_types::Sample;
@@ -47,10 +47,10 @@ impl Receipt {
         }
     }
 
-    /// Adds a write to the channel's history. `None` where that has writes that this receipt hasn't.
-    pub(crate) fn with(&self, count: &Count, sample: &Sample) -> Option<Receipt>
+    /// Adds a write to the channel's history. `None` where that has writes that this receipt hasn't, or 2^64 - 1 writes.
+    pub(crate) fn followed_by(&self, count: &Count, sample: &Sample) -> Option<Receipt>
         requires { count.now ≡ count_of self.now.channel }
-        ensures { IfSome result (λ receipt. receipt ≡ followed_by self.now sample.now) }
+        ensures { IfSome result (λ receipt. receipt ≡ with_write self.now sample.now) }
     {
         let more = self.count.checked_add(1)?;
         let mut seen = self.seen.again();

@@ -1,6 +1,6 @@
 use Rattle.std.proofs.Common.{◌≡◌, ◌+◌, sym, ◌∙◌, ap, arith, length}
 use Rattle.apex_observers.proofs.Adding.{adds_moves}
-use Rattle.apex_observers.proofs.receipt.Receipt.with.Goals as goal
+use Rattle.apex_observers.proofs.receipt.Receipt.followed_by.Goals as goal
 
 -- src/receipt.rt:61:13
 pub compare_exchange-found-requires : goal.compare_exchange-found-requires
