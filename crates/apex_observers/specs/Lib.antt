@@ -1,3 +1,4 @@
+pub mod Channels
 pub mod History
 pub mod OneChannel
 pub mod Published

@@ -35,12 +35,14 @@
 mod history;
 pub mod observer;
 pub mod publisher;
+pub mod publishers;
 pub mod receipt;
 mod rule;
 pub mod sampled;
 mod version;
 
 pub use crate::observer::Observer;
-pub use crate::publisher::{NoPlace, Publisher};
+pub use crate::publisher::{NoPlace, ObserverFault, Publisher};
+pub use crate::publishers::Publishers;
 pub use crate::receipt::Receipt;
 pub use crate::sampled::Sampled;

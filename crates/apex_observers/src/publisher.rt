@@ -11,7 +11,7 @@ use crate::version::Version;
 use apex_types::{Message, Moment, OutOfMemory, Sample};
 use core::mem::replace_with;
 use left_right::writer::Writer;
-use std::alloc::{Allocator, Global};
+use std::alloc::{AllocFailed, Allocator, Global};
 use std::marker::Model;
 use std::sync::Wait;
 use thiserror::Error;
@@ -20,6 +20,27 @@ use thiserror::Error;
 #[derive(Clone, Copy, Debug, PartialEq, Eq, Error)]
 #[error("no place for an observer")]
 pub struct NoPlace;
+
+/// Why no observers could be made.
+#[derive(Clone, Copy, Debug, PartialEq, Eq, Error)]
+pub enum ObserverFault {
+    #[error("out of memory")]
+    OutOfMemory,
+    #[error("no place for an observer")]
+    NoPlace,
+}
+
+impl From<NoPlace> for ObserverFault {
+    fn from(_full: NoPlace) -> ObserverFault {
+        ObserverFault::NoPlace
+    }
+}
+
+impl<T: Drop> From<AllocFailed<T>> for ObserverFault {
+    fn from(_refused: AllocFailed<T>) -> ObserverFault {
+        ObserverFault::OutOfMemory
+    }
+}
 
 type ChannelWriter<A> = Writer<Version, Version, Option<Receipt>, OneChannel, A>;
 
