@@ -1,5 +1,5 @@
 -- The room of the journals with one of them set.
-use Rattle.std.proofs.Common.{◌≡◌, ℕ, ◌+◌, ◌<◌, ◌≤◌, ◌==◌, Bool, true, false, if◌then◌else◌, List, length, set, Option, Some, None, refl, sym, ◌∙◌, subst, arith}
+use Rattle.std.proofs.Common.{◌≡◌, ℕ, ◌+◌, ◌<◌, ◌≤◌, ◌==◌, Bool, true, false, if◌then◌else◌, List, length, set, Option, Some, refl, sym, ◌∙◌, subst, arith}
 use Rattle.std.specs.Vec.{vec_len, vec_capacity}
 use Rattle.std.proofs.lemmas.Bool.Decides.{nat_tests}
 use Rattle.apex_board.specs.declared.journal.Journal.{Journal}

@@ -3,6 +3,7 @@
 
 pub mod board;
 mod journal;
+mod publishing;
 mod records;
 pub mod requests;
 

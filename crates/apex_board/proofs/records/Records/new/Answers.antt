@@ -1,5 +1,4 @@
-use Rattle.std.proofs.Common.{◌≡◌, [], length, sym, ap, subst, ◌∙◌, arith}
-use Rattle.apex_config.specs.Configuration.{Configuration}
+use Rattle.std.proofs.Common.{◌≡◌, length, sym, ap, subst, ◌∙◌, arith}
 use Rattle.apex_ports.proofs.Stays.{each_at_push, length_push}
 use Rattle.apex_ports.specs.History.{History}
 use Rattle.apex_board.specs.Journals.{AreJournals, IsFresh}

@@ -1,4 +1,3 @@
-use Rattle.std.proofs.Common.{◌+◌}
 use Rattle.apex_board.proofs.records.Records.push.Goals as goal
 
 pub returns-clause-room : goal.returns-clause-room

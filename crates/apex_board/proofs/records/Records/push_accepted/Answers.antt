@@ -1,4 +1,4 @@
-use Rattle.std.proofs.Common.{◌≡◌, ◌<◌, ◌++◌, ◌∷◌, [], true, false, Some, None, length, refl, sym, ap, ◌∙◌, arith}
+use Rattle.std.proofs.Common.{◌≡◌, ◌<◌, ◌++◌, ◌∷◌, [], Some, length, refl, sym, ◌∙◌, arith}
 use Rattle.apex_ports.specs.Channels.{message_accepted}
 use Rattle.apex_board.proofs.JournalSteps.{journal_here, journal_is, journal_set, accepts_nothing, accepts_queuing, accepted_is_sent, accepted-one, no_journal, only_accepted, found_here}
 use Rattle.apex_board.proofs.RoomSteps.{accept_room}

@@ -1,4 +1,4 @@
-use Rattle.std.proofs.Common.{◌≡◌, ◌<◌, ◌++◌, ◌∷◌, [], Some, None, length, refl, sym, ap, ◌∙◌, arith}
+use Rattle.std.proofs.Common.{◌≡◌, ◌<◌, ◌++◌, ◌∷◌, [], Some, length, refl, sym, ap, ◌∙◌, arith}
 use Rattle.apex_ports.specs.Channels.{message_received}
 use Rattle.apex_board.proofs.JournalSteps.{journal_here, journal_is, journal_set, receives_nothing, receives_queuing, receives_within, received-one, no_journal, only_received, found_here}
 use Rattle.apex_board.proofs.RoomSteps.{kept_room}
