@@ -16,5 +16,5 @@ pub sampling_of-next : (channels : Channels) (c : ℕ) (entry : Option Published
 sampling_of-next channels c entry within is =
     let next : c + 1 ≡ suc c = omega arith in
     let more : take (c + 1) channels ≡ take c channels ++ entry ∷ [] =
-        ap (λ n. take n channels) next ∙ (take-suc channels c entry within ∙ ap (λ e. take c channels ++ e ∷ []) (sym is)) in
+    ap (λ n. take n channels) next ∙ (take-suc channels c entry within ∙ ap (λ e. take c channels ++ e ∷ []) (sym is)) in
     ap sampling_of more ∙ (filter_map-append (λ published. published) (take c channels) (entry ∷ []) ∙ ap (λ w. sampling_of (take c channels) ++ w) (one_entry entry))

@@ -2,15 +2,16 @@
 //!
 //! A `Publisher` is the writing end of one sampling channel: each write that it publishes is at once what observers
 //! show. An `Observer` reads the channel's last sample in any thread. A `Receipt` is a token of the writes that were
-//! published when it was given out; an observer that learned it shows no less.
+//! published when it was given out; an observer that learned it shows no less. `Publishers` has the publishers of all
+//! sampling channels of a module.
 //!
 //! | Call | May wait | May be refused |
 //! |---|---|---|
-//! | `Publisher::new` | yes | for want of memory |
-//! | `Publisher::publish` | for reads in progress | for want of memory, which `new` took |
-//! | `Publisher::close` | for reads in progress | no |
-//! | `Publisher::observer` | no | where all places for observers are taken |
-//! | `Publisher::receipt`, `Receipt::copy`, `Observer::learn`, `Observer::read` | no | no |
+//! | `Publisher::new`, `Publishers::add_sampling` | yes | for want of memory |
+//! | `Publisher::publish`, `Publishers::publish` | for reads in progress | for want of memory, which `new` took |
+//! | `Publisher::close`, `Publishers::close` | for reads in progress | no |
+//! | `Publisher::observer`, `Publishers::observers` | no | where all places for observers are taken; for want of memory |
+//! | `Publisher::receipt`, `Publishers::receipt`, `Receipt::copy`, `Observer::learn`, `Observer::read` | no | no |
 //!
 //! # What is published
 //!
