@@ -1,6 +1,7 @@
 //! Observers of one channel, from outside.
 ghost use Rattle.std.specs.Prelude.{◌≡◌};
 
+mod channels;
 mod threads;
 
 use apex_observers::{NoPlace, Publisher, Sampled};
