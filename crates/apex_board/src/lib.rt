@@ -3,9 +3,10 @@
 
 pub mod board;
 mod journal;
+mod publishing;
 mod records;
 pub mod requests;
 
 pub use crate::board::Board;
 pub use crate::requests::{Stopped, run_list};
-pub use apex_ports::{Entry, Request, Sample};
+pub use apex_ports::{Entry, Request};

@@ -14,7 +14,7 @@ use Rattle.apex_types.specs.declared.return_code.ReturnCode.{ReturnCode}
 use Rattle.apex_types.specs.declared.return_code.ReturnCode.TheVariants.{InvalidParam, InvalidConfig}
 use Rattle.apex_config.specs.declared.port.Port.{Port}
 use Rattle.apex_ports.specs.declared.history.Entry.{Entry}
-use Rattle.apex_ports.specs.declared.history.Sample.{Sample}
+use Rattle.apex_types.specs.declared.sample.Sample.{Sample}
 use Rattle.apex_ports.specs.declared.partition.PartitionState.{PartitionState}
 use Rattle.apex_ports.specs.declared.channel.ChannelState.{ChannelState}
 use Rattle.apex_ports.specs.History.{History, entry_of}

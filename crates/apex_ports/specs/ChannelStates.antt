@@ -1,6 +1,6 @@
 -- What the state of a channel has. One of the other kind has nothing.
 use Rattle.std.specs.Prelude.{ℕ, Bool, true, false, List, [], Option, None}
-use Rattle.apex_ports.specs.declared.history.Sample.{Sample}
+use Rattle.apex_types.specs.declared.sample.Sample.{Sample}
 use Rattle.apex_ports.specs.declared.channel.ChannelState.{ChannelState}
 use Rattle.apex_ports.specs.declared.channel.ChannelState.TheVariants.{Queuing, Sampling}
 

@@ -1,16 +1,16 @@
 -- What a history did to a channel.
-use Rattle.std.specs.Prelude.{ℕ, Bool, false, ◌==◌, ◌&&◌, ◌-◌, nat_le, ◌+◌, if◌then◌else◌, List, length, drop, slice_get, Option, Some, None, unwrap_or, fold}
+use Rattle.std.specs.Prelude.{ℕ, Bool, false, ◌==◌, ◌&&◌, ◌-◌, if◌then◌else◌, List, length, drop, slice_get, Option, Some, None, unwrap_or, fold}
 use Rattle.std.specs.List.{filter_map}
 use Rattle.apex_types.specs.declared.call.Call.{Call}
 use Rattle.apex_types.specs.declared.call.Call.TheVariants.{SendQueuing, ReceiveQueuing, WriteSampling, ReadSampling}
 use Rattle.apex_types.specs.declared.moment.Moment.{Moment}
 use Rattle.apex_types.specs.declared.reply.Reply.{Reply}
 use Rattle.apex_types.specs.declared.reply.Reply.TheVariants.{Received, Read}
+use Rattle.apex_types.specs.declared.sample.Sample.{Sample}
 use Rattle.apex_types.specs.declared.validity.Validity.{Validity}
-use Rattle.apex_types.specs.declared.validity.Validity.TheVariants.{Valid, Invalid}
+use Rattle.apex_types.specs.declared.validity.Validity.TheVariants.{Invalid}
 use Rattle.apex_config.specs.Configuration.{Configuration, port_of}
 use Rattle.apex_ports.specs.declared.history.Entry.{Entry}
-use Rattle.apex_ports.specs.declared.history.Sample.{Sample}
 use Rattle.apex_ports.specs.History.{History}
 use Rattle.apex_ports.specs.Modes.{is_code_no_error}
 use Rattle.apex_ports.specs.Ports.{is_source_of, is_destination_of, creates}
@@ -79,10 +79,6 @@ writes_on config channel history = filter_map (sample_written config channel) hi
 abbrev pub last_write_on : Configuration → ℕ → History → Option Sample
 last_write_on config channel history =
     let writes = writes_on config channel history in slice_get writes (length writes - 1)
-
--- a sample is valid up to its refresh period after it was written, that moment included (this project's own choice)
-abbrev pub validity_at : ℕ → ℕ → ℕ → Validity
-validity_at now written refresh = if nat_le now (written + refresh) then Valid else Invalid
 
 -- ---- the validity that a port read last
 

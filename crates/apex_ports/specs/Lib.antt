@@ -16,3 +16,4 @@ pub mod Refused
 pub mod ReplyTable
 pub mod Rules
 pub mod Sound
+pub mod Writes

@@ -15,11 +15,12 @@ use Rattle.apex_types.specs.declared.validity.Validity.TheVariants.{Invalid}
 use Rattle.apex_config.specs.Configuration.{Configuration, channel_of, depth_of_kind, refresh_of_kind}
 use Rattle.apex_config.specs.declared.channel.Channel.{Channel}
 use Rattle.apex_config.specs.declared.port.Port.{Port}
-use Rattle.apex_ports.specs.declared.history.Sample.{Sample}
+use Rattle.apex_types.specs.declared.sample.Sample.{Sample}
+use Rattle.apex_types.specs.Sample.{validity_at}
 use Rattle.apex_ports.specs.History.{History}
 use Rattle.apex_ports.specs.Modes.{mode_of, is_idle, is_normal, is_cold_start}
 use Rattle.apex_ports.specs.Ports.{is_created, is_source, NamedPort, queuing_named, sampling_named, queuing_port, sampling_port}
-use Rattle.apex_ports.specs.Channels.{waiting_on, last_write_on, validity_at, last_validity_of}
+use Rattle.apex_ports.specs.Channels.{waiting_on, last_write_on, last_validity_of}
 
 -- ---- what a port has from its channel and from the configuration
 

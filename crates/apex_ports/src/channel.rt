@@ -3,8 +3,7 @@ ghost use Rattle.std.specs.Prelude.{◌≡◌, ◌+◌, ◌<◌, ◌^◌, ◌-�
 ghost use Rattle.std.specs.Option.{option_copied};
 ghost use Rattle.circular_buffer.specs.Buffer.{buffer};
 
-use crate::history::Sample;
-use apex_types::Message;
+use apex_types::{Message, Sample};
 use circular_buffer::HeapCircularBuffer;
 use std::alloc::{AllocError, Allocator};
 

@@ -1,5 +1,5 @@
 //! What is asked of a board, and what its log keeps.
-use apex_types::{Call, Message, Moment, Reply};
+use apex_types::{Call, Moment, Reply};
 
 /// A call of a partition at a moment.
 #[derive(Debug, Drop, PartialEq, Eq)]
@@ -18,11 +18,4 @@ pub struct Entry {
     pub at: Moment,
     pub call: Call,
     pub reply: Reply,
-}
-
-/// The message that a sampling channel holds, and when it was written.
-#[derive(Debug, Drop, PartialEq, Eq)]
-pub struct Sample {
-    pub message: Message,
-    pub at: Moment,
 }

@@ -16,5 +16,5 @@ mod sampling;
 mod service;
 mod state;
 
-pub use crate::history::{Entry, Request, Sample};
+pub use crate::history::{Entry, Request};
 pub use crate::ports::Ports;

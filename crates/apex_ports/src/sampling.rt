@@ -1,22 +1,22 @@
 //! WRITE_SAMPLING_MESSAGE, READ_SAMPLING_MESSAGE and GET_SAMPLING_PORT_STATUS.
-ghost use Rattle.std.specs.Prelude.{◌≡◌, ◌<◌, true, false, length, IfOk};
+ghost use Rattle.std.specs.Prelude.{◌≡◌, ◌<◌, true, false, length, IfOk, IfSome, MatchOption};
 ghost use Rattle.apex_types.specs.declared.call.Call.TheVariants as call;
 ghost use Rattle.apex_types.specs.declared.reply.Reply.TheVariants.{Code, Read};
 ghost use Rattle.apex_types.specs.declared.return_code.ReturnCode.TheVariants.{NoError};
 ghost use Rattle.apex_config.specs.Configuration.{port_of, ports_of};
-ghost use Rattle.apex_ports.specs.Channels.{validity_at as validity_of_age};
 ghost use Rattle.apex_ports.specs.Decisions.{Decides};
 ghost use Rattle.apex_ports.specs.History.{entry_of};
 ghost use Rattle.apex_ports.specs.Kept.{IsKept, IsKeptWith};
 ghost use Rattle.apex_ports.specs.Ports.{IsPlace, is_queuing, sampling_port, is_source_of};
 ghost use Rattle.apex_ports.specs.ReplyTable.{write_reply, read_reply, sampling_status_reply};
+ghost use Rattle.apex_ports.specs.Writes.{Writes, WritesNothing};
 
 use crate::channel::ChannelState;
-use crate::history::Sample;
+use crate::modes::is_idle;
 use crate::partition::PortState;
 use crate::state::State;
 use apex_config::Config;
-use apex_types::{Direction, Message, Moment, Reply, ReturnCode, Validity};
+use apex_types::{Call, Direction, Message, Moment, Reply, ReturnCode, Sample, Validity};
 use std::alloc::Allocator;
 
 impl<A: Allocator> State<A> {
@@ -54,6 +54,33 @@ impl<A: Allocator> State<A> {
         }
     }
 
+    /// The channel that a call would write into, with the message.
+    pub(crate) fn write_of<'a>(
+        &self,
+        config: &Config,
+        partition: usize,
+        call: &'a Call,
+    ) -> Option<(usize, &'a Message)>
+        requires partition { partition < length config.now.partitions }
+        requires kept { IsKept config.now self.now.history self.now }
+        ensures writes { let history = self.now.history in MatchOption result
+            (WritesNothing config.now history partition call.now)
+            (λ write. Writes config.now history partition call.now write.0 write.1.now) }
+        ensures channel { IfSome result (λ write. write.0 < length config.now.channels) }
+        ensures kind { IfSome result (λ write. is_queuing config.now write.0 ≡ false) }
+    {
+        let Call::WriteSampling { id, message } = call else {
+            return None;
+        };
+        if is_idle(self.partitions[partition].mode) {
+            return None;
+        }
+        match self.write_target(config, partition, *id, message) {
+            Ok(channel) => Some((channel, message)),
+            Err(_code) => None,
+        }
+    }
+
     // What a read shows, or the code that refuses it.
     fn sample_shown(
         &self,
@@ -78,7 +105,7 @@ impl<A: Allocator> State<A> {
         let Some(sample) = self.channels[port.channel].sample() else {
             return Err(ReturnCode::NoAction);
         };
-        let validity = validity_at(now, sample.at, port.kind.refresh());
+        let validity = sample.validity(now, port.kind.refresh());
         Ok((&sample.message, validity))
     }
 
@@ -151,16 +178,5 @@ impl<A: Allocator> State<A> {
             direction: port.direction,
             last: self.partitions[partition].last_validity(id),
         }
-    }
-}
-
-// VALID up to the refresh period after the write, that moment included, over unbounded numbers.
-fn validity_at(now: Moment, written: Moment, refresh: u64) -> Validity
-    ensures { result ≡ validity_of_age now.0 written.0 refresh }
-{
-    if now.0.saturating_sub(written.0) <= refresh {
-        Validity::Valid
-    } else {
-        Validity::Invalid
     }
 }

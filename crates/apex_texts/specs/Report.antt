@@ -16,7 +16,7 @@ use Rattle.apex_config.specs.declared.channel.Channel.{Channel}
 use Rattle.apex_config.specs.declared.channel.ChannelKind.{ChannelKind}
 use Rattle.apex_config.specs.declared.channel.ChannelKind.TheVariants as kinds
 use Rattle.apex_ports.specs.declared.history.Entry.{Entry}
-use Rattle.apex_ports.specs.declared.history.Sample.{Sample}
+use Rattle.apex_types.specs.declared.sample.Sample.{Sample}
 use Rattle.apex_ports.specs.History.{History, entries_of}
 use Rattle.apex_ports.specs.Modes.{mode_of}
 use Rattle.apex_ports.specs.Channels.{accepted_on, received_on, waiting_on, last_write_on}

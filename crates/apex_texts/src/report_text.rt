@@ -9,8 +9,10 @@ ghost use Rattle.apex_texts.specs.Report.{queuing_status_text, sampling_status_t
 use crate::service::Service;
 use apex_board::Board;
 use apex_config::{Channel, ChannelKind};
-use apex_ports::{Ports, Sample};
-use apex_types::{Call, Direction, HEX_LIMIT, Message, Moment, OutOfMemory, Reply, Validity};
+use apex_ports::Ports;
+use apex_types::{
+    Call, Direction, HEX_LIMIT, Message, Moment, OutOfMemory, Reply, Sample, Validity,
+};
 use itoa::Buffer;
 use std::alloc::{AllocError, Global};
 

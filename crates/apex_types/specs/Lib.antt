@@ -5,4 +5,5 @@ pub mod Mode
 pub mod Name
 pub mod Reply
 pub mod ReturnCode
+pub mod Sample
 pub mod Validity

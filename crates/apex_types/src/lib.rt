@@ -12,6 +12,7 @@ pub mod name;
 pub mod out_of_memory;
 pub mod reply;
 pub mod return_code;
+pub mod sample;
 #[cfg(test)]
 mod tests;
 pub mod validity;
@@ -25,4 +26,5 @@ pub use crate::name::{NAME_LIMIT, Name, NameFault};
 pub use crate::out_of_memory::OutOfMemory;
 pub use crate::reply::Reply;
 pub use crate::return_code::ReturnCode;
+pub use crate::sample::Sample;
 pub use crate::validity::Validity;

@@ -4,8 +4,8 @@ ghost use Rattle.std.specs.Option.{option_copied};
 
 use crate::board::Board;
 use apex_config::Config;
-use apex_ports::{Entry, Ports, Sample};
-use apex_types::{Message, Mode, Validity};
+use apex_ports::{Entry, Ports};
+use apex_types::{Message, Mode, Sample, Validity};
 use std::alloc::Allocator;
 
 impl<A: Allocator> Board<A> {

@@ -1,11 +1,10 @@
 //! What the ports of a module show.
-ghost use Rattle.std.specs.Prelude.{◌≡◌, [], ◌<◌, ◌++◌, true, false, length, None, slice_get};
+ghost use Rattle.std.specs.Prelude.{◌≡◌, [], ◌<◌, ◌++◌, true, false, length, None, slice_get, IfSome, MatchOption};
 ghost use Rattle.std.specs.Option.{option_copied};
 
-use crate::history::Sample;
 use crate::ports::Ports;
 use apex_config::Config;
-use apex_types::{Message, Mode, Validity};
+use apex_types::{Call, Message, Mode, Sample, Validity};
 use std::alloc::Allocator;
 
 impl<A: Allocator> Ports<A> {
@@ -17,6 +16,7 @@ impl<A: Allocator> Ports<A> {
     ghost use Rattle.apex_ports.specs.ReplyTable.{validity_shown};
     ghost use Rattle.apex_ports.specs.Rules.{IsConserved};
     ghost use Rattle.apex_ports.specs.Sound.{IsSound};
+    ghost use Rattle.apex_ports.specs.Writes.{Writes, WritesNothing};
 
     /// The configuration.
     pub fn config(&self) -> &Config
@@ -40,6 +40,19 @@ impl<A: Allocator> Ports<A> {
         ensures { result ≡ count_of (entries_of p self.now.history) }
     {
         self.calls[p]
+    }
+
+    /// The sampling channel that a call of partition `p` would write into, with the message. `None` where the
+    /// call would write nothing. That doesn't turn on the call's moment.
+    pub fn write_of<'a>(&self, p: usize, call: &'a Call) -> Option<(usize, &'a Message)>
+        requires { p < length self.now.config.partitions }
+        ensures writes { MatchOption result
+            (WritesNothing self.now.config self.now.history p call.now)
+            (λ write. Writes self.now.config self.now.history p call.now write.0 write.1.now) }
+        ensures channel { IfSome result (λ write. write.0 < length self.now.config.channels) }
+        ensures sampling { IfSome result (λ write. is_queuing self.now.config write.0 ≡ false) }
+    {
+        self.state.write_of(&self.config, p, call)
     }
 
     /// Whether partition `p` has created the port of the identifier since its last restart.

@@ -1,0 +1,53 @@
+-- The steps of publishers and observers keep the rule over a channel's versions.
+use Rattle.std.proofs.Common.{◌≡◌, ◌≢◌, ℕ, List, Option, None, Some, slice_set, refl, subst, ap, sym, ◌∙◌, ⊎_elim}
+use mathlib.Core.Option.{some}
+use lib.ListN.{get_elem?}
+use Rattle.crossbeam_utils.specs.Register.{Admits, TurnsAt, Forks, Merges}
+use Rattle.atomic_table.proofs.Lists.{at_set, at_snoc}
+use Rattle.logbook.specs.Pages.{Book}
+use Rattle.apex_observers.specs.Published.{Published}
+use Rattle.apex_observers.specs.OneChannel.{IsOf, IsOneChannel, Takes}
+
+-- who knows nothing may come at any time
+of_none : (channel : Book) → IsOf channel None
+of_none channel published is = absurd (cc is)
+
+pub admits : Admits IsOneChannel None
+admits version views h pass known at =
+    ⊎_elim (h pass known) (λ (e : None ≡ known) published is. absurd (cc (e, is))) (at_snoc views None known pass at)
+
+-- a version of the same channel may take the place of the one that is shown
+pub turns : (pass : ℕ) (known : Option Published) (old new : Published) → new.channel ≡ old.channel → TurnsAt IsOneChannel pass known old new Takes
+turns pass known old new same views h at = (
+  Some new,
+  (λ j other e published is. ⊎_elim
+      (λ (t : (j ≡ pass) × (Some new ≡ other)). let p : published ≡ new = cc (t.1, is) in ap (λ w. w.channel) p)
+      (λ (t : (j ≢ pass) × (get_elem? views j ≡ some other)). h j other t.1 published is ∙ sym same)
+      (at_set views pass j (Some new) other e)),
+  (h pass known at, refl),
+)
+
+kept_set : (version : Published) (views : List (Option Published)) (pass : ℕ) (known : Option Published) → IsOneChannel version views → IsOf version.channel known → IsOneChannel version (slice_set views pass known)
+kept_set version views pass known h fits j other e = ⊎_elim
+    (λ (t : (j ≡ pass) × (known ≡ other)). subst (IsOf version.channel) t.1 fits)
+    (λ (t : (j ≢ pass) × (get_elem? views j ≡ some other)). h j other t.1)
+    (at_set views pass j known other e)
+
+-- what the writer knows may be told
+pub forks : (pass : ℕ) (known : Option Published) → Forks IsOneChannel pass known known known
+forks pass known version views h at j other e = ⊎_elim
+    (λ (there : get_elem? (slice_set views pass known) j ≡ some other). kept_set version views pass known h (h pass known at) j other there)
+    (λ (is : known ≡ other). h pass other (at ∙ ap some is))
+    (at_snoc (slice_set views pass known) known other j e)
+
+told_fits : (version : Published) (views : List (Option Published)) (pass other : ℕ) (told : Option Published) → IsOneChannel version views → ¬ (other ≡ pass) → get_elem? (slice_set views pass told) other ≡ some told → IsOf version.channel told
+told_fits version views pass other told h apart there = ⊎_elim
+    (λ (t : (other ≡ pass) × (told ≡ told)). absurd (apart t.0))
+    (λ (t : (other ≢ pass) × (get_elem? views other ≡ some told)). h other told t.1)
+    (at_set views pass other told told there)
+
+-- who is told knows it in place of what it knew
+pub merges : (pass : ℕ) (known : Option Published) (other : ℕ) (told : Option Published) → Merges IsOneChannel pass known other told told None
+merges pass known other told version views h at apart there =
+    let fits : IsOf version.channel told = told_fits version views pass other told h apart there in
+    kept_set version (slice_set views pass told) other None (kept_set version views pass told h fits) (of_none version.channel)

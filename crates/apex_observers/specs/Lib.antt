@@ -1,0 +1,5 @@
+pub mod Channels
+pub mod History
+pub mod OneChannel
+pub mod Published
+pub mod Shown
