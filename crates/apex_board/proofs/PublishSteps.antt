@@ -1,14 +1,15 @@
 -- What is published stays the writes of the history, call by call.
-use Rattle.std.proofs.Common.{◌≡◌, ℕ, ◌<◌, false, List, [], ◌∷◌, ◌++◌, length, slice_get, slice_index_or, get_or, option_map, Option, None, Some, Result, Ok, Err, ap, sym, subst, ◌∙◌, arith}
+use Rattle.std.proofs.Common.{◌≡◌, ℕ, ◌<◌, false, List, [], ◌∷◌, ◌++◌, length, slice_get, slice_index_or, get_or, option_map, Option, None, Some, Result, Ok, Err, refl, ap, sym, subst, ◌∙◌, arith}
 use Rattle.std.specs.Option.{option_to_list}
 use Rattle.std.specs.Result.{MatchResult, OnOk}
 use Rattle.std.proofs.lemmas.List.{append-nil, length-set}
 use Rattle.std.proofs.lemmas.Option.{slice_get-get_or, get_or_from_slice_get}
+use Rattle.std.proofs.Math.Seq.{map-set_same}
 use Rattle.apex_types.specs.declared.call.Call.{Call}
 use Rattle.apex_types.specs.declared.moment.Moment.{Moment}
 use Rattle.apex_types.specs.declared.sample.Sample.{Sample}
 use Rattle.apex_config.specs.Configuration.{Configuration}
-use Rattle.apex_observers.specs.Channels.{Channels, written_on}
+use Rattle.apex_observers.specs.Channels.{Channels, written_on, books_of}
 use Rattle.apex_observers.specs.Published.{Published, with_write}
 use Rattle.apex_ports.specs.Channels.{writes_on, sample_written}
 use Rattle.apex_ports.specs.History.{History, entry_of}
@@ -74,3 +75,21 @@ module _ (config : Configuration) (h : History) (p : ℕ) (at : Moment) (call : 
 pub on_published : {T E : Type 0} (result : Result T E) (P : Channels → Type 0) (new written old : Channels) → MatchResult result (λ _. new ≡ written) (λ _. new ≡ old) → P written → OnOk result (P new)
 on_published (Ok x) P new written old is holds = subst P (sym is) holds
 on_published (Err e) P new written old is holds = tt
+
+-- what is published on a channel is what the history writes there
+pub published_writes : (config : Configuration) (h : History) (channels : Channels) (c : ℕ) (published : Published) → ArePublished config h channels → slice_get channels c ≡ Some (Some published) → published.writes ≡ writes_on config c h
+published_writes config h channels c published are at = (are.each c (Some published) at).1
+
+-- a write changes the writes of a channel, and not which channel it is
+pub same_channels : (channel : ℕ) (sample : Sample) (channels : Channels) → books_of (written_on channel sample channels) ≡ books_of channels
+same_channels channel sample channels =
+    map-set_same (option_map (λ published. published.channel)) channels channel _ None (at (slice_index_or channels channel None))
+  where
+    at : (entry : Option Published) → option_map (λ published. published.channel) (option_map (λ known. with_write known sample) entry) ≡ option_map (λ published. published.channel) entry
+    at None = refl
+    at (Some published) = refl
+
+-- whether the publication was refused or not, the channels are the same
+pub channels_stay : {T E : Type 0} (result : Result T E) (new old : Channels) (channel : ℕ) (sample : Sample) → MatchResult result (λ _. new ≡ written_on channel sample old) (λ _. new ≡ old) → books_of new ≡ books_of old
+channels_stay (Ok x) new old channel sample is = ap books_of is ∙ same_channels channel sample old
+channels_stay (Err e) new old channel sample is = ap books_of is

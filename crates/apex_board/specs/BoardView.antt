@@ -1,11 +1,14 @@
 -- A board as plain data.
 use Rattle.std.specs.Prelude.{ℕ}
 use Rattle.apex_config.specs.Configuration.{Configuration}
+use Rattle.apex_observers.specs.Channels.{Channels}
 use Rattle.apex_ports.specs.History.{History}
 
--- the configuration, the log, how many calls can be served without memory, and how many of them the log alone has room for
+-- the configuration, the log, what is published on each channel, how many calls can be served without memory, and how many of
+-- them the log alone has room for
 pub record BoardView : Type 0 where
   pub config : Configuration
   pub log : History
+  pub published : Channels
   pub room : ℕ
   pub log_room : ℕ

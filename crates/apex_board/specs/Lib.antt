@@ -3,3 +3,4 @@ pub mod Journals
 pub mod Recorded
 pub mod Room
 pub mod OnChannels
+pub mod OnRequests

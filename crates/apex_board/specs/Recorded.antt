@@ -5,13 +5,16 @@ use Rattle.apex_ports.specs.PortsView.{PortsView}
 use Rattle.apex_ports.specs.Sound.{IsSound}
 use Rattle.apex_board.specs.declared.records.Records.{Records}
 use Rattle.apex_board.specs.Journals.{AreJournals}
+use Rattle.apex_board.specs.OnChannels.{ArePublished}
+use Rattle.apex_observers.specs.Channels.{Channels}
 
 -- the journals are those of the log
 abbrev pub AreRecords : {A : Type 0} → Configuration → Records A → Type 0
 AreRecords config records = AreJournals config records.log.items records.log.items records.journals.items
 
--- what holds of a board: the log is the history of its ports
-pub record IsBoard {A : Type 0} (ports : PortsView) (records : Records A) : Type 0 where
+-- what holds of a board: the log is the history of its ports, and its writes are published
+pub record IsBoard {A : Type 0} (ports : PortsView) (records : Records A) (channels : Channels) : Type 0 where
   pub sound : IsSound ports.config ports.history
   pub same : records.log.items ≡ ports.history
   pub recorded : AreRecords ports.config records
+  pub published : ArePublished ports.config ports.history channels

@@ -1,23 +1,28 @@
 //! The board: its public face.
-ghost use Rattle.std.specs.Prelude.{◌≡◌, ◌+◌, ◌<◌, ◌≤◌, ◌∷◌, ◌++◌, [], true, false, length, IfOk, OnOk, OnErr, IsOk};
+ghost use Rattle.std.specs.Prelude.{◌≡◌, ◌+◌, ◌<◌, ◌≤◌, ◌∷◌, ◌++◌, [], true, false, length, Some, slice_get, IfOk, OnOk, OnErr, IsOk};
 
+use crate::publishing::{new_publishers, publish};
 use crate::records::Records;
 use apex_config::Config;
+use apex_observers::{Observer, ObserverFault, Publishers, Receipt};
 use apex_ports::{Entry, Ports};
 use apex_types::{Call, Moment, OutOfMemory, Reply};
 use std::alloc::{Allocator, Global};
 use std::marker::Model;
+use std::sync::Wait;
 
 mod readers;
 
 /// The board of a module: it answers the calls of all partitions and keeps the log of them.
 ///
-/// To a contract it is its configuration, its log and its room. The log is lawful, and whatever the board shows is what the
-/// log comes to.
-#[derive(Drop)]
+/// To a contract it is its configuration, its log, what is published on its channels, and its room. The log is lawful, and
+/// whatever the board shows or publishes is what the log comes to.
+///
+/// It is not `Drop`: end it by `close`.
 pub struct Board<A: Allocator = Global> {
     ports: Ports<A>,
     records: Records<A>,
+    publishers: Publishers<A>,
 }
 
 impl<A: Allocator> Model for Board<A> {
@@ -31,33 +36,71 @@ impl<A: Allocator> Model for Board<A> {
     ghost view = { λ board. record {
       config = board.ports.config;
       log = board.records.log.items;
+      published = board.publishers;
       room = room_of board.records;
       log_room = spare board.records.log;
     } };
 
-    ghost invariant = { λ board. IsBoard board.ports board.records };
+    ghost invariant = { λ board. IsBoard board.ports board.records board.publishers };
 }
 
 impl<A: Allocator + Copy> Board<A> {
+    ghost use Rattle.apex_board.specs.OnChannels.{ArePublished};
+    ghost use Rattle.apex_observers.specs.Channels.{AreObservers, sampling_of};
+
     /// A board with the empty log, every partition in COLD_START. On want of memory the configuration is dropped.
-    pub fn new(alloc: A, config: Config) -> Result<Board<A>, OutOfMemory>
+    pub fn new<R: Wait>(rt: &R, alloc: A, config: Config) -> Result<Board<A>, OutOfMemory>
         ensures config { IfOk result (λ board. board.config ≡ config) }
         ensures log { IfOk result (λ board. board.log ≡ []) }
     {
         let records = Records::new(alloc, &config)?;
         let ports = Ports::new(alloc, config)?;
-        Ok(Board { ports, records })
+        let publishers = new_publishers(rt, alloc, ports.config())?;
+        Ok(Board {
+            ports,
+            records,
+            publishers,
+        })
+    }
+
+    /// A board as of `new`, and an observer of each of its sampling channels, in the channels' order. On a fault the
+    /// configuration is dropped.
+    pub fn with_observers<R: Wait>(
+        rt: &R,
+        alloc: A,
+        config: Config,
+    ) -> Result<(Board<A>, Vec<Observer<A>, A>), ObserverFault>
+        ensures config { IfOk result (λ made. made.0.config ≡ config) }
+        ensures log { IfOk result (λ made. made.0.log ≡ []) }
+        ensures observers { IfOk result (λ made. made.1.items ≡ sampling_of made.0.published) }
+        ensures each { IfOk result (λ made. AreObservers made.0.published made.1.items) }
+        ensures published { IfOk result (λ made. ArePublished config [] made.0.published) }
+    {
+        let Ok(mut board) = Board::new(rt, alloc, config) else {
+            return Err(ObserverFault::OutOfMemory);
+        };
+        match board.publishers.observers(alloc) {
+            Ok(observers) => Ok((board, observers)),
+            Err(fault) => {
+                board.close(rt);
+                Err(fault)
+            }
+        }
     }
 }
 
 impl<A: Allocator> Board<A> {
+    ghost use Rattle.apex_observers.specs.Channels.{AreObservers, KnowAll, books_of, sampling_of};
+    ghost use Rattle.apex_ports.specs.Channels.{writes_on};
     ghost use Rattle.apex_ports.specs.History.{entry_of};
     ghost use Rattle.apex_ports.specs.Idle.{StaysIdle};
     ghost use Rattle.apex_ports.specs.OneChannel.{ChangesOneChannel};
     ghost use Rattle.apex_ports.specs.Refused.{SameChannels, is_send};
     ghost use Rattle.apex_ports.specs.Modes.{is_code_no_error};
     ghost use Rattle.apex_ports.specs.Lawful.{IsLawful};
+    ghost use Rattle.apex_ports.specs.Ports.{is_queuing};
     ghost use Rattle.apex_ports.specs.ReplyTable.{reply_to};
+    ghost use Rattle.apex_ports.specs.Writes.{WritesNothing};
 
     /// Makes room for this many more calls. Neither answer changes anything else that a reader shows.
     pub fn reserve(&mut self, calls: usize) -> Result<(), OutOfMemory>
@@ -67,6 +110,7 @@ impl<A: Allocator> Board<A> {
         ensures log_grows { self.old.log_room ≤ self.new.log_room }
         ensures config { self.new.config ≡ self.old.config }
         ensures log { self.new.log ≡ self.old.log }
+        ensures published { self.new.published ≡ self.old.published }
     {
         self.records.reserve(self.ports.config(), calls)?;
         Ok(())
@@ -78,15 +122,22 @@ impl<A: Allocator> Board<A> {
         ensures config { self.new.config ≡ self.old.config }
         ensures log { self.new.log ≡ self.old.log }
         ensures lawful { IsLawful self.new.config self.new.log }
+        ensures published { self.new.published ≡ self.old.published }
     {
         self.records.log.reserve(calls)?;
         Ok(())
     }
 
-    /// One event: the partition makes the call at the moment.
+    /// One event: the partition makes the call at the moment. What it writes is published before the board changes.
     ///
     /// On want of memory nothing changes but the room, which isn't smaller: the next call is answered as if this one had not been asked.
-    pub fn call(&mut self, partition: usize, at: Moment, call: &Call) -> Result<Reply, OutOfMemory>
+    pub fn call<R: Wait>(
+        &mut self,
+        rt: &R,
+        partition: usize,
+        at: Moment,
+        call: &Call,
+    ) -> Result<Reply, OutOfMemory>
         requires { partition < length self.old.config.partitions }
 
         // The reply is the reply table's, and the log gains just that entry.
@@ -96,15 +147,21 @@ impl<A: Allocator> Board<A> {
             self.new.log ≡ self.old.log ++ entry_of partition at call.now reply ∷ []) }
         ensures config { self.new.config ≡ self.old.config }
 
-        // Want of memory changes nothing but the room, and doesn't come where there is room. A call that
-        // is no send needs no more than a place in the log.
+        // Neither answer changes which channels are published.
+        ensures channels { books_of self.new.published ≡ books_of self.old.published }
+
+        // Want of memory changes nothing but the room. Where there is room, it comes at most for a write that
+        // is to be published. A call that is no send needs no more than a place in the log.
         ensures refused { OnErr result (self.new.log ≡ self.old.log) }
+        ensures refused_published { OnErr result (self.new.published ≡ self.old.published) }
         ensures refused_room { OnErr result (self.old.room ≤ self.new.room) }
         ensures refused_log_room { OnErr result (self.old.log_room ≤ self.new.log_room) }
         ensures room { OnOk result (self.old.room ≤ self.new.room + 1) }
         ensures log_room { OnOk result (self.old.log_room ≤ self.new.log_room + 1) }
-        ensures succeeds { 1 ≤ self.old.room → IsOk result }
-        ensures answers { is_send call.now ≡ false → 1 ≤ self.old.log_room → IsOk result }
+        ensures succeeds { WritesNothing self.old.config self.old.log partition call.now →
+            1 ≤ self.old.room → IsOk result }
+        ensures answers { WritesNothing self.old.config self.old.log partition call.now →
+            is_send call.now ≡ false → 1 ≤ self.old.log_room → IsOk result }
 
         ensures lawful { IsLawful self.new.config self.new.log }
 
@@ -117,6 +174,7 @@ impl<A: Allocator> Board<A> {
     {
         self.records
             .make_room(self.ports.config(), partition, call)?;
+        publish(rt, &mut self.publishers, &self.ports, partition, at, call)?;
         let reply = self.ports.call(partition, at, call);
         let entry = Entry {
             partition,
@@ -126,5 +184,34 @@ impl<A: Allocator> Board<A> {
         };
         self.records.push(self.ports.config(), entry);
         Ok(reply)
+    }
+
+    /// A token of all writes that were published on sampling channel `c` so far.
+    pub fn receipt(&self, c: usize) -> Receipt
+        requires channel { c < length self.now.config.channels }
+        requires sampling { is_queuing self.now.config c ≡ false }
+        ensures published { slice_get self.now.published c ≡ Some (Some result) }
+        ensures writes { result.writes ≡ writes_on self.now.config c self.now.log }
+    {
+        self.publishers.receipt(c)
+    }
+
+    /// Each observer learns the receipt of its channel: what it shows from now on is no less.
+    pub fn tell(&self, observers: &mut [Observer<A>])
+        requires { AreObservers self.now.published observers.old }
+        ensures observers { AreObservers self.now.published observers.new }
+        ensures told { KnowAll (sampling_of self.now.published) observers.new }
+    {
+        self.publishers.tell(observers);
+    }
+
+    /// Ends the board: its observers show `Gone` from now on. It waits for their reads in progress.
+    pub fn close<R: Wait>(self, rt: &R) {
+        let Board {
+            ports: _,
+            records: _,
+            publishers,
+        } = self;
+        publishers.close(rt);
     }
 }

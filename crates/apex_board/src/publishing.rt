@@ -1,8 +1,10 @@
 //! What a board publishes to observers.
-ghost use Rattle.std.specs.Prelude.{◌≡◌, ◌<◌, ◌∷◌, ◌++◌, [], length, IfOk, OnOk, OnErr};
+ghost use Rattle.std.specs.Prelude.{◌≡◌, ◌<◌, ◌∷◌, ◌++◌, [], length, IfOk, OnOk, OnErr, IsOk};
 ghost use Rattle.apex_board.specs.OnChannels.{AddsChannel, ArePublished};
+ghost use Rattle.apex_observers.specs.Channels.{books_of};
 ghost use Rattle.apex_ports.specs.History.{entry_of};
 ghost use Rattle.apex_ports.specs.ReplyTable.{reply_to};
+ghost use Rattle.apex_ports.specs.Writes.{WritesNothing};
 
 use apex_config::Config;
 use apex_observers::Publishers;
@@ -69,6 +71,9 @@ pub(crate) fn publish<A: Allocator, B: Allocator, R: Wait>(
         OnOk result (ArePublished config
         (history ++ entry_of partition at call.now reply ∷ []) publishers.new) }
     ensures refused { OnErr result (publishers.new ≡ publishers.old) }
+    ensures channels { books_of publishers.new ≡ books_of publishers.old }
+    ensures succeeds { let config = ports.now.config in let history = ports.now.history in
+        WritesNothing config history partition call.now → IsOk result }
 {
     match ports.write_of(partition, call) {
         Some((channel, message)) => publishers.publish(rt, channel, message, at),

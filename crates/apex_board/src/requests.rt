@@ -1,5 +1,7 @@
 //! Lists of requests.
-ghost use Rattle.std.specs.Prelude.{◌≡◌, ◌+◌, ◌<◌, ◌≤◌, ◌++◌, length, take, All, IfErr, OnOk, IsOk};
+ghost use Rattle.std.specs.Prelude.{◌≡◌, ◌+◌, ◌<◌, ◌≤◌, ◌++◌, false, length, take, All, IfErr, OnOk, IsOk};
+ghost use Rattle.apex_board.specs.OnRequests.{WritesNothingAt, is_write};
+ghost use Rattle.apex_observers.specs.Channels.{books_of};
 ghost use Rattle.apex_ports.specs.History.{requests_of};
 ghost use Rattle.apex_ports.specs.Idle.{StaysIdle};
 ghost use Rattle.apex_ports.specs.Lawful.{Answers};
@@ -7,6 +9,7 @@ ghost use Rattle.apex_ports.specs.Lawful.{Answers};
 use crate::board::Board;
 use apex_ports::Request;
 use std::alloc::Allocator;
+use std::sync::Wait;
 use thiserror::Error;
 
 /// Memory was wanting at request `done`, counted from 0: the requests before it are applied, and no other.
@@ -17,7 +20,11 @@ pub struct Stopped {
 }
 
 /// Answers the requests in order.
-pub fn run_list<A: Allocator>(board: &mut Board<A>, requests: &[Request]) -> Result<(), Stopped>
+pub fn run_list<A: Allocator, R: Wait>(
+    rt: &R,
+    board: &mut Board<A>,
+    requests: &[Request],
+) -> Result<(), Stopped>
     requires { All
         (λ request. request.partition < length board.old.config.partitions) requests.now }
 
@@ -28,18 +35,22 @@ pub fn run_list<A: Allocator>(board: &mut Board<A>, requests: &[Request]) -> Res
         ++ take stop.done requests.now) board.new.log) }
     ensures within { IfErr result (λ stop. stop.done < length requests.now) }
     ensures config { board.new.config ≡ board.old.config }
+    ensures channels { books_of board.new.published ≡ books_of board.old.published }
 
     // With enough room all are applied, each lowers the room by at most one, and no stop comes before the room is used
-    // up. A partition in IDLE stays there.
-    ensures succeeds { length requests.now ≤ board.old.room → IsOk result }
+    // up, but at a write that is to be published. A partition in IDLE stays there.
+    ensures succeeds { All (λ request. is_write request.call ≡ false) requests.now →
+        length requests.now ≤ board.old.room → IsOk result }
     ensures room { OnOk result (board.old.room ≤ board.new.room + length requests.now) }
-    ensures stopped_room { IfErr result (λ stop. board.old.room ≤ stop.done) }
+    ensures stopped_room { IfErr result (λ stop.
+        WritesNothingAt board.new.config board.new.log requests.now stop.done →
+        board.old.room ≤ stop.done) }
     ensures idle { StaysIdle board.old.config board.old.log board.new.log }
 {
     // Where this is refused the log grows as it goes.
     let _ = board.reserve_log(requests.len());
     for (done, request) in requests.iter().enumerate() {
-        match board.call(request.partition, request.at, &request.call) {
+        match board.call(rt, request.partition, request.at, &request.call) {
             Ok(_) => {}
             Err(_) => return Err(Stopped { done }),
         }

@@ -1,6 +1,8 @@
 -- What is published on the channels of a module.
-use Rattle.std.specs.Prelude.{ℕ, List, Option, None, option_map, slice_set, slice_index_or}
+use Rattle.std.specs.Prelude.{ℕ, ◌≡◌, List, Option, None, Some, map, option_map, slice_get, slice_set, slice_index_or}
+use mathlib.Core.List.{IsPrefix}
 use Rattle.std.specs.List.{filter_map}
+use Rattle.logbook.specs.Pages.{Book}
 use Rattle.apex_types.specs.declared.sample.Sample.{Sample}
 use Rattle.apex_observers.specs.Published.{Published, with_write}
 
@@ -13,6 +15,19 @@ abbrev pub written_on : ℕ → Sample → Channels → Channels
 written_on channel sample channels =
     slice_set channels channel (option_map (λ published. with_write published sample) (slice_index_or channels channel None))
 
+-- which channels they are, whatever is written there
+abbrev pub books_of : Channels → List (Option Book)
+books_of channels = map (option_map (λ published. published.channel)) channels
+
 -- the sampling channels, in their order
 abbrev pub sampling_of : Channels → List Published
 sampling_of channels = filter_map (λ published. published) channels
+
+-- these are observers of the sampling channels, in their order
+abbrev pub AreObservers : Channels → List Published → Type 0
+AreObservers channels observers = map (λ known. known.channel) observers ≡ filter_map (λ book. book) (books_of channels)
+
+-- each of these knows all that is published on the channel at its place
+abbrev pub KnowAll : List Published → List Published → Type 0
+KnowAll all observers =
+    (place : ℕ) (published known : Published) → slice_get all place ≡ Some published → slice_get observers place ≡ Some known → IsPrefix published.writes known.writes

@@ -11,7 +11,7 @@
 //! | `Publisher::publish`, `Publishers::publish` | for reads in progress | for want of memory, which `new` took |
 //! | `Publisher::close`, `Publishers::close` | for reads in progress | no |
 //! | `Publisher::observer`, `Publishers::observers` | no | where all places for observers are taken; for want of memory |
-//! | `Publisher::receipt`, `Publishers::receipt`, `Receipt::copy`, `Observer::learn`, `Observer::read` | no | no |
+//! | `Publisher::receipt`, `Publishers::receipt`, `Publishers::tell`, `Receipt::copy`, `Observer::learn`, `Observer::read` | no | no |
 //!
 //! # What is published
 //!

@@ -1,7 +1,7 @@
 //! The publishers of a module's sampling channels.
 ghost use Rattle.std.specs.Prelude.{◌≡◌, ◌<◌, ◌^◌, ◌∷◌, ◌++◌, [], length, None, Some, slice_get, IfOk, MatchResult, OnErr};
 ghost use Rattle.std.specs.Option.{option_to_list};
-ghost use Rattle.apex_observers.specs.Channels.{written_on, sampling_of};
+ghost use Rattle.apex_observers.specs.Channels.{AreObservers, KnowAll, written_on, sampling_of};
 ghost use Rattle.apex_observers.specs.Published.{Published};
 
 use crate::observer::Observer;
@@ -134,6 +134,7 @@ impl<A: Allocator> Publishers<A> {
     /// An observer of each sampling channel, in the channels' order.
     pub fn observers(&mut self, alloc: A) -> Result<Vec<Observer<A>, A>, ObserverFault>
         ensures observers { IfOk result (λ observers. observers.items ≡ sampling_of self.old) }
+        ensures each { IfOk result (λ observers. AreObservers self.old observers.items) }
         ensures unchanged { self.new ≡ self.old }
     {
         let mut observers = Vec::new(alloc);
@@ -141,6 +142,21 @@ impl<A: Allocator> Publishers<A> {
             observe(&mut self.list[channel], &mut observers)?;
         }
         Ok(observers)
+    }
+
+    /// Each observer learns the receipt of its channel: what it shows from now on is no less.
+    pub fn tell(&self, observers: &mut [Observer<A>])
+        requires { AreObservers self.now observers.old }
+        ensures observers { AreObservers self.now observers.new }
+        ensures told { KnowAll (sampling_of self.now) observers.new }
+    {
+        let mut place = 0;
+        for entry in &self.list {
+            if let Some(publisher) = entry {
+                observers[place].learn(publisher.receipt());
+                place += 1;
+            }
+        }
     }
 
     /// Ends all channels. It waits for reads in progress.

@@ -1,4 +1,4 @@
--- A locked board may be shared by threads where its allocator may go from one to another.
+-- A locked board with its observers may be shared by threads where its allocator may.
 use denote.RattleType.{RattleType}
 use denote.Param.Send.{IsSend, IsSync, sendable, view_send}
 use denote.Param.SendFields.{declared_send, declared_sync, as_row_send}
@@ -16,15 +16,20 @@ use Rattle.apex_ports.specs.contracts.ports.Ports as Ports
 use Rattle.apex_ports.specs.contracts.ports.Ports.TheInside as PortsInside
 use Rattle.apex_ports.specs.contracts.state.State as State
 use Rattle.apex_board.proofs.records.Records.TheSendSync as records
+use Rattle.apex_observers.proofs.observer.Observer.TheSendSync as observer
+use Rattle.apex_observers.proofs.publishers.Publishers.TheSendSync as publishers
 use Rattle.apex_board.specs.contracts.board.Board as Board
 use Rattle.apex_board.specs.contracts.board.Board.TheInside as BoardInside
-use Rattle.apex_workers.specs.contracts.locked.LockedBoard as LockedBoard
+use Rattle.apex_observers.specs.contracts.observer.Observer as Observer
+use Rattle.apex_workers.specs.contracts.observed.LockedObservedBoard as LockedObservedBoard
+use Rattle.apex_workers.specs.contracts.observed.ObservedBoard as ObservedBoard
+use Rattle.apex_workers.specs.contracts.observed.ObservedBoard.TheInside as ObservedInside
 
 -- each of its fields is a snapshot, which owns nothing
 Past-send : IsSend Past.the_row
 Past-send = past.send-Past (search crosses) (search crosses) (search crosses) (search crosses) (search crosses)
 
-module _ (A : RattleType) (g : Ghosts A.Denot) (s : IsSend A) (f : FreesAnywhere A.Denot g) where
+module _ (A : RattleType) (g : Ghosts A.Denot) (s : IsSend A) (y : IsSync A) (f : FreesAnywhere A.Denot g) where
   Partition-send : IsSend (Partition.the_row A g)
   Partition-send = partition.the_send A g s f
 
@@ -38,7 +43,13 @@ module _ (A : RattleType) (g : Ghosts A.Denot) (s : IsSend A) (f : FreesAnywhere
   Ports-send = view_send _ _ _ _ _ (declared_send (PortsInside.the_type A g) (config.the_send, (State-send, (search (sendable, as_row_send, Vec-send), tt))))
 
   Board-send : IsSend (Board.the_row A g)
-  Board-send = view_send _ _ _ _ _ (declared_send (BoardInside.the_type A g) (Ports-send, (records.the_send A g s f, tt)))
+  Board-send = view_send _ _ _ _ _ (declared_send (BoardInside.the_type A g) (Ports-send, (records.the_send A g s f, (publishers.the_send A g s y f, tt))))
 
-  pub LockedBoard-sync : IsSync (LockedBoard.the_row A g)
-  LockedBoard-sync = declared_sync (LockedBoard.the_type A g) (search (crosses, Board-send), tt)
+  Observer-send : IsSend (Observer.the_row A g)
+  Observer-send = observer.the_send A g s y f
+
+  Observed-send : IsSend (ObservedBoard.the_row A g)
+  Observed-send = view_send _ _ _ _ _ (declared_send (ObservedInside.the_type A g) (Board-send, (search (as_row_send, Vec-send, Observer-send), tt)))
+
+  pub LockedObservedBoard-sync : IsSync (LockedObservedBoard.the_row A g)
+  LockedObservedBoard-sync = declared_sync (LockedObservedBoard.the_type A g) (search (crosses, Observed-send), tt)

@@ -4,9 +4,12 @@ use Rattle.apex_ports.specs.Idle.{IdleIsSilent}
 use Rattle.apex_ports.specs.Lawful.{IsLawful}
 use Rattle.apex_ports.specs.Rules.{IsConserved}
 use Rattle.apex_board.specs.BoardView.{BoardView}
+use Rattle.apex_board.specs.OnChannels.{ArePublished}
 
--- the log is lawful, no channel loses, doubles or reorders a message, and a partition in IDLE is silent
+-- the log is lawful, no channel loses, doubles or reorders a message, a partition in IDLE is silent, and what the log writes
+-- into sampling channels is published there
 pub record HasBoardFacts (board : BoardView) : Type 0 where
   pub lawful : IsLawful board.config board.log
   pub conserved : (c : ℕ) → IsConserved board.config board.log c
   pub idle : IdleIsSilent board.log
+  pub published : ArePublished board.config board.log board.published

@@ -1,5 +1,7 @@
 -- Faults of a run.
 use Rattle.std.specs.Prelude.{ℕ}
+use Rattle.apex_observers.specs.declared.publisher.ObserverFault.{ObserverFault}
+use Rattle.apex_observers.specs.declared.publisher.ObserverFault.TheVariants as observer_fault
 use Rattle.apex_workers.specs.declared.fault.RunFault.{RunFault}
 use Rattle.apex_workers.specs.declared.fault.RunFault.TheVariants as run_fault
 use Rattle.apex_workers.specs.declared.shared.AskFault.{AskFault}
@@ -10,8 +12,14 @@ number_of run_fault.OutOfMemory = 1
 number_of (run_fault.Held partition n) = 2
 number_of run_fault.WorkerNotStarted = 3
 number_of run_fault.Stranger = 4
+number_of run_fault.NoObserver = 5
 
 -- the fault of a run in which a worker was refused so
 abbrev pub fault_of : AskFault → RunFault
 fault_of ask_fault.OutOfMemory = run_fault.OutOfMemory
 fault_of ask_fault.NoPartition = run_fault.Stranger
+
+-- the fault of a run whose observers couldn't be made
+abbrev pub fault_without : ObserverFault → RunFault
+fault_without observer_fault.OutOfMemory = run_fault.OutOfMemory
+fault_without observer_fault.NoPlace = run_fault.NoObserver

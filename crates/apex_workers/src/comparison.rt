@@ -1,13 +1,30 @@
 //! What the workers left, beside what was handed out to them.
 ghost use Rattle.std.specs.Prelude.{◌≡◌, ◌↔◌, ◌+◌, ◌^◌, ◌<◌, length, replicate, IsTrue};
 ghost use Rattle.std.specs.Bool.{OnTrue, OnFalse};
-ghost use Rattle.apex_workers.specs.Collected.{IsNext, AreCounted, AreComplete, IsCollected};
+ghost use Rattle.apex_workers.specs.Collected.{IsNext, AreCounted, AreComplete, IsCollected, IsCollectedFor};
 
 use crate::replies::Replies;
 use crate::script::Script;
-use apex_board::Entry;
+use apex_board::{Board, Entry};
+use apex_config::Config;
 use apex_types::{Call, Moment, Reply};
 use std::alloc::Allocator;
+
+/// Whether the board has the configuration, and its log the calls of each partition's script with the replies to them.
+pub(crate) fn is_collected_for<A: Allocator>(
+    config: &Config,
+    scripts: &[Script],
+    board: &Board<A>,
+    replies: &[Replies<A>],
+    counts: &mut [usize],
+) -> bool
+    requires none { counts.old ≡ replicate (length scripts.now) 0 }
+    requires each { length replies.now ≡ length scripts.now }
+    ensures { IsTrue result ↔
+        IsCollectedFor config.now scripts.now board.now.config board.now.log replies.now }
+{
+    board.config().eq(config) && is_collected(board.log(), scripts, replies, counts)
+}
 
 /// Whether the log has the calls of each partition's script with the replies to them, each once and in order.
 ///

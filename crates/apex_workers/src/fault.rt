@@ -1,9 +1,10 @@
 //! Why a run gives no board.
 ghost use Rattle.std.specs.Prelude.{◌≡◌};
-ghost use Rattle.apex_workers.specs.Fault.{number_of, fault_of};
+ghost use Rattle.apex_workers.specs.Fault.{number_of, fault_of, fault_without};
 ghost use Rattle.apex_workers.specs.declared.fault.RunFault.TheVariants as fault;
 
 use crate::shared::AskFault;
+use apex_observers::ObserverFault;
 use apex_types::OutOfMemory;
 use std::alloc::AllocError;
 use thiserror::Error;
@@ -23,10 +24,13 @@ pub enum RunFault {
     /// What the workers left isn't what was handed out to them.
     #[error("collected results do not match")]
     Stranger,
+    /// The board's observers couldn't be made.
+    #[error("no observer")]
+    NoObserver,
 }
 
 impl RunFault {
-    /// The number of the fault, 1 to 4.
+    /// The number of the fault, 1 to 5.
     pub fn number(self) -> u32
         ensures { result ≡ number_of self }
     {
@@ -35,6 +39,7 @@ impl RunFault {
             RunFault::Held { .. } => 2,
             RunFault::WorkerNotStarted => 3,
             RunFault::Stranger => 4,
+            RunFault::NoObserver => 5,
         }
     }
 }
@@ -63,6 +68,17 @@ impl From<AskFault> for RunFault {
         match refused {
             AskFault::OutOfMemory => RunFault::OutOfMemory,
             AskFault::NoPartition => RunFault::Stranger,
+        }
+    }
+}
+
+impl From<ObserverFault> for RunFault {
+    ghost from_gives = { λ refused given. given ≡ fault_without refused };
+
+    fn from(refused: ObserverFault) -> RunFault {
+        match refused {
+            ObserverFault::OutOfMemory => RunFault::OutOfMemory,
+            ObserverFault::NoPlace => RunFault::NoObserver,
         }
     }
 }

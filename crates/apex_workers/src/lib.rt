@@ -5,6 +5,7 @@ mod comparison;
 pub mod fault;
 pub mod gate;
 pub mod locked;
+mod observed;
 pub mod replies;
 pub mod run;
 pub mod script;

@@ -10,7 +10,8 @@ use std::alloc::{Allocator, Global};
 use std::sync::{Mutex, MutexGuard, Wait};
 
 /// A board that one thread at a time holds.
-#[derive(Drop)]
+///
+/// It is not `Drop`, as the board isn't: take the board back by `into_board`, and end that.
 pub struct LockedBoard<A: Allocator = Global> {
     board: Mutex<Board<A>>,
 }
@@ -38,13 +39,14 @@ impl<A: Allocator> LockedBoard<A> {
     pub fn into_board(self) -> Board<A>
         ensures { HasBoardFacts result }
     {
-        let board = self.board.into_inner();
+        let LockedBoard { board } = self;
+        let board = board.into_inner();
         board_facts(&board);
         board
     }
 }
 
-impl<A: Allocator + Send> SharedBoard for LockedBoard<A> {
+impl<A: Allocator + Send + Sync> SharedBoard for LockedBoard<A> {
     /// Holds the lock for this one call.
     fn ask<R: Wait>(
         &self,
@@ -54,19 +56,22 @@ impl<A: Allocator + Send> SharedBoard for LockedBoard<A> {
         call: &Call,
     ) -> Result<Reply, AskFault> {
         let mut guard = self.board.lock(rt);
-        let answer = ask_lent(&mut guard, partition, at, call);
+        let answer = ask_lent(rt, &mut guard, partition, at, call);
         MutexGuard::unlock(guard);
         answer
     }
 }
 
+ghost use Rattle.apex_observers.specs.Channels.{books_of};
 ghost use Rattle.apex_ports.specs.History.{entry_of};
 ghost use Rattle.apex_ports.specs.ReplyTable.{reply_to};
+ghost use Rattle.apex_ports.specs.Writes.{WritesNothing};
 ghost use Rattle.apex_workers.specs.Facts.{HasBoardFacts};
 ghost use Rattle.apex_workers.specs.declared.shared.AskFault.TheVariants as fault;
 
 /// One call on the board that is lent.
-fn ask_lent<A: Allocator>(
+pub(crate) fn ask_lent<A: Allocator, R: Wait>(
+    rt: &R,
     board: &mut Board<A>,
     partition: usize,
     at: Moment,
@@ -78,24 +83,27 @@ fn ask_lent<A: Allocator>(
     ensures entry { IfOk result (λ reply.
         board.new.log ≡ board.old.log ++ entry_of partition at call.now reply ∷ []) }
     ensures config { board.new.config ≡ board.old.config }
+    ensures channels { books_of board.new.published ≡ books_of board.old.published }
 
-    // A refusal changes nothing. It is for the partition, or for memory where there is no room.
+    // A refusal changes nothing. It is for the partition, or for memory where there is no room or a write is to be published.
     ensures partition { IsErrOf result fault.NoPartition
         ↔ (length board.old.config.partitions ≤ partition) }
     ensures succeeds { partition < length board.old.config.partitions
+        → WritesNothing board.old.config board.old.log partition call.now
         → 1 ≤ board.old.room → IsOk result }
     ensures refused { OnErr result (board.new.log ≡ board.old.log) }
+    ensures refused_published { OnErr result (board.new.published ≡ board.old.published) }
 {
     if partition >= board.config().partitions() {
         return Err(AskFault::NoPartition);
     }
     board
-        .call(partition, at, call)
+        .call(rt, partition, at, call)
         .map_err(|_refused| AskFault::OutOfMemory)
 }
 
 /// Brings in what holds of every board. There is nothing to run.
-fn board_facts<A: Allocator>(board: &Board<A>)
+pub(crate) fn board_facts<A: Allocator>(board: &Board<A>)
     ensures { HasBoardFacts board.now }
 {
     let _log = board.log();

@@ -4,36 +4,41 @@ ghost use Rattle.std.specs.Thread.{IsSync, IsSend};
 ghost use Rattle.apex_ports.specs.Lawful.{IsLawful};
 ghost use Rattle.apex_workers.specs.Collected.{HasScripts, HasReplies, IsCollectedFor};
 ghost use Rattle.apex_workers.specs.Held.{NamesHeldCall};
+ghost use Rattle.apex_workers.specs.Observed.{AreObserversOf};
 ghost use Rattle.apex_workers.specs.Places.{AreReady};
 
-use crate::comparison::is_collected;
+use crate::comparison::is_collected_for;
 use crate::fault::RunFault;
 use crate::gate::Gate;
-use crate::locked::LockedBoard;
+use crate::observed::{LockedObservedBoard, ObservedBoard};
 use crate::replies::Replies;
 use crate::script::Script;
 use crate::shared::SharedBoard;
 use crate::workers::run_workers;
 use apex_board::Board;
 use apex_config::Config;
+use apex_observers::Observer;
 use apex_types::Reply;
 use std::alloc::{AllocError, Allocator, Global};
 use std::sync::Wait;
 use std::thread;
 use std::thread::Threads;
 
-/// What a run leaves: the board, and the replies of each partition's worker, in the partitions' order.
-#[derive(Drop)]
+/// What a run leaves: the board, the replies of each partition's worker, in the partitions' order, and an observer of each
+/// sampling channel, in the channels' order.
+///
+/// The board is not `Drop`: end it by `Board::close`.
 pub struct Finished<A: Allocator = Global> {
     pub board: Board<A>,
     pub replies: Vec<Replies<A>, A>,
+    pub observers: Vec<Observer<A>, A>,
 }
 
 /// Runs each partition's script by a worker of its own. All workers share one board, and all are started before any is joined.
 ///
 /// A worker stops at its first refusal, and the others go on. A worker that couldn't be started goes before every other
-/// fault, and then the fault of the lowest partition goes first. On a fault the board is dropped.
-pub fn run_scripts<R: Threads + Wait + Sync, A: Allocator + Copy + Send, G: Gate>(
+/// fault, and then the fault of the lowest partition goes first. On a fault the board is ended.
+pub fn run_scripts<R: Threads + Wait + Sync, A: Allocator + Copy + Send + Sync, G: Gate>(
     rt: &R,
     alloc: A,
     config: &Config,
@@ -47,11 +52,13 @@ pub fn run_scripts<R: Threads + Wait + Sync, A: Allocator + Copy + Send, G: Gate
     ensures lawful { IfOk result (λ finished. IsLawful config.now finished.board.log) }
     ensures calls { IfOk result (λ finished. HasScripts finished.board.log scripts.now) }
 
-    // Each partition has its replies.
+    // Each partition has its replies, and each sampling channel of this board its observer.
     ensures count { IfOk result (λ finished.
         vec_len finished.replies ≡ length config.now.partitions) }
     ensures replies { IfOk result (λ finished.
         HasReplies finished.board.log finished.replies.items) }
+    ensures observers { IfOk result (λ finished.
+        AreObserversOf finished.board.published finished.observers.items) }
 
     // Where a worker was held, the gate may refuse the call that the fault names.
     ensures held { IfErr result (NamesHeldCall (G.may_refuse gate.now) scripts.now) }
@@ -59,9 +66,16 @@ pub fn run_scripts<R: Threads + Wait + Sync, A: Allocator + Copy + Send, G: Gate
     let empty = lists_for(alloc, scripts)?;
     let room = Vec::with_capacity(alloc, scripts.len())?;
     let counts = vec![in alloc; 0usize; scripts.len()]?;
-    let board = LockedBoard::new(Board::new(alloc, config.copy()?)?);
-    let replies = run_all(rt, &board, gate, scripts, empty, room)?;
-    collected(config, scripts, board.into_board(), replies, counts)
+    let shared = LockedObservedBoard::new(ObservedBoard::new(rt, alloc, config.copy()?)?);
+    let answered = run_all(rt, &shared, gate, scripts, empty, room);
+    let observed = shared.into_observed();
+    match answered {
+        Ok(replies) => collected(rt, config, scripts, observed, replies, counts),
+        Err(fault) => {
+            observed.close(rt);
+            Err(fault)
+        }
+    }
 }
 
 /// An empty vector for each script, with places for all replies to it.
@@ -110,10 +124,11 @@ pub(crate) fn run_all<R: Threads + Wait + Sync, S: SharedBoard, G: Gate, A: Allo
 }
 
 /// The board with the replies, where they are what was handed out to the workers.
-fn collected<A: Allocator>(
+fn collected<A: Allocator, R: Wait>(
+    rt: &R,
     config: &Config,
     scripts: &[Script],
-    board: Board<A>,
+    observed: ObservedBoard<A>,
     replies: Vec<Replies<A>, A>,
     mut counts: Vec<usize, A>,
 ) -> Result<Finished<A>, RunFault>
@@ -125,18 +140,29 @@ fn collected<A: Allocator>(
     ensures count { IfOk result (λ finished. vec_len finished.replies ≡ length scripts.now) }
     ensures replies { IfOk result (λ finished.
         HasReplies finished.board.log finished.replies.items) }
+    ensures observers { IfOk result (λ finished.
+        AreObserversOf finished.board.published finished.observers.items) }
     ensures stranger { IfErr result (λ fault. fault ≡ RunFault.Stranger) }
 
     // It is refused only where something differs.
-    ensures same { IsCollectedFor config.now scripts.now board.config board.log replies.items
+    ensures same { let board = observed.board in
+        IsCollectedFor config.now scripts.now board.config board.log replies.items
         → IsOk result }
 {
-    if !board.config().eq(config) {
+    let (board, observers) = observed.into_parts();
+    if !is_collected_for(
+        config,
+        scripts,
+        &board,
+        replies.as_slice(),
+        counts.as_mut_slice(),
+    ) {
+        board.close(rt);
         return Err(RunFault::Stranger);
     }
-    let log = board.log();
-    if !is_collected(log, scripts, replies.as_slice(), counts.as_mut_slice()) {
-        return Err(RunFault::Stranger);
-    }
-    Ok(Finished { board, replies })
+    Ok(Finished {
+        board,
+        replies,
+        observers,
+    })
 }

@@ -3,6 +3,7 @@ mod examples;
 mod gates;
 mod locked;
 mod many_runs;
+mod observers;
 mod orders;
 mod refused_memory;
 mod runs;

@@ -9,6 +9,7 @@ use apex_types::{Message, Mode, Sample, Validity};
 use std::alloc::Allocator;
 
 impl<A: Allocator> Board<A> {
+    ghost use Rattle.apex_board.specs.OnChannels.{ArePublished};
     ghost use Rattle.apex_ports.specs.Channels.{accepted_on, received_on, waiting_on, last_write_on};
     ghost use Rattle.apex_ports.specs.Idle.{IdleIsSilent};
     ghost use Rattle.apex_ports.specs.Lawful.{IsLawful};
@@ -31,11 +32,12 @@ impl<A: Allocator> Board<A> {
         self.ports.config()
     }
 
-    /// All calls with their replies, oldest first.
+    /// All calls with their replies, oldest first. What they write into sampling channels is published there.
     pub fn log(&self) -> &[Entry]
         ensures log { result.now ≡ self.now.log }
         ensures lawful { IsLawful self.now.config self.now.log }
         ensures idle { IdleIsSilent self.now.log }
+        ensures published { ArePublished self.now.config self.now.log self.now.published }
     {
         self.records.log.as_slice()
     }

@@ -1,5 +1,6 @@
 //! What the examples share: short ways to write a call and a reply, and boards that answer tables of calls.
-ghost use Rattle.std.specs.Prelude.{◌<◌};
+ghost use Rattle.std.specs.Prelude.{◌≡◌, ◌<◌};
+ghost use Rattle.apex_observers.specs.Channels.{books_of};
 
 use crate::tests::texts::{AIR, DSP, FMS};
 use apex_board::{Board, Request, Stopped, run_list};
@@ -7,6 +8,7 @@ use apex_config::Config;
 use apex_types::{Call, Message, Moment, Name, OutOfMemory, Reply, ReturnCode, Validity};
 use std::alloc::{AllocGlobal, Allocator};
 use std::process::Abort;
+use std::sync::Wait;
 use std::test::Fail;
 
 /// One event of an example: the partition, the moment, the call, and the reply that is wanted.
@@ -102,28 +104,32 @@ pub(crate) fn sampling_ports() -> Result<[Row; 2], Fail> {
 }
 
 /// A new board over the configuration of a text.
-pub(crate) fn board_of<R: AllocGlobal>(rt: &R, text: &str) -> Result<Board, Fail> {
+pub(crate) fn board_of<R: AllocGlobal + Wait>(rt: &R, text: &str) -> Result<Board, Fail> {
     let config = Config::read(rt.alloc(), text.as_bytes())?;
-    Ok(Board::new(rt.alloc(), config)?)
+    Ok(Board::new(rt, rt.alloc(), config)?)
 }
 
 /// Makes a call on the board.
-pub(crate) fn ask<A: Allocator>(
-    rt: &impl Abort,
+pub(crate) fn ask<A: Allocator, R: Abort + Wait>(
+    rt: &R,
     board: &mut Board<A>,
     row: &Row,
-) -> Result<Reply, OutOfMemory> {
+) -> Result<Reply, OutOfMemory>
+    ensures { books_of board.new.published ≡ books_of board.old.published }
+{
     let (partition, at, call, _) = row;
     assert!(rt; *partition < board.config().partitions());
-    board.call(*partition, Moment(*at), call)
+    board.call(rt, *partition, Moment(*at), call)
 }
 
 /// Makes a call on the board, and compares the reply.
-pub(crate) fn answer<A: Allocator>(
-    rt: &impl Abort,
+pub(crate) fn answer<A: Allocator, R: Abort + Wait>(
+    rt: &R,
     board: &mut Board<A>,
     row: &Row,
-) -> Result<(), Fail> {
+) -> Result<(), Fail>
+    ensures { books_of board.new.published ≡ books_of board.old.published }
+{
     let (_, at, _, wanted) = row;
     let reply = ask(rt, board, row)?;
     assert_eq!(rt; &reply, wanted, "at {at}");
@@ -131,8 +137,8 @@ pub(crate) fn answer<A: Allocator>(
 }
 
 /// Makes the calls of a table on the board, and compares each reply.
-pub(crate) fn answers<A: Allocator>(
-    rt: &impl Abort,
+pub(crate) fn answers<A: Allocator, R: Abort + Wait>(
+    rt: &R,
     board: &mut Board<A>,
     rows: &[Row],
 ) -> Result<(), Fail> {
@@ -143,8 +149,8 @@ pub(crate) fn answers<A: Allocator>(
 }
 
 /// Answers the list, whose partitions the board has.
-pub(crate) fn run<A: Allocator>(
-    rt: &impl Abort,
+pub(crate) fn run<A: Allocator, R: Abort + Wait>(
+    rt: &R,
     board: &mut Board<A>,
     requests: &[Request],
 ) -> Result<(), Stopped> {
@@ -154,5 +160,5 @@ pub(crate) fn run<A: Allocator>(
             .iter()
             .all(|request| request.partition < partitions)
     );
-    run_list(board, requests)
+    run_list(rt, board, requests)
 }

@@ -5,11 +5,14 @@ use crate::tests::examples::{
     NO_ERROR, Row, answers, board_of, create_queuing, create_sampling, read, receive,
 };
 use crate::tests::many_calls::ports_answer;
+use apex_board::Board;
 use apex_config::Config;
 use apex_ports::Ports;
 use apex_types::{Call, Message, Reply, Validity};
 use refusing::Switch;
-use std::alloc::Global;
+use std::alloc::{Allocator, Global};
+use std::process::Abort;
+use std::sync::Wait;
 use std::test::Fail;
 
 /// The queuing channels, which come first; the other 32 are sampling channels.
@@ -161,12 +164,12 @@ fn module_rows(alloc: Global) -> Result<Vec<Row>, Fail> {
     Ok(rows)
 }
 
-#[test]
-fn board_serves_full_module(rt: HostRuntime) -> Result<(), Fail> {
-    let text = module_text(rt.alloc())?;
-    let rows = module_rows(rt.alloc())?;
-    let mut board = board_of(&rt, text.as_str())?;
-    answers(&rt, &mut board, rows.as_slice())?;
+fn serves_full_module<A: Allocator, R: Abort + Wait>(
+    rt: &R,
+    board: &mut Board<A>,
+    rows: &[Row],
+) -> Result<(), Fail> {
+    answers(rt, board, rows)?;
     assert_eq!(rt; board.log().len(), 1024);
     assert!(rt; board.config().channels() == 64);
     for c in 0..64usize {
@@ -177,6 +180,16 @@ fn board_serves_full_module(rt: HostRuntime) -> Result<(), Fail> {
         assert_eq!(rt; board.last_sample(c).is_some(), c >= 32);
     }
     Ok(())
+}
+
+#[test]
+fn board_serves_full_module(rt: HostRuntime) -> Result<(), Fail> {
+    let text = module_text(rt.alloc())?;
+    let rows = module_rows(rt.alloc())?;
+    let mut board = board_of(&rt, text.as_str())?;
+    let served = serves_full_module(&rt, &mut board, rows.as_slice());
+    board.close(&rt);
+    served
 }
 
 #[test]

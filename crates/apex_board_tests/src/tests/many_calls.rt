@@ -10,6 +10,7 @@ use apex_types::{Call, Message, Moment, Reply};
 use refusing::Switch;
 use std::alloc::{Allocator, Global};
 use std::process::Abort;
+use std::sync::Wait;
 use std::test::Fail;
 
 /// FMS sends the message of a number into NAV, and DSP receives it.
@@ -30,16 +31,26 @@ pub(crate) fn ports_answer<A: Allocator>(rt: &impl Abort, ports: &mut Ports<A>, 
     assert_eq!(rt; &reply, wanted, "at {at}");
 }
 
-#[test]
-fn five_thousand_calls_within_room(rt: HostRuntime) -> Result<(), Fail> {
-    let switch = Switch::new(rt.alloc());
-    let mut board = Board::new(&switch, Config::read(rt.alloc(), BASE.as_bytes())?)?;
+fn exchanges<A: Allocator, R: Abort + Wait>(
+    rt: &R,
+    board: &mut Board<A>,
+    messages: u32,
+) -> Result<(), Fail> {
+    answers(rt, board, &queuing_ports()?)?;
+    for number in 0..messages {
+        answers(rt, board, &exchange(number)?)?;
+    }
+    Ok(())
+}
+
+fn five_thousand_calls<A: Allocator, B: Allocator, R: Abort + Wait>(
+    rt: &R,
+    switch: &Switch<B>,
+    board: &mut Board<A>,
+) -> Result<(), Fail> {
     board.reserve(5000)?;
     switch.refuse_all();
-    answers(&rt, &mut board, &queuing_ports()?)?;
-    for number in 0..2498u32 {
-        answers(&rt, &mut board, &exchange(number)?)?;
-    }
+    exchanges(rt, board, 2498)?;
     assert_eq!(rt; switch.requests(), 0);
     assert_eq!(rt; board.log().len(), 5000);
     assert!(rt; NAV < board.config().channels());
@@ -49,14 +60,23 @@ fn five_thousand_calls_within_room(rt: HostRuntime) -> Result<(), Fail> {
 }
 
 #[test]
+fn five_thousand_calls_within_room(rt: HostRuntime) -> Result<(), Fail> {
+    let switch = Switch::new(rt.alloc());
+    let config = Config::read(rt.alloc(), BASE.as_bytes())?;
+    let mut board = Board::new(&rt, &switch, config)?;
+    let served = five_thousand_calls(&rt, &switch, &mut board);
+    board.close(&rt);
+    served
+}
+
+#[test]
 fn three_thousand_calls_without_reserve(rt: HostRuntime) -> Result<(), Fail> {
     let mut board = board_of(&rt, BASE)?;
-    answers(&rt, &mut board, &queuing_ports()?)?;
-    for number in 0..1498u32 {
-        answers(&rt, &mut board, &exchange(number)?)?;
-    }
-    assert_eq!(rt; board.log().len(), 3000);
-    Ok(())
+    let served = exchanges(&rt, &mut board, 1498);
+    let entries = board.log().len();
+    board.close(&rt);
+    assert_eq!(rt; entries, 3000);
+    served
 }
 
 fn push_request(requests: &mut Vec<Request>, row: &Row) -> Result<(), Fail> {
@@ -83,16 +103,25 @@ fn long_list(alloc: Global) -> Result<Vec<Request>, Fail> {
     Ok(requests)
 }
 
+fn answers_long_list<A: Allocator, R: Abort + Wait>(
+    rt: &R,
+    board: &mut Board<A>,
+    requests: &[Request],
+) {
+    assert!(rt; run(rt, board, requests).is_ok());
+    assert_eq!(rt; board.log().len(), 3000);
+    assert!(rt; NAV < board.config().channels());
+    assert_eq!(rt; board.accepted(NAV).len(), 1498);
+    assert_eq!(rt; board.received(NAV).len(), 1498);
+}
+
 #[test]
 fn list_of_three_thousand_requests(rt: HostRuntime) -> Result<(), Fail> {
     let requests = long_list(rt.alloc())?;
     assert_eq!(rt; requests.len(), 3000);
     let mut board = board_of(&rt, BASE)?;
-    assert!(rt; run(&rt, &mut board, requests.as_slice()).is_ok());
-    assert_eq!(rt; board.log().len(), 3000);
-    assert!(rt; NAV < board.config().channels());
-    assert_eq!(rt; board.accepted(NAV).len(), 1498);
-    assert_eq!(rt; board.received(NAV).len(), 1498);
+    answers_long_list(&rt, &mut board, requests.as_slice());
+    board.close(&rt);
     Ok(())
 }
 

@@ -13,6 +13,7 @@ use apex_types::{Moment, Reply};
 use refusing::Switch;
 use std::alloc::{AllocError, AllocGlobal, Allocator, Global};
 use std::process::Abort;
+use std::sync::Wait;
 use std::test::Fail;
 
 /// More allocations than any call of these examples asks for.
@@ -113,10 +114,37 @@ fn requests_of(rows: &[Row], alloc: Global) -> Result<Vec<Request>, AllocError> 
     Ok(requests)
 }
 
-#[test]
-fn room_serves_without_memory(rt: HostRuntime) -> Result<(), Fail> {
-    let switch = Switch::new(rt.alloc());
-    let mut board = Board::new(&switch, config_of(&rt)?)?;
+// The board shows the same as one with ample memory that has answered the calls of the rows.
+fn shows_same_after<R: AllocGlobal + Abort + Wait, A: Allocator>(
+    rt: &R,
+    board: &Board<A>,
+    rows: &[Row],
+) -> Result<(), Fail> {
+    let mut ample = board_of(rt, BASE)?;
+    let answered = answers(rt, &mut ample, rows);
+    shows_same(rt, board, &ample);
+    ample.close(rt);
+    answered
+}
+
+// The board shows the same as one with ample memory that has answered the requests.
+fn shows_same_after_list<R: AllocGlobal + Abort + Wait, A: Allocator>(
+    rt: &R,
+    board: &Board<A>,
+    requests: &[Request],
+) -> Result<(), Fail> {
+    let mut ample = board_of(rt, BASE)?;
+    let answered = run(rt, &mut ample, requests);
+    shows_same(rt, board, &ample);
+    ample.close(rt);
+    Ok(answered?)
+}
+
+fn serves_within_room<A: Allocator, B: Allocator, R: Abort + Wait>(
+    rt: &R,
+    switch: &Switch<B>,
+    board: &mut Board<A>,
+) -> Result<(), Fail> {
     board.reserve(3)?;
     assert!(rt; board.room() >= 3);
     let rows = [
@@ -125,7 +153,7 @@ fn room_serves_without_memory(rt: HostRuntime) -> Result<(), Fail> {
         (DSP, 5, create_queuing("NAV_IN", 4, 2, 1, 0)?, Reply::Id(1)),
     ];
     switch.refuse_all();
-    answers(&rt, &mut board, &rows)?;
+    answers(rt, board, &rows)?;
     assert_eq!(rt; board.log().len(), 3);
     assert!(rt; NAV < board.config().channels());
     assert_eq!(rt; board.accepted(NAV).len(), 1);
@@ -133,53 +161,66 @@ fn room_serves_without_memory(rt: HostRuntime) -> Result<(), Fail> {
 }
 
 #[test]
+fn room_serves_without_memory(rt: HostRuntime) -> Result<(), Fail> {
+    let switch = Switch::new(rt.alloc());
+    let mut board = Board::new(&rt, &switch, config_of(&rt)?)?;
+    let served = serves_within_room(&rt, &switch, &mut board);
+    board.close(&rt);
+    served
+}
+
+#[test]
 fn new_board_refused_in_turn(rt: HostRuntime) -> Result<(), Fail> {
-    let ample = board_of(&rt, BASE)?;
     for granted in 0..ALLOCATION_LIMIT {
         let config = config_of(&rt)?;
         let switch = Switch::new(rt.alloc());
         switch.refuse_after(granted, 1);
-        let made = Board::new(&switch, config);
+        let made = Board::new(&rt, &switch, config);
         assert_eq!(rt; made.is_ok(), switch.refused() == 0, "after {granted}");
-        if let Ok(board) = made {
-            assert!(rt; granted > 0);
-            shows_same(&rt, &board, &ample);
-            return Ok(());
+        match made {
+            Ok(board) => {
+                assert!(rt; granted > 0);
+                let same = shows_same_after(&rt, &board, &[]);
+                board.close(&rt);
+                return same;
+            }
+            Err(_refused) => {}
         }
     }
     assert!(rt; false, "the sweep does not end");
     Ok(())
 }
 
-// A board on the base configuration that has answered the calls of the rows.
-fn board_after<R: AllocGlobal + Abort, A: Allocator + Copy>(
-    rt: &R,
-    alloc: A,
-    rows: &[Row],
-) -> Result<Board<A>, Fail> {
-    let mut board = Board::new(alloc, config_of(rt)?)?;
-    answers(rt, &mut board, rows)?;
-    Ok(board)
-}
-
 // `reserve` after the calls of the rows, with one allocation refused after `granted` others; whether it was.
-fn reserve_refused_after<R: AllocGlobal + Abort>(
+fn reserves<R: AllocGlobal + Abort + Wait, A: Allocator, B: Allocator>(
     rt: &R,
+    switch: &Switch<B>,
+    board: &mut Board<A>,
     granted: u64,
     rows: &[Row],
 ) -> Result<bool, Fail> {
-    let ample = board_after(rt, rt.alloc(), rows)?;
-    let switch = Switch::new(rt.alloc());
-    let mut board = board_after(rt, &switch, rows)?;
+    answers(rt, board, rows)?;
     let room = board.room();
     switch.refuse_after(granted, 1);
     let reserved = board.reserve(100);
     assert_eq!(rt; reserved.is_ok(), switch.refused() == 0, "after {granted}");
-    shows_same(rt, &board, &ample);
+    shows_same_after(rt, board, rows)?;
     assert!(rt; board.room() >= room);
     board.reserve(100)?;
     assert!(rt; board.room() >= 100);
     Ok(reserved.is_err())
+}
+
+fn reserve_refused_after<R: AllocGlobal + Abort + Wait>(
+    rt: &R,
+    granted: u64,
+    rows: &[Row],
+) -> Result<bool, Fail> {
+    let switch = Switch::new(rt.alloc());
+    let mut board = Board::new(rt, &switch, config_of(rt)?)?;
+    let refused = reserves(rt, &switch, &mut board, granted, rows);
+    board.close(rt);
+    refused
 }
 
 #[test]
@@ -195,18 +236,21 @@ fn reserve_refused_in_turn(rt: HostRuntime) -> Result<(), Fail> {
     Ok(())
 }
 
-// The call of `row` after those before it, with one allocation refused after `granted` others; whether it was.
-fn call_refused_after<R: AllocGlobal + Abort>(
+// The last call of the rows after those before it, with one allocation refused after `granted` others; whether it was.
+fn answers_last<R: AllocGlobal + Abort + Wait, A: Allocator, B: Allocator>(
     rt: &R,
+    switch: &Switch<B>,
+    board: &mut Board<A>,
     granted: u64,
-    before: &[Row],
-    row: &Row,
+    rows: &[Row],
 ) -> Result<bool, Fail> {
-    let switch = Switch::new(rt.alloc());
-    let mut board = board_after(rt, &switch, before)?;
+    let Some((row, before)) = rows.split_last() else {
+        return Ok(false);
+    };
+    answers(rt, board, before)?;
     let room = board.room();
     switch.refuse_after(granted, 1);
-    let answered = ask(rt, &mut board, row);
+    let answered = ask(rt, board, row);
     let refused = switch.refused();
     switch.allow_all();
     if let Ok(reply) = answered {
@@ -215,23 +259,29 @@ fn call_refused_after<R: AllocGlobal + Abort>(
         return Ok(false);
     }
     assert_eq!(rt; refused, 1);
-    let mut ample = board_after(rt, rt.alloc(), before)?;
-    shows_same(rt, &board, &ample);
+    shows_same_after(rt, board, before)?;
     assert!(rt; board.room() >= room);
-    answer(rt, &mut board, row)?;
-    answer(rt, &mut ample, row)?;
-    shows_same(rt, &board, &ample);
+    answer(rt, board, row)?;
+    shows_same_after(rt, board, rows)?;
     Ok(true)
 }
 
-// The call of `row` after those before it, with each of its allocations refused in turn; whether there was one.
-fn call_refused_in_turn<R: AllocGlobal + Abort>(
+fn call_refused_after<R: AllocGlobal + Abort + Wait>(
     rt: &R,
-    before: &[Row],
-    row: &Row,
+    granted: u64,
+    rows: &[Row],
 ) -> Result<bool, Fail> {
+    let switch = Switch::new(rt.alloc());
+    let mut board = Board::new(rt, &switch, config_of(rt)?)?;
+    let refused = answers_last(rt, &switch, &mut board, granted, rows);
+    board.close(rt);
+    refused
+}
+
+// The last call of the rows after those before it, with each of its allocations refused in turn; whether there was one.
+fn call_refused_in_turn<R: AllocGlobal + Abort + Wait>(rt: &R, rows: &[Row]) -> Result<bool, Fail> {
     for granted in 0..ALLOCATION_LIMIT {
-        if !call_refused_after(rt, granted, before, row)? {
+        if !call_refused_after(rt, granted, rows)? {
             return Ok(granted > 0);
         }
     }
@@ -240,10 +290,10 @@ fn call_refused_in_turn<R: AllocGlobal + Abort>(
 }
 
 // Each call of the rows after those before it, with each of its allocations refused in turn.
-fn rows_refused_in_turn<R: AllocGlobal + Abort>(rt: &R, rows: &[Row]) -> Result<(), Fail> {
+fn rows_refused_in_turn<R: AllocGlobal + Abort + Wait>(rt: &R, rows: &[Row]) -> Result<(), Fail> {
     let mut met = false;
-    for (done, row) in rows.iter().enumerate() {
-        met |= call_refused_in_turn(rt, &rows[..done], row)?;
+    for done in 0..rows.len() {
+        met |= call_refused_in_turn(rt, &rows[..done + 1])?;
     }
     assert!(rt; met);
     Ok(())
@@ -256,39 +306,58 @@ fn calls_refused_in_turn(rt: HostRuntime) -> Result<(), Fail> {
 }
 
 // The board has answered just the first `done` requests; with memory again it answers the rest.
-fn goes_on<R: AllocGlobal + Abort, A: Allocator>(
+fn goes_on<R: AllocGlobal + Abort + Wait, A: Allocator>(
     rt: &R,
     board: &mut Board<A>,
     requests: &[Request],
     done: usize,
 ) -> Result<(), Fail> {
     assert!(rt; done <= requests.len());
-    let mut ample = board_of(rt, BASE)?;
-    run(rt, &mut ample, &requests[..done])?;
     assert_eq!(rt; board.log().len(), done);
-    shows_same(rt, board, &ample);
+    shows_same_after_list(rt, board, &requests[..done])?;
     run(rt, board, &requests[done..])?;
-    run(rt, &mut ample, &requests[done..])?;
-    shows_same(rt, board, &ample);
-    Ok(())
+    shows_same_after_list(rt, board, requests)
+}
+
+// How many requests the board answers before memory is wanting, and how many allocations were refused. With memory
+// again it answers the rest.
+fn answers_list<R: AllocGlobal + Abort + Wait, A: Allocator, B: Allocator>(
+    rt: &R,
+    switch: &Switch<B>,
+    board: &mut Board<A>,
+    requests: &[Request],
+) -> Result<(usize, u64), Fail> {
+    let answered = run(rt, board, requests);
+    let refused = switch.refused();
+    switch.allow_all();
+    let done = match answered {
+        Ok(()) => requests.len(),
+        Err(stopped) => stopped.done,
+    };
+    goes_on(rt, board, requests, done)?;
+    Ok((done, refused))
+}
+
+fn list_refused_after<R: AllocGlobal + Abort + Wait>(
+    rt: &R,
+    granted: u64,
+    refuse: u64,
+    requests: &[Request],
+) -> Result<(usize, u64), Fail> {
+    let switch = Switch::new(rt.alloc());
+    let mut board = Board::new(rt, &switch, config_of(rt)?)?;
+    switch.refuse_after(granted, refuse);
+    let answered = answers_list(rt, &switch, &mut board, requests);
+    board.close(rt);
+    answered
 }
 
 // The list on a new board, with `refuse` allocations refused after each number of granted ones. Once memory is wanting
 // for good it stops; one refusal alone it may do without.
-fn list_refused_in_turn<R: AllocGlobal + Abort>(rt: &R, refuse: u64) -> Result<(), Fail> {
+fn list_refused_in_turn<R: AllocGlobal + Abort + Wait>(rt: &R, refuse: u64) -> Result<(), Fail> {
     let requests = requests_of(&full_queue()?, rt.alloc())?;
     for granted in 0..ALLOCATION_LIMIT {
-        let switch = Switch::new(rt.alloc());
-        let mut board = Board::new(&switch, config_of(rt)?)?;
-        switch.refuse_after(granted, refuse);
-        let answered = run(rt, &mut board, &requests);
-        let refused = switch.refused();
-        switch.allow_all();
-        let done = match answered {
-            Ok(()) => requests.len(),
-            Err(stopped) => stopped.done,
-        };
-        goes_on(rt, &mut board, &requests, done)?;
+        let (done, refused) = list_refused_after(rt, granted, refuse, &requests)?;
         if refused == 0 {
             assert!(rt; granted > 0);
             assert_eq!(rt; done, requests.len());
@@ -310,39 +379,53 @@ fn list_without_memory(rt: HostRuntime) -> Result<(), Fail> {
     list_refused_in_turn(&rt, u64::MAX)
 }
 
-#[test]
-fn list_leaves_the_room_beyond_it(rt: HostRuntime) -> Result<(), Fail> {
-    let requests = requests_of(&full_queue()?, rt.alloc())?;
-    let switch = Switch::new(rt.alloc());
-    let mut board = Board::new(&switch, config_of(&rt)?)?;
+fn leaves_room<A: Allocator, B: Allocator, R: Abort + Wait>(
+    rt: &R,
+    switch: &Switch<B>,
+    board: &mut Board<A>,
+    requests: &[Request],
+) -> Result<(), Fail> {
     board.reserve(requests.len() + 2)?;
     switch.refuse_all();
-    assert!(rt; run(&rt, &mut board, &requests).is_ok());
+    assert!(rt; run(rt, board, requests).is_ok());
     assert!(rt; board.room() >= 2);
     let more = [
         (FMS, 12, send(1, "04")?, NO_ERROR),
         (DSP, 13, receive(1), received("04")?),
     ];
-    answers(&rt, &mut board, &more)
+    answers(rt, board, &more)
+}
+
+#[test]
+fn list_leaves_the_room_beyond_it(rt: HostRuntime) -> Result<(), Fail> {
+    let requests = requests_of(&full_queue()?, rt.alloc())?;
+    let switch = Switch::new(rt.alloc());
+    let mut board = Board::new(&rt, &switch, config_of(&rt)?)?;
+    let left = leaves_room(&rt, &switch, &mut board, &requests);
+    board.close(&rt);
+    left
+}
+
+fn stops_beyond_room<R: AllocGlobal + Abort + Wait, A: Allocator, B: Allocator>(
+    rt: &R,
+    switch: &Switch<B>,
+    board: &mut Board<A>,
+    rows: &[Row],
+) -> Result<(), Fail> {
+    let requests = requests_of(rows, rt.alloc())?;
+    board.reserve(5)?;
+    switch.refuse_all();
+    let (done, _refused) = answers_list(rt, switch, board, &requests)?;
+    assert!(rt; done >= 5 && done < requests.len());
+    shows_same_after(rt, board, rows)
 }
 
 #[test]
 fn list_stops_beyond_its_room(rt: HostRuntime) -> Result<(), Fail> {
     let rows = full_queue()?;
-    let requests = requests_of(&rows, rt.alloc())?;
     let switch = Switch::new(rt.alloc());
-    let mut board = Board::new(&switch, config_of(&rt)?)?;
-    board.reserve(5)?;
-    switch.refuse_all();
-    let done = match run(&rt, &mut board, &requests) {
-        Ok(()) => requests.len(),
-        Err(stopped) => stopped.done,
-    };
-    switch.allow_all();
-    assert!(rt; done >= 5 && done < requests.len());
-    goes_on(&rt, &mut board, &requests, done)?;
-    let mut ample = board_of(&rt, BASE)?;
-    answers(&rt, &mut ample, &rows)?;
-    shows_same(&rt, &board, &ample);
-    Ok(())
+    let mut board = Board::new(&rt, &switch, config_of(&rt)?)?;
+    let stopped = stops_beyond_room(&rt, &switch, &mut board, &rows);
+    board.close(&rt);
+    stopped
 }

@@ -2,7 +2,7 @@
 ghost use Rattle.std.specs.Prelude.{IfErr};
 ghost use Rattle.apex_workers.specs.Held.{NamesHeldCall};
 
-use apex_board::{Board, Entry, Request, run_list};
+use apex_board::{Board, Entry, Request, Stopped, run_list};
 use apex_config::Config;
 use apex_types::{Call, Message, Moment, Name, Reply, ReturnCode};
 use apex_workers::{Finished, Gate, RunFault, Script, run_scripts};
@@ -59,9 +59,9 @@ pub(crate) fn send(message: &str) -> Result<Call, Fail> {
     })
 }
 
-pub(crate) fn write(message: &str) -> Result<Call, Fail> {
+pub(crate) fn write(id: u32, message: &str) -> Result<Call, Fail> {
     Ok(Call::WriteSampling {
-        id: 1,
+        id,
         message: Message::from_hex(message)?,
     })
 }
@@ -110,7 +110,7 @@ pub(crate) fn config_of<R: AllocGlobal>(rt: &R, text: &str) -> Result<Config, Fa
 }
 
 /// Runs the scripts, which are as many as the partitions.
-pub(crate) fn run<R: Threads + Wait + Sync + Abort, A: Allocator + Copy + Send, G: Gate>(
+pub(crate) fn run<R: Threads + Wait + Sync + Abort, A: Allocator + Copy + Send + Sync, G: Gate>(
     rt: &R,
     alloc: A,
     config: &Config,
@@ -121,6 +121,16 @@ pub(crate) fn run<R: Threads + Wait + Sync + Abort, A: Allocator + Copy + Send, 
 {
     assert!(rt; scripts.len() == config.partitions());
     run_scripts(rt, alloc, config, scripts, gate)
+}
+
+/// Ends the board of a run.
+pub(crate) fn end<R: Wait, A: Allocator>(rt: &R, finished: Finished<A>) {
+    let Finished {
+        board,
+        replies: _,
+        observers: _,
+    } = finished;
+    board.close(rt);
 }
 
 /// The requests of a log.
@@ -137,20 +147,32 @@ pub(crate) fn requests_of(alloc: Global, log: &[Entry]) -> Result<Vec<Request>, 
 }
 
 /// A new board that answers the requests of the log, one after the other, has the same log.
-pub(crate) fn is_repeated<R: AllocGlobal + Abort>(
+pub(crate) fn is_repeated<R: AllocGlobal + Abort + Wait>(
     rt: &R,
     config: &Config,
     log: &[Entry],
 ) -> Result<(), Fail> {
-    let mut board = Board::new(rt.alloc(), config.copy()?)?;
     let requests = requests_of(rt.alloc(), log)?;
+    let mut board = Board::new(rt, rt.alloc(), config.copy()?)?;
+    let repeated = repeat(rt, &mut board, requests.as_slice(), log);
+    board.close(rt);
+    Ok(repeated?)
+}
+
+// The new board answers the requests, and has this log.
+fn repeat<R: Abort + Wait>(
+    rt: &R,
+    board: &mut Board,
+    requests: &[Request],
+    log: &[Entry],
+) -> Result<(), Stopped> {
     let partitions = board.config().partitions();
     assert!(rt;
         requests
             .iter()
             .all(|request| request.partition < partitions)
     );
-    run_list(&mut board, requests.as_slice())?;
+    run_list(rt, board, requests)?;
     assert_eq!(rt; board.log(), log);
     Ok(())
 }

@@ -1,9 +1,11 @@
 //! Many runs of eight workers, each log checked against a model of this file's own.
-use crate::tests::examples::{GO_NORMAL, NO_ERROR, NOT_AVAILABLE, config_of, create_queuing, run};
+use crate::tests::examples::{
+    GO_NORMAL, NO_ERROR, NOT_AVAILABLE, config_of, create_queuing, end, run,
+};
 use crate::tests::texts::{RING, RING_TEXT};
 use apex_board::Entry;
 use apex_types::{Call, Message, Moment, Reply};
-use apex_workers::{OpenGate, Script};
+use apex_workers::{Finished, OpenGate, Script};
 use std::alloc::Global;
 use std::process::Abort;
 use std::test::Fail;
@@ -136,6 +138,17 @@ fn has_replies(rt: &impl Abort, log: &[Entry], p: usize, replies: &[Reply]) {
     }
 }
 
+// The run's log is the model's, and each worker has its replies.
+fn is_as_modelled(rt: &impl Abort, alloc: Global, finished: &Finished) -> Result<(), Fail> {
+    let log = finished.board.log();
+    check(rt, alloc, log)?;
+    assert_eq!(rt; finished.replies.len(), RING);
+    for (p, replies) in finished.replies.iter().enumerate() {
+        has_replies(rt, log, p, replies.list());
+    }
+    Ok(())
+}
+
 #[test]
 fn two_hundred_runs_of_eight_workers(rt: HostRuntime) -> Result<(), Fail> {
     let alloc = rt.alloc();
@@ -143,12 +156,9 @@ fn two_hundred_runs_of_eight_workers(rt: HostRuntime) -> Result<(), Fail> {
     let scripts = scripts_of(alloc)?;
     for _ in 0..RUNS {
         let finished = run(&rt, alloc, &config, scripts.as_slice(), &OpenGate)?;
-        let log = finished.board.log();
-        check(&rt, alloc, log)?;
-        assert_eq!(rt; finished.replies.len(), RING);
-        for (p, replies) in finished.replies.iter().enumerate() {
-            has_replies(&rt, log, p, replies.list());
-        }
+        let checked = is_as_modelled(&rt, alloc, &finished);
+        end(&rt, finished);
+        checked?;
     }
     Ok(())
 }

@@ -1,15 +1,15 @@
 //! Every allocation of a run refused in turn: it ends in want of memory, in a worker that wasn't started, or as with ample
 //! memory. The configuration is copied with memory of its own, which this sweep doesn't reach.
 use crate::tests::examples::{
-    AIR, DSP, FMS, NO_ERROR, config_of, create_queuing, create_sampling, is_repeated, queue_is,
-    replies_are, run, script_of, send, write,
+    AIR, DSP, FMS, NO_ERROR, config_of, create_queuing, create_sampling, end, is_repeated,
+    queue_is, replies_are, run, script_of, send, write,
 };
 use crate::tests::texts::BASE;
 use apex_config::Config;
 use apex_types::Reply;
-use apex_workers::{OpenGate, RunFault, Script};
+use apex_workers::{Finished, OpenGate, RunFault, Script};
 use refusing::Switch;
-use std::alloc::{AllocGlobal, Global};
+use std::alloc::{AllocGlobal, Allocator, Global};
 use std::process::Abort;
 use std::sync::Wait;
 use std::test::Fail;
@@ -29,8 +29,21 @@ fn scripts_of(alloc: Global) -> Result<[Script; 3], Fail> {
             ],
         )?,
         script_of(alloc, &[])?,
-        script_of(alloc, &[create_sampling("SPD_OUT")?, write("00ff")?])?,
+        script_of(alloc, &[create_sampling("SPD_OUT")?, write(1, "00ff")?])?,
     ])
+}
+
+// The run is that of ample memory.
+fn is_complete<R: Abort + AllocGlobal + Wait, A: Allocator>(
+    rt: &R,
+    config: &Config,
+    finished: &Finished<A>,
+) -> Result<(), Fail> {
+    replies_are(rt, finished, FMS, &[Reply::Id(1), NO_ERROR, NO_ERROR]);
+    replies_are(rt, finished, DSP, &[]);
+    replies_are(rt, finished, AIR, &[Reply::Id(1), NO_ERROR]);
+    queue_is(rt, &finished.board, 2, 0, 2);
+    is_repeated(rt, config, finished.board.log())
 }
 
 // A run with `refuse` allocations refused after `granted` others; whether one was.
@@ -48,11 +61,9 @@ fn run_refused_after<R: Threads + Wait + Sync + Abort + AllocGlobal>(
     switch.allow_all();
     match answered {
         Ok(finished) => {
-            replies_are(rt, &finished, FMS, &[Reply::Id(1), NO_ERROR, NO_ERROR]);
-            replies_are(rt, &finished, DSP, &[]);
-            replies_are(rt, &finished, AIR, &[Reply::Id(1), NO_ERROR]);
-            queue_is(rt, &finished.board, 2, 0, 2);
-            is_repeated(rt, config, finished.board.log())?;
+            let checked = is_complete(rt, config, &finished);
+            end(rt, finished);
+            checked?;
         }
         Err(fault) => assert!(rt;
             fault == RunFault::OutOfMemory && refused > 0 || fault == RunFault::WorkerNotStarted

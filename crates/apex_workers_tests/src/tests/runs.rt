@@ -1,15 +1,17 @@
 //! Runs of one, two, three and sixteen workers.
 use crate::tests::examples::{
     AIR, DSP, FMS, GO_NORMAL, NO_ACTION, NO_ERROR, SPD, config_of, create_queuing, create_sampling,
-    is_repeated, queue_is, replies_are, run, script_of, send, sender_and_receiver, write,
+    end, is_repeated, queue_is, replies_are, run, script_of, send, sender_and_receiver, write,
 };
 use crate::tests::gates::{Refuses, Sixteen, TwoFlags};
 use crate::tests::texts::{BASE, REDUCED, without_ports};
 use apex_board::Board;
+use apex_config::Config;
 use apex_types::{Message, Mode, Moment, Reply};
-use apex_workers::{Gate, OpenGate, RunFault, Script};
-use std::alloc::Allocator;
+use apex_workers::{Finished, Gate, OpenGate, RunFault, Script};
+use std::alloc::{AllocGlobal, Allocator};
 use std::process::Abort;
+use std::sync::Wait;
 use std::test::Fail;
 
 // The mode of a partition, and how many calls it made.
@@ -26,6 +28,21 @@ fn partition_is<A: Allocator>(
     assert_eq!(rt; made.count(), calls);
 }
 
+fn is_run_by_two<R: Abort + AllocGlobal + Wait>(
+    rt: &R,
+    config: &Config,
+    finished: &Finished,
+) -> Result<(), Fail> {
+    replies_are(rt, finished, FMS, &[Reply::Id(1), NO_ERROR, NO_ERROR]);
+    replies_are(rt, finished, DSP, &[Reply::Id(1), NO_ERROR]);
+    assert_eq!(rt; finished.board.config(), config);
+    assert_eq!(rt; finished.board.log().len(), 5);
+    partition_is(rt, &finished.board, FMS, Mode::Normal, 3);
+    partition_is(rt, &finished.board, DSP, Mode::Normal, 2);
+    queue_is(rt, &finished.board, 1, 0, 1);
+    is_repeated(rt, config, finished.board.log())
+}
+
 // Each of the two workers comes to its first call before the other makes it, and to its second once the other's first was
 // answered. So both run at the same time.
 #[test]
@@ -34,14 +51,9 @@ fn two_workers_between_two_flags(rt: HostRuntime) -> Result<(), Fail> {
     let config = config_of(&rt, REDUCED)?;
     let scripts = sender_and_receiver(alloc)?;
     let finished = run(&rt, alloc, &config, &scripts, &TwoFlags::new())?;
-    replies_are(&rt, &finished, FMS, &[Reply::Id(1), NO_ERROR, NO_ERROR]);
-    replies_are(&rt, &finished, DSP, &[Reply::Id(1), NO_ERROR]);
-    assert_eq!(rt; finished.board.config(), &config);
-    assert_eq!(rt; finished.board.log().len(), 5);
-    partition_is(&rt, &finished.board, FMS, Mode::Normal, 3);
-    partition_is(&rt, &finished.board, DSP, Mode::Normal, 2);
-    queue_is(&rt, &finished.board, 1, 0, 1);
-    is_repeated(&rt, &config, finished.board.log())
+    let checked = is_run_by_two(&rt, &config, &finished);
+    end(&rt, finished);
+    checked
 }
 
 // A worker that runs alone doesn't pass the flags.
@@ -49,6 +61,25 @@ fn two_workers_between_two_flags(rt: HostRuntime) -> Result<(), Fail> {
 fn a_worker_alone_is_held(rt: HostRuntime) {
     assert!(rt; TwoFlags::new().pass(FMS, 1).is_err());
     assert!(rt; TwoFlags::new().pass(DSP, 2).is_err());
+}
+
+fn is_run_by_three<R: Abort + AllocGlobal + Wait>(
+    rt: &R,
+    config: &Config,
+    finished: &Finished,
+) -> Result<(), Fail> {
+    replies_are(rt, finished, FMS, &[Reply::Id(1), NO_ERROR, NO_ERROR]);
+    replies_are(rt, finished, DSP, &[]);
+    replies_are(rt, finished, AIR, &[Reply::Id(1), NO_ERROR]);
+    partition_is(rt, &finished.board, FMS, Mode::ColdStart, 3);
+    partition_is(rt, &finished.board, DSP, Mode::ColdStart, 0);
+    partition_is(rt, &finished.board, AIR, Mode::ColdStart, 2);
+    queue_is(rt, &finished.board, 2, 0, 2);
+    assert!(rt; SPD < finished.board.config().channels());
+    let sample = finished.board.last_sample(SPD).ok_or("no sample")?;
+    assert_eq!(rt; sample.at, Moment(2));
+    assert_eq!(rt; &sample.message, &Message::from_hex("00ff")?);
+    is_repeated(rt, config, finished.board.log())
 }
 
 #[test]
@@ -65,21 +96,25 @@ fn three_workers_under_the_open_gate(rt: HostRuntime) -> Result<(), Fail> {
             ],
         )?,
         script_of(alloc, &[])?,
-        script_of(alloc, &[create_sampling("SPD_OUT")?, write("00ff")?])?,
+        script_of(alloc, &[create_sampling("SPD_OUT")?, write(1, "00ff")?])?,
     ];
     let finished = run(&rt, alloc, &config, &scripts, &OpenGate)?;
-    replies_are(&rt, &finished, FMS, &[Reply::Id(1), NO_ERROR, NO_ERROR]);
-    replies_are(&rt, &finished, DSP, &[]);
-    replies_are(&rt, &finished, AIR, &[Reply::Id(1), NO_ERROR]);
-    partition_is(&rt, &finished.board, FMS, Mode::ColdStart, 3);
-    partition_is(&rt, &finished.board, DSP, Mode::ColdStart, 0);
-    partition_is(&rt, &finished.board, AIR, Mode::ColdStart, 2);
-    queue_is(&rt, &finished.board, 2, 0, 2);
-    assert!(rt; SPD < finished.board.config().channels());
-    let sample = finished.board.last_sample(SPD).ok_or("no sample")?;
-    assert_eq!(rt; sample.at, Moment(2));
-    assert_eq!(rt; &sample.message, &Message::from_hex("00ff")?);
-    is_repeated(&rt, &config, finished.board.log())
+    let checked = is_run_by_three(&rt, &config, &finished);
+    end(&rt, finished);
+    checked
+}
+
+fn is_run_by_sixteen<R: Abort + AllocGlobal + Wait>(
+    rt: &R,
+    config: &Config,
+    finished: &Finished,
+) -> Result<(), Fail> {
+    assert_eq!(rt; finished.replies.len(), 16);
+    for p in 0..16usize {
+        replies_are(rt, finished, p, &[NO_ERROR, NO_ACTION]);
+    }
+    assert_eq!(rt; finished.board.log().len(), 32);
+    is_repeated(rt, config, finished.board.log())
 }
 
 // All workers run at the same time: each looks for the flags of all others before its first call.
@@ -93,12 +128,9 @@ fn sixteen_workers_wait_for_each_other(rt: HostRuntime) -> Result<(), Fail> {
         scripts.push(script_of(alloc, &[GO_NORMAL, GO_NORMAL])?)?;
     }
     let finished = run(&rt, alloc, &config, scripts.as_slice(), &Sixteen::new())?;
-    assert_eq!(rt; finished.replies.len(), 16);
-    for p in 0..16usize {
-        replies_are(&rt, &finished, p, &[NO_ERROR, NO_ACTION]);
-    }
-    assert_eq!(rt; finished.board.log().len(), 32);
-    is_repeated(&rt, &config, finished.board.log())
+    let checked = is_run_by_sixteen(&rt, &config, &finished);
+    end(&rt, finished);
+    checked
 }
 
 #[test]
@@ -108,8 +140,21 @@ fn one_worker_with_an_empty_script(rt: HostRuntime) -> Result<(), Fail> {
     let config = config_of(&rt, text.as_str())?;
     let finished = run(&rt, alloc, &config, &[script_of(alloc, &[])?], &OpenGate)?;
     replies_are(&rt, &finished, 0, &[]);
-    assert!(rt; finished.board.log().is_empty());
+    let entries = finished.board.log().len();
+    end(&rt, finished);
+    assert_eq!(rt; entries, 0);
     Ok(())
+}
+
+// The fault of a run; a run without one is ended.
+fn fault_of<R: Wait>(rt: &R, answered: Result<Finished, RunFault>) -> Option<RunFault> {
+    match answered {
+        Ok(finished) => {
+            end(rt, finished);
+            None
+        }
+        Err(fault) => Some(fault),
+    }
 }
 
 #[test]
@@ -123,7 +168,8 @@ fn a_gate_that_refuses(rt: HostRuntime) -> Result<(), Fail> {
         ((FMS, 3), (DSP, 1), (FMS, 3)),
         ((DSP, 2), (DSP, 1), (DSP, 1)),
     ] {
-        let fault = run(&rt, alloc, &config, &scripts, &Refuses { one, other }).err();
+        let gate = Refuses { one, other };
+        let fault = fault_of(&rt, run(&rt, alloc, &config, &scripts, &gate));
         let (partition, n) = held;
         assert_eq!(rt; fault, Some(RunFault::Held { partition, n }));
     }
@@ -132,7 +178,8 @@ fn a_gate_that_refuses(rt: HostRuntime) -> Result<(), Fail> {
         one: (FMS, 4),
         other: (DSP, 3),
     };
-    assert!(rt; run(&rt, alloc, &config, &scripts, &gate).is_ok());
+    let fault = fault_of(&rt, run(&rt, alloc, &config, &scripts, &gate));
+    assert_eq!(rt; fault, None);
     Ok(())
 }
 
@@ -145,6 +192,7 @@ fn words_and_numbers_of_faults(rt: HostRuntime) -> Result<(), Fail> {
         (held, 2, "partition 1 held at call 2"),
         (RunFault::WorkerNotStarted, 3, "worker not started"),
         (RunFault::Stranger, 4, "collected results do not match"),
+        (RunFault::NoObserver, 5, "no observer"),
     ] {
         assert_eq!(rt; fault.number(), number);
         let text = format!(in alloc; "{fault}")?;

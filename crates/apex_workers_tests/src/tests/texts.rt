@@ -69,6 +69,29 @@ size = 4
 depth = 2
 ";
 
+/// The sampling channels SPD and ALT from AIR to DSP, with the queuing channel NAV between them.
+pub(crate) const TWO_SAMPLING: &str = "[[partition]]
+name = \"AIR\"
+port = [{ name = \"SPD_OUT\", kind = \"sampling\", direction = \"source\", channel = \"SPD\", refresh = 50 }, { name = \"NAV_OUT\", kind = \"queuing\", direction = \"source\", channel = \"NAV\" }, { name = \"ALT_OUT\", kind = \"sampling\", direction = \"source\", channel = \"ALT\", refresh = 50 }]
+[[partition]]
+name = \"DSP\"
+port = [{ name = \"SPD_IN\", kind = \"sampling\", direction = \"destination\", channel = \"SPD\", refresh = 50 }, { name = \"NAV_IN\", kind = \"queuing\", direction = \"destination\", channel = \"NAV\" }, { name = \"ALT_IN\", kind = \"sampling\", direction = \"destination\", channel = \"ALT\", refresh = 50 }]
+
+[[channel]]
+name = \"SPD\"
+kind = \"sampling\"
+size = 4
+[[channel]]
+name = \"NAV\"
+kind = \"queuing\"
+size = 4
+depth = 2
+[[channel]]
+name = \"ALT\"
+kind = \"sampling\"
+size = 4
+";
+
 /// So many partitions P1, P2 and so on, without ports.
 pub(crate) fn without_ports(alloc: Global, partitions: u32) -> Result<String, AllocError> {
     let mut text = String::new(alloc);

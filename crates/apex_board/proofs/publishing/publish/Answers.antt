@@ -2,7 +2,7 @@ use Rattle.std.proofs.Common.{◌++◌, ◌∷◌, []}
 use Rattle.apex_ports.specs.History.{entry_of}
 use Rattle.apex_ports.specs.ReplyTable.{reply_to}
 use Rattle.apex_board.specs.OnChannels.{ArePublished}
-use Rattle.apex_board.proofs.PublishSteps.{sampling_entry, write_published, nothing_published, on_published}
+use Rattle.apex_board.proofs.PublishSteps.{sampling_entry, write_published, nothing_published, on_published, channels_stay}
 use Rattle.apex_board.proofs.publishing.publish.Goals as goal
 
 pub publish-requires : goal.publish-requires
@@ -26,3 +26,13 @@ pub returns-in-None-clause-published : goal.returns-in-None-clause-published
 returns-in-None-clause-published g c =
     let ports = c.args.ports.now in
     nothing_published ports.config ports.history c.args.partition c.args.at c.args.call.now c.args.publishers.now c.requires.published c.in-None.ensures.writes
+
+pub returns-in-Some-clause-channels : goal.returns-in-Some-clause-channels
+returns-in-Some-clause-channels g c =
+    channels_stay c.publish.result c.publish.new.self c.args.publishers.now _ _ c.publish.ensures
+
+pub returns-in-Some-clause-succeeds : goal.returns-in-Some-clause-succeeds
+returns-in-Some-clause-succeeds g c nothing =
+    let is = c.in-Some.ensures.writes.there c.args.at in
+    let isnt = nothing c.args.at c.in-Some.channel in
+    absurd (cc)

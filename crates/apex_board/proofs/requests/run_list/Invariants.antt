@@ -1,4 +1,5 @@
 use Rattle.std.proofs.Common.{◌≡◌, ◌≤◌, ◌+◌, ◌++◌, take}
+use Rattle.apex_observers.specs.Channels.{books_of}
 use Rattle.apex_ports.specs.History.{requests_of}
 use Rattle.apex_ports.specs.Idle.{StaysIdle}
 use Rattle.apex_ports.specs.Lawful.{IsLawful}
@@ -10,5 +11,6 @@ invariant-loop-done g l = record {
   lawful : IsLawful l.board.config l.board.log;
   requests : requests_of l.board.log ≡ requests_of l.fn.board.log ++ take l.done l.requests;
   room : l.fn.board.room ≤ l.board.room + l.done;
+  channels : books_of l.board.published ≡ books_of l.fn.board.published;
   idle : StaysIdle l.fn.board.config l.fn.board.log l.board.log;
 }

@@ -1,21 +1,30 @@
-use Rattle.std.proofs.Common.{◌≡◌, List, refl, sym, ◌∙◌, subst}
+use Rattle.std.proofs.Common.{List, refl, sym, subst}
 use Rattle.apex_types.specs.declared.reply.Reply.{Reply}
 use Rattle.apex_config.specs.Configuration.{Configuration}
-use Rattle.apex_ports.specs.History.{History}
 use Rattle.apex_ports.specs.Lawful.{IsLawful}
-use Rattle.apex_workers.specs.Collected.{HasScripts, HasReplies}
+use Rattle.apex_board.specs.BoardView.{BoardView}
+use Rattle.apex_workers.specs.Collected.{HasReplies, IsCollectedFor}
 use Rattle.apex_workers.proofs.run.collected.Goals as goal
+
+pub returns-then-not-is_collected_for-clause-same : goal.returns-then-not-is_collected_for-clause-same
+returns-then-not-is_collected_for-clause-same g c = λ same.
+    let config = c.args.config.now in
+    let scripts = c.args.scripts.now in
+    let board = c.into_parts-board.result.0 in
+    let of_board = subst (λ (b : BoardView). IsCollectedFor config scripts b.config b.log c.args.replies.items) (sym c.into_parts-board.ensures.board) same in
+    c.if-not-is_collected_for.ensures.1 (subst (λ (all : List (List Reply)). IsCollectedFor config scripts board.config board.log all) (sym c.as_slice.ensures.value) of_board)
+
+pub returns-clause-config : goal.returns-clause-config
+returns-clause-config g c = (c.if-not-is_collected_for.ensures.0 refl).0
 
 pub returns-clause-lawful : goal.returns-clause-lawful
 returns-clause-lawful g c =
-    let same : c.args.board.config ≡ c.args.config.now = sym c.config.ensures ∙ c.if-not-eq.ensures.exact.0 refl in
-    subst (λ (config : Configuration). IsLawful config c.args.board.log) same c.log-log.ensures.lawful
+    let board = c.into_parts-board.result.0 in
+    subst (λ (config : Configuration). IsLawful config board.log) (c.if-not-is_collected_for.ensures.0 refl).0 c.into_parts-board.ensures.facts.lawful
 
 pub returns-clause-calls : goal.returns-clause-calls
-returns-clause-calls g c =
-    subst (λ (h : History). HasScripts h c.args.scripts.now) c.log-log.ensures.log (c.if-not-is_collected.ensures.0 refl).calls
+returns-clause-calls g c = (c.if-not-is_collected_for.ensures.0 refl).1.calls
 
 pub returns-clause-replies : goal.returns-clause-replies
 returns-clause-replies g c =
-    subst (λ (h : History). HasReplies h c.args.replies.items) c.log-log.ensures.log
-    (subst (λ (all : List (List Reply)). HasReplies c.log-log.result.now all) c.as_slice.ensures.value (c.if-not-is_collected.ensures.0 refl).answers)
+    subst (λ (all : List (List Reply)). HasReplies c.into_parts-board.result.0.log all) c.as_slice.ensures.value (c.if-not-is_collected_for.ensures.0 refl).1.answers

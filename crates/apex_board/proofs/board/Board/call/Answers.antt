@@ -31,7 +31,7 @@ returns-in_err-make_room-clause-refused_room g c =
     (on_err_always c.from_residual.result)
 
 pub returns-in_err-make_room-clause-succeeds : goal.returns-in_err-make_room-clause-succeeds
-returns-in_err-make_room-clause-succeeds g c room =
+returns-in_err-make_room-clause-succeeds g c nothing room =
     let enough = subst (λ (v : BoardView). 1 ≤ v.room) (sym c.self.view_is) room in
     let has = room_means c.self.inside.records 1 enough in
     let entries = has.0 in
@@ -87,3 +87,17 @@ returns-clause-idle g c =
     let stays = idle_stays c.self.inside.ports.config c.self.inside.records.log.items c.args.partition c.args.at c.args.call.now c.call-reply.result c.self.invariant.sound.valid is in
     subst (λ (v : BoardView). StaysIdle v.config v.log c.push.new.self.log.items) c.self.view_is
     (subst (λ (h : History). StaysIdle c.self.inside.ports.config c.self.inside.records.log.items h) (sym grown) stays)
+
+pub returns-in_err-publish-clause-refused_room : goal.returns-in_err-publish-clause-refused_room
+returns-in_err-publish-clause-refused_room g c =
+    let len = c.make_room.ensures.len in
+    let capacity = c.make_room.ensures.capacity in
+    let more : vec_capacity c.self.inside.records.log - vec_len c.self.inside.records.log ≤ vec_capacity c.make_room.new.self.log - vec_len c.make_room.new.self.log = omega (arith, len, capacity) in
+    let kept = room_kept c.self.inside.records c.make_room.new.self more c.make_room.ensures.room in
+    on_err_weaker c.from_residual-in_err-publish.result
+    (λ (_ : Unit {0}). subst (λ (v : BoardView). v.room ≤ room_of c.make_room.new.self) c.self.view_is kept)
+    (on_err_always c.from_residual-in_err-publish.result)
+
+pub returns-in_err-publish-clause-lawful : goal.returns-in_err-publish-clause-lawful
+returns-in_err-publish-clause-lawful g c =
+    subst (λ (h : History). IsLawful c.self.inside.ports.config h) (sym (c.make_room.ensures.log ∙ c.self.invariant.same)) c.self.invariant.sound.lawful

@@ -1,5 +1,7 @@
 use Rattle.std.proofs.Common.{sym, subst, ◌∙◌}
 use Rattle.apex_config.specs.Configuration.{Configuration}
+use Rattle.apex_ports.specs.History.{History}
+use Rattle.apex_board.specs.OnChannels.{ArePublished}
 use Rattle.apex_board.specs.Recorded.{AreRecords}
 use Rattle.apex_board.proofs.board.Board.new.Goals as goal
 
@@ -8,4 +10,6 @@ invariant_of-result g c = record {
   sound = c.in_ok-ports.ensures.sound;
   same = c.in_ok-records.ensures.log ∙ sym c.in_ok-ports.ensures.history;
   recorded = subst (λ (config : Configuration). AreRecords config c.in_ok-records.records) (sym c.in_ok-ports.ensures.config) c.in_ok-records.ensures.recorded;
+  published = subst (λ (config : Configuration). ArePublished config c.in_ok-ports.ports.history c.in_ok-publishers.publishers) c.config-2.ensures.config
+      (subst (λ (h : History). ArePublished c.config-2.result.now h c.in_ok-publishers.publishers) (sym c.in_ok-ports.ensures.history) c.in_ok-publishers.ensures);
 }

@@ -1,8 +1,9 @@
-use Rattle.std.proofs.Common.{◌≡◌, ◌++◌, ◌<◌, Option, length, slice_set, slice_index_or, ap, sym, ◌∙◌, arith}
+use Rattle.std.proofs.Common.{◌≡◌, ◌++◌, ◌<◌, ◌≤◌, List, Option, map, length, slice_set, slice_index_or, ap, sym, ◌∙◌, arith}
 use Rattle.std.specs.Option.{option_to_list}
-use Rattle.std.proofs.lemmas.List.{set-get_or}
+use Rattle.std.proofs.lemmas.List.{set-get_or, take_all}
 use Rattle.apex_observers.specs.Published.{Published}
-use Rattle.apex_observers.specs.Channels.{Channels}
+use Rattle.apex_observers.specs.Channels.{Channels, sampling_of}
+use Rattle.apex_observers.proofs.Observing.{books_of_sampling}
 use Rattle.apex_observers.proofs.Sampling.{sampling_of-next}
 use Rattle.apex_observers.proofs.publishers.Publishers.observers.Goals as goal
 
@@ -21,3 +22,9 @@ loop-channel-preserved g c =
       stays ∙ c.loop-channel.invariant.0,
       c.in_ok-observe.ensures.observer ∙ (ap (λ w. w ++ option_to_list entry) c.loop-channel.invariant.1 ∙ sym (sampling_of-next channels n entry within is)),
     )
+
+pub returns-clause-each : goal.returns-clause-each
+returns-clause-each g c =
+    let channels : Channels = c.args.self.now in
+    let done : length channels ≤ c.loop-channel.channel = omega (arith, c.loop-channel-test.false, c.len-channel-end.ensures, ap length c.self.view_is) in
+    ap (λ (o : List Published). map (λ (known : Published). known.channel) o) (c.loop-channel.invariant.1 ∙ ap sampling_of (take_all c.loop-channel.channel channels done)) ∙ books_of_sampling channels

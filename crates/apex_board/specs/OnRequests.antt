@@ -1,0 +1,17 @@
+-- Requests that write samples.
+use Rattle.std.specs.Prelude.{ℕ, ◌≡◌, Bool, true, false, List, slice_get, Some}
+use Rattle.apex_types.specs.declared.call.Call.{Call}
+use Rattle.apex_types.specs.declared.call.Call.TheVariants.{WriteSampling}
+use Rattle.apex_config.specs.Configuration.{Configuration}
+use Rattle.apex_ports.specs.History.{History}
+use Rattle.apex_ports.specs.Writes.{WritesNothing}
+use Rattle.apex_ports.specs.declared.history.Request.{Request}
+
+abbrev pub is_write : Call → Bool
+is_write (WriteSampling id message) = true
+is_write _ = false
+
+-- the request at this place of a list writes nothing, when its turn comes after the history
+abbrev pub WritesNothingAt : Configuration → History → List Request → ℕ → Type 0
+WritesNothingAt config history requests place =
+    (request : Request) → slice_get requests place ≡ Some request → WritesNothing config history request.partition request.call

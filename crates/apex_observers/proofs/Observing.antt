@@ -1,0 +1,57 @@
+-- Observers of the sampling channels, each with its channel.
+use Rattle.std.proofs.Common.{◌≡◌, ◌≢◌, ◌⊎◌, inl, inr, ⊎_elim, ◌+◌, ◌<◌, set, subst, arith, ℕ, zero, suc, [], ◌∷◌, length, List, Option, None, Some, map, filter_map, option_map, take, slice_get, refl, ap, sym, ◌∙◌}
+use mathlib.Core.List.{IsPrefix}
+use Rattle.std.proofs.lemmas.Option.{slice_get-map}
+use Rattle.apex_observers.specs.Published.{Published}
+use Rattle.apex_observers.specs.Channels.{Channels, AreObservers, books_of, sampling_of}
+
+pub books_of_sampling : (channels : Channels) → map (λ known. known.channel) (sampling_of channels) ≡ filter_map (λ book. book) (books_of channels)
+books_of_sampling [] = refl
+books_of_sampling (None ∷ channels) = books_of_sampling channels
+books_of_sampling (Some published ∷ channels) = ap (λ books. published.channel ∷ books) (books_of_sampling channels)
+
+-- the place of a channel among the sampling channels
+pub sampling_at : (channels : Channels) (n : ℕ) (published : Published) → slice_get channels n ≡ Some (Some published)
+    → slice_get (sampling_of channels) (length (sampling_of (take n channels))) ≡ Some published
+sampling_at [] n published at = absurd (cc)
+sampling_at (None ∷ channels) zero published at = absurd (cc)
+sampling_at (Some first ∷ channels) zero published at = cc
+sampling_at (None ∷ channels) (suc n) published at = sampling_at channels n published at
+sampling_at (Some first ∷ channels) (suc n) published at = sampling_at channels n published at
+
+-- the observer at a place is of the channel at that place
+pub observer_at : (channels : Channels) (observers : List Published) (place : ℕ) (published : Published) → AreObservers channels observers → slice_get (sampling_of channels) place ≡ Some published
+    → (known : Published) × (slice_get observers place ≡ Some known) × (published.channel ≡ known.channel)
+observer_at channels observers place published are at = by_entry (slice_get observers place) refl
+  where
+    same : option_map (λ known. known.channel) (slice_get observers place) ≡ Some published.channel
+    same = sym (slice_get-map (λ known. known.channel) observers place)
+        ∙ (ap (λ books. slice_get books place) (are ∙ sym (books_of_sampling channels))
+        ∙ (slice_get-map (λ known. known.channel) (sampling_of channels) place ∙ ap (option_map (λ known. known.channel)) at))
+
+    by_entry : (o : Option Published) → slice_get observers place ≡ o → (known : Published) × (slice_get observers place ≡ Some known) × (published.channel ≡ known.channel)
+    by_entry None is = let none = ap (option_map (λ known. known.channel)) is in absurd (cc (none, same))
+    by_entry (Some known) is = let some = ap (option_map (λ known. known.channel)) is in (known, is, cc (some, same))
+
+set_cases : (xs : List Published) (i : ℕ) (y : Published) (k : ℕ) (x : Published) → slice_get (set xs i y) k ≡ Some x → ((k ≡ i) × (x ≡ y)) ⊎ ((k ≢ i) × (slice_get xs k ≡ Some x))
+set_cases [] i y k x at = inr ((λ e. absurd (cc)), at)
+set_cases (z ∷ xs) zero y zero x at = inl (refl, cc)
+set_cases (z ∷ xs) zero y (suc k) x at = inr ((λ e. absurd (omega arith)), at)
+set_cases (z ∷ xs) (suc i) y zero x at = inr ((λ e. absurd (omega arith)), at)
+set_cases (z ∷ xs) (suc i) y (suc k) x at =
+    ⊎_elim
+    (λ (h : (k ≡ i) × (x ≡ y)). inl (ap suc h.0, h.1))
+    (λ (h : (k ≢ i) × (slice_get xs k ≡ Some x)). inr ((λ e. h.0 (omega arith)), h.1))
+    (set_cases xs i y k x at)
+
+-- one observer more knows all that is published on its channel
+pub told_by : (self : Channels) (place : ℕ) (publisher new : Published) (observers : List Published) → slice_get (sampling_of self) place ≡ Some publisher → IsPrefix publisher.writes new.writes
+    → ((k : ℕ) (published known : Published) → k < place → slice_get (sampling_of self) k ≡ Some published → slice_get observers k ≡ Some known → IsPrefix published.writes known.writes)
+    → (k : ℕ) (published known : Published) → k < place + 1 → slice_get (sampling_of self) k ≡ Some published → slice_get (set observers place new) k ≡ Some known → IsPrefix published.writes known.writes
+told_by self place publisher new observers at begins told k published known before there here =
+    ⊎_elim
+    (λ (h : (k ≡ place) × (known ≡ new)).
+    let same : published ≡ publisher = let moved = ap (λ n. slice_get (sampling_of self) n) h.0 in cc (at, there, moved) in
+    subst (λ (p : Published). IsPrefix p.writes known.writes) (sym same) (subst (λ (o : Published). IsPrefix publisher.writes o.writes) (sym h.1) begins))
+    (λ (h : (k ≢ place) × (slice_get observers k ≡ Some known)). told k published known (omega (arith, before, h.0)) there h.1)
+    (set_cases observers place new k known here)
