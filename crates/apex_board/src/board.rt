@@ -90,6 +90,7 @@ impl<A: Allocator + Copy> Board<A> {
 }
 
 impl<A: Allocator> Board<A> {
+    ghost use Rattle.apex_board.specs.OnChannels.{ArePublished};
     ghost use Rattle.apex_observers.specs.Channels.{AreObservers, KnowAll, books_of, sampling_of};
     ghost use Rattle.apex_ports.specs.Channels.{writes_on};
     ghost use Rattle.apex_ports.specs.History.{entry_of};
@@ -201,6 +202,7 @@ impl<A: Allocator> Board<A> {
         requires { AreObservers self.now.published observers.old }
         ensures observers { AreObservers self.now.published observers.new }
         ensures told { KnowAll (sampling_of self.now.published) observers.new }
+        ensures published { ArePublished self.now.config self.now.log self.now.published }
     {
         self.publishers.tell(observers);
     }

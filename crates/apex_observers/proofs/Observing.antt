@@ -1,6 +1,5 @@
 -- Observers of the sampling channels, each with its channel.
 use Rattle.std.proofs.Common.{◌≡◌, ◌≢◌, ◌⊎◌, inl, inr, ⊎_elim, ◌+◌, ◌<◌, set, subst, arith, ℕ, zero, suc, [], ◌∷◌, length, List, Option, None, Some, map, filter_map, option_map, take, slice_get, refl, ap, sym, ◌∙◌}
-use mathlib.Core.List.{IsPrefix}
 use Rattle.std.proofs.lemmas.Option.{slice_get-map}
 use Rattle.apex_observers.specs.Published.{Published}
 use Rattle.apex_observers.specs.Channels.{Channels, AreObservers, books_of, sampling_of}
@@ -44,14 +43,14 @@ set_cases (z ∷ xs) (suc i) y (suc k) x at =
     (λ (h : (k ≢ i) × (slice_get xs k ≡ Some x)). inr ((λ e. h.0 (omega arith)), h.1))
     (set_cases xs i y k x at)
 
--- one observer more knows all that is published on its channel
-pub told_by : (self : Channels) (place : ℕ) (publisher new : Published) (observers : List Published) → slice_get (sampling_of self) place ≡ Some publisher → IsPrefix publisher.writes new.writes
-    → ((k : ℕ) (published known : Published) → k < place → slice_get (sampling_of self) k ≡ Some published → slice_get observers k ≡ Some known → IsPrefix published.writes known.writes)
-    → (k : ℕ) (published known : Published) → k < place + 1 → slice_get (sampling_of self) k ≡ Some published → slice_get (set observers place new) k ≡ Some known → IsPrefix published.writes known.writes
-told_by self place publisher new observers at begins told k published known before there here =
+-- what holds of the observers so far, each beside its channel, holds with one observer more
+pub one_more : (Holds : Published → Published → Type 0) (channels : Channels) (place : ℕ) (publisher new : Published) (observers : List Published) → slice_get (sampling_of channels) place ≡ Some publisher → Holds publisher new
+    → ((k : ℕ) (published known : Published) → k < place → slice_get (sampling_of channels) k ≡ Some published → slice_get observers k ≡ Some known → Holds published known)
+    → (k : ℕ) (published known : Published) → k < place + 1 → slice_get (sampling_of channels) k ≡ Some published → slice_get (set observers place new) k ≡ Some known → Holds published known
+one_more Holds channels place publisher new observers at holds before k published known within there here =
     ⊎_elim
     (λ (h : (k ≡ place) × (known ≡ new)).
-    let same : published ≡ publisher = let moved = ap (λ n. slice_get (sampling_of self) n) h.0 in cc (at, there, moved) in
-    subst (λ (p : Published). IsPrefix p.writes known.writes) (sym same) (subst (λ (o : Published). IsPrefix publisher.writes o.writes) (sym h.1) begins))
-    (λ (h : (k ≢ place) × (slice_get observers k ≡ Some known)). told k published known (omega (arith, before, h.0)) there h.1)
+    let same : published ≡ publisher = let moved = ap (λ n. slice_get (sampling_of channels) n) h.0 in cc (at, there, moved) in
+    subst (λ (p : Published). Holds p known) (sym same) (subst (λ (o : Published). Holds publisher o) (sym h.1) holds))
+    (λ (h : (k ≢ place) × (slice_get observers k ≡ Some known)). before k published known (omega (arith, within, h.0)) there h.1)
     (set_cases observers place new k known here)

@@ -2,5 +2,4 @@ pub mod Crossing
 pub mod Counting
 pub mod Equal
 pub mod Lists
-pub mod Observers
 pub mod Ready

@@ -1,7 +1,7 @@
 //! The board of a run behind a lock, with its observers.
 ghost use Rattle.std.specs.Prelude.{◌≡◌, [], IfOk};
+ghost use Rattle.apex_observers.specs.Channels.{AreObservers};
 ghost use Rattle.apex_workers.specs.Facts.{HasBoardFacts};
-ghost use Rattle.apex_workers.specs.Observed.{AreObserversOf};
 
 use crate::locked::{ask_lent, board_facts};
 use crate::shared::{AskFault, SharedBoard};
@@ -20,7 +20,8 @@ pub(crate) struct ObservedBoard<A: Allocator> {
 }
 
 impl<A: Allocator> Model for ObservedBoard<A> {
-    ghost use Rattle.apex_workers.specs.Observed.{AreObserversOf, ObservedView};
+    ghost use Rattle.apex_observers.specs.Channels.{AreObservers};
+    ghost use Rattle.apex_workers.specs.Observed.{ObservedView};
 
     ghost Value = { ObservedView };
 
@@ -30,7 +31,7 @@ impl<A: Allocator> Model for ObservedBoard<A> {
     } };
 
     ghost invariant = { λ observed.
-        AreObserversOf observed.board.published observed.observers.items };
+        AreObservers observed.board.published observed.observers.items };
 }
 
 impl<A: Allocator + Copy> ObservedBoard<A> {
@@ -53,7 +54,7 @@ impl<A: Allocator> ObservedBoard<A> {
     pub(crate) fn into_parts(self) -> (Board<A>, Vec<Observer<A>, A>)
         ensures board { result.0 ≡ self.board }
         ensures observers { result.1.items ≡ self.observers }
-        ensures whose { AreObserversOf result.0.published result.1.items }
+        ensures whose { AreObservers result.0.published result.1.items }
         ensures facts { HasBoardFacts result.0 }
     {
         let ObservedBoard { board, observers } = self;

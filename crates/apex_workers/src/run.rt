@@ -1,10 +1,10 @@
 //! A run: one worker for each partition.
 ghost use Rattle.std.specs.Prelude.{◌≡◌, ◌<◌, ◌≤◌, [], length, replicate, vec_len, vec_capacity, IfOk, IfErr, IsOk};
 ghost use Rattle.std.specs.Thread.{IsSync, IsSend};
+ghost use Rattle.apex_observers.specs.Channels.{AreObservers};
 ghost use Rattle.apex_ports.specs.Lawful.{IsLawful};
 ghost use Rattle.apex_workers.specs.Collected.{HasScripts, HasReplies, IsCollectedFor};
 ghost use Rattle.apex_workers.specs.Held.{NamesHeldCall};
-ghost use Rattle.apex_workers.specs.Observed.{AreObserversOf};
 ghost use Rattle.apex_workers.specs.Places.{AreReady};
 
 use crate::comparison::is_collected_for;
@@ -58,7 +58,7 @@ pub fn run_scripts<R: Threads + Wait + Sync, A: Allocator + Copy + Send + Sync, 
     ensures replies { IfOk result (λ finished.
         HasReplies finished.board.log finished.replies.items) }
     ensures observers { IfOk result (λ finished.
-        AreObserversOf finished.board.published finished.observers.items) }
+        AreObservers finished.board.published finished.observers.items) }
 
     // Where a worker was held, the gate may refuse the call that the fault names.
     ensures held { IfErr result (NamesHeldCall (G.may_refuse gate.now) scripts.now) }
@@ -141,7 +141,7 @@ fn collected<A: Allocator, R: Wait>(
     ensures replies { IfOk result (λ finished.
         HasReplies finished.board.log finished.replies.items) }
     ensures observers { IfOk result (λ finished.
-        AreObserversOf finished.board.published finished.observers.items) }
+        AreObservers finished.board.published finished.observers.items) }
     ensures stranger { IfErr result (λ fault. fault ≡ RunFault.Stranger) }
 
     // It is refused only where something differs.

@@ -6,7 +6,7 @@ use Rattle.std.proofs.lemmas.List.{take_all, append-nil}
 use Rattle.std.proofs.lemmas.Option.{slice_get_within, slice_get-get_or, get_or_from_slice_get}
 use Rattle.apex_observers.specs.Published.{Published}
 use Rattle.apex_observers.specs.Channels.{Channels, sampling_of}
-use Rattle.apex_observers.proofs.Observing.{sampling_at, observer_at, told_by}
+use Rattle.apex_observers.proofs.Observing.{sampling_at, observer_at, one_more}
 use Rattle.apex_observers.proofs.Sampling.{sampling_of-next}
 use Rattle.apex_observers.proofs.publishers.Publishers.tell.Goals as goal
 use Rattle.apex_observers.proofs.publishers.Publishers.tell.Goals.{in-Some, in_default}
@@ -58,7 +58,7 @@ loop-entry-preserved g c =
                 ∙ (map-set_same (λ (known : Published). known.channel) c.loop-entry.observers c.loop-entry.place w.learn.new.self w.index-observers-place.result w.learn.ensures.channel ∙ c.loop-entry.invariant.observers);
             place = w.place-is ∙ (ap (λ n. n + 1) c.loop-entry.invariant.place ∙ sym (ap length next ∙ (ap (λ (e : Option Published). length (sampling_of (take index self) ++ option_to_list e)) w.in-Some.is ∙ length-append (sampling_of (take index self)) (w.in-Some.publisher ∷ []))));
             told = λ k published known before there here.
-                told_by self c.loop-entry.place w.in-Some.publisher w.learn.new.self c.loop-entry.observers at (subst (λ (p : Published). IsPrefix p.writes w.learn.new.self.writes) w.receipt.ensures w.learn.ensures.learned) c.loop-entry.invariant.told
+                one_more (λ publisher observer. IsPrefix publisher.writes observer.writes) self c.loop-entry.place w.in-Some.publisher w.learn.new.self c.loop-entry.observers at (subst (λ (p : Published). IsPrefix p.writes w.learn.new.self.writes) w.receipt.ensures w.learn.ensures.learned) c.loop-entry.invariant.told
                 k published known (subst (λ n. k < n) w.place-is before) there (subst (λ (o : List Published). slice_get o k ≡ Some known) w.observers-is here);
           }
       | in_default w ↦ record {
