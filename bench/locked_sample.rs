@@ -1,4 +1,4 @@
-//! Reads of one sample behind a lock, in plain Rust: what `observers.rt.txt` measures, without observers.
+//! Reads of one sample behind a lock, in plain Rust: what `observed_sample.rt.txt` measures, without observers.
 //!
 //! The words are READERS READS and, where a writer is wanted, `writer`. It prints the nanoseconds that the reads took
 //! and how many samples were written meanwhile.

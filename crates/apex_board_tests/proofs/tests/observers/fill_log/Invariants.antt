@@ -3,4 +3,4 @@ use Rattle.apex_observers.specs.Channels.{books_of}
 use Rattle.apex_board_tests.proofs.tests.observers.fill_log.Given as goal
 
 abbrev pub invariant-loop : goal.invariant-loop
-invariant-loop g l = books_of l.board.published ≡ books_of l.fn.entry.board.published
+invariant-loop g l = books_of l.board.published ≡ books_of l.fn.board.published
