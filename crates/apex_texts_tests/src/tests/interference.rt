@@ -48,7 +48,7 @@ const FLIGHT: [&str; 16] = [
     "97 DSP queuing-status 1",
 ];
 
-/// What the report says of FMS, DSP, AIR and their channels, without each line's first word.
+/// What the report says of FMS, DSP, AIR and their channels: its lines without the first word.
 const FLIGHT_REPORT: &str = "1 FMS create-queuing NO_ERROR id 1
 2 DSP create-queuing NO_ERROR id 1
 3 DSP create-sampling NO_ERROR id 2
@@ -123,12 +123,11 @@ fn trace(alloc: Global, cabin: &[&str], times: usize) -> Result<String, AllocErr
     Ok(text)
 }
 
-/// What the report says of the flight's partitions and channels, without each line's first word.
-fn of_flight(alloc: Global, report: &str) -> Result<String, AllocError> {
+/// The lines of the report that have one of the words, each without its first one.
+fn lines_with(alloc: Global, report: &str, words: &[&str]) -> Result<String, AllocError> {
     let mut text = String::new(alloc);
     for line in report.lines() {
-        let names = [" FMS ", " DSP ", " AIR ", " NAV ", " SPD "];
-        if !names.iter().any(|name| line.contains(*name)) {
+        if !words.iter().any(|word| line.contains(*word)) {
             continue;
         }
         if let Some((_, rest)) = line.split_once(' ') {
@@ -139,25 +138,39 @@ fn of_flight(alloc: Global, report: &str) -> Result<String, AllocError> {
     Ok(text)
 }
 
-/// What the report says of the flight, while the cabin makes these calls.
-fn flight_beside(alloc: Global, cabin: &[&str], times: usize) -> Result<String, Fail> {
+/// What the report says of the flight and of the cabin's channels, while the cabin makes these calls.
+fn report(alloc: Global, cabin: &[&str], times: usize) -> Result<(String, String), Fail> {
     let trace = trace(alloc, cabin, times)?;
     let report = replay_text(alloc, MODULE.as_bytes(), trace.as_str().as_bytes())?;
-    Ok(of_flight(alloc, report.as_str())?)
+    let flight = [" FMS ", " DSP ", " AIR ", " NAV ", " SPD "];
+    Ok((
+        lines_with(alloc, report.as_str(), &flight)?,
+        lines_with(alloc, report.as_str(), &[" ORD ", " LUM "])?,
+    ))
 }
 
 #[test]
 fn the_cabin_does_not_interfere_with_the_flight(rt: HostRuntime) -> Result<(), Fail> {
-    let alone = flight_beside(rt.alloc(), &[], 1)?;
+    let (alone, _) = report(rt.alloc(), &[], 1)?;
     assert_eq!(rt; alone.as_str(), FLIGHT_REPORT);
-    for (cabin, times) in [
-        (&CABIN[..], 1),
-        (&CABIN[..], 3),
-        (&CABIN_REFUSED[..], 1),
-        (&CABIN_IDLE[..], 1),
+    let nothing = "ORD accepted 0 received 0 waiting 0\nLUM empty\n";
+    for (cabin, times, channels) in [
+        (
+            &CABIN[..],
+            1,
+            "ORD accepted 1 received 1 waiting 0\nLUM d1 at 12\n",
+        ),
+        (
+            &CABIN[..],
+            3,
+            "ORD accepted 2 received 2 waiting 0\nLUM d1 at 12\n",
+        ),
+        (&CABIN_REFUSED[..], 1, nothing),
+        (&CABIN_IDLE[..], 1, nothing),
     ] {
-        let beside = flight_beside(rt.alloc(), cabin, times)?;
-        assert_eq!(rt; beside.as_str(), alone.as_str());
+        let (flight, of_cabin) = report(rt.alloc(), cabin, times)?;
+        assert_eq!(rt; of_cabin.as_str(), channels);
+        assert_eq!(rt; flight.as_str(), alone.as_str());
     }
     Ok(())
 }
