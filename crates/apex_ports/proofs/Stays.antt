@@ -42,7 +42,7 @@ pub and_true : (a b : Bool) → (a && b) ≡ true → (a ≡ true) × (b ≡ tru
 and_true true b h = (refl, h)
 and_true false b h = absurd (cc)
 
-or_not : (b : Bool) → (false || (b && not false)) ≡ b
+pub or_not : (b : Bool) → (false || (b && not false)) ≡ b
 or_not true = refl
 or_not false = refl
 

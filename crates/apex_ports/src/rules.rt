@@ -1,4 +1,5 @@
 //! What the reply table keeps true, whatever is called.
+ghost use Rattle.apex_ports.specs.Interference.{AlwaysFreeFromInterference};
 ghost use Rattle.apex_ports.specs.Rules.{AlwaysConserved};
 
 /// The law of every lawful history: on each channel the messages received, followed by those that wait,
@@ -6,4 +7,11 @@ ghost use Rattle.apex_ports.specs.Rules.{AlwaysConserved};
 /// alone. There is nothing to run.
 pub fn conserved()
     ensures { AlwaysConserved }
+{}
+
+/// The law of freedom from interference: partitions that share no channel with the others get the replies
+/// that they would get if the others made no call. It speaks of the reply table alone. There is nothing to
+/// run.
+pub fn free_from_interference()
+    ensures { AlwaysFreeFromInterference }
 {}

@@ -1,6 +1,7 @@
 //! Tests from outside: what each text gives, with values that were worked out by hand.
 mod caller;
 mod creation;
+mod interference;
 mod lines;
 mod long_trace;
 mod queuing;
