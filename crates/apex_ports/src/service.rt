@@ -72,7 +72,7 @@ impl<A: Allocator> State<A> {
             Call::WriteSampling { id, message } => *reply = self.write(
                 config, partition, at, *id, message,
             ),
-            Call::ReadSampling { id } => *reply = self.read(config, partition, at, *id),
+            Call::ReadSampling { id } => self.read(config, partition, at, *id, reply),
             Call::SamplingId { name } => *reply = self.sampling_id(config, partition, name),
             Call::SamplingStatus { id } => *reply = self.sampling_status(config, partition, *id),
             Call::CreateQueuing {
@@ -93,7 +93,7 @@ impl<A: Allocator> State<A> {
             Call::SendQueuing { id, message } => *reply = self.send(
                 config, partition, *id, message,
             ),
-            Call::ReceiveQueuing { id } => *reply = self.receive(config, partition, *id),
+            Call::ReceiveQueuing { id } => self.receive(config, partition, *id, reply),
             Call::QueuingId { name } => *reply = self.queuing_id(config, partition, name),
             Call::QueuingStatus { id } => *reply = self.queuing_status(config, partition, *id),
             Call::SetMode { mode } => *reply = self.set_mode(config, partition, *mode),
