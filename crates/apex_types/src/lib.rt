@@ -13,8 +13,6 @@ pub mod out_of_memory;
 pub mod reply;
 pub mod return_code;
 pub mod sample;
-#[cfg(test)]
-mod tests;
 pub mod validity;
 
 pub use crate::call::Call;
