@@ -16,4 +16,5 @@ pub mod Refused
 pub mod ReplyTable
 pub mod Rules
 pub mod Sound
+pub mod WithoutClears
 pub mod Writes

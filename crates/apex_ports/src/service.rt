@@ -82,6 +82,7 @@ impl<A: Allocator> State<A> {
             Call::ReceiveQueuing { id } => self.receive(config, partition, *id),
             Call::QueuingId { name } => self.queuing_id(config, partition, name),
             Call::QueuingStatus { id } => self.queuing_status(config, partition, *id),
+            Call::ClearQueuing { id } => self.clear(config, partition, *id),
             Call::SetMode { mode } => self.set_mode(config, partition, *mode),
         }
     }
