@@ -152,6 +152,9 @@ pub fn call_with(service: Service, words: &[u8]) -> Result<Call, LineFault>
         Service::QueuingStatus => Ok(Call::QueuingStatus {
             id: number_of(one_word(words)?)?,
         }),
+        Service::ClearQueuing => Ok(Call::ClearQueuing {
+            id: number_of(one_word(words)?)?,
+        }),
         Service::SetMode => Ok(Call::SetMode {
             mode: number_of(one_word(words)?)?,
         }),
