@@ -5,6 +5,7 @@ mod examples;
 mod full_module;
 mod many_calls;
 mod observers;
+mod refused_lists;
 mod refused_memory;
 mod ring;
 mod texts;

@@ -7,3 +7,4 @@ pub mod KnownLemmas
 pub mod ReportLemmas
 pub mod ReplayLemmas
 pub mod CheckLemmas
+pub mod ObserverLemmas

@@ -59,6 +59,7 @@ config_read (Err (faults.Config fault)) config trace configuration read replay =
 config_read (Err (faults.Script partition fault)) config trace configuration read replay = absurd replay
 config_read (Err (faults.Held partition n)) config trace configuration read replay = absurd replay
 config_read (Err (faults.Run fault)) config trace configuration read replay = absurd replay
+config_read (Err faults.Gone) config trace configuration read replay = absurd replay
 
 -- a trace is refused
 pub trace_refused : (fault : TraceFault) (config : Configuration) (trace : List ℕ) → IsTraceRead (Err fault) (trace_of config trace) → IsTraceReplay (Err (trace_fault fault)) config trace

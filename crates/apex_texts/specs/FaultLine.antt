@@ -63,6 +63,7 @@ run_line run_faults.OutOfMemory = memory_line
 run_line (run_faults.Held partition n) = held_line (decimal partition) n
 run_line run_faults.WorkerNotStarted = codes "run fault 3: worker not started"
 run_line run_faults.Stranger = codes "run fault 4: collected results do not match"
+run_line run_faults.NoObserver = codes "run fault 5: no observer"
 
 -- the line of a fault of a replay or a run
 abbrev pub fault_line : Fault → List ℕ
@@ -71,4 +72,5 @@ fault_line (faults.Trace fault) = text_line (codes "trace ") fault
 fault_line (faults.Script partition fault) = text_line (codes "script " ++ partition ++ codes " ") fault
 fault_line (faults.Held partition n) = held_line partition n
 fault_line (faults.Run fault) = run_line fault
+fault_line faults.Gone = codes "observer gone"
 fault_line faults.Memory = memory_line

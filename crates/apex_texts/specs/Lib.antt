@@ -4,6 +4,7 @@ pub mod FaultLine
 pub mod Limits
 pub mod LineFault
 pub mod Lines
+pub mod Observers
 pub mod Replay
 pub mod Report
 pub mod Script

@@ -80,6 +80,8 @@ pub enum Fault {
     Held { partition: Name, n: usize },
     /// The run has another fault.
     Run(RunFault),
+    /// An observer of a finished run shows that its board has ended.
+    Gone,
     /// A growth of memory was refused.
     Memory,
 }
@@ -119,6 +121,8 @@ impl fmt::Display for Fault {
             Fault::Run(RunFault::Stranger) => {
                 write!(f, "run fault 4: collected results do not match")
             }
+            Fault::Run(RunFault::NoObserver) => write!(f, "run fault 5: no observer"),
+            Fault::Gone => write!(f, "observer gone"),
         }
     }
 }

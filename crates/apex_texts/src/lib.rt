@@ -6,6 +6,7 @@ mod check;
 pub mod fault;
 pub mod line_fault;
 mod lines;
+mod observers;
 pub mod replay;
 pub mod report_text;
 pub mod run;

@@ -143,6 +143,7 @@ first_refused files config arguments (Text (faults.Trace fault)) first = first
 first_refused files config arguments (Text (faults.Script name fault)) first = first
 first_refused files config arguments (Text (faults.Held name n)) first = first
 first_refused files config arguments (Text (faults.Run fault)) first = first
+first_refused files config arguments (Text faults.Gone) first = first
 
 module _ (config : Configuration) (before : Arguments) (argument : List ℕ) where
   pub not_new : partition_in config argument ≡ None → new_partition_in config before argument ≡ None

@@ -51,6 +51,7 @@ known_refused files arguments config configuration (Text (faults.Config fault)) 
 known_refused files arguments config configuration (Text (faults.Trace fault)) read refused = (configuration, read, refused)
 known_refused files arguments config configuration (Text (faults.Held name n)) read refused = (configuration, read, refused)
 known_refused files arguments config configuration (Text (faults.Run fault)) read refused = tt
+known_refused files arguments config configuration (Text faults.Gone) read refused = tt
 known_refused files arguments config configuration Usage read refused = (configuration, read, refused)
 known_refused files arguments config configuration Output read refused = (configuration, read, refused)
 
@@ -65,6 +66,7 @@ known_run : (files : FileBytes) (arguments : Arguments) (config : List ℕ) (scr
 known_run files arguments config scripts (Ok text) configuration read named report = (configuration, read, scripts, named, report)
 known_run files arguments config scripts (Err (faults.Held name n)) configuration read named held = absurd held.2.allowed
 known_run files arguments config scripts (Err (faults.Run fault)) configuration read named run = tt
+known_run files arguments config scripts (Err faults.Gone) configuration read named run = tt
 known_run files arguments config scripts (Err faults.Memory) configuration read named run = tt
 known_run files arguments config scripts (Err (faults.Config fault)) configuration read named run = absurd run
 known_run files arguments config scripts (Err (faults.Trace fault)) configuration read named run = absurd run

@@ -17,6 +17,7 @@ status_of (Text (faults.Trace trace_faults.OutOfMemory)) = 3
 status_of (Text (faults.Script partition trace_faults.OutOfMemory)) = 3
 status_of (Text (faults.Held partition n)) = 3
 status_of (Text (faults.Run fault)) = 3
+status_of (Text faults.Gone) = 3
 status_of (Text fault) = 1
 status_of Usage = 2
 status_of (Argument word) = 2

@@ -3,8 +3,6 @@ use Rattle.std.specs.Prelude.{◌≡◌, ℕ, ◌==◌, Bool, false, if◌then�
 use Rattle.std.specs.List.{slice_get, filter, list_any, before_first, after_first}
 use Rattle.std.specs.Borrow.{Bor}
 use Rattle.std.specs.Global.{Vec}
-use Rattle.apex_types.specs.Name.{name_of}
-use Rattle.apex_types.specs.declared.name.NameFault.{NameFault}
 use Rattle.apex_types.specs.declared.call.Call.{Call}
 use Rattle.apex_types.specs.declared.moment.Moment.{Moment}
 use Rattle.apex_config.specs.Configuration.{Configuration, partition_name_of, partition_named}
@@ -27,16 +25,10 @@ name_in argument = before_first is_equals_sign argument
 abbrev pub path_in : List ℕ → List ℕ
 path_in argument = after_first is_equals_sign argument
 
--- the partition of what was read as a name
-abbrev pub partition_called : Configuration → Result (List ℕ) NameFault → Option ℕ
-partition_called config (Ok name) = partition_named config name
-partition_called config (Err fault) = None
-
--- the partition that an argument names; none where it has no equals sign, no valid name before it, or that of no partition
+-- the partition that an argument names; none where it has no equals sign, or no partition's name before it
 abbrev pub partition_in : Configuration → List ℕ → Option ℕ
 partition_in config argument =
-    if list_any is_equals_sign argument then partition_called config (name_of (name_in argument))
-    else None
+    if list_any is_equals_sign argument then partition_named config (name_in argument) else None
 
 -- ---- the arguments of a run
 

@@ -51,6 +51,7 @@ IsFileRun files arguments (Ok text) config =
     × (scripts : List (List (Moment × Call))) × AreScripts files configuration arguments scripts × IsRunReport configuration scripts (string_bytes text)
 IsFileRun files arguments (Err (Text (faults.Config fault))) config = config_of config ≡ Err fault
 IsFileRun files arguments (Err (Text (faults.Run fault))) config = Unit {0}
+IsFileRun files arguments (Err (Text faults.Gone)) config = Unit {0}
 IsFileRun files arguments (Err (Text faults.Memory)) config = Unit {0}
 IsFileRun files arguments (Err (File path)) config = Unit {0}
 IsFileRun files arguments (Err refusal) config = (configuration : Configuration) × (config_of config ≡ Ok configuration) × AreArgumentsRefused files configuration arguments refusal

@@ -7,7 +7,6 @@ use crate::files::Opener;
 use crate::program::{Refusal, read_file};
 use apex_config::Config;
 use apex_texts::{Fault, Script, TraceFault, read_script};
-use apex_types::Name;
 use std::alloc::{AllocError, Global};
 
 /// A script for each partition of the configuration: that of the argument with its name, or the empty one.
@@ -53,8 +52,7 @@ fn partition_and_path<'a>(config: &Config, argument: &'a str) -> Option<(usize, 
     ensures known { IfSome result (λ found. found.0 < length config.now.partitions) }
 {
     let (name, path) = argument.split_once('=')?;
-    let name = Name::read(name).ok()?;
-    Some((config.partition(&name)?, path))
+    Some((config.partition_called(name.as_bytes())?, path))
 }
 
 /// The script of partition `p` in a file.

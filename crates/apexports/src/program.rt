@@ -37,7 +37,7 @@ pub enum Refusal<'a> {
 
 impl Refusal<'_> {
     /// The status that the program ends with: 1 for a refused text, 2 for a mistake in the words, 3
-    /// for a file, memory, a worker or standard output.
+    /// for a file, memory, a worker, an observer or standard output.
     pub fn status(&self) -> u8
         ensures { result ≡ status_of self.now }
     {
@@ -51,7 +51,8 @@ impl Refusal<'_> {
                     ..
                 }
                 | Fault::Held { .. }
-                | Fault::Run(_),
+                | Fault::Run(_)
+                | Fault::Gone,
             )
             | Refusal::File(_)
             | Refusal::Output => 3,

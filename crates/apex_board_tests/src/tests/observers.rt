@@ -1,25 +1,22 @@
 //! What observers of a board show.
-ghost use Rattle.apex_observers.specs.Channels.{AreObservers};
+ghost use Rattle.std.specs.Prelude.{◌≡◌, map};
+ghost use Rattle.apex_observers.specs.Channels.{AreObservers, books_of};
 
 use crate::tests::examples::{NO_ERROR, Row, answer, ask, create_sampling, write};
-use crate::tests::texts::{AIR, BASE};
+use crate::tests::refused_memory::config_of;
+use crate::tests::texts::AIR;
 use apex_board::Board;
-use apex_config::Config;
 use apex_observers::{Observer, ObserverFault, Sampled};
 use apex_types::Validity::{Invalid, Valid};
 use apex_types::{Message, Moment, Reply, Validity};
 use refusing::Switch;
-use std::alloc::{AllocGlobal, Allocator};
+use std::alloc::Allocator;
 use std::process::Abort;
 use std::sync::Wait;
 use std::test::Fail;
 
 /// More allocations than a board with its observers asks for.
 const ALLOCATION_LIMIT: u64 = 60;
-
-fn config_of<R: AllocGlobal>(rt: &R) -> Result<Config, Fail> {
-    Ok(Config::read(rt.alloc(), BASE.as_bytes())?)
-}
 
 fn creation() -> Result<Row, Fail> {
     Ok((AIR, 1, create_sampling("SPD_OUT", 4, 0, 50)?, Reply::Id(1)))
@@ -37,20 +34,38 @@ fn sample(message: &str, at: u64, validity: Validity) -> Result<Sampled, Fail> {
     })
 }
 
-// There is one observer, and at the moment it shows this, with the refresh period 50.
+// There is one observer, and this is what it shows at the moment, with the refresh period.
 fn shows<A: Allocator, R: Abort>(
     rt: &R,
     observers: &mut [Observer<A>],
     now: u64,
+    refresh: u64,
     wanted: &Sampled,
-) {
+)
+    ensures { map (λ known. known.channel) observers.new ≡ map (λ known. known.channel) observers.old }
+{
     assert_eq!(rt; observers.len(), 1);
-    for observer in observers {
-        assert_eq!(rt; &observer.read(Moment(now), 50), wanted, "at {now}");
-    }
+    let shown = observers[0].read(Moment(now), refresh);
+    assert_eq!(rt; &shown, wanted, "at {now}");
 }
 
-fn shows_until_it_expires<A: Allocator, R: Abort + Wait>(
+// The message is written, and the observers are told.
+fn write_and_tell<A: Allocator, R: Abort + Wait>(
+    rt: &R,
+    board: &mut Board<A>,
+    observers: &mut [Observer<A>],
+    at: u64,
+    message: &str,
+) -> Result<(), Fail>
+    requires { AreObservers board.old.published observers.old }
+    ensures { AreObservers board.new.published observers.new }
+{
+    let answered = answer(rt, board, &writing(at, message)?);
+    board.tell(observers);
+    answered
+}
+
+fn shows_each_write<A: Allocator, R: Abort + Wait>(
     rt: &R,
     board: &mut Board<A>,
     observers: &mut [Observer<A>],
@@ -58,20 +73,24 @@ fn shows_until_it_expires<A: Allocator, R: Abort + Wait>(
     requires { AreObservers board.old.published observers.old }
 {
     answer(rt, board, &creation()?)?;
-    answer(rt, board, &writing(100, "00ff")?)?;
-    board.tell(observers);
-    shows(rt, observers, 150, &sample("00ff", 100, Valid)?);
-    shows(rt, observers, 151, &sample("00ff", 100, Invalid)?);
+    write_and_tell(rt, board, observers, 7, "01")?;
+    shows(rt, observers, 7, 0, &sample("01", 7, Valid)?);
+    shows(rt, observers, 8, 0, &sample("01", 7, Invalid)?);
+    write_and_tell(rt, board, observers, 9, "02")?;
+    shows(rt, observers, 9, 50, &sample("02", 9, Valid)?);
+    write_and_tell(rt, board, observers, u64::MAX, "03")?;
+    let last = sample("03", u64::MAX, Valid)?;
+    shows(rt, observers, u64::MAX, u64::MAX, &last);
     Ok(())
 }
 
 #[test]
-fn observer_shows_sample_until_its_board_ends(rt: HostRuntime) -> Result<(), Fail> {
+fn observer_learns_receipts_in_turn(rt: HostRuntime) -> Result<(), Fail> {
     let (mut board, mut observers) = Board::with_observers(&rt, rt.alloc(), config_of(&rt)?)?;
-    let shown = shows_until_it_expires(&rt, &mut board, &mut observers);
+    let shown = shows_each_write(&rt, &mut board, &mut observers);
     board.close(&rt);
     shown?;
-    shows(&rt, &mut observers, 151, &Sampled::Gone);
+    shows(&rt, &mut observers, 9, 50, &Sampled::Gone);
     Ok(())
 }
 
@@ -86,7 +105,7 @@ fn hundred_writes<A: Allocator, B: Allocator, R: Abort + Wait>(
     answer(rt, board, &creation()?)?;
     for at in 0..100u64 {
         answer(rt, board, &writing(at, "00ff")?)?;
-        shows(rt, observers, at, &sample("00ff", at, Valid)?);
+        shows(rt, observers, at, 50, &sample("00ff", at, Valid)?);
     }
     assert_eq!(rt; switch.requests(), 0);
     Ok(())
@@ -101,39 +120,65 @@ fn hundred_writes_within_room(rt: HostRuntime) -> Result<(), Fail> {
     written
 }
 
-// Writes without memory until one is refused. The one before is shown then, and the refused one once it was repeated.
+// The port is created again and again, until the log has no free place.
+fn fill_log<A: Allocator, R: Abort + Wait>(rt: &R, board: &mut Board<A>) -> Result<(), Fail>
+    ensures { books_of board.new.published ≡ books_of board.old.published }
+{
+    let again = creation()?;
+    for _ in 0..board.log_room() {
+        ask(rt, board, &again)?;
+    }
+    Ok(())
+}
+
+// A write for which there is no memory: the observers are told, and show what they showed. With memory it is repeated.
 fn refused_write<A: Allocator, B: Allocator, R: Abort + Wait>(
     rt: &R,
     switch: &Switch<B>,
     board: &mut Board<A>,
     observers: &mut [Observer<A>],
-) -> Result<(), Fail> {
-    answer(rt, board, &creation()?)?;
-    answer(rt, board, &writing(100, "00ff")?)?;
+    at: u64,
+    before: &Sampled,
+) -> Result<(), Fail>
+    requires { AreObservers board.old.published observers.old }
+    ensures { AreObservers board.new.published observers.new }
+{
+    fill_log(rt, board)?;
     switch.refuse_all();
-    for at in 101..200u64 {
-        let row = writing(at, "00ff")?;
-        if ask(rt, board, &row).is_err() {
-            shows(rt, observers, at, &sample("00ff", at - 1, Valid)?);
-            switch.allow_all();
-            answer(rt, board, &row)?;
-            shows(rt, observers, at, &sample("00ff", at, Valid)?);
-            return Ok(());
-        }
-    }
-    assert!(rt; false, "no write is refused");
+    let refused = ask(rt, board, &writing(at, "00ff")?).is_err();
+    board.tell(observers);
+    shows(rt, observers, at, 50, before);
+    assert!(rt; refused && switch.requests() == 1);
+    switch.allow_all();
+    write_and_tell(rt, board, observers, at, "00ff")?;
+    shows(rt, observers, at, 50, &sample("00ff", at, Valid)?);
     Ok(())
+}
+
+fn refused_writes<A: Allocator, B: Allocator, R: Abort + Wait>(
+    rt: &R,
+    switch: &Switch<B>,
+    board: &mut Board<A>,
+    observers: &mut [Observer<A>],
+) -> Result<(), Fail>
+    requires { AreObservers board.old.published observers.old }
+{
+    answer(rt, board, &creation()?)?;
+    refused_write(rt, switch, board, observers, 100, &Sampled::Empty)?;
+    let before = sample("00ff", 100, Valid)?;
+    refused_write(rt, switch, board, observers, 101, &before)
 }
 
 #[test]
 fn refused_write_is_not_shown(rt: HostRuntime) -> Result<(), Fail> {
     let switch = Switch::new(rt.alloc());
     let (mut board, mut observers) = Board::with_observers(&rt, &switch, config_of(&rt)?)?;
-    let shown = refused_write(&rt, &switch, &mut board, &mut observers);
+    let shown = refused_writes(&rt, &switch, &mut board, &mut observers);
     board.close(&rt);
     shown
 }
 
+// What is made at last shows that nothing was written, and ends without memory.
 #[test]
 fn board_with_observers_refused_in_turn(rt: HostRuntime) -> Result<(), Fail> {
     for granted in 0..ALLOCATION_LIMIT {
@@ -144,8 +189,10 @@ fn board_with_observers_refused_in_turn(rt: HostRuntime) -> Result<(), Fail> {
         let refused = switch.refused();
         match made {
             Ok((board, mut observers)) => {
-                shows(&rt, &mut observers, 1, &Sampled::Empty);
+                shows(&rt, &mut observers, 1, 50, &Sampled::Empty);
+                switch.refuse_all();
                 board.close(&rt);
+                assert_eq!(rt; switch.requests(), 0);
                 assert!(rt; refused == 0 && granted > 0);
                 return Ok(());
             }

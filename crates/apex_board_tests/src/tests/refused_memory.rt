@@ -1,25 +1,26 @@
-//! Refused memory: a refusal changes nothing that a reader shows, and a call within the room never meets one.
+//! Refused memory, call by call: a refusal changes nothing that a reader shows, and a call within the room never meets one.
 ghost use Rattle.std.specs.Prelude.{◌<◌, length};
 
 use crate::tests::examples::{
     NO_ERROR, NOT_AVAILABLE, Row, answer, answers, ask, board_of, create_queuing, queuing_ports,
-    read, receive, received, run, sampling_ports, send, shown, write,
+    read, receive, received, sampling_ports, send, shown, write,
 };
 use crate::tests::texts::{AIR, BASE, DSP, FMS, NAV};
-use apex_board::{Board, Request};
+use apex_board::Board;
 use apex_config::Config;
+use apex_types::Reply;
 use apex_types::Validity::Valid;
-use apex_types::{Moment, Reply};
 use refusing::Switch;
-use std::alloc::{AllocError, AllocGlobal, Allocator, Global};
+use std::alloc::{AllocGlobal, Allocator};
 use std::process::Abort;
 use std::sync::Wait;
 use std::test::Fail;
 
 /// More allocations than any call of these examples asks for.
-const ALLOCATION_LIMIT: u64 = 40;
+pub(crate) const ALLOCATION_LIMIT: u64 = 40;
 
-fn config_of<R: AllocGlobal>(rt: &R) -> Result<Config, Fail> {
+/// The base configuration.
+pub(crate) fn config_of<R: AllocGlobal>(rt: &R) -> Result<Config, Fail> {
     Ok(Config::read(rt.alloc(), BASE.as_bytes())?)
 }
 
@@ -59,8 +60,12 @@ fn channel_shows_same<A: Allocator, B: Allocator>(
     assert_eq!(rt; one.last_sample(c), other.last_sample(c));
 }
 
-// Both boards show the same, their rooms excepted.
-fn shows_same<A: Allocator, B: Allocator>(rt: &impl Abort, one: &Board<A>, other: &Board<B>) {
+/// Both boards show the same, their rooms excepted.
+pub(crate) fn shows_same<A: Allocator, B: Allocator>(
+    rt: &impl Abort,
+    one: &Board<A>,
+    other: &Board<B>,
+) {
     assert_eq!(rt; one.config(), other.config());
     assert_eq!(rt; one.log(), other.log());
     assert_eq!(rt; one.config().partitions(), other.config().partitions());
@@ -73,8 +78,8 @@ fn shows_same<A: Allocator, B: Allocator>(rt: &impl Abort, one: &Board<A>, other
     }
 }
 
-// The calls of a full queue, from the creation of its ports on.
-fn full_queue() -> Result<[Row; 11], Fail> {
+/// The calls of a full queue, from the creation of its ports on.
+pub(crate) fn full_queue() -> Result<[Row; 11], Fail> {
     let [fms_port, dsp_port, fms_normal, dsp_normal] = queuing_ports()?;
     Ok([
         fms_port,
@@ -102,20 +107,8 @@ fn one_sample() -> Result<[Row; 4], Fail> {
     ])
 }
 
-fn requests_of(rows: &[Row], alloc: Global) -> Result<Vec<Request>, AllocError> {
-    let mut requests = Vec::with_capacity(alloc, rows.len())?;
-    for (partition, at, call, _) in rows {
-        requests.push(Request {
-            partition: *partition,
-            at: Moment(*at),
-            call: call.copy(),
-        })?;
-    }
-    Ok(requests)
-}
-
-// The board shows the same as one with ample memory that has answered the calls of the rows.
-fn shows_same_after<R: AllocGlobal + Abort + Wait, A: Allocator>(
+/// The board shows the same as one with ample memory that has answered the calls of the rows.
+pub(crate) fn shows_same_after<R: AllocGlobal + Abort + Wait, A: Allocator>(
     rt: &R,
     board: &Board<A>,
     rows: &[Row],
@@ -127,20 +120,7 @@ fn shows_same_after<R: AllocGlobal + Abort + Wait, A: Allocator>(
     answered
 }
 
-// The board shows the same as one with ample memory that has answered the requests.
-fn shows_same_after_list<R: AllocGlobal + Abort + Wait, A: Allocator>(
-    rt: &R,
-    board: &Board<A>,
-    requests: &[Request],
-) -> Result<(), Fail> {
-    let mut ample = board_of(rt, BASE)?;
-    let answered = run(rt, &mut ample, requests);
-    shows_same(rt, board, &ample);
-    ample.close(rt);
-    Ok(answered?)
-}
-
-fn serves_within_room<A: Allocator, B: Allocator, R: Abort + Wait>(
+fn serves_within_room<R: AllocGlobal + Abort + Wait, A: Allocator, B: Allocator>(
     rt: &R,
     switch: &Switch<B>,
     board: &mut Board<A>,
@@ -157,6 +137,8 @@ fn serves_within_room<A: Allocator, B: Allocator, R: Abort + Wait>(
     assert_eq!(rt; board.log().len(), 3);
     assert!(rt; NAV < board.config().channels());
     assert_eq!(rt; board.accepted(NAV).len(), 1);
+    shows_same_after(rt, board, &rows)?;
+    assert_eq!(rt; switch.requests(), 0);
     Ok(())
 }
 
@@ -303,129 +285,4 @@ fn rows_refused_in_turn<R: AllocGlobal + Abort + Wait>(rt: &R, rows: &[Row]) -> 
 fn calls_refused_in_turn(rt: HostRuntime) -> Result<(), Fail> {
     rows_refused_in_turn(&rt, &full_queue()?)?;
     rows_refused_in_turn(&rt, &one_sample()?)
-}
-
-// The board has answered just the first `done` requests; with memory again it answers the rest.
-fn goes_on<R: AllocGlobal + Abort + Wait, A: Allocator>(
-    rt: &R,
-    board: &mut Board<A>,
-    requests: &[Request],
-    done: usize,
-) -> Result<(), Fail> {
-    assert!(rt; done <= requests.len());
-    assert_eq!(rt; board.log().len(), done);
-    shows_same_after_list(rt, board, &requests[..done])?;
-    run(rt, board, &requests[done..])?;
-    shows_same_after_list(rt, board, requests)
-}
-
-// How many requests the board answers before memory is wanting, and how many allocations were refused. With memory
-// again it answers the rest.
-fn answers_list<R: AllocGlobal + Abort + Wait, A: Allocator, B: Allocator>(
-    rt: &R,
-    switch: &Switch<B>,
-    board: &mut Board<A>,
-    requests: &[Request],
-) -> Result<(usize, u64), Fail> {
-    let answered = run(rt, board, requests);
-    let refused = switch.refused();
-    switch.allow_all();
-    let done = match answered {
-        Ok(()) => requests.len(),
-        Err(stopped) => stopped.done,
-    };
-    goes_on(rt, board, requests, done)?;
-    Ok((done, refused))
-}
-
-fn list_refused_after<R: AllocGlobal + Abort + Wait>(
-    rt: &R,
-    granted: u64,
-    refuse: u64,
-    requests: &[Request],
-) -> Result<(usize, u64), Fail> {
-    let switch = Switch::new(rt.alloc());
-    let mut board = Board::new(rt, &switch, config_of(rt)?)?;
-    switch.refuse_after(granted, refuse);
-    let answered = answers_list(rt, &switch, &mut board, requests);
-    board.close(rt);
-    answered
-}
-
-// The list on a new board, with `refuse` allocations refused after each number of granted ones. Once memory is wanting
-// for good it stops; one refusal alone it may do without.
-fn list_refused_in_turn<R: AllocGlobal + Abort + Wait>(rt: &R, refuse: u64) -> Result<(), Fail> {
-    let requests = requests_of(&full_queue()?, rt.alloc())?;
-    for granted in 0..ALLOCATION_LIMIT {
-        let (done, refused) = list_refused_after(rt, granted, refuse, &requests)?;
-        if refused == 0 {
-            assert!(rt; granted > 0);
-            assert_eq!(rt; done, requests.len());
-            return Ok(());
-        }
-        assert!(rt; refuse == 1 || done < requests.len());
-    }
-    assert!(rt; false, "the sweep does not end");
-    Ok(())
-}
-
-#[test]
-fn list_with_one_refusal(rt: HostRuntime) -> Result<(), Fail> {
-    list_refused_in_turn(&rt, 1)
-}
-
-#[test]
-fn list_without_memory(rt: HostRuntime) -> Result<(), Fail> {
-    list_refused_in_turn(&rt, u64::MAX)
-}
-
-fn leaves_room<A: Allocator, B: Allocator, R: Abort + Wait>(
-    rt: &R,
-    switch: &Switch<B>,
-    board: &mut Board<A>,
-    requests: &[Request],
-) -> Result<(), Fail> {
-    board.reserve(requests.len() + 2)?;
-    switch.refuse_all();
-    assert!(rt; run(rt, board, requests).is_ok());
-    assert!(rt; board.room() >= 2);
-    let more = [
-        (FMS, 12, send(1, "04")?, NO_ERROR),
-        (DSP, 13, receive(1), received("04")?),
-    ];
-    answers(rt, board, &more)
-}
-
-#[test]
-fn list_leaves_the_room_beyond_it(rt: HostRuntime) -> Result<(), Fail> {
-    let requests = requests_of(&full_queue()?, rt.alloc())?;
-    let switch = Switch::new(rt.alloc());
-    let mut board = Board::new(&rt, &switch, config_of(&rt)?)?;
-    let left = leaves_room(&rt, &switch, &mut board, &requests);
-    board.close(&rt);
-    left
-}
-
-fn stops_beyond_room<R: AllocGlobal + Abort + Wait, A: Allocator, B: Allocator>(
-    rt: &R,
-    switch: &Switch<B>,
-    board: &mut Board<A>,
-    rows: &[Row],
-) -> Result<(), Fail> {
-    let requests = requests_of(rows, rt.alloc())?;
-    board.reserve(5)?;
-    switch.refuse_all();
-    let (done, _refused) = answers_list(rt, switch, board, &requests)?;
-    assert!(rt; done >= 5 && done < requests.len());
-    shows_same_after(rt, board, rows)
-}
-
-#[test]
-fn list_stops_beyond_its_room(rt: HostRuntime) -> Result<(), Fail> {
-    let rows = full_queue()?;
-    let switch = Switch::new(rt.alloc());
-    let mut board = Board::new(&rt, &switch, config_of(&rt)?)?;
-    let stopped = stops_beyond_room(&rt, &switch, &mut board, &rows);
-    board.close(&rt);
-    stopped
 }

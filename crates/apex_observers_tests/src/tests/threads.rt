@@ -1,66 +1,87 @@
-//! Observers in threads of their own, beside a publisher.
-use super::{sample, write};
+//! Four observers in threads of their own, beside a publisher.
 use apex_observers::{NoPlace, Observer, Publisher, Sampled};
-use apex_types::Moment;
-use apex_types::Validity::Valid;
+use apex_types::{Message, Moment};
 use std::process::Abort;
 use std::sync::Wait;
-use std::sync::atomic::{AtomicBool, Ordering};
 use std::test::Fail;
 use std::thread;
 use std::thread::Threads;
 
-/// The turns that a thread waits for another at most.
-const TURNS: u64 = 10_000_000;
+/// How often each observer reads.
+const READS: u64 = 100_000;
 
-// Reads until the sample shows, in so many turns at most.
-fn shows<R: Abort>(rt: &R, observer: &mut Observer, byte: u8, at: u64) -> bool {
-    for _ in 0..TURNS {
-        if observer.read(Moment(at), 0) == sample(rt, byte, at, Valid) {
-            return true;
-        }
-        thread::yield_now();
+/// How many samples are written, at the moments from 1 on.
+const WRITES: u64 = 10_000;
+
+// The message that is written at this moment, and at no other.
+fn message_of(rt: &impl Abort, at: u64) -> Message {
+    let Ok(message) = Message::from_bytes(&at.to_be_bytes()) else {
+        panic!(rt; "eight bytes are a message");
+    };
+    message
+}
+
+fn write_at<R: Wait + Abort>(rt: &R, publisher: &mut Publisher, at: u64) {
+    let published = publisher.publish(rt, &message_of(rt, at), Moment(at));
+    assert_eq!(rt; published, Ok(()));
+}
+
+// The moment of the sample that is shown, which is one that was written.
+fn moment_shown<R: Abort>(rt: &R, observer: &mut Observer) -> u64 {
+    let Sampled::Sample {
+        message,
+        at,
+        validity: _,
+    } = observer.read(Moment(0), 0)
+    else {
+        panic!(rt; "a sample was written");
+    };
+    assert!(rt; 1 <= at.0 && at.0 <= WRITES);
+    assert_eq!(rt; message, message_of(rt, at.0));
+    at.0
+}
+
+fn read_all<R: Abort>(rt: &R, observer: &mut Observer) {
+    let mut last = 0;
+    for _ in 0..READS {
+        let at = moment_shown(rt, observer);
+        assert!(rt; last <= at);
+        last = at;
     }
-    false
 }
 
-fn observe<R: Abort>(rt: &R, mut observer: Observer, seen: &AtomicBool) -> bool {
-    let first = shows(rt, &mut observer, 1, 1);
-    seen.store(true, Ordering::SeqCst);
-    let after = observer.read(Moment(1), 0) != Sampled::Empty;
-    first && after && shows(rt, &mut observer, 2, 2)
-}
-
-fn write_both<R: Wait + Abort>(rt: &R, publisher: &mut Publisher, seen: &AtomicBool) {
-    write(rt, publisher, 1, 1);
-    for _ in 0..TURNS {
-        if seen.load(Ordering::SeqCst) {
-            break;
-        }
-        thread::yield_now();
+fn write_all<R: Wait + Abort>(rt: &R, publisher: &mut Publisher) {
+    for at in 2..WRITES + 1 {
+        write_at(rt, publisher, at);
     }
-    write(rt, publisher, 2, 2);
 }
 
-fn watch<R: Threads + Wait + Abort + Sync>(
+fn reads_beside_writes<R: Threads + Wait + Abort + Sync>(
     rt: &R,
     publisher: &mut Publisher,
-) -> Result<bool, NoPlace> {
-    let observer = publisher.observer()?;
-    let seen = AtomicBool::new(false);
-    let (_, shown) = thread::join(
+) -> Result<(), NoPlace> {
+    let mut observers = [
+        publisher.observer()?,
+        publisher.observer()?,
+        publisher.observer()?,
+        publisher.observer()?,
+    ];
+    write_at(rt, publisher, 1);
+    thread::join(
         rt,
-        || write_both(rt, publisher, &seen),
-        || observe(rt, observer, &seen),
+        || write_all(rt, publisher),
+        || thread::for_each_mut(rt, &mut observers, 4, &|_, observer| read_all(rt, observer)),
     );
-    Ok(shown)
+    for observer in &mut observers {
+        assert_eq!(rt; moment_shown(rt, observer), WRITES);
+    }
+    Ok(())
 }
 
 #[test]
-fn an_observer_that_is_told_nothing_sees_both_writes(rt: HostRuntime) -> Result<(), Fail> {
-    let mut publisher = Publisher::new(&rt, rt.alloc(), 1)?;
-    let shown = watch(&rt, &mut publisher);
+fn four_observers_beside_a_writer(rt: HostRuntime) -> Result<(), Fail> {
+    let mut publisher = Publisher::new(&rt, rt.alloc(), 4)?;
+    let shown = reads_beside_writes(&rt, &mut publisher);
     publisher.close(&rt);
-    assert!(rt; shown?);
-    Ok(())
+    Ok(shown?)
 }

@@ -1,11 +1,11 @@
 //! Runs of two scripts, with real threads.
 ghost use Rattle.std.specs.Prelude.{ℕ, ◌≡◌};
 
-use super::texts::REDUCED;
+use super::texts::{BASE, REDUCED};
 use apex_config::Config;
 use apex_texts::{Fault, read_script, replay_text, run_text};
 use apex_types::Name;
-use apex_workers::{Gate, Held};
+use apex_workers::{Gate, Held, OpenGate};
 use std::alloc::AllocGlobal;
 use std::process::Abort;
 use std::sync::Wait;
@@ -126,5 +126,30 @@ fn a_held_worker_is_told_by_its_partition(rt: HostRuntime) -> Result<(), Fail> {
     let fault = text_of(&rt, &HoldsSender)?.err();
     let partition = Name::read("FMS")?;
     assert_eq!(rt; fault, Some(Fault::Held { partition, n: 2 }));
+    Ok(())
+}
+
+#[test]
+fn observers_show_what_a_run_wrote(rt: HostRuntime) -> Result<(), Fail> {
+    let config = Config::read(rt.alloc(), BASE.as_bytes())?;
+    let scripts = [
+        read_script(rt.alloc(), b"")?,
+        read_script(rt.alloc(), b"")?,
+        read_script(
+            rt.alloc(),
+            b"1 create-sampling SPD_OUT 4 0 50\n100 write 1 00ff\n",
+        )?,
+    ];
+    assert!(rt; config.partitions() == 3);
+    let text = run_text(&rt, rt.alloc(), &config, &scripts, &OpenGate)?;
+    let wanted = "1 1 AIR create-sampling NO_ERROR id 1
+2 100 AIR write NO_ERROR
+partition FMS mode COLD_START calls 0
+partition DSP mode COLD_START calls 0
+partition AIR mode COLD_START calls 2
+queuing NAV accepted 0 received 0 waiting 0
+sampling SPD 00ff at 100
+";
+    assert_eq!(rt; text.as_str(), wanted);
     Ok(())
 }

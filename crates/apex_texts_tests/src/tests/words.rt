@@ -143,6 +143,11 @@ fn faults_of_a_run(rt: HostRuntime) -> Result<(), Fail> {
             Fault::Run(RunFault::Stranger),
             "run fault 4: collected results do not match",
         ),
+        (
+            Fault::Run(RunFault::NoObserver),
+            "run fault 5: no observer",
+        ),
+        (Fault::Gone, "observer gone"),
     ] {
         let printed = format!(in rt.alloc(); "{fault}")?;
         assert_eq!(rt; printed.as_str(), line);

@@ -1,5 +1,4 @@
 use Rattle.std.proofs.Common.{Result, Ok, Err, ◌≡◌, ◌≤◌, ◌<◌, ◌-◌, ◌+◌, ◌++◌, ◌∷◌, [], false, ap, sym, subst, ◌∙◌, arith}
-use Rattle.std.proofs.lemmas.Result.{on_err_weaker}
 use Rattle.std.specs.Result.{is_ok, OnErr}
 use Rattle.std.specs.Vec.{vec_len, vec_capacity}
 use Rattle.apex_ports.specs.History.{History, entry_of}
@@ -12,23 +11,20 @@ use Rattle.apex_ports.proofs.Idle.{idle_stays}
 use Rattle.apex_ports.proofs.OneChannel.{one_channel}
 use Rattle.apex_ports.proofs.Refused.{refused_send_is_silent}
 use Rattle.apex_board.specs.BoardView.{BoardView}
-use Rattle.apex_board.specs.Room.{room_of}
+use Rattle.apex_board.specs.Room.{KeepsRoom, room_of}
+use Rattle.apex_board.specs.declared.records.Records.{Records}
 use Rattle.apex_board.proofs.LeastRoom.{room_means, room_kept, room_used}
 use Rattle.apex_board.proofs.board.Board.call.Goals as goal
 
-on_err_always : {T E : Type 0} (r : Result T E) → OnErr r (Unit {0})
-on_err_always (Ok x) = tt
-on_err_always (Err e) = tt
+-- what was made of room is not less
+still_room : {A T E : Type 0} (r : Result T E) (old new : Records A) → vec_len new.log ≡ vec_len old.log → vec_capacity old.log ≤ vec_capacity new.log → KeepsRoom old.journals.items new.journals.items → OnErr r (room_of old ≤ room_of new)
+still_room (Ok x) old new len capacity keeps = tt
+still_room (Err e) old new len capacity keeps = room_kept old new (omega (arith, len, capacity)) keeps
 
 pub returns-in_err-make_room-clause-refused_room : goal.returns-in_err-make_room-clause-refused_room
 returns-in_err-make_room-clause-refused_room g c =
-    let len = c.make_room.ensures.len in
-    let capacity = c.make_room.ensures.capacity in
-    let more : vec_capacity c.self.inside.records.log - vec_len c.self.inside.records.log ≤ vec_capacity c.make_room.new.self.log - vec_len c.make_room.new.self.log = omega (arith, len, capacity) in
-    let kept = room_kept c.self.inside.records c.make_room.new.self more c.make_room.ensures.room in
-    on_err_weaker c.from_residual.result
-    (λ (_ : Unit {0}). subst (λ (v : BoardView). v.room ≤ room_of c.make_room.new.self) c.self.view_is kept)
-    (on_err_always c.from_residual.result)
+    subst (λ (v : BoardView). OnErr c.from_residual.result (v.room ≤ room_of c.make_room.new.self)) c.self.view_is
+    (still_room c.from_residual.result c.self.inside.records c.make_room.new.self c.make_room.ensures.len c.make_room.ensures.capacity c.make_room.ensures.room)
 
 pub returns-in_err-make_room-clause-succeeds : goal.returns-in_err-make_room-clause-succeeds
 returns-in_err-make_room-clause-succeeds g c nothing room =
@@ -90,13 +86,8 @@ returns-clause-idle g c =
 
 pub returns-in_err-publish-clause-refused_room : goal.returns-in_err-publish-clause-refused_room
 returns-in_err-publish-clause-refused_room g c =
-    let len = c.make_room.ensures.len in
-    let capacity = c.make_room.ensures.capacity in
-    let more : vec_capacity c.self.inside.records.log - vec_len c.self.inside.records.log ≤ vec_capacity c.make_room.new.self.log - vec_len c.make_room.new.self.log = omega (arith, len, capacity) in
-    let kept = room_kept c.self.inside.records c.make_room.new.self more c.make_room.ensures.room in
-    on_err_weaker c.from_residual-in_err-publish.result
-    (λ (_ : Unit {0}). subst (λ (v : BoardView). v.room ≤ room_of c.make_room.new.self) c.self.view_is kept)
-    (on_err_always c.from_residual-in_err-publish.result)
+    subst (λ (v : BoardView). OnErr c.from_residual-in_err-publish.result (v.room ≤ room_of c.make_room.new.self)) c.self.view_is
+    (still_room c.from_residual-in_err-publish.result c.self.inside.records c.make_room.new.self c.make_room.ensures.len c.make_room.ensures.capacity c.make_room.ensures.room)
 
 pub returns-in_err-publish-clause-lawful : goal.returns-in_err-publish-clause-lawful
 returns-in_err-publish-clause-lawful g c =
