@@ -2,10 +2,11 @@
 use Rattle.std.specs.Prelude.{ℕ, Bool, true, false, ◌≡◌, ◌==◌, ◌≤◌, if◌then◌else◌, List, [], length, slice_get, Option, Some, None}
 use Rattle.std.specs.Borrow.{Bor}
 use Rattle.std.specs.Vec.{vec_capacity}
+use Rattle.apex_types.specs.declared.taken.Taken.{Taken}
 use Rattle.apex_config.specs.Configuration.{Configuration}
 use Rattle.apex_ports.specs.History.{History}
 use Rattle.apex_ports.specs.Ports.{is_queuing}
-use Rattle.apex_ports.specs.Channels.{accepted_on, received_on}
+use Rattle.apex_ports.specs.Channels.{accepted_on, taken_on}
 use Rattle.apex_board.specs.declared.journal.Journal.{Journal}
 
 -- the journal of a channel; a sampling channel has none
@@ -24,26 +25,31 @@ abbrev pub accepted_in : {A : Type 0} → Option (Journal A) → List (List ℕ)
 accepted_in None = []
 accepted_in (Some journal) = journal.accepted.items
 
-abbrev pub received_in : {A : Type 0} → Option (Journal A) → List (List ℕ)
-received_in None = []
-received_in (Some journal) = journal.received.items
+abbrev pub taken_in : {A : Type 0} → Option (Journal A) → List Taken
+taken_in None = []
+taken_in (Some journal) = journal.taken.items
 
--- the journals are what the definitions filter out: the accepted messages of a history, and the received ones of what was taken of it
-pub record AreJournals {A : Type 0} (config : Configuration) (history taken : History) (journals : List (Option (Journal A))) : Type 0 where
+-- the journals are what the definitions say: the messages that a history accepted, and those taken in what is recorded of it
+pub record AreJournals {A : Type 0} (config : Configuration) (history recorded : History) (journals : List (Option (Journal A))) : Type 0 where
   pub all : length journals ≡ length config.channels
   pub kind : (c : ℕ) → has_journal (journal_at journals c) ≡ is_queuing config c
   pub accepted : (c : ℕ) → accepted_in (journal_at journals c) ≡ accepted_on config c history
-  pub received : (c : ℕ) → received_in (journal_at journals c) ≡ received_on config c taken
-  -- what is accepted can be received without memory
-  pub places : (c : ℕ) (journal : Journal A) → journal_at journals c ≡ Some journal → vec_capacity journal.accepted ≤ vec_capacity journal.received
+  pub taken : (c : ℕ) → taken_in (journal_at journals c) ≡ taken_on config c recorded
+  -- what is accepted can be taken without memory
+  pub places : (c : ℕ) (journal : Journal A) → journal_at journals c ≡ Some journal → vec_capacity journal.accepted ≤ vec_capacity journal.taken
 
 -- the journal of a channel without messages
 abbrev pub IsFresh : {A : Type 0} → Configuration → ℕ → Option (Journal A) → Type 0
 IsFresh config c None = is_queuing config c ≡ false
 IsFresh config c (Some journal) =
-    (is_queuing config c ≡ true) × (journal.accepted.items ≡ []) × (journal.received.items ≡ []) × (vec_capacity journal.accepted ≤ vec_capacity journal.received)
+    (is_queuing config c ≡ true) × (journal.accepted.items ≡ []) × (journal.taken.items ≡ []) × (vec_capacity journal.accepted ≤ vec_capacity journal.taken)
 
 -- the message that is found for the channel
 abbrev pub message_for : ℕ → Option (ℕ × Bor (List ℕ)) → Option (List ℕ)
 message_for c None = None
 message_for c (Some found) = if found.0 == c then Some found.1.now else None
+
+-- the channel is the one that is found
+abbrev pub is_for : ℕ → Option ℕ → Bool
+is_for c None = false
+is_for c (Some found) = found == c

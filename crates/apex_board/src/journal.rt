@@ -1,49 +1,49 @@
 //! The journal of a queuing channel, and what an entry puts into it.
-ghost use Rattle.std.specs.Prelude.{◌≡◌, ℕ, ◌+◌, ◌≤◌, [], IsOk, OnOk, IfSome, ◌<◌, length};
+ghost use Rattle.std.specs.Prelude.{◌≡◌, ℕ, ◌+◌, ◌≤◌, [], ◌++◌, IsOk, OnOk, IfSome, ◌<◌, drop, length, map};
 ghost use Rattle.std.specs.Vec.{vec_len, vec_capacity};
-ghost use Rattle.apex_ports.specs.Channels.{message_accepted, message_received};
-ghost use Rattle.apex_board.specs.Journals.{IsFresh, message_for};
+ghost use Rattle.apex_ports.specs.Channels.{as_cleared, clears, message_accepted, message_received};
+ghost use Rattle.apex_board.specs.Journals.{IsFresh, is_for, message_for};
 
 use apex_config::Config;
 use apex_ports::Entry;
-use apex_types::{Call, Direction, Message, Reply, ReturnCode};
+use apex_types::{Call, Direction, Message, Reply, ReturnCode, Taken};
 use std::alloc::{AllocError, Allocator};
 
-/// The messages that a queuing channel accepted, and those that were received from it.
+/// The messages that a queuing channel accepted, and those that were taken out of it.
 #[derive(Drop)]
 pub(crate) struct Journal<A: Allocator> {
     pub(crate) accepted: Vec<Message, A>,
-    pub(crate) received: Vec<Message, A>,
+    pub(crate) taken: Vec<Taken, A>,
 }
 
 impl<A: Allocator + Copy> Journal<A> {
     /// The journal of a channel without messages. It has no room yet.
     pub(crate) fn new(alloc: A) -> Journal<A>
         ensures accepted { result.accepted.items ≡ [] }
-        ensures received { result.received.items ≡ [] }
-        ensures places { vec_capacity result.accepted ≤ vec_capacity result.received }
+        ensures taken { result.taken.items ≡ [] }
+        ensures places { vec_capacity result.accepted ≤ vec_capacity result.taken }
     {
         Journal {
             accepted: Vec::new(alloc),
-            received: Vec::new(alloc),
+            taken: Vec::new(alloc),
         }
     }
 }
 
 impl<A: Allocator> Journal<A> {
-    /// Makes room for this many more accepted messages, and for receiving all of them.
+    /// Makes room for this many more accepted messages, and for taking all of them.
     pub(crate) fn make_room(&mut self, messages: usize) -> Result<(), AllocError>
-        requires received { vec_len self.old.received ≤ vec_len self.old.accepted }
-        requires places { vec_capacity self.old.accepted ≤ vec_capacity self.old.received }
+        requires taken { vec_len self.old.taken ≤ vec_len self.old.accepted }
+        requires places { vec_capacity self.old.accepted ≤ vec_capacity self.old.taken }
         ensures ok { OnOk result
             (vec_len self.new.accepted + messages ≤ vec_capacity self.new.accepted) }
         ensures succeeds { vec_len self.old.accepted + messages ≤ vec_capacity self.old.accepted →
             IsOk result }
         ensures accepted { self.new.accepted.items ≡ self.old.accepted.items }
-        ensures received { self.new.received.items ≡ self.old.received.items }
+        ensures taken { self.new.taken.items ≡ self.old.taken.items }
         ensures len { vec_len self.new.accepted ≡ vec_len self.old.accepted }
         ensures capacity { vec_capacity self.old.accepted ≤ vec_capacity self.new.accepted }
-        ensures places { vec_capacity self.new.accepted ≤ vec_capacity self.new.received }
+        ensures places { vec_capacity self.new.accepted ≤ vec_capacity self.new.taken }
     {
         let len = self.accepted.len();
         if messages <= self.accepted.capacity() - len {
@@ -53,8 +53,25 @@ impl<A: Allocator> Journal<A> {
         let Some(wanted) = len.checked_add(additional) else {
             return Err(AllocError);
         };
-        self.received.reserve_exact(wanted - self.received.len())?;
+        self.taken.reserve_exact(wanted - self.taken.len())?;
         self.accepted.reserve_exact(additional)
+    }
+
+    /// Takes each message that isn't taken yet, as a cleared one. There is room for it.
+    pub(crate) fn clear(&mut self)
+        requires taken { vec_len self.old.taken ≤ vec_len self.old.accepted }
+        requires places { vec_capacity self.old.accepted ≤ vec_capacity self.old.taken }
+        ensures accepted { self.new.accepted ≡ self.old.accepted }
+        ensures taken { let waiting = drop (length self.old.taken.items) self.old.accepted.items in
+            self.new.taken.items ≡ self.old.taken.items ++ map as_cleared waiting }
+        ensures capacity { vec_capacity self.new.taken ≡ vec_capacity self.old.taken }
+    {
+        for place in self.taken.len()..self.accepted.len() {
+            self.taken.push_reserved(Taken {
+                message: self.accepted[place].copy(),
+                cleared: true,
+            });
+        }
     }
 }
 
@@ -95,7 +112,7 @@ pub(crate) fn accepted_message<'a>(
     }
 }
 
-/// The message that an entry took out of a channel, and the channel's number.
+/// The message that an entry received from a channel, and the channel's number.
 pub(crate) fn received_message<'a>(
     config: &Config,
     entry: &'a Entry,
@@ -109,6 +126,22 @@ pub(crate) fn received_message<'a>(
     let port = config.port(entry.partition, *id)?;
     match port.direction {
         Direction::Destination => Some((port.channel, message)),
+        Direction::Source => None,
+    }
+}
+
+/// The number of the channel that an entry clears.
+pub(crate) fn cleared_channel(config: &Config, entry: &Entry) -> Option<usize>
+    ensures found { (c : ℕ) → clears config.now c entry.now ≡ is_for c result }
+    ensures channel { IfSome result (λ channel. channel < length config.now.channels) }
+{
+    let (Call::ClearQueuing { id }, Reply::Code(ReturnCode::NoError)) = (&entry.call, &entry.reply)
+    else {
+        return None;
+    };
+    let port = config.port(entry.partition, *id)?;
+    match port.direction {
+        Direction::Destination => Some(port.channel),
         Direction::Source => None,
     }
 }

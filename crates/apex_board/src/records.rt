@@ -1,13 +1,14 @@
 //! What a board records of its calls: the log, and the journals that it comes to.
-ghost use Rattle.std.specs.Prelude.{◌≡◌, ◌+◌, ◌<◌, ◌≤◌, [], ◌∷◌, ◌++◌, true, length, IfOk, OnOk, IsOk};
+ghost use Rattle.std.specs.Prelude.{◌≡◌, ℕ, ◌+◌, ◌<◌, ◌≤◌, [], ◌∷◌, ◌++◌, true, length, None, IfOk, OnOk, IsOk};
 ghost use Rattle.std.specs.Vec.{vec_len, vec_capacity};
+ghost use Rattle.apex_ports.specs.Channels.{message_received};
 ghost use Rattle.apex_ports.specs.Refused.{is_send};
 ghost use Rattle.apex_ports.specs.Sound.{IsSound};
 
-use crate::journal::{Journal, accepted_message, new_journal, received_message};
+use crate::journal::{Journal, accepted_message, cleared_channel, new_journal, received_message};
 use apex_config::Config;
 use apex_ports::Entry;
-use apex_types::Call;
+use apex_types::{Call, Taken};
 use std::alloc::{AllocError, Allocator};
 
 /// The log of all calls, and a journal for each queuing channel.
@@ -147,7 +148,7 @@ impl<A: Allocator> Records<A> {
         ensures room { KeepsAllButOne self.old.journals.items self.new.journals.items }
     {
         self.push_accepted(config, &entry);
-        self.push_received(config, &entry);
+        self.push_taken(config, &entry);
         self.log.push_reserved(entry);
     }
 
@@ -171,8 +172,8 @@ impl<A: Allocator> Records<A> {
         }
     }
 
-    // Puts the message that an entry received into its channel's journal.
-    fn push_received(&mut self, config: &Config, entry: &Entry)
+    // Puts what an entry took out of a channel into the channel's journal.
+    fn push_taken(&mut self, config: &Config, entry: &Entry)
         requires sound { IsSound config.now (self.old.log.items ++ entry.now ∷ []) }
         requires recorded { let log = self.old.log.items in
             AreJournals config.now (log ++ entry.now ∷ []) log self.old.journals.items }
@@ -182,11 +183,33 @@ impl<A: Allocator> Records<A> {
         ensures room { KeepsRoom self.old.journals.items self.new.journals.items }
     {
         let Some((channel, message)) = received_message(config, entry) else {
-            return;
+            return self.push_cleared(config, entry);
         };
         match &mut self.journals[channel] {
-            Some(journal) => journal.received.push_reserved(message.copy()),
+            Some(journal) => journal.taken.push_reserved(Taken {
+                message: message.copy(),
+                cleared: false,
+            }),
             None => unreachable!(),
+        }
+    }
+
+    // Puts what an entry cleared, which received nothing, into its channel's journal.
+    fn push_cleared(&mut self, config: &Config, entry: &Entry)
+        requires sound { IsSound config.now (self.old.log.items ++ entry.now ∷ []) }
+        requires recorded { let log = self.old.log.items in
+            AreJournals config.now (log ++ entry.now ∷ []) log self.old.journals.items }
+        requires received { (c : ℕ) → message_received config.now c entry.now ≡ None }
+        ensures recorded { let log = self.old.log.items ++ entry.now ∷ [] in
+            AreJournals config.now log log self.new.journals.items }
+        ensures log { self.new.log ≡ self.old.log }
+        ensures room { KeepsRoom self.old.journals.items self.new.journals.items }
+    {
+        let Some(channel) = cleared_channel(config, entry) else {
+            return;
+        };
+        if let Some(journal) = &mut self.journals[channel] {
+            journal.clear();
         }
     }
 }

@@ -1,17 +1,18 @@
 -- What one more entry does to what a history comes to.
-use Rattle.std.proofs.Common.{◌≡◌, ℕ, false, ◌&&◌, ◌||◌, not, if◌then◌else◌, [], ◌∷◌, ◌++◌, Option, Some, None, refl, ap, ◌∙◌}
+use Rattle.std.proofs.Common.{◌≡◌, ℕ, false, ◌&&◌, ◌||◌, not, if◌then◌else◌, List, [], ◌∷◌, ◌++◌, length, drop, Option, Some, None, refl, sym, ap, ◌∙◌, append_assoc, append-nil}
 use Rattle.std.specs.Option.{unwrap_or, option_to_list}
 use Rattle.std.specs.List.{filter_map}
 use Rattle.std.proofs.lemmas.List.Sums.{fold-append}
 use Rattle.std.proofs.lemmas.List.Elements.{filter_map-append}
 use Rattle.apex_config.specs.Configuration.{Configuration}
 use Rattle.apex_types.specs.declared.mode.Mode.TheVariants.{ColdStart}
+use Rattle.apex_types.specs.declared.taken.Taken.{Taken}
 use Rattle.apex_types.specs.declared.validity.Validity.TheVariants.{Invalid}
 use Rattle.apex_ports.specs.declared.history.Entry.{Entry}
 use Rattle.apex_ports.specs.History.{History}
 use Rattle.apex_ports.specs.Modes.{mode_of, mode_set, restarts}
 use Rattle.apex_ports.specs.Ports.{is_created, creates}
-use Rattle.apex_ports.specs.Channels.{accepted_on, received_on, writes_on, message_accepted, message_received, sample_written, last_validity_of, validity_read}
+use Rattle.apex_ports.specs.Channels.{accepted_on, received_on, taken_after, taken_on, taken_by, waiting_on, writes_on, message_accepted, message_received, sample_written, last_validity_of, validity_read}
 
 pub mode_of-append : (p : ℕ) (h : History) (e : Entry) → mode_of p (h ++ e ∷ []) ≡ unwrap_or (mode_set p e) (mode_of p h)
 mode_of-append p h e = fold-append (λ mode entry. unwrap_or (mode_set p entry) mode) ColdStart h (e ∷ [])
@@ -24,7 +25,7 @@ last_validity_of-append p id h e =
     fold-append (λ last entry. if creates p id entry then Invalid else unwrap_or (validity_read p id entry) last) Invalid h (e ∷ [])
 
 -- filtering one more item
-one_more : {X Y : Type 0} (f : X → Option Y) (x : X) → filter_map f (x ∷ []) ≡ option_to_list (f x)
+pub one_more : {X Y : Type 0} (f : X → Option Y) (x : X) → filter_map f (x ∷ []) ≡ option_to_list (f x)
 one_more {X} {Y} f x = of_item (f x)
   where
     of_item : (o : Option Y) → filter_map (λ (_ : X). o) (x ∷ []) ≡ option_to_list o
@@ -38,6 +39,17 @@ accepted_on-append config c h e =
 pub received_on-append : (config : Configuration) (c : ℕ) (h : History) (e : Entry) → received_on config c (h ++ e ∷ []) ≡ received_on config c h ++ option_to_list (message_received config c e)
 received_on-append config c h e =
     filter_map-append (message_received config c) h (e ∷ []) ∙ ap (λ ys. received_on config c h ++ ys) (one_more (message_received config c) e)
+
+taken_after-append : (config : Configuration) (c : ℕ) (before h : History) (taken : List Taken) (e : Entry) → taken_after config c before taken (h ++ e ∷ []) ≡
+    taken_after config c before taken h ++ taken_by config c (drop (length (taken_after config c before taken h)) (accepted_on config c (before ++ h))) e
+taken_after-append config c before [] taken e = ap (λ (g : History). taken ++ taken_by config c (drop (length taken) (accepted_on config c g)) e) (sym (append-nil before))
+taken_after-append config c before (x ∷ h) taken e =
+    let more = taken ++ taken_by config c (drop (length taken) (accepted_on config c before)) x in
+    let after = taken_after config c (before ++ x ∷ []) more h in
+    taken_after-append config c (before ++ x ∷ []) h more e ∙ ap (λ (g : History). after ++ taken_by config c (drop (length after) (accepted_on config c g)) e) (append_assoc before (x ∷ []) h)
+
+pub taken_on-append : (config : Configuration) (c : ℕ) (h : History) (e : Entry) → taken_on config c (h ++ e ∷ []) ≡ taken_on config c h ++ taken_by config c (waiting_on config c h) e
+taken_on-append config c h e = taken_after-append config c [] h [] e
 
 pub writes_on-append : (config : Configuration) (c : ℕ) (h : History) (e : Entry) → writes_on config c (h ++ e ∷ []) ≡ writes_on config c h ++ option_to_list (sample_written config c e)
 writes_on-append config c h e =

@@ -1,28 +1,29 @@
--- What a send, a receive and a write do to the state of a channel.
-use Rattle.std.proofs.Common.{◌≡◌, ◌≢◌, ⊎_elim, ℕ, ◌+◌, ◌-◌, ◌^◌, true, false, if◌then◌else◌, min, List, [], ◌∷◌, ◌++◌, drop, set, Option, Some, None, refl, sym, ap, ◌∙◌}
+-- What a send, a receive, a clear and a write do to the state of a channel.
+use Rattle.std.proofs.Common.{◌≡◌, ◌≢◌, ⊎_elim, ℕ, ◌+◌, ◌-◌, ◌^◌, true, false, if◌then◌else◌, min, List, [], ◌∷◌, ◌++◌, length, drop, map, set, Option, Some, None, refl, sym, ap, ◌∙◌}
 use Rattle.std.specs.List.{slice_get}
-use Rattle.apex_types.specs.declared.call.Call.TheVariants.{SendQueuing, ReceiveQueuing, WriteSampling}
+use Rattle.apex_types.specs.declared.call.Call.TheVariants.{SendQueuing, ReceiveQueuing, ClearQueuing, WriteSampling}
 use Rattle.apex_types.specs.declared.moment.Moment.{Moment}
 use Rattle.apex_types.specs.declared.reply.Reply.TheVariants.{Code, Received}
 use Rattle.apex_types.specs.declared.return_code.ReturnCode.TheVariants.{NoError}
+use Rattle.std.proofs.lemmas.List.{length-map}
 use Rattle.apex_config.specs.Configuration.{Configuration, port_of}
 use Rattle.apex_config.specs.declared.port.Port.{Port}
 use Rattle.apex_ports.specs.declared.history.Entry.{Entry}
 use Rattle.apex_ports.specs.declared.partition.PartitionState.{PartitionState}
 use Rattle.apex_ports.specs.declared.channel.ChannelState.{ChannelState}
 use Rattle.apex_ports.specs.declared.channel.ChannelState.TheVariants.{Queuing, Sampling}
-use Rattle.apex_ports.specs.ChannelStates.{has_queue, waiting_in, places_in, accepted_in, received_in, sample_in}
+use Rattle.apex_ports.specs.ChannelStates.{has_queue, waiting_in, places_in, accepted_in, received_in, cleared_in, sample_in}
 use Rattle.apex_ports.specs.Counts.{count_of}
 use Rattle.apex_ports.specs.History.{History, entry_of}
 use Rattle.apex_ports.specs.Ports.{is_source_of, is_destination_of}
-use Rattle.apex_ports.specs.Channels.{accepted_on, received_on, message_accepted, message_received, sample_at}
+use Rattle.apex_ports.specs.Channels.{accepted_on, received_on, cleared_on, waiting_on, message_accepted, message_received, clears, as_cleared, sample_at}
 use Rattle.apex_ports.specs.Kept.{IsChannelKept, AreKept}
 use Rattle.apex_ports.specs.ReplyTable.{oldest_reply}
 use Rattle.apex_ports.specs.Rules.{IsConserved}
-use Rattle.apex_ports.proofs.Counts.{count-push}
-use Rattle.apex_ports.proofs.Histories.{accepted-sent, received-received, waiting-sent, waiting-received}
-use Rattle.apex_ports.proofs.OneChannel.{LiesElsewhere, port_elsewhere, sends_elsewhere, receives_elsewhere, writes_elsewhere}
-use Rattle.apex_ports.proofs.Stays.{leaves_partition, leaves_channel, channel_changes, accepted_stays, received_stays, waiting_stays, sample_stays, sample_changes}
+use Rattle.apex_ports.proofs.Counts.{count-push, count-append}
+use Rattle.apex_ports.proofs.Histories.{accepted-sent, received-received, cleared-received, cleared-cleared, waiting-sent, waiting-received, waiting-cleared}
+use Rattle.apex_ports.proofs.OneChannel.{LiesElsewhere, port_elsewhere, sends_elsewhere, receives_elsewhere, clears_elsewhere, writes_elsewhere}
+use Rattle.apex_ports.proofs.Stays.{leaves_partition, leaves_channel, channel_changes, accepted_stays, received_stays, cleared_stays, waiting_stays, sample_stays, sample_changes}
 
 -- a port of the channel lies on no other
 source_elsewhere : (port : Option Port) (c d : ℕ) → is_source_of c port ≡ true → d ≢ c → LiesElsewhere d port
@@ -41,18 +42,19 @@ oldest_is (x ∷ xs) m at = let same : x ≡ m = cc in ap Received same
 module _ {A : Type 0} (config : Configuration) (h : History) (partitions : List (PartitionState A)) (channels : List (ChannelState A)) (p : ℕ) (at : Moment) (id c : ℕ) (m : List ℕ) (old new : ChannelState A) where
   -- the state after an accepted send
   pub sent_keeps : AreKept config h partitions channels → IsConserved config h c → is_source_of c (port_of config p id) ≡ true → IsChannelKept config h c old
-      → waiting_in new ≡ waiting_in old ++ m ∷ [] → places_in new ≡ places_in old → accepted_in new ≡ min (accepted_in old + 1) (2 ^ 64 - 1) → received_in new ≡ received_in old → sample_in new ≡ sample_in old → has_queue new ≡ has_queue old
+      → waiting_in new ≡ waiting_in old ++ m ∷ [] → places_in new ≡ places_in old → accepted_in new ≡ min (accepted_in old + 1) (2 ^ 64 - 1) → received_in new ≡ received_in old → cleared_in new ≡ cleared_in old → sample_in new ≡ sample_in old → has_queue new ≡ has_queue old
       → AreKept config (h ++ entry_of p at (SendQueuing id m) (Code NoError) ∷ []) partitions (set channels c new)
-  sent_keeps kept conserved source was waiting places accepted received sample kind =
+  sent_keeps kept conserved source was waiting places accepted received cleared sample kind =
       channel_changes config h e partitions channels kept c new
       (leaves_partition p at (SendQueuing id m) (Code NoError) refl refl (λ _. refl))
       (λ d apart. leaves_channel config d p at (SendQueuing id m) (Code NoError) (sends_elsewhere config d p id m (source_elsewhere (port_of config p id) c d source apart)))
       (record {
         kind = kind ∙ was.kind;
-        waiting = waiting ∙ (ap (λ xs. xs ++ m ∷ []) was.waiting ∙ sym (waiting-sent config c h e m conserved sent refl));
+        waiting = waiting ∙ (ap (λ xs. xs ++ m ∷ []) was.waiting ∙ sym (waiting-sent config c h e conserved m sent refl refl));
         depth = places ∙ was.depth;
         accepted = accepted ∙ (count-push (accepted_on config c h) m (accepted_in old) was.accepted ∙ ap count_of (sym (accepted-sent config c h e m sent)));
         received = received ∙ (was.received ∙ ap count_of (sym (received_stays config c h e refl)));
+        cleared = cleared ∙ (was.cleared ∙ ap count_of (sym (cleared_stays config c h e refl refl)));
         sample = sample ∙ (was.sample ∙ sym (sample_stays config h e c refl));
       })
     where
@@ -64,18 +66,19 @@ module _ {A : Type 0} (config : Configuration) (h : History) (partitions : List 
 
   -- the state after a receive that found a message
   pub received_keeps : AreKept config h partitions channels → IsConserved config h c → is_destination_of c (port_of config p id) ≡ true → IsChannelKept config h c old
-      → slice_get (waiting_in old) 0 ≡ Some m → waiting_in new ≡ drop 1 (waiting_in old) → places_in new ≡ places_in old → accepted_in new ≡ accepted_in old → received_in new ≡ min (received_in old + 1) (2 ^ 64 - 1) → sample_in new ≡ sample_in old → has_queue new ≡ has_queue old
+      → slice_get (waiting_in old) 0 ≡ Some m → waiting_in new ≡ drop 1 (waiting_in old) → places_in new ≡ places_in old → accepted_in new ≡ accepted_in old → received_in new ≡ min (received_in old + 1) (2 ^ 64 - 1) → cleared_in new ≡ cleared_in old → sample_in new ≡ sample_in old → has_queue new ≡ has_queue old
       → AreKept config (h ++ entry_of p at (ReceiveQueuing id) (Received m) ∷ []) partitions (set channels c new)
-  received_keeps kept conserved destination was oldest waiting places accepted received sample kind =
+  received_keeps kept conserved destination was oldest waiting places accepted received cleared sample kind =
       channel_changes config h e partitions channels kept c new
       (leaves_partition p at (ReceiveQueuing id) (Received m) refl refl (λ _. refl))
       (λ d apart. leaves_channel config d p at (ReceiveQueuing id) (Received m) (receives_elsewhere config d p id (destination_elsewhere (port_of config p id) c d destination apart)))
       (record {
         kind = kind ∙ was.kind;
-        waiting = waiting ∙ (ap (λ (xs : List (List ℕ)). drop 1 xs) was.waiting ∙ sym (waiting-received config c h e m conserved refl received_now (ap (λ (xs : List (List ℕ)). slice_get xs 0) (sym was.waiting) ∙ oldest)));
+        waiting = waiting ∙ (ap (λ (xs : List (List ℕ)). drop 1 xs) was.waiting ∙ sym (waiting-received config c h e conserved m refl received_now refl (ap (λ (xs : List (List ℕ)). slice_get xs 0) (sym was.waiting) ∙ oldest)));
         depth = places ∙ was.depth;
         accepted = accepted ∙ (was.accepted ∙ ap count_of (sym (accepted_stays config c h e refl)));
         received = received ∙ (count-push (received_on config c h) m (received_in old) was.received ∙ ap count_of (sym (received-received config c h e m received_now)));
+        cleared = cleared ∙ (was.cleared ∙ ap count_of (sym (cleared-received config c h e m received_now refl)));
         sample = sample ∙ (was.sample ∙ sym (sample_stays config h e c refl));
       })
     where
@@ -85,10 +88,38 @@ module _ {A : Type 0} (config : Configuration) (h : History) (partitions : List 
       received_now : message_received config c e ≡ Some m
       received_now = λ i. if destination i then Some m else None
 
+-- the state after an accepted clear
+pub cleared_keeps : {A : Type 0} (config : Configuration) (h : History) (partitions : List (PartitionState A)) (channels : List (ChannelState A)) (p : ℕ) (at : Moment) (id c : ℕ) (old new : ChannelState A)
+    → AreKept config h partitions channels → IsConserved config h c → is_destination_of c (port_of config p id) ≡ true → IsChannelKept config h c old
+    → waiting_in new ≡ [] → places_in new ≡ places_in old → accepted_in new ≡ accepted_in old → received_in new ≡ received_in old → cleared_in new ≡ min (cleared_in old + length (waiting_in old)) (2 ^ 64 - 1) → sample_in new ≡ sample_in old → has_queue new ≡ has_queue old
+    → AreKept config (h ++ entry_of p at (ClearQueuing id) (Code NoError) ∷ []) partitions (set channels c new)
+cleared_keeps config h partitions channels p at id c old new kept conserved destination was waiting places accepted received cleared sample kind =
+    channel_changes config h e partitions channels kept c new
+    (leaves_partition p at (ClearQueuing id) (Code NoError) refl refl (λ _. refl))
+    (λ d apart. leaves_channel config d p at (ClearQueuing id) (Code NoError) (clears_elsewhere config d p id (destination_elsewhere (port_of config p id) c d destination apart)))
+    (record {
+      kind = kind ∙ was.kind;
+      waiting = waiting ∙ sym (waiting-cleared config c h e conserved refl clear);
+      depth = places ∙ was.depth;
+      accepted = accepted ∙ (was.accepted ∙ ap count_of (sym (accepted_stays config c h e refl)));
+      received = received ∙ (was.received ∙ ap count_of (sym (received_stays config c h e refl)));
+      cleared = cleared ∙ (ap (λ (n : ℕ). min (cleared_in old + n) (2 ^ 64 - 1)) count ∙ (count-append (cleared_on config c h) (map as_cleared (waiting_on config c h)) (cleared_in old) was.cleared ∙ ap count_of (sym (cleared-cleared config c h e clear))));
+      sample = sample ∙ (was.sample ∙ sym (sample_stays config h e c refl));
+    })
+  where
+    e : Entry
+    e = entry_of p at (ClearQueuing id) (Code NoError)
+
+    clear : clears config c e ≡ true
+    clear = destination
+
+    count : length (waiting_in old) ≡ length (map as_cleared (waiting_on config c h))
+    count = ap (λ (xs : List (List ℕ)). length xs) was.waiting ∙ sym (length-map (waiting_on config c h) as_cleared)
+
 -- a sampling channel has no queue
-no_queue : {A : Type 0} (state : ChannelState A) → has_queue state ≡ false → (waiting_in state ≡ []) × (places_in state ≡ 0) × (accepted_in state ≡ 0) × (received_in state ≡ 0)
+no_queue : {A : Type 0} (state : ChannelState A) → has_queue state ≡ false → (waiting_in state ≡ []) × (places_in state ≡ 0) × (accepted_in state ≡ 0) × (received_in state ≡ 0) × (cleared_in state ≡ 0)
 no_queue (Queuing queue) kind = absurd (cc)
-no_queue (Sampling sample) kind = (refl, refl, refl, refl)
+no_queue (Sampling sample) kind = (refl, refl, refl, refl, refl)
 
 -- the state after an accepted write
 pub written_keeps : {A : Type 0} (config : Configuration) (h : History) (partitions : List (PartitionState A)) (channels : List (ChannelState A)) (p : ℕ) (at : Moment) (id c : ℕ) (m : List ℕ) (old : ChannelState A)
@@ -101,10 +132,11 @@ written_keeps {A} config h partitions channels p at id c m old kept source was s
     (λ d apart. leaves_channel config d p at (WriteSampling id m) (Code NoError) (writes_elsewhere config d p id m (source_elsewhere (port_of config p id) c d source apart)))
     (record {
       kind = sym sampling ∙ was.kind;
-      waiting = sym none.0 ∙ (was.waiting ∙ sym (waiting_stays config c h e refl refl));
+      waiting = sym none.0 ∙ (was.waiting ∙ sym (waiting_stays config c h e refl refl refl));
       depth = sym none.1 ∙ was.depth;
       accepted = sym none.2 ∙ (was.accepted ∙ ap count_of (sym (accepted_stays config c h e refl)));
       received = sym none.3 ∙ (was.received ∙ ap count_of (sym (received_stays config c h e refl)));
+      cleared = sym none.4 ∙ (was.cleared ∙ ap count_of (sym (cleared_stays config c h e refl refl)));
       sample = sym (sample_changes config h e c (record { message = m; at = at }) (λ i. sample_at at (if source i then Some m else None)));
     })
   where

@@ -1,10 +1,13 @@
 -- The law of every lawful history: nothing is lost, doubled or reordered, and no more wait than the depth.
-use Rattle.std.proofs.Common.{◌≡◌, ℕ, ◌≤◌, ◌==◌, Bool, true, false, if◌then◌else◌, List, [], ◌∷◌, ◌++◌, length, drop, Option, Some, None, refl, sym, ap, ◌∙◌, subst, arith, length-append, length-drop, append_assoc}
+use Rattle.std.proofs.Common.{◌≡◌, ℕ, ◌≤◌, ◌==◌, Bool, true, false, if◌then◌else◌, List, [], ◌∷◌, ◌++◌, length, drop, map, Option, Some, None, refl, sym, ap, ◌∙◌, subst, arith, length-append, length-drop, append_assoc, append-nil}
 use Rattle.std.specs.List.{slice_get}
 use Rattle.std.proofs.lemmas.Bool.Decides.{nat_tests}
+use Rattle.std.proofs.lemmas.List.{length-map}
+use Rattle.std.proofs.lemmas.List.Sums.{length-filter, count_by-le-length}
 use Rattle.apex_types.specs.declared.call.Call.{Call}
-use Rattle.apex_types.specs.declared.call.Call.TheVariants.{SendQueuing, ReceiveQueuing, WriteSampling}
+use Rattle.apex_types.specs.declared.call.Call.TheVariants.{SendQueuing, ReceiveQueuing, ClearQueuing, WriteSampling}
 use Rattle.apex_types.specs.declared.moment.Moment.{Moment}
+use Rattle.apex_types.specs.declared.taken.Taken.{Taken}
 use Rattle.apex_types.specs.declared.reply.Reply.{Reply}
 use Rattle.apex_types.specs.declared.reply.Reply.TheVariants.{NotMade, Code}
 use Rattle.apex_types.specs.declared.return_code.ReturnCode.TheVariants.{NoError, NotAvailable, InvalidParam, InvalidConfig, InvalidMode}
@@ -17,13 +20,13 @@ use Rattle.apex_ports.specs.declared.history.Entry.{Entry}
 use Rattle.apex_ports.specs.History.{History, entry_of}
 use Rattle.apex_ports.specs.Modes.{mode_of, is_idle, is_code_no_error}
 use Rattle.apex_ports.specs.Ports.{is_created, queuing_only, sampling_only, queuing_port, sampling_port, is_queuing, is_queue, is_source, is_source_of, is_destination_of}
-use Rattle.apex_ports.specs.Channels.{accepted_on, received_on, waiting_on, message_in, message_sent, message_accepted, message_received, sample_at}
+use Rattle.apex_ports.specs.Channels.{accepted_on, taken_on, cleared_on, waiting_on, messages_of, message_in, message_sent, message_accepted, message_received, clears, as_cleared, sample_at}
 use Rattle.apex_ports.specs.LawfulLaws.{along_lawful}
 use Rattle.apex_ports.specs.ReplyTable.{depth_of, depth_in, send_reply, oldest_reply, receive_reply, write_reply, reply_to}
 use Rattle.apex_ports.specs.Rules.{IsConserved, AlwaysConserved}
 use Rattle.apex_ports.specs.Sound.{IsSound}
-use Rattle.apex_ports.proofs.Histories.{accepted-sent, received-received, waiting-sent, waiting-received}
-use Rattle.apex_ports.proofs.Stays.{LeavesChannel, leaves_channel, accepted_stays, received_stays, waiting_stays, sample_stays, none_or_none, and_true}
+use Rattle.apex_ports.proofs.Histories.{accepted-sent, taken-received, taken-cleared, waiting-sent, waiting-received, waiting-cleared, received_conserved, cleared_conserved}
+use Rattle.apex_ports.proofs.Stays.{LeavesChannel, leaves_channel, accepted_stays, taken_stays, waiting_stays, sample_stays, none_or_none, and_true, and_false}
 
 -- ---- what a reply of the table says of the port
 
@@ -135,10 +138,10 @@ module _ (config : Configuration) (h : History) (c p : ℕ) (at : Moment) (reply
   stays call left =
       let e = entry_of p at call reply in
       let accepted = accepted_stays config c h e left.accepted in
-      let received = received_stays config c h e left.received in
-      let waiting = waiting_stays config c h e left.accepted left.received in
+      let taken = taken_stays config c h e left.received left.cleared in
+      let waiting = waiting_stays config c h e left.accepted left.received left.cleared in
       record {
-        messages = (λ i. received i ++ waiting i) ∙ (was.messages ∙ sym accepted);
+        messages = (λ i. messages_of (taken i) ++ waiting i) ∙ (was.messages ∙ sym accepted);
         depth = subst (λ (xs : List (List ℕ)). length xs ≤ depth_of config c) (sym waiting) was.depth;
         sampling = λ kind. accepted ∙ was.sampling kind;
         queuing = λ kind. sample_stays config h e c left.written ∙ was.queuing kind;
@@ -154,17 +157,19 @@ module _ (config : Configuration) (h : History) (c p : ℕ) (at : Moment) (reply
       by_code false refused source = stays (SendQueuing id m) (record {
         accepted = λ i. if refused i then message_sent config c p (SendQueuing id m) else None;
         received = refl;
+        cleared = and_false (is_code_no_error reply);
         written = λ i. if refused i then sample_at at None else None;
       })
       by_code true ok source =
           let sent : message_accepted config c e ≡ Some m = λ i. if ok i then (if source i then Some m else None) else None in
           let accepted = accepted-sent config c h e m sent in
-          let received = received_stays config c h e refl in
-          let waiting = waiting-sent config c h e m was sent refl in
+          let no_clear = and_false (is_code_no_error reply) in
+          let taken = taken_stays config c h e refl no_clear in
+          let waiting = waiting-sent config c h e was m sent refl no_clear in
           let free = send_free config h p at id m reply c is ok source in
           let before = was.depth in
           record {
-            messages = (λ i. received i ++ waiting i) ∙ (sym (append_assoc (received_on config c h) (waiting_on config c h) (m ∷ [])) ∙ (ap (λ xs. xs ++ m ∷ []) was.messages ∙ sym accepted));
+            messages = (λ i. messages_of (taken i) ++ waiting i) ∙ (sym (append_assoc (messages_of (taken_on config c h)) (waiting_on config c h) (m ∷ [])) ∙ (ap (λ xs. xs ++ m ∷ []) was.messages ∙ sym accepted));
             depth =
                 let grown : length (waiting_on config c (h ++ e ∷ [])) ≡ length (waiting_on config c h ++ m ∷ []) = ap (λ (xs : List (List ℕ)). length xs) waiting in
                 let longer = length-append (waiting_on config c h) (m ∷ []) in
@@ -176,7 +181,7 @@ module _ (config : Configuration) (h : History) (c p : ℕ) (at : Moment) (reply
           }
 
       by_source : (b : Bool) → is_source_of c (port_of config p id) ≡ b → IsConserved config (h ++ e ∷ []) c
-      by_source false off = stays (SendQueuing id m) (leaves_channel config c p at (SendQueuing id m) reply (record { sends = λ i. if off i then Some m else None; receives = refl; writes = refl }))
+      by_source false off = stays (SendQueuing id m) (leaves_channel config c p at (SendQueuing id m) reply (record { sends = λ i. if off i then Some m else None; receives = refl; clears = refl; writes = refl }))
       by_source true source = by_code (is_code_no_error reply) refl source
 
   receives : (id : ℕ) → reply ≡ reply_to config h p at (ReceiveQueuing id) → IsConserved config (h ++ entry_of p at (ReceiveQueuing id) reply ∷ []) c
@@ -189,6 +194,7 @@ module _ (config : Configuration) (h : History) (c p : ℕ) (at : Moment) (reply
       by_message None none destination = stays (ReceiveQueuing id) (record {
         accepted = none_or_none (is_code_no_error reply);
         received = λ i. if destination i then none i else None;
+        cleared = and_false (is_code_no_error reply);
         written = none_or_none (is_code_no_error reply);
       })
       by_message (Some m) shown destination =
@@ -196,26 +202,44 @@ module _ (config : Configuration) (h : History) (c p : ℕ) (at : Moment) (reply
           let received_now : message_received config c e ≡ Some m = λ i. if destination i then shown i else None in
           let oldest = receive_oldest config h p at id m reply c is shown destination in
           let accepted = accepted_stays config c h e no_send in
-          let received = received-received config c h e m received_now in
-          let waiting = waiting-received config c h e m was no_send received_now oldest in
+          let no_clear = and_false (is_code_no_error reply) in
+          let taken = taken-received config c h e m received_now no_clear in
+          let waiting = waiting-received config c h e was m no_send received_now no_clear oldest in
           let before = was.depth in
           record {
-            messages = let again : (received_on config c h ++ m ∷ []) ++ drop 1 (waiting_on config c h) ≡ accepted_on config c h = split (received_on config c h) (waiting_on config c h) m oldest ∙ was.messages in
-                (λ i. received i ++ waiting i) ∙ (again ∙ sym accepted);
+            messages = (λ i. messages_of (taken i) ++ waiting i) ∙ (received_conserved config c h e was m oldest ∙ sym accepted);
             depth =
                 let fewer : length (waiting_on config c (h ++ e ∷ [])) ≡ length (drop 1 (waiting_on config c h)) = ap (λ (xs : List (List ℕ)). length xs) waiting in
                 omega (arith, length-drop 1 (waiting_on config c h));
             sampling = λ kind. accepted ∙ was.sampling kind;
             queuing = λ kind. sample_stays config h e c (none_or_none (is_code_no_error reply)) ∙ was.queuing kind;
           }
-        where
-          split : (front waiting : List (List ℕ)) (x : List ℕ) → slice_get waiting 0 ≡ Some x → (front ++ x ∷ []) ++ drop 1 waiting ≡ front ++ waiting
-          split front [] x at = absurd (cc)
-          split front (y ∷ rest) x at = let same : x ≡ y = cc in append_assoc front (x ∷ []) rest ∙ ap (λ z. front ++ z ∷ rest) same
 
       by_destination : (b : Bool) → is_destination_of c (port_of config p id) ≡ b → IsConserved config (h ++ e ∷ []) c
-      by_destination false off = stays (ReceiveQueuing id) (leaves_channel config c p at (ReceiveQueuing id) reply (record { sends = refl; receives = off; writes = refl }))
+      by_destination false off = stays (ReceiveQueuing id) (leaves_channel config c p at (ReceiveQueuing id) reply (record { sends = refl; receives = off; clears = refl; writes = refl }))
       by_destination true destination = by_message (message_in reply) refl destination
+
+  clears_all : (id : ℕ) → IsConserved config (h ++ entry_of p at (ClearQueuing id) reply ∷ []) c
+  clears_all id = by_clear (clears config c e) refl
+    where
+      e : Entry
+      e = entry_of p at (ClearQueuing id) reply
+
+      no_send : message_accepted config c e ≡ None
+      no_send = none_or_none (is_code_no_error reply)
+
+      by_clear : (b : Bool) → clears config c e ≡ b → IsConserved config (h ++ e ∷ []) c
+      by_clear false none = stays (ClearQueuing id) (record { accepted = no_send; received = refl; cleared = none; written = none_or_none (is_code_no_error reply) })
+      by_clear true clear =
+          let accepted = accepted_stays config c h e no_send in
+          let taken = taken-cleared config c h e clear in
+          let waiting = waiting-cleared config c h e was no_send clear in
+          record {
+            messages = (λ i. messages_of (taken i) ++ waiting i) ∙ (append-nil (messages_of (taken_on config c h ++ map as_cleared (waiting_on config c h))) ∙ (cleared_conserved config c h e was ∙ sym accepted));
+            depth = subst (λ (xs : List (List ℕ)). length xs ≤ depth_of config c) (sym waiting) (omega arith);
+            sampling = λ kind. accepted ∙ was.sampling kind;
+            queuing = λ kind. sample_stays config h e c (none_or_none (is_code_no_error reply)) ∙ was.queuing kind;
+          }
 
   writes : (id : ℕ) (m : List ℕ) → IsConfiguration config → reply ≡ reply_to config h p at (WriteSampling id m) → IsConserved config (h ++ entry_of p at (WriteSampling id m) reply ∷ []) c
   writes id m valid is = by_source (is_source_of c (port_of config p id)) refl
@@ -227,30 +251,33 @@ module _ (config : Configuration) (h : History) (c p : ℕ) (at : Moment) (reply
       by_code false refused source = stays (WriteSampling id m) (record {
         accepted = none_or_none (is_code_no_error reply);
         received = refl;
+        cleared = and_false (is_code_no_error reply);
         written = λ i. if refused i then sample_at at (if is_source_of c (port_of config p id) then Some m else None) else None;
       })
       by_code true ok source =
           let no_send : message_accepted config c e ≡ None = none_or_none (is_code_no_error reply) in
           let accepted = accepted_stays config c h e no_send in
-          let received = received_stays config c h e refl in
-          let waiting = waiting_stays config c h e no_send refl in
+          let no_clear = and_false (is_code_no_error reply) in
+          let taken = taken_stays config c h e refl no_clear in
+          let waiting = waiting_stays config c h e no_send refl no_clear in
           let sampling_kind = write_sampling config h p at id m reply c valid is ok source in
           record {
-            messages = (λ i. received i ++ waiting i) ∙ (was.messages ∙ sym accepted);
+            messages = (λ i. messages_of (taken i) ++ waiting i) ∙ (was.messages ∙ sym accepted);
             depth = subst (λ (xs : List (List ℕ)). length xs ≤ depth_of config c) (sym waiting) was.depth;
             sampling = λ kind. accepted ∙ was.sampling kind;
             queuing = λ kind. absurd (cc);
           }
 
       by_source : (b : Bool) → is_source_of c (port_of config p id) ≡ b → IsConserved config (h ++ e ∷ []) c
-      by_source false off = stays (WriteSampling id m) (leaves_channel config c p at (WriteSampling id m) reply (record { sends = refl; receives = refl; writes = λ i. if off i then Some m else None }))
+      by_source false off = stays (WriteSampling id m) (leaves_channel config c p at (WriteSampling id m) reply (record { sends = refl; receives = refl; clears = refl; writes = λ i. if off i then Some m else None }))
       by_source true source = by_code (is_code_no_error reply) refl source
 
   one_more : (call : Call) → IsConfiguration config → reply ≡ reply_to config h p at call → IsConserved config (h ++ entry_of p at call reply ∷ []) c
   one_more (SendQueuing id m) valid is = sends id m is
   one_more (ReceiveQueuing id) valid is = receives id is
+  one_more (ClearQueuing id) valid is = clears_all id
   one_more (WriteSampling id m) valid is = writes id m valid is
-  one_more call valid is = stays call (leaves_channel config c p at call reply (record { sends = refl; receives = refl; writes = refl }))
+  one_more call valid is = stays call (leaves_channel config c p at call reply (record { sends = refl; receives = refl; clears = refl; writes = refl }))
 
 none_yet : (config : Configuration) (c : ℕ) → IsConserved config [] c
 none_yet config c = record {
@@ -270,8 +297,16 @@ always_conserved config h c sound =
 pub sampling_waits_nothing : (config : Configuration) (h : History) (c : ℕ) → IsSound config h → is_queuing config c ≡ false → waiting_on config c h ≡ []
 sampling_waits_nothing config h c sound sampling =
     let conserved = always_conserved config h c sound in
-    back_of_nil (received_on config c h) (waiting_on config c h) (conserved.messages ∙ conserved.sampling sampling)
+    back_of_nil (messages_of (taken_on config c h)) (waiting_on config c h) (conserved.messages ∙ conserved.sampling sampling)
   where
     back_of_nil : (xs ys : List (List ℕ)) → xs ++ ys ≡ [] → ys ≡ []
     back_of_nil [] ys e = e
     back_of_nil (x ∷ xs) ys e = absurd (cc)
+
+-- no more messages are cleared than were accepted
+pub cleared_within : (config : Configuration) (h : History) (c : ℕ) → IsSound config h → length (cleared_on config c h) ≤ length (accepted_on config c h)
+cleared_within config h c sound =
+    let taken = taken_on config c h in
+    let whole = ap (λ (xs : List (List ℕ)). length xs) (always_conserved config h c sound).messages in
+    let fewer : length (cleared_on config c h) ≤ length taken = rw (length-filter (λ (one : Taken). one.cleared) taken) (count_by-le-length (λ (one : Taken). one.cleared) taken) in
+    omega (arith, whole, fewer, length-map taken (λ (one : Taken). one.message), length-append (messages_of taken) (waiting_on config c h))

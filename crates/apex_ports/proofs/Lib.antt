@@ -11,3 +11,4 @@ pub mod OneChannel
 pub mod PartitionSteps
 pub mod Refused
 pub mod Stays
+pub mod WithoutClears

@@ -2,7 +2,7 @@
 use Rattle.std.proofs.Common.{◌≡◌, ◌≢◌, ◌⊎◌, inl, inr, ℕ, ◌==◌, Bool, true, false, ◌&&◌, not, if◌then◌else◌, List, [], ◌∷◌, ◌++◌, Option, Some, None, refl, ◌∙◌, arith}
 use Rattle.std.proofs.lemmas.Bool.Decides.{nat_tests}
 use Rattle.apex_types.specs.declared.call.Call.{Call}
-use Rattle.apex_types.specs.declared.call.Call.TheVariants.{SendQueuing, ReceiveQueuing, WriteSampling}
+use Rattle.apex_types.specs.declared.call.Call.TheVariants.{SendQueuing, ReceiveQueuing, ClearQueuing, WriteSampling}
 use Rattle.apex_types.specs.declared.moment.Moment.{Moment}
 use Rattle.apex_types.specs.declared.reply.Reply.{Reply}
 use Rattle.apex_config.specs.Configuration.{Configuration, port_of}
@@ -34,13 +34,16 @@ port_elsewhere (Some port) c d apart = by_test (port.channel == c) refl
     by_test true on = let off : (port.channel == d) ≡ false = grind (arith, nat_tests) in inr (off_channel port d off)
 
 pub sends_elsewhere : (config : Configuration) (c p id : ℕ) (message : List ℕ) → LiesElsewhere c (port_of config p id) → IsElsewhere config c p (SendQueuing id message)
-sends_elsewhere config c p id message off = record { sends = λ i. if off.source i then Some message else None; receives = refl; writes = refl }
+sends_elsewhere config c p id message off = record { sends = λ i. if off.source i then Some message else None; receives = refl; clears = refl; writes = refl }
 
 pub receives_elsewhere : (config : Configuration) (c p id : ℕ) → LiesElsewhere c (port_of config p id) → IsElsewhere config c p (ReceiveQueuing id)
-receives_elsewhere config c p id off = record { sends = refl; receives = off.destination; writes = refl }
+receives_elsewhere config c p id off = record { sends = refl; receives = off.destination; clears = refl; writes = refl }
+
+pub clears_elsewhere : (config : Configuration) (c p id : ℕ) → LiesElsewhere c (port_of config p id) → IsElsewhere config c p (ClearQueuing id)
+clears_elsewhere config c p id off = record { sends = refl; receives = refl; clears = off.destination; writes = refl }
 
 pub writes_elsewhere : (config : Configuration) (c p id : ℕ) (message : List ℕ) → LiesElsewhere c (port_of config p id) → IsElsewhere config c p (WriteSampling id message)
-writes_elsewhere config c p id message off = record { sends = refl; receives = refl; writes = λ i. if off.source i then Some message else None }
+writes_elsewhere config c p id message off = record { sends = refl; receives = refl; clears = refl; writes = λ i. if off.source i then Some message else None }
 
 either : {P Q R S : Type 0} → (P → R) → (Q → S) → P ⊎ Q → R ⊎ S
 either f g (inl p) = inl (f p)
@@ -51,9 +54,11 @@ call_elsewhere config c d p (SendQueuing id message) apart =
     either (sends_elsewhere config c p id message) (sends_elsewhere config d p id message) (port_elsewhere (port_of config p id) c d apart)
 call_elsewhere config c d p (ReceiveQueuing id) apart =
     either (receives_elsewhere config c p id) (receives_elsewhere config d p id) (port_elsewhere (port_of config p id) c d apart)
+call_elsewhere config c d p (ClearQueuing id) apart =
+    either (clears_elsewhere config c p id) (clears_elsewhere config d p id) (port_elsewhere (port_of config p id) c d apart)
 call_elsewhere config c d p (WriteSampling id message) apart =
     either (writes_elsewhere config c p id message) (writes_elsewhere config d p id message) (port_elsewhere (port_of config p id) c d apart)
-call_elsewhere config c d p _ apart = inl (record { sends = refl; receives = refl; writes = refl })
+call_elsewhere config c d p _ apart = inl (record { sends = refl; receives = refl; clears = refl; writes = refl })
 
 elsewhere_same : (config : Configuration) (h : History) (p : ℕ) (at : Moment) (call : Call) (reply : Reply) (c : ℕ) → IsElsewhere config c p call → SameChannel config h (h ++ entry_of p at call reply ∷ []) c
 elsewhere_same config h p at call reply c off = same_channel config h (entry_of p at call reply) c (leaves_channel config c p at call reply off)
@@ -65,4 +70,4 @@ one_channel config h p at call reply c d apart =
 
 -- nothing more changes none
 pub no_channel : (config : Configuration) (h : History) → ChangesOneChannel config h h
-no_channel config h c d apart = inl (record { accepted = refl; received = refl; waiting = refl; sample = refl })
+no_channel config h c d apart = inl (record { accepted = refl; taken = refl; waiting = refl; sample = refl })

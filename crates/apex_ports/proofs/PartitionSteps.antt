@@ -60,7 +60,7 @@ pub mode_set_keeps : {A : Type 0} (config : Configuration) (h : History) (partit
     → AreKept config (h ++ entry_of p at (SetMode number) (Code NoError) ∷ []) (set partitions p new) channels
 mode_set_keeps {A} config h partitions channels p at number mode old new kept was numbered new_mode count restart stay last =
     partition_changes config h e partitions channels kept p new (leaves_others p at (SetMode number) (Code NoError))
-    (λ c. leaves_channel config c p at (SetMode number) (Code NoError) (record { sends = refl; receives = refl; writes = refl }))
+    (λ c. leaves_channel config c p at (SetMode number) (Code NoError) (record { sends = refl; receives = refl; clears = refl; writes = refl }))
     (record {
       mode = new_mode ∙ sym (mode_of-append p h e ∙ ap (λ o. unwrap_or o (mode_of p h)) sets);
       ports = count ∙ was.ports;
@@ -152,7 +152,7 @@ pub read_keeps : {A : Type 0} (config : Configuration) (h : History) (partitions
     → AreKept config (h ++ entry_of p at (ReadSampling number) (Read message validity) ∷ []) (set partitions p new) channels
 read_keeps {A} config h partitions channels p at number message validity flag old new kept was flag_is mode count states =
     partition_changes config h e partitions channels kept p new (leaves_others p at (ReadSampling number) (Read message validity))
-    (λ c. leaves_channel config c p at (ReadSampling number) (Read message validity) (record { sends = refl; receives = refl; writes = refl }))
+    (λ c. leaves_channel config c p at (ReadSampling number) (Read message validity) (record { sends = refl; receives = refl; clears = refl; writes = refl }))
     (record {
       mode = mode ∙ (was.mode ∙ sym (mode_of-append p h e));
       ports = count ∙ was.ports;

@@ -1,5 +1,5 @@
 -- A kept state stays kept where an entry leaves its parts alone, and where the part that it changes is set.
-use Rattle.std.proofs.Common.{◌≡◌, ◌≢◌, ◌⊎◌, inl, inr, ⊎_elim, ℕ, zero, suc, ◌+◌, ◌-◌, Bool, true, false, ◌&&◌, ◌||◌, ◌==◌, not, if◌then◌else◌, List, [], ◌∷◌, ◌++◌, length, drop, set, Option, Some, None, refl, sym, ap, ◌∙◌, subst, arith, length-append, length-set, append-nil}
+use Rattle.std.proofs.Common.{◌≡◌, ◌≢◌, ◌⊎◌, inl, inr, ⊎_elim, ℕ, zero, suc, ◌+◌, ◌-◌, Bool, true, false, ◌&&◌, ◌||◌, ◌==◌, not, if◌then◌else◌, List, [], ◌∷◌, ◌++◌, length, drop, map, filter, set, Option, Some, None, refl, sym, ap, ◌∙◌, subst, arith, length-append, length-set, append-nil}
 use Rattle.std.specs.Option.{unwrap_or, option_to_list}
 use Rattle.std.specs.List.{slice_get}
 use Rattle.circular_buffer.proofs.Places.{slice_get-last, slice_get-push}
@@ -15,16 +15,17 @@ use Rattle.apex_types.specs.declared.return_code.ReturnCode.TheVariants.{Invalid
 use Rattle.apex_config.specs.declared.port.Port.{Port}
 use Rattle.apex_ports.specs.declared.history.Entry.{Entry}
 use Rattle.apex_types.specs.declared.sample.Sample.{Sample}
+use Rattle.apex_types.specs.declared.taken.Taken.{Taken}
 use Rattle.apex_ports.specs.declared.partition.PartitionState.{PartitionState}
 use Rattle.apex_ports.specs.declared.channel.ChannelState.{ChannelState}
 use Rattle.apex_ports.specs.History.{History, entry_of}
 use Rattle.apex_ports.specs.Modes.{mode_of, mode_set, mode_asked, is_restart, is_code_no_error, is_no_error}
 use Rattle.apex_ports.specs.Ports.{is_created, creates, is_create, is_id, NamedPort}
-use Rattle.apex_ports.specs.Channels.{accepted_on, received_on, waiting_on, writes_on, last_write_on, message_accepted, message_sent, message_received, message_in, is_receive, sample_written, sample_at, message_written, last_validity_of, validity_read, validity_in, is_read}
+use Rattle.apex_ports.specs.Channels.{accepted_on, received_on, taken_on, cleared_on, waiting_on, writes_on, last_write_on, message_accepted, message_sent, message_received, message_in, is_receive, clears, is_clear, taken_by, as_received, as_cleared, sample_written, sample_at, message_written, last_validity_of, validity_read, validity_in, is_read}
 use Rattle.apex_ports.specs.ReplyTable.{queuing_status_reply, sampling_status_reply, id_reply}
 use Rattle.apex_ports.specs.Counts.{count_of}
 use Rattle.apex_ports.specs.Kept.{EachAt, IsPartitionKept, IsChannelKept, AreKept}
-use Rattle.apex_ports.proofs.Appends.{mode_of-append, is_created-append, last_validity_of-append, accepted_on-append, received_on-append, writes_on-append}
+use Rattle.apex_ports.proofs.Appends.{mode_of-append, is_created-append, last_validity_of-append, accepted_on-append, received_on-append, taken_on-append, writes_on-append}
 
 -- ---- entries that leave a part alone
 
@@ -36,11 +37,20 @@ pub record LeavesPartition (p : ℕ) (e : Entry) : Type 0 where
 pub record LeavesChannel (config : Configuration) (c : ℕ) (e : Entry) : Type 0 where
   pub accepted : message_accepted config c e ≡ None
   pub received : message_received config c e ≡ None
+  pub cleared : clears config c e ≡ false
   pub written : sample_written config c e ≡ None
 
 pub and_true : (a b : Bool) → (a && b) ≡ true → (a ≡ true) × (b ≡ true)
 and_true true b h = (refl, h)
 and_true false b h = absurd (cc)
+
+pub and_false : (b : Bool) → (b && false) ≡ false
+and_false true = refl
+and_false false = refl
+
+pub none_or_none : {X : Type 0} (b : Bool) → ◌≡◌ {A = Option X} (if b then None else None) None
+none_or_none true = refl
+none_or_none false = refl
 
 pub or_not : (b : Bool) → (false || (b && not false)) ≡ b
 or_not true = refl
@@ -63,8 +73,18 @@ accepted_stays config c h e none = accepted_on-append config c h e ∙ (ap (λ o
 pub received_stays : (config : Configuration) (c : ℕ) (h : History) (e : Entry) → message_received config c e ≡ None → received_on config c (h ++ e ∷ []) ≡ received_on config c h
 received_stays config c h e none = received_on-append config c h e ∙ (ap (λ o. received_on config c h ++ option_to_list o) none ∙ append-nil (received_on config c h))
 
-pub waiting_stays : (config : Configuration) (c : ℕ) (h : History) (e : Entry) → message_accepted config c e ≡ None → message_received config c e ≡ None → waiting_on config c (h ++ e ∷ []) ≡ waiting_on config c h
-waiting_stays config c h e no_send no_receive = λ i. drop (length (received_stays config c h e no_receive i)) (accepted_stays config c h e no_send i)
+takes_nothing : (config : Configuration) (c : ℕ) (waiting : List (List ℕ)) (e : Entry) → message_received config c e ≡ None → clears config c e ≡ false → taken_by config c waiting e ≡ []
+takes_nothing config c waiting e no_receive no_clear = λ i. if no_clear i then map as_cleared waiting else map as_received (option_to_list (no_receive i))
+
+pub taken_stays : (config : Configuration) (c : ℕ) (h : History) (e : Entry) → message_received config c e ≡ None → clears config c e ≡ false → taken_on config c (h ++ e ∷ []) ≡ taken_on config c h
+taken_stays config c h e no_receive no_clear =
+    taken_on-append config c h e ∙ (ap (λ ts. taken_on config c h ++ ts) (takes_nothing config c (waiting_on config c h) e no_receive no_clear) ∙ append-nil (taken_on config c h))
+
+pub cleared_stays : (config : Configuration) (c : ℕ) (h : History) (e : Entry) → message_received config c e ≡ None → clears config c e ≡ false → cleared_on config c (h ++ e ∷ []) ≡ cleared_on config c h
+cleared_stays config c h e no_receive no_clear = ap (filter (λ (taken : Taken). taken.cleared)) (taken_stays config c h e no_receive no_clear)
+
+pub waiting_stays : (config : Configuration) (c : ℕ) (h : History) (e : Entry) → message_accepted config c e ≡ None → message_received config c e ≡ None → clears config c e ≡ false → waiting_on config c (h ++ e ∷ []) ≡ waiting_on config c h
+waiting_stays config c h e no_send no_receive no_clear = λ i. drop (length (taken_stays config c h e no_receive no_clear i)) (accepted_stays config c h e no_send i)
 
 -- a channel's last write stays where the entry writes nothing into it
 pub sample_stays : (config : Configuration) (h : History) (e : Entry) (c : ℕ) → sample_written config c e ≡ None → last_write_on config c (h ++ e ∷ []) ≡ last_write_on config c h
@@ -75,10 +95,11 @@ sample_stays config h e c left =
 channel_stays : {A : Type 0} (config : Configuration) (h : History) (e : Entry) (c : ℕ) (state : ChannelState A) → IsChannelKept config h c state → LeavesChannel config c e → IsChannelKept config (h ++ e ∷ []) c state
 channel_stays config h e c state kept left = record {
   kind = kept.kind;
-  waiting = kept.waiting ∙ sym (waiting_stays config c h e left.accepted left.received);
+  waiting = kept.waiting ∙ sym (waiting_stays config c h e left.accepted left.received left.cleared);
   depth = kept.depth;
   accepted = kept.accepted ∙ ap count_of (sym (accepted_stays config c h e left.accepted));
   received = kept.received ∙ ap count_of (sym (received_stays config c h e left.received));
+  cleared = kept.cleared ∙ ap count_of (sym (cleared_stays config c h e left.received left.cleared));
   sample = kept.sample ∙ sym (sample_stays config h e c left.written);
 }
 
@@ -92,6 +113,20 @@ pub sample_changes : (config : Configuration) (h : History) (e : Entry) (c : ℕ
 sample_changes config h e c sample written =
     let longer : writes_on config c (h ++ e ∷ []) ≡ writes_on config c h ++ sample ∷ [] = writes_on-append config c h e ∙ ap (λ o. writes_on config c h ++ option_to_list o) written in
     ap (λ (writes : List Sample). slice_get writes (length writes - 1)) longer ∙ slice_get_last (writes_on config c h) sample
+
+-- an entry that receives a message clears no channel
+pub receives_no_clear : (config : Configuration) (c : ℕ) (e : Entry) (m : List ℕ) → message_received config c e ≡ Some m → (d : ℕ) → clears config d e ≡ false
+receives_no_clear config c e m received d = λ i. by_code (is_code_no_error e.reply) refl i && is_clear config d e.partition e.call
+  where
+    without : (reply : Reply) → is_code_no_error reply ≡ true → message_in reply ≡ None
+    without (Code code) is = refl
+    without _ is = absurd (cc)
+
+    by_code : (b : Bool) → is_code_no_error e.reply ≡ b → is_code_no_error e.reply ≡ false
+    by_code false is = is
+    by_code true is =
+        let none : message_received config c e ≡ None = (λ i. if is_receive config c e.partition e.call then without e.reply is i else None) ∙ none_or_none (is_receive config c e.partition e.call) in
+        absurd (cc)
 
 -- ---- lists, place by place
 
@@ -116,10 +151,6 @@ each_at_set {X} P Q xs i y each others mine k x at =
 
 -- ---- calls that are about something else
 
-pub none_or_none : {X : Type 0} (b : Bool) → ◌≡◌ {A = Option X} (if b then None else None) None
-none_or_none true = refl
-none_or_none false = refl
-
 pub leaves_partition : (p : ℕ) (at : Moment) (call : Call) (reply : Reply) → mode_asked call ≡ None → is_create call ≡ false → ((id : ℕ) → is_read id call ≡ false) → (q : ℕ) → LeavesPartition q (entry_of p at call reply)
 leaves_partition p at call reply no_mode no_create no_read q = record {
   mode = (λ i. if is_code_no_error reply && (p == q) then no_mode i else None) ∙ none_or_none (is_code_no_error reply && (p == q));
@@ -131,12 +162,14 @@ leaves_partition p at call reply no_mode no_create no_read q = record {
 pub record IsElsewhere (config : Configuration) (c p : ℕ) (call : Call) : Type 0 where
   pub sends : message_sent config c p call ≡ None
   pub receives : is_receive config c p call ≡ false
+  pub clears : is_clear config c p call ≡ false
   pub writes : message_written config c p call ≡ None
 
 pub leaves_channel : (config : Configuration) (c p : ℕ) (at : Moment) (call : Call) (reply : Reply) → IsElsewhere config c p call → LeavesChannel config c (entry_of p at call reply)
 leaves_channel config c p at call reply elsewhere = record {
   accepted = (λ i. if is_code_no_error reply then elsewhere.sends i else None) ∙ none_or_none (is_code_no_error reply);
   received = λ i. if elsewhere.receives i then message_in reply else None;
+  cleared = (λ i. is_code_no_error reply && elsewhere.clears i) ∙ and_false (is_code_no_error reply);
   written = (λ i. if is_code_no_error reply then sample_at at (elsewhere.writes i) else None) ∙ none_or_none (is_code_no_error reply);
 }
 
@@ -196,10 +229,6 @@ pub record IsQuiet (call : Call) (reply : Reply) : Type 0 where
   pub received : message_in reply ≡ None
   pub read : validity_in reply ≡ None
 
-pub and_false : (b : Bool) → (b && false) ≡ false
-and_false true = refl
-and_false false = refl
-
 -- a refusal changes nothing
 pub refused_is_quiet : (call : Call) (code : ReturnCode) → is_no_error code ≡ false → IsQuiet call (Code code)
 refused_is_quiet call code refused = record {
@@ -221,6 +250,7 @@ module _ (config : Configuration) (p : ℕ) (at : Moment) (call : Call) (reply :
   quiet_leaves_channel c = record {
     accepted = λ i. if quiet.accepted i then message_sent config c p call else None;
     received = (λ i. if is_receive config c p call then quiet.received i else None) ∙ none_or_none (is_receive config c p call);
+    cleared = λ i. quiet.accepted i && is_clear config c p call;
     written = λ i. if quiet.accepted i then sample_at at (message_written config c p call) else None;
   }
 

@@ -26,6 +26,10 @@ abbrev pub received_in : {A : Type 0} → ChannelState A → ℕ
 received_in (Queuing queue) = queue.received
 received_in (Sampling sample) = 0
 
+abbrev pub cleared_in : {A : Type 0} → ChannelState A → ℕ
+cleared_in (Queuing queue) = queue.cleared
+cleared_in (Sampling sample) = 0
+
 abbrev pub sample_in : {A : Type 0} → ChannelState A → Option Sample
 sample_in (Queuing queue) = None
 sample_in (Sampling sample) = sample

@@ -1,12 +1,14 @@
 -- What a history did to a channel.
-use Rattle.std.specs.Prelude.{ℕ, Bool, false, ◌==◌, ◌&&◌, ◌-◌, if◌then◌else◌, List, length, drop, slice_get, Option, Some, None, unwrap_or, fold}
+use Rattle.std.specs.Prelude.{ℕ, Bool, true, false, ◌==◌, ◌&&◌, ◌-◌, if◌then◌else◌, List, [], ◌∷◌, ◌++◌, length, drop, map, filter, slice_get, Option, Some, None, unwrap_or, fold}
 use Rattle.std.specs.List.{filter_map}
+use Rattle.std.specs.Option.{option_to_list}
 use Rattle.apex_types.specs.declared.call.Call.{Call}
-use Rattle.apex_types.specs.declared.call.Call.TheVariants.{SendQueuing, ReceiveQueuing, WriteSampling, ReadSampling}
+use Rattle.apex_types.specs.declared.call.Call.TheVariants.{SendQueuing, ReceiveQueuing, ClearQueuing, WriteSampling, ReadSampling}
 use Rattle.apex_types.specs.declared.moment.Moment.{Moment}
 use Rattle.apex_types.specs.declared.reply.Reply.{Reply}
 use Rattle.apex_types.specs.declared.reply.Reply.TheVariants.{Received, Read}
 use Rattle.apex_types.specs.declared.sample.Sample.{Sample}
+use Rattle.apex_types.specs.declared.taken.Taken.{Taken}
 use Rattle.apex_types.specs.declared.validity.Validity.{Validity}
 use Rattle.apex_types.specs.declared.validity.Validity.TheVariants.{Invalid}
 use Rattle.apex_config.specs.Configuration.{Configuration, port_of}
@@ -37,7 +39,7 @@ abbrev pub message_in : Reply → Option (List ℕ)
 message_in (Received message) = Some message
 message_in _ = None
 
--- the message that an entry took out of the channel
+-- the message that an entry received from the channel
 abbrev pub message_received : Configuration → ℕ → Entry → Option (List ℕ)
 message_received config channel entry =
     if is_receive config channel entry.partition entry.call then message_in entry.reply else None
@@ -50,9 +52,48 @@ accepted_on config channel history = filter_map (message_accepted config channel
 abbrev pub received_on : Configuration → ℕ → History → List (List ℕ)
 received_on config channel history = filter_map (message_received config channel) history
 
+-- a call at the channel's destination (CLEAR_QUEUING_PORT)
+abbrev pub is_clear : Configuration → ℕ → ℕ → Call → Bool
+is_clear config channel partition (ClearQueuing id) = is_destination_of channel (port_of config partition id)
+is_clear config channel partition _ = false
+
+-- the entry discards whatever waits on the channel
+abbrev pub clears : Configuration → ℕ → Entry → Bool
+clears config channel entry = is_code_no_error entry.reply && is_clear config channel entry.partition entry.call
+
+abbrev pub as_received : List ℕ → Taken
+as_received message = record { message = message; cleared = false }
+
+abbrev pub as_cleared : List ℕ → Taken
+as_cleared message = record { message = message; cleared = true }
+
+-- what an entry takes out of the channel, where these messages wait
+abbrev pub taken_by : Configuration → ℕ → List (List ℕ) → Entry → List Taken
+taken_by config channel waiting entry =
+    if clears config channel entry then map as_cleared waiting
+    else map as_received (option_to_list (message_received config channel entry))
+
+-- what the entries bring to, after a history in which these were taken
+abbrev pub taken_after : Configuration → ℕ → History → List Taken → List Entry → List Taken
+taken_after config channel before taken [] = taken
+taken_after config channel before taken (entry ∷ rest) =
+    let waiting = drop (length taken) (accepted_on config channel before) in
+    taken_after config channel (before ++ entry ∷ []) (taken ++ taken_by config channel waiting entry) rest
+
+-- the messages that were taken out of the channel, received or cleared, in order
+abbrev pub taken_on : Configuration → ℕ → History → List Taken
+taken_on config channel history = taken_after config channel [] [] history
+
+-- those of them that were cleared
+abbrev pub cleared_on : Configuration → ℕ → History → List Taken
+cleared_on config channel history = filter (λ taken. taken.cleared) (taken_on config channel history)
+
+abbrev pub messages_of : List Taken → List (List ℕ)
+messages_of taken = map (λ one. one.message) taken
+
 -- the messages that wait: first in, first out, told apart by their place and not by their bytes
 abbrev pub waiting_on : Configuration → ℕ → History → List (List ℕ)
-waiting_on config channel history = drop (length (received_on config channel history)) (accepted_on config channel history)
+waiting_on config channel history = drop (length (taken_on config channel history)) (accepted_on config channel history)
 
 -- ---- sampling channels
 

@@ -9,12 +9,12 @@ use Rattle.apex_ports.specs.declared.partition.PortState.{PortState}
 use Rattle.apex_ports.specs.declared.partition.PartitionState.{PartitionState}
 use Rattle.apex_ports.specs.declared.channel.ChannelState.{ChannelState}
 use Rattle.apex_ports.specs.declared.state.State.{State}
-use Rattle.apex_ports.specs.ChannelStates.{has_queue, waiting_in, places_in, accepted_in, received_in, sample_in}
+use Rattle.apex_ports.specs.ChannelStates.{has_queue, waiting_in, places_in, accepted_in, received_in, cleared_in, sample_in}
 use Rattle.apex_ports.specs.Counts.{count_of}
 use Rattle.apex_ports.specs.History.{History, entries_of}
 use Rattle.apex_ports.specs.Modes.{mode_of}
 use Rattle.apex_ports.specs.Ports.{is_created, is_queuing}
-use Rattle.apex_ports.specs.Channels.{accepted_on, received_on, waiting_on, last_write_on, last_validity_of}
+use Rattle.apex_ports.specs.Channels.{accepted_on, received_on, cleared_on, waiting_on, last_write_on, last_validity_of}
 use Rattle.apex_ports.specs.ReplyTable.{depth_of}
 use Rattle.apex_ports.specs.Sound.{IsSound}
 
@@ -49,6 +49,7 @@ pub record IsChannelKept {A : Type 0} (config : Configuration) (history : Histor
   pub depth : places_in state ≡ depth_of config c
   pub accepted : accepted_in state ≡ count_of (accepted_on config c history)
   pub received : received_in state ≡ count_of (received_on config c history)
+  pub cleared : cleared_in state ≡ count_of (cleared_on config c history)
   pub sample : sample_in state ≡ last_write_on config c history
 
 -- ---- the whole

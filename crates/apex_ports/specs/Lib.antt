@@ -17,4 +17,5 @@ pub mod Refused
 pub mod ReplyTable
 pub mod Rules
 pub mod Sound
+pub mod WithoutClears
 pub mod Writes

@@ -2,12 +2,12 @@
 use Rattle.std.specs.Prelude.{ℕ, ◌≡◌, ◌≢◌, ◌⊎◌}
 use Rattle.apex_config.specs.Configuration.{Configuration}
 use Rattle.apex_ports.specs.History.{History}
-use Rattle.apex_ports.specs.Channels.{accepted_on, received_on, waiting_on, last_write_on}
+use Rattle.apex_ports.specs.Channels.{accepted_on, taken_on, waiting_on, last_write_on}
 
 -- the channel has the journals, the waiting messages and the last sample that it had
 pub record SameChannel (config : Configuration) (old new : History) (c : ℕ) : Type 0 where
   pub accepted : accepted_on config c new ≡ accepted_on config c old
-  pub received : received_on config c new ≡ received_on config c old
+  pub taken : taken_on config c new ≡ taken_on config c old
   pub waiting : waiting_on config c new ≡ waiting_on config c old
   pub sample : last_write_on config c new ≡ last_write_on config c old
 

@@ -93,6 +93,11 @@ receive_reply config history (Some port) =
     if is_source port.direction then Code InvalidMode
     else oldest_reply (waiting_on config port.channel history)
 
+-- CLEAR_QUEUING_PORT, also where none waits
+abbrev pub clear_reply : Option Port → Reply
+clear_reply None = Code InvalidParam
+clear_reply (Some port) = if is_source port.direction then Code InvalidMode else Code NoError
+
 -- GET_QUEUING_PORT_STATUS
 abbrev pub queuing_status_reply : Configuration → History → Option Port → Reply
 queuing_status_reply config history None = Code InvalidParam
@@ -162,6 +167,7 @@ service_reply config history p now (call.QueuingId name) =
     id_reply history p (queuing_named config p name)
 service_reply config history p now (call.QueuingStatus id) =
     queuing_status_reply config history (queuing_port config history p id)
+service_reply config history p now (call.ClearQueuing id) = clear_reply (queuing_port config history p id)
 service_reply config history p now (call.SetMode number) = set_mode_reply (mode_of p history) (mode_numbered number)
 
 -- in IDLE no service is performed

@@ -3,13 +3,13 @@ use Rattle.std.specs.Prelude.{ℕ, true, false, ◌≡◌, ◌≤◌, [], ◌++�
 use Rattle.apex_config.specs.Configuration.{Configuration}
 use Rattle.apex_ports.specs.History.{History}
 use Rattle.apex_ports.specs.Ports.{is_queuing}
-use Rattle.apex_ports.specs.Channels.{accepted_on, received_on, waiting_on, last_write_on}
+use Rattle.apex_ports.specs.Channels.{accepted_on, taken_on, messages_of, waiting_on, last_write_on}
 use Rattle.apex_ports.specs.ReplyTable.{depth_of}
 use Rattle.apex_ports.specs.Sound.{IsSound}
 
 -- nothing is lost, doubled or reordered, and no more messages wait than the depth
 pub record IsConserved (config : Configuration) (history : History) (c : ℕ) : Type 0 where
-  pub messages : received_on config c history ++ waiting_on config c history ≡ accepted_on config c history
+  pub messages : messages_of (taken_on config c history) ++ waiting_on config c history ≡ accepted_on config c history
   pub depth : length (waiting_on config c history) ≤ depth_of config c
   -- a channel takes part in the services of its own kind alone
   pub sampling : is_queuing config c ≡ false → accepted_on config c history ≡ []

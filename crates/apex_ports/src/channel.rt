@@ -8,12 +8,13 @@ use circular_buffer::HeapCircularBuffer;
 use std::alloc::{AllocError, Allocator};
 
 /// The messages that wait on a queuing channel, in a ring of as many places as its depth. The counts
-/// of accepted and received messages stay at the greatest number.
+/// of accepted, received and cleared messages stay at the greatest number.
 #[derive(Drop)]
 pub(crate) struct Queue<A: Allocator> {
     pub(crate) waiting: HeapCircularBuffer<Message, A>,
     pub(crate) accepted: u64,
     pub(crate) received: u64,
+    pub(crate) cleared: u64,
 }
 
 impl<A: Allocator> Queue<A> {
@@ -22,11 +23,13 @@ impl<A: Allocator> Queue<A> {
         ensures waiting { IfOk result (λ queue. queue.waiting ≡ buffer [] depth) }
         ensures accepted { IfOk result (λ queue. queue.accepted ≡ 0) }
         ensures received { IfOk result (λ queue. queue.received ≡ 0) }
+        ensures cleared { IfOk result (λ queue. queue.cleared ≡ 0) }
     {
         Ok(Queue {
             waiting: HeapCircularBuffer::with_capacity(alloc, depth)?,
             accepted: 0,
             received: 0,
+            cleared: 0,
         })
     }
 }
@@ -39,7 +42,7 @@ pub(crate) enum ChannelState<A: Allocator> {
 }
 
 impl<A: Allocator> ChannelState<A> {
-    ghost use Rattle.apex_ports.specs.ChannelStates.{has_queue, waiting_in, places_in, accepted_in, received_in, sample_in};
+    ghost use Rattle.apex_ports.specs.ChannelStates.{has_queue, waiting_in, places_in, accepted_in, received_in, cleared_in, sample_in};
 
     /// How many messages wait.
     pub(crate) fn waiting_count(&self) -> usize
@@ -101,6 +104,16 @@ impl<A: Allocator> ChannelState<A> {
         }
     }
 
+    /// How many messages were cleared.
+    pub(crate) fn cleared(&self) -> u64
+        ensures { result ≡ cleared_in self.now }
+    {
+        match self {
+            ChannelState::Queuing(queue) => queue.cleared,
+            ChannelState::Sampling(_) => 0,
+        }
+    }
+
     /// The sample written last.
     pub(crate) fn sample(&self) -> Option<&Sample>
         ensures { option_copied result ≡ sample_in self.now }
@@ -118,6 +131,7 @@ impl<A: Allocator> ChannelState<A> {
         ensures places { places_in self.new ≡ places_in self.old }
         ensures accepted { accepted_in self.new ≡ min (accepted_in self.old + 1) (2 ^ 64 - 1) }
         ensures received { received_in self.new ≡ received_in self.old }
+        ensures cleared { cleared_in self.new ≡ cleared_in self.old }
         ensures sample { sample_in self.new ≡ sample_in self.old }
         ensures kind { has_queue self.new ≡ has_queue self.old }
     {
@@ -138,6 +152,7 @@ impl<A: Allocator> ChannelState<A> {
         ensures places { places_in self.new ≡ places_in self.old }
         ensures accepted { accepted_in self.new ≡ accepted_in self.old }
         ensures received { received_in self.new ≡ min (received_in self.old + 1) (2 ^ 64 - 1) }
+        ensures cleared { cleared_in self.new ≡ cleared_in self.old }
         ensures sample { sample_in self.new ≡ sample_in self.old }
         ensures kind { has_queue self.new ≡ has_queue self.old }
     {
@@ -147,6 +162,26 @@ impl<A: Allocator> ChannelState<A> {
                 queue.waiting.pop_front().unwrap()
             }
             ChannelState::Sampling(_) => unreachable!(),
+        }
+    }
+
+    /// Discards the messages that wait.
+    pub(crate) fn clear(&mut self)
+        ensures waiting { waiting_in self.new ≡ [] }
+        ensures places { places_in self.new ≡ places_in self.old }
+        ensures accepted { accepted_in self.new ≡ accepted_in self.old }
+        ensures received { received_in self.new ≡ received_in self.old }
+        ensures cleared { cleared_in self.new
+            ≡ min (cleared_in self.old + length (waiting_in self.old)) (2 ^ 64 - 1) }
+        ensures sample { sample_in self.new ≡ sample_in self.old }
+        ensures kind { has_queue self.new ≡ has_queue self.old }
+    {
+        match self {
+            ChannelState::Queuing(queue) => {
+                queue.cleared = queue.cleared.saturating_add(queue.waiting.len() as u64);
+                queue.waiting.clear();
+            }
+            ChannelState::Sampling(_) => {}
         }
     }
 }

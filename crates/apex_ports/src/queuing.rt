@@ -1,4 +1,4 @@
-//! SEND_QUEUING_MESSAGE, RECEIVE_QUEUING_MESSAGE and GET_QUEUING_PORT_STATUS.
+//! SEND_QUEUING_MESSAGE, RECEIVE_QUEUING_MESSAGE, CLEAR_QUEUING_PORT and GET_QUEUING_PORT_STATUS.
 ghost use Rattle.std.specs.Prelude.{◌≡◌, ◌<◌, true, length, IfOk};
 ghost use Rattle.apex_types.specs.declared.call.Call.TheVariants as call;
 ghost use Rattle.apex_types.specs.declared.moment.Moment.{Moment};
@@ -10,7 +10,7 @@ ghost use Rattle.apex_ports.specs.Decisions.{Decides};
 ghost use Rattle.apex_ports.specs.History.{entry_of};
 ghost use Rattle.apex_ports.specs.Kept.{IsKept, IsKeptWith};
 ghost use Rattle.apex_ports.specs.Ports.{queuing_port, is_source_of, is_destination_of};
-ghost use Rattle.apex_ports.specs.ReplyTable.{oldest_reply, send_reply, receive_reply, queuing_status_reply, depth_of};
+ghost use Rattle.apex_ports.specs.ReplyTable.{oldest_reply, send_reply, receive_reply, clear_reply, queuing_status_reply, depth_of};
 ghost use Rattle.apex_ports.specs.Sound.{IsSound};
 
 use crate::state::State;
@@ -130,6 +130,28 @@ impl<A: Allocator> State<A> {
             Ok(channel) => *reply = Reply::Received(self.channels[channel].receive()),
             Err(code) => *reply = Reply::Code(code),
         }
+    }
+
+    /// CLEAR_QUEUING_PORT.
+    pub(crate) fn clear(&mut self, config: &Config, partition: usize, id: u32) -> Reply
+        requires partition { partition < length config.now.partitions }
+        requires sound { IsSound config.now self.old.history }
+        requires kept { IsKept config.now self.old.history self.old }
+        ensures reply { let port = queuing_port config.now self.old.history partition id in
+            result ≡ clear_reply port }
+        ensures kept { (at : Moment) →
+            let entry = entry_of partition at (call.ClearQueuing id) result in
+            IsKeptWith config.now self.old entry self.new }
+        ensures history { self.new.history ≡ self.old.history }
+    {
+        let Some(port) = self.queuing_port(config, partition, id) else {
+            return Reply::Code(ReturnCode::InvalidParam);
+        };
+        if let Direction::Source = port.direction {
+            return Reply::Code(ReturnCode::InvalidMode);
+        }
+        self.channels[port.channel].clear();
+        Reply::Code(ReturnCode::NoError)
     }
 
     /// GET_QUEUING_PORT_STATUS.

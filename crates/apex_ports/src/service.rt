@@ -96,6 +96,7 @@ impl<A: Allocator> State<A> {
             Call::ReceiveQueuing { id } => self.receive(config, partition, *id, reply),
             Call::QueuingId { name } => *reply = self.queuing_id(config, partition, name),
             Call::QueuingStatus { id } => *reply = self.queuing_status(config, partition, *id),
+            Call::ClearQueuing { id } => *reply = self.clear(config, partition, *id),
             Call::SetMode { mode } => *reply = self.set_mode(config, partition, *mode),
         }
     }

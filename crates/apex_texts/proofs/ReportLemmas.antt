@@ -12,7 +12,7 @@ use Rattle.apex_config.specs.Configuration.{Configuration, PartitionData, partit
 use Rattle.apex_config.specs.declared.channel.Channel.{Channel}
 use Rattle.apex_ports.specs.declared.history.Entry.{Entry}
 use Rattle.apex_ports.specs.History.{History, entries_of}
-use Rattle.apex_ports.specs.Channels.{accepted_on, received_on, message_accepted, message_received}
+use Rattle.apex_ports.specs.Channels.{accepted_on, received_on, cleared_on, message_accepted, message_received}
 use Rattle.apex_ports.specs.Counts.{count_of}
 use Rattle.apex_ports.specs.Lawful.{IsLawful}
 use Rattle.apex_texts.specs.Report.{entry_line, line_of, entry_lines, partition_line, partition_lines, messages_text, channel_text, channel_lines}
@@ -92,6 +92,11 @@ accepted_exact config c history count short is = exact (accepted_on config c his
 
 pub received_exact : (config : Configuration) (c : ℕ) (history : History) (count : ℕ) → length history < 2 ^ 64 → count ≡ count_of (received_on config c history) → count ≡ length (received_on config c history)
 received_exact config c history count short is = exact (received_on config c history) history count (length-filter_map-le (message_received config c) history) short is
+
+pub cleared_exact : (config : Configuration) (c : ℕ) (history : History) (count : ℕ) → length history < 2 ^ 64 → length (cleared_on config c history) ≤ length (accepted_on config c history) → count ≡ count_of (cleared_on config c history) → count ≡ length (cleared_on config c history)
+cleared_exact config c history count short within is =
+    let accepted = length-filter_map-le (message_accepted config c) history in
+    exact (cleared_on config c history) history count (omega arith) short is
 
 -- ---- partitions
 

@@ -106,6 +106,9 @@ call_at services.QueuingId words = do
 call_at services.QueuingStatus words = do
   id ← number_at words
   Ok (calls.QueuingStatus id.0)
+call_at services.ClearQueuing words = do
+  id ← number_at words
+  Ok (calls.ClearQueuing id.0)
 call_at services.SetMode words = do
   mode ← number_at words
   Ok (calls.SetMode mode.0)

@@ -1,5 +1,5 @@
 -- The report of a history: a line for each entry, each partition and each channel.
-use Rattle.std.specs.Prelude.{ℕ, ◌+◌, List, [], ◌∷◌, ◌++◌, length, codes, decimal, Option, Some, None, unwrap_or}
+use Rattle.std.specs.Prelude.{ℕ, ◌+◌, ◌==◌, if◌then◌else◌, List, [], ◌∷◌, ◌++◌, length, codes, decimal, Option, Some, None, unwrap_or}
 use Rattle.apex_types.specs.Message.{hex_text_of}
 use Rattle.apex_types.specs.Direction.{word_of as direction_word}
 use Rattle.apex_types.specs.Mode.{word_of as mode_word}
@@ -19,7 +19,7 @@ use Rattle.apex_ports.specs.declared.history.Entry.{Entry}
 use Rattle.apex_types.specs.declared.sample.Sample.{Sample}
 use Rattle.apex_ports.specs.History.{History, entries_of}
 use Rattle.apex_ports.specs.Modes.{mode_of}
-use Rattle.apex_ports.specs.Channels.{accepted_on, received_on, waiting_on, last_write_on}
+use Rattle.apex_ports.specs.Channels.{accepted_on, received_on, cleared_on, waiting_on, last_write_on}
 use Rattle.apex_texts.specs.Service.{word_of, service_of}
 
 -- ---- replies
@@ -82,10 +82,14 @@ unfoldable pub messages_text : List (List ℕ) → List ℕ
 messages_text [] = []
 messages_text (message ∷ rest) = codes " " ++ hex_text_of message ++ messages_text rest
 
+-- how many messages were cleared, where some were
+unfoldable pub cleared_text : ℕ → List ℕ
+cleared_text count = if count == 0 then [] else codes " cleared " ++ decimal count
+
 -- the counts of a queuing channel, and the messages that wait, oldest first
 unfoldable pub queue_text : Configuration → ℕ → History → List ℕ
 queue_text config c history =
-    codes " accepted " ++ decimal (length (accepted_on config c history)) ++ codes " received " ++ decimal (length (received_on config c history)) ++ codes " waiting " ++ decimal (length (waiting_on config c history)) ++ messages_text (waiting_on config c history)
+    codes " accepted " ++ decimal (length (accepted_on config c history)) ++ codes " received " ++ decimal (length (received_on config c history)) ++ cleared_text (length (cleared_on config c history)) ++ codes " waiting " ++ decimal (length (waiting_on config c history)) ++ messages_text (waiting_on config c history)
 
 -- the last sample of a sampling channel
 unfoldable pub sample_text : Option Sample → List ℕ

@@ -4,7 +4,7 @@ use Rattle.std.specs.Str.{bytes_eq}
 use Rattle.apex_types.specs.declared.call.Call.{Call}
 use Rattle.apex_types.specs.declared.call.Call.TheVariants as calls
 use Rattle.apex_texts.specs.declared.service.Service.{Service}
-use Rattle.apex_texts.specs.declared.service.Service.TheVariants.{CreateSampling, WriteSampling, ReadSampling, SamplingId, SamplingStatus, CreateQueuing, SendQueuing, ReceiveQueuing, QueuingId, QueuingStatus, SetMode}
+use Rattle.apex_texts.specs.declared.service.Service.TheVariants.{CreateSampling, WriteSampling, ReadSampling, SamplingId, SamplingStatus, CreateQueuing, SendQueuing, ReceiveQueuing, QueuingId, QueuingStatus, ClearQueuing, SetMode}
 
 -- the call word of a service
 abbrev pub word_of : Service → List ℕ
@@ -18,11 +18,12 @@ word_of SendQueuing = codes "send"
 word_of ReceiveQueuing = codes "receive"
 word_of QueuingId = codes "queuing-id"
 word_of QueuingStatus = codes "queuing-status"
+word_of ClearQueuing = codes "clear"
 word_of SetMode = codes "mode"
 
 abbrev pub services : List Service
 services =
-    CreateSampling ∷ WriteSampling ∷ ReadSampling ∷ SamplingId ∷ SamplingStatus ∷ CreateQueuing ∷ SendQueuing ∷ ReceiveQueuing ∷ QueuingId ∷ QueuingStatus ∷ SetMode ∷ []
+    CreateSampling ∷ WriteSampling ∷ ReadSampling ∷ SamplingId ∷ SamplingStatus ∷ CreateQueuing ∷ SendQueuing ∷ ReceiveQueuing ∷ QueuingId ∷ QueuingStatus ∷ ClearQueuing ∷ SetMode ∷ []
 
 -- the service that a call word names
 abbrev pub service_named : List ℕ → Option Service
@@ -40,6 +41,7 @@ service_of (calls.SendQueuing id message) = SendQueuing
 service_of (calls.ReceiveQueuing id) = ReceiveQueuing
 service_of (calls.QueuingId name) = QueuingId
 service_of (calls.QueuingStatus id) = QueuingStatus
+service_of (calls.ClearQueuing id) = ClearQueuing
 service_of (calls.SetMode mode) = SetMode
 
 -- how many arguments a service takes

@@ -127,6 +127,7 @@ pub fn read_call(service: Service, words: &[u8], call: &mut Call) -> Result<(), 
         Service::SamplingStatus => *call = Call::SamplingStatus { id: id_in(words)? },
         Service::ReceiveQueuing => *call = Call::ReceiveQueuing { id: id_in(words)? },
         Service::QueuingStatus => *call = Call::QueuingStatus { id: id_in(words)? },
+        Service::ClearQueuing => *call = Call::ClearQueuing { id: id_in(words)? },
         Service::SamplingId => {
             *call = Call::SamplingId {
                 name: name_of(one_word(words)?)?,

@@ -2,9 +2,9 @@
 ghost use Rattle.std.specs.Prelude.{◌≡◌, ◌<◌, ◌^◌, ◌∷◌, ◌++◌, [], length, decimal, string_bytes, IfOk, OnOk};
 ghost use Rattle.std.specs.Option.{option_copied};
 ghost use Rattle.apex_types.specs.Message.{hex_text_of};
-ghost use Rattle.apex_ports.specs.Channels.{accepted_on, received_on, waiting_on};
+ghost use Rattle.apex_ports.specs.Channels.{accepted_on, received_on, cleared_on, waiting_on};
 ghost use Rattle.apex_ports.specs.History.{entries_of};
-ghost use Rattle.apex_texts.specs.Report.{queuing_status_text, sampling_status_text, reply_text, entry_line, entry_lines, partition_line, partition_lines, queue_text, sample_text, channel_text, channel_lines, messages_text, totals_of, report_of};
+ghost use Rattle.apex_texts.specs.Report.{queuing_status_text, sampling_status_text, reply_text, entry_line, entry_lines, partition_line, partition_lines, cleared_text, queue_text, sample_text, channel_text, channel_lines, messages_text, totals_of, report_of};
 
 use crate::service::Service;
 use apex_board::Board;
@@ -249,6 +249,15 @@ fn received_from(ports: &Ports, c: usize) -> u64
     ports.received_count(c)
 }
 
+// How many messages of the channel were cleared.
+fn cleared_from(ports: &Ports, c: usize) -> u64
+    requires channel { c < length ports.now.config.channels }
+    requires short { length ports.now.history < 2 ^ 64 }
+    ensures { result ≡ length (cleared_on ports.now.config c ports.now.history) }
+{
+    ports.cleared_count(c)
+}
+
 /// A line for each channel.
 #[tactic(auto, unfolding(crate::specs::Report::channel_lines))]
 fn push_channels(text: &mut String, ports: &Ports) -> Result<(), AllocError>
@@ -291,7 +300,19 @@ fn push_channel(
     }
 }
 
-/// ` accepted A received B waiting W`, and the messages that wait, oldest first.
+/// ` cleared C`, where some messages were cleared.
+#[tactic(auto, unfolding(crate::specs::Report::cleared_text))]
+fn push_cleared(text: &mut String, count: u64) -> Result<(), AllocError>
+    ensures { OnOk result (string_bytes text.new ≡ string_bytes text.old ++ cleared_text count) }
+{
+    if count == 0 {
+        return Ok(());
+    }
+    push_word(text, " cleared ")?;
+    push_number(text, count)
+}
+
+/// ` accepted A received B cleared C waiting W`, and the messages that wait, oldest first.
 #[tactic(auto, unfolding(crate::specs::Report::queue_text))]
 fn push_queue(text: &mut String, ports: &Ports, c: usize) -> Result<(), AllocError>
     requires channel { c < length ports.now.config.channels }
@@ -303,6 +324,7 @@ fn push_queue(text: &mut String, ports: &Ports, c: usize) -> Result<(), AllocErr
     push_number(text, accepted_by(ports, c))?;
     push_word(text, " received ")?;
     push_number(text, received_from(ports, c))?;
+    push_cleared(text, cleared_from(ports, c))?;
     push_word(text, " waiting ")?;
     push_number(text, ports.waiting_count(c) as u64)?;
     push_waiting(text, ports, c)

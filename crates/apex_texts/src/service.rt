@@ -27,12 +27,14 @@ pub enum Service {
     QueuingId,
     /// GET_QUEUING_PORT_STATUS.
     QueuingStatus,
+    /// CLEAR_QUEUING_PORT.
+    ClearQueuing,
     /// SET_PARTITION_MODE.
     SetMode,
 }
 
 /// All services.
-pub const SERVICES: [Service; 11] = [
+pub const SERVICES: [Service; 12] = [
     Service::CreateSampling,
     Service::WriteSampling,
     Service::ReadSampling,
@@ -43,6 +45,7 @@ pub const SERVICES: [Service; 11] = [
     Service::ReceiveQueuing,
     Service::QueuingId,
     Service::QueuingStatus,
+    Service::ClearQueuing,
     Service::SetMode,
 ];
 
@@ -72,6 +75,7 @@ impl Service {
             Call::ReceiveQueuing { .. } => Service::ReceiveQueuing,
             Call::QueuingId { .. } => Service::QueuingId,
             Call::QueuingStatus { .. } => Service::QueuingStatus,
+            Call::ClearQueuing { .. } => Service::ClearQueuing,
             Call::SetMode { .. } => Service::SetMode,
         }
     }
@@ -91,6 +95,7 @@ impl Service {
             Service::ReceiveQueuing => "receive",
             Service::QueuingId => "queuing-id",
             Service::QueuingStatus => "queuing-status",
+            Service::ClearQueuing => "clear",
             Service::SetMode => "mode",
         }
     }

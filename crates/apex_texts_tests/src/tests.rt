@@ -1,5 +1,6 @@
 //! Tests from outside: what each text gives, with values that were worked out by hand.
 mod caller;
+mod clears;
 mod creation;
 mod interference;
 mod lines;

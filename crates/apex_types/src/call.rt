@@ -56,6 +56,10 @@ pub enum Call {
     QueuingStatus {
         id: u32,
     },
+    /// CLEAR_QUEUING_PORT.
+    ClearQueuing {
+        id: u32,
+    },
     /// SET_PARTITION_MODE.
     SetMode {
         mode: u32,
@@ -106,6 +110,7 @@ impl Call {
             Call::ReceiveQueuing { id } => Call::ReceiveQueuing { id: *id },
             Call::QueuingId { name } => Call::QueuingId { name: name.copy() },
             Call::QueuingStatus { id } => Call::QueuingStatus { id: *id },
+            Call::ClearQueuing { id } => Call::ClearQueuing { id: *id },
             Call::SetMode { mode } => Call::SetMode { mode: *mode },
         }
     }

@@ -13,6 +13,7 @@ pub mod out_of_memory;
 pub mod reply;
 pub mod return_code;
 pub mod sample;
+pub mod taken;
 pub mod validity;
 
 pub use crate::call::Call;
@@ -25,4 +26,5 @@ pub use crate::out_of_memory::OutOfMemory;
 pub use crate::reply::Reply;
 pub use crate::return_code::ReturnCode;
 pub use crate::sample::Sample;
+pub use crate::taken::Taken;
 pub use crate::validity::Validity;

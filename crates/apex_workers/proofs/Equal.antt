@@ -70,6 +70,7 @@ same_call (call.SendQueuing i m) (call.SendQueuing j n) h =
 same_call (call.ReceiveQueuing i) (call.ReceiveQueuing j) h = λ k. call.ReceiveQueuing (eqb-true i j h k)
 same_call (call.QueuingId m) (call.QueuingId n) h = λ k. call.QueuingId (same_bytes m n h k)
 same_call (call.QueuingStatus i) (call.QueuingStatus j) h = λ k. call.QueuingStatus (eqb-true i j h k)
+same_call (call.ClearQueuing i) (call.ClearQueuing j) h = λ k. call.ClearQueuing (eqb-true i j h k)
 same_call (call.SetMode i) (call.SetMode j) h = λ k. call.SetMode (eqb-true i j h k)
 same_call a b h = absurd (false≢true h)
 
@@ -128,6 +129,7 @@ equal_call (call.SendQueuing i m) = and_from _ _ (equal_number i) (equal_bytes m
 equal_call (call.ReceiveQueuing i) = equal_number i
 equal_call (call.QueuingId m) = equal_bytes m
 equal_call (call.QueuingStatus i) = equal_number i
+equal_call (call.ClearQueuing i) = equal_number i
 equal_call (call.SetMode i) = equal_number i
 
 equal_reply : (a : Reply) → of_reply.ghosts.eq a a ≡ true

@@ -5,12 +5,12 @@ ghost use Rattle.std.specs.Option.{option_copied};
 use crate::board::Board;
 use apex_config::Config;
 use apex_ports::{Entry, Ports};
-use apex_types::{Message, Mode, Sample, Validity};
+use apex_types::{Message, Mode, Sample, Taken, Validity};
 use std::alloc::Allocator;
 
 impl<A: Allocator> Board<A> {
     ghost use Rattle.apex_board.specs.OnChannels.{ArePublished};
-    ghost use Rattle.apex_ports.specs.Channels.{accepted_on, received_on, waiting_on, last_write_on};
+    ghost use Rattle.apex_ports.specs.Channels.{accepted_on, messages_of, taken_on, waiting_on, last_write_on};
     ghost use Rattle.apex_ports.specs.Idle.{IdleIsSilent};
     ghost use Rattle.apex_ports.specs.Interference.{IsFreeFromInterference};
     ghost use Rattle.apex_ports.specs.Lawful.{IsLawful};
@@ -57,14 +57,14 @@ impl<A: Allocator> Board<A> {
         }
     }
 
-    /// The messages that were received from channel `c`, oldest first; none on a sampling channel.
-    pub fn received(&self, c: usize) -> &[Message]
+    /// The messages that were received from channel `c` or cleared, oldest first; none on a sampling channel.
+    pub fn taken(&self, c: usize) -> &[Taken]
         requires { c < length self.now.config.channels }
-        ensures messages { result.now ≡ received_on self.now.config c self.now.log }
+        ensures messages { result.now ≡ taken_on self.now.config c self.now.log }
         ensures sampling { is_queuing self.now.config c ≡ false → result.now ≡ [] }
     {
         match &self.records.journals[c] {
-            Some(journal) => journal.received.as_slice(),
+            Some(journal) => journal.taken.as_slice(),
             None => &[],
         }
     }
@@ -74,9 +74,10 @@ impl<A: Allocator> Board<A> {
         requires { c < length self.now.config.channels }
         ensures count { result ≡ length (waiting_on self.now.config c self.now.log) }
 
-        // Never more than the depth wait, and received and waiting messages together are the accepted ones, in order.
+        // Never more than the depth wait, and the messages received or cleared, followed by those that wait, are the
+        // accepted ones, in order.
         ensures depth { result ≤ depth_of self.now.config c }
-        ensures conserved { received_on self.now.config c self.now.log
+        ensures conserved { messages_of (taken_on self.now.config c self.now.log)
             ++ waiting_on self.now.config c self.now.log
             ≡ accepted_on self.now.config c self.now.log }
         ensures sampling { is_queuing self.now.config c ≡ false → result ≡ 0 }

@@ -74,6 +74,10 @@ pub(crate) fn mode(mode: u32) -> Call {
     Call::SetMode { mode }
 }
 
+pub(crate) fn clear(id: u32) -> Call {
+    Call::ClearQueuing { id }
+}
+
 pub(crate) fn received(message: &str) -> Result<Reply, Fail> {
     Ok(Reply::Received(Message::from_hex(message)?))
 }

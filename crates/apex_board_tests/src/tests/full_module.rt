@@ -175,7 +175,7 @@ fn serves_full_module<A: Allocator, R: Abort + Wait>(
     for c in 0..64usize {
         let queued = if c < 32 { 1 } else { 0 };
         assert_eq!(rt; board.accepted(c).len(), queued);
-        assert_eq!(rt; board.received(c).len(), queued);
+        assert_eq!(rt; board.taken(c).len(), queued);
         assert_eq!(rt; board.waiting_count(c), 0);
         assert_eq!(rt; board.last_sample(c).is_some(), c >= 32);
     }

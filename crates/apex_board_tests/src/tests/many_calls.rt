@@ -55,7 +55,7 @@ fn five_thousand_calls<A: Allocator, B: Allocator, R: Abort + Wait>(
     assert_eq!(rt; board.log().len(), 5000);
     assert!(rt; NAV < board.config().channels());
     assert_eq!(rt; board.accepted(NAV).len(), 2498);
-    assert_eq!(rt; board.received(NAV).len(), 2498);
+    assert_eq!(rt; board.taken(NAV).len(), 2498);
     Ok(())
 }
 
@@ -112,7 +112,7 @@ fn answers_long_list<A: Allocator, R: Abort + Wait>(
     assert_eq!(rt; board.log().len(), 3000);
     assert!(rt; NAV < board.config().channels());
     assert_eq!(rt; board.accepted(NAV).len(), 1498);
-    assert_eq!(rt; board.received(NAV).len(), 1498);
+    assert_eq!(rt; board.taken(NAV).len(), 1498);
 }
 
 #[test]

@@ -52,7 +52,7 @@ fn channel_shows_same<A: Allocator, B: Allocator>(
     requires other { c < length other.now.config.channels }
 {
     assert_eq!(rt; one.accepted(c), other.accepted(c));
-    assert_eq!(rt; one.received(c), other.received(c));
+    assert_eq!(rt; one.taken(c), other.taken(c));
     assert_eq!(rt; one.waiting_count(c), other.waiting_count(c));
     for i in 0..3usize {
         assert_eq!(rt; one.waiting(c, i), other.waiting(c, i));

@@ -53,7 +53,7 @@ fn goes_round<A: Allocator, R: Abort + Wait>(rt: &R, board: &mut Board<A>) -> Re
     answer(rt, board, &empty)?;
     assert!(rt; NAV < board.config().channels());
     assert_eq!(rt; board.accepted(NAV).len(), 513);
-    assert_eq!(rt; board.received(NAV).len(), 513);
+    assert_eq!(rt; board.taken(NAV).len(), 513);
     assert_eq!(rt; board.waiting_count(NAV), 0);
     Ok(())
 }

@@ -1,5 +1,5 @@
 //! What the ports of a module show.
-ghost use Rattle.std.specs.Prelude.{◌≡◌, [], ◌<◌, ◌++◌, true, false, length, None, slice_get, IfSome, MatchOption};
+ghost use Rattle.std.specs.Prelude.{◌≡◌, [], ◌<◌, ◌≤◌, ◌++◌, true, false, length, None, slice_get, IfSome, MatchOption};
 ghost use Rattle.std.specs.Option.{option_copied};
 
 use crate::ports::Ports;
@@ -8,7 +8,7 @@ use apex_types::{Call, Message, Mode, Sample, Validity};
 use std::alloc::Allocator;
 
 impl<A: Allocator> Ports<A> {
-    ghost use Rattle.apex_ports.specs.Channels.{accepted_on, received_on, waiting_on, last_write_on};
+    ghost use Rattle.apex_ports.specs.Channels.{accepted_on, received_on, cleared_on, waiting_on, last_write_on};
     ghost use Rattle.apex_ports.specs.Counts.{count_of};
     ghost use Rattle.apex_ports.specs.History.{entries_of};
     ghost use Rattle.apex_ports.specs.Modes.{mode_of};
@@ -93,14 +93,24 @@ impl<A: Allocator> Ports<A> {
         self.state.channels[c].received()
     }
 
+    /// How many messages of channel `c` were cleared; at most the greatest u64, and 0 on a sampling channel.
+    pub fn cleared_count(&self, c: usize) -> u64
+        requires { c < length self.now.config.channels }
+        ensures count { result ≡ count_of (cleared_on self.now.config c self.now.history) }
+        ensures accepted { length (cleared_on self.now.config c self.now.history)
+            ≤ length (accepted_on self.now.config c self.now.history) }
+    {
+        self.state.channels[c].cleared()
+    }
+
     /// How many messages wait on channel `c`; none on a sampling channel.
     pub fn waiting_count(&self, c: usize) -> usize
         requires { c < length self.now.config.channels }
         ensures count { result ≡ length (waiting_on self.now.config c self.now.history) }
         ensures sampling { is_queuing self.now.config c ≡ false → result ≡ 0 }
 
-        // Never more than the depth wait, and received and waiting messages together are the accepted
-        // ones, in order.
+        // Never more than the depth wait, and the messages received or cleared, followed by those that
+        // wait, are the accepted ones, in order.
         ensures conserved { IsConserved self.now.config self.now.history c }
     {
         self.state.channels[c].waiting_count()

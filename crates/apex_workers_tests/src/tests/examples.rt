@@ -198,6 +198,6 @@ pub(crate) fn queue_is<A: Allocator>(
 ) {
     assert!(rt; NAV < board.config().channels());
     assert_eq!(rt; board.accepted(NAV).len(), accepted);
-    assert_eq!(rt; board.received(NAV).len(), received);
+    assert_eq!(rt; board.taken(NAV).len(), received);
     assert_eq!(rt; board.waiting_count(NAV), waiting);
 }

@@ -37,7 +37,7 @@ returns-clause-recorded g c =
     let capacity = c.push_reserved.ensures.capacity in
     let places = is.places in
     journal_set _ _ _ _ _ _ c.in-Some.channel _ c.requires.recorded within is.queuing
-    (pushed ∙ sym (accepted-one c.args.config.now c.args.self.now.log.items c.args.entry.now c.in-Some.channel c.in-Some.message.now sent)) is.received (omega arith)
+    (pushed ∙ sym (accepted-one c.args.config.now c.args.self.now.log.items c.args.entry.now c.in-Some.channel c.in-Some.message.now sent)) is.taken (omega arith)
     (only_accepted c.args.config.now c.args.self.now.log.items c.args.entry.now c.in-Some.channel c.in-Some.message.now c.in-Some.ensures.found) (λ d apart. refl)
 
 pub returns-clause-room : goal.returns-clause-room

@@ -1,20 +1,20 @@
 use Rattle.std.proofs.Common.{◌≡◌, ◌<◌, ◌≤◌, ◌+◌, length, refl, ap, ◌∙◌, arith}
 use Rattle.std.proofs.lemmas.Result.{on_ok_weaker}
 use Rattle.std.specs.Vec.{vec_len, vec_capacity}
-use Rattle.apex_board.proofs.JournalSteps.{journal_here, journal_is, journal_set, received_within, set_here}
+use Rattle.apex_board.proofs.JournalSteps.{journal_here, journal_is, journal_set, taken_within, set_here}
 use Rattle.apex_board.proofs.RoomSteps.{kept_room, room_here}
 use Rattle.apex_board.proofs.records.Records.reserve_channel.Goals as goal
 
-pub make_room-requires-clause-received : goal.make_room-requires-clause-received
-make_room-requires-clause-received g c =
+pub make_room-requires-clause-taken : goal.make_room-requires-clause-taken
+make_room-requires-clause-taken g c =
     let all = c.requires.recorded.all in
     let channel = c.requires.channel in
     let within : c.args.channel < length c.args.self.now.journals.items = omega arith in
     let is = journal_is _ _ _ _ c.args.channel c.in-Some.journal c.requires.recorded (journal_here _ c.args.channel _ within c.index_mut.ensures.value ∙ c.in-Some.is) in
-    let less = received_within c.args.config.now c.args.self.now.log.items c.args.channel c.requires.sound in
+    let less = taken_within c.args.config.now c.args.self.now.log.items c.args.channel c.requires.sound in
     let accepted : length c.in-Some.journal.accepted.items ≡ length _ = ap length is.accepted in
-    let received : length c.in-Some.journal.received.items ≡ length _ = ap length is.received in
-    omega (arith, less, accepted, received, c.in-Some.journal.accepted.ok.0, c.in-Some.journal.received.ok.0)
+    let taken : length c.in-Some.journal.taken.items ≡ length _ = ap length is.taken in
+    omega (arith, less, accepted, taken, c.in-Some.journal.accepted.ok.0, c.in-Some.journal.taken.ok.0)
 
 pub make_room-requires-clause-places : goal.make_room-requires-clause-places
 make_room-requires-clause-places g c =
@@ -29,7 +29,7 @@ returns-in-Some-clause-recorded g c =
     let channel = c.requires.channel in
     let within : c.args.channel < length c.args.self.now.journals.items = omega arith in
     let is = journal_is _ _ _ _ c.args.channel c.in-Some.journal c.requires.recorded (journal_here _ c.args.channel _ within c.index_mut.ensures.value ∙ c.in-Some.is) in
-    journal_set _ _ _ _ _ _ c.args.channel c.make_room.new.self c.requires.recorded within is.queuing (c.make_room.ensures.accepted ∙ is.accepted) (c.make_room.ensures.received ∙ is.received) c.make_room.ensures.places
+    journal_set _ _ _ _ _ _ c.args.channel c.make_room.new.self c.requires.recorded within is.queuing (c.make_room.ensures.accepted ∙ is.accepted) (c.make_room.ensures.taken ∙ is.taken) c.make_room.ensures.places
     (λ d apart. refl) (λ d apart. refl)
 
 pub returns-in-Some-clause-grows : goal.returns-in-Some-clause-grows

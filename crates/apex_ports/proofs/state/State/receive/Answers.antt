@@ -21,7 +21,7 @@ returns-in-Ok-clause-kept g c at =
     let was = channel_at _ _ _ _ c.requires.kept _ _ c.in-Ok.ensures.channel c.index_mut.ensures.value in
     let conserved = always_conserved _ _ c.in-Ok.channel c.requires.sound in
     received_keeps _ _ _ _ _ at _ c.in-Ok.channel _ c.index_mut.result.now c.receive.new.self c.requires.kept conserved c.in-Ok.ensures.destination was c.receive.ensures.message
-    c.receive.ensures.waiting c.receive.ensures.places c.receive.ensures.accepted c.receive.ensures.received c.receive.ensures.sample c.receive.ensures.kind
+    c.receive.ensures.waiting c.receive.ensures.places c.receive.ensures.accepted c.receive.ensures.received c.receive.ensures.cleared c.receive.ensures.sample c.receive.ensures.kind
 
 pub returns-in-Err-clause-kept : goal.returns-in-Err-clause-kept
 returns-in-Err-clause-kept g c at =

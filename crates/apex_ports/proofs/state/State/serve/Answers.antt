@@ -63,6 +63,12 @@ returns-in-QueuingStatus-clause-reply g c = rw c.in-QueuingStatus.is c.queuing_s
 pub returns-in-QueuingStatus-clause-kept : goal.returns-in-QueuingStatus-clause-kept
 returns-in-QueuingStatus-clause-kept g c = rw (c.in-QueuingStatus.is, c.queuing_status.ensures) (quiet_keeps _ _ _ _ _ c.args.at _ _ c.requires.kept (queuing_status_is_quiet c.args.config.now c.args.self.now.history _ (queuing_port c.args.config.now c.args.self.now.history c.args.partition c.in-QueuingStatus.id)))
 
+pub returns-in-ClearQueuing-clause-reply : goal.returns-in-ClearQueuing-clause-reply
+returns-in-ClearQueuing-clause-reply g c = rw c.in-ClearQueuing.is c.clear.ensures.reply
+
+pub returns-in-ClearQueuing-clause-kept : goal.returns-in-ClearQueuing-clause-kept
+returns-in-ClearQueuing-clause-kept g c = rw c.in-ClearQueuing.is (c.clear.ensures.kept c.args.at)
+
 pub returns-in-SetMode-clause-reply : goal.returns-in-SetMode-clause-reply
 returns-in-SetMode-clause-reply g c = rw c.in-SetMode.is c.set_mode.ensures.reply
 

@@ -1,11 +1,8 @@
 use Rattle.std.proofs.Common.{◌≡◌, ◌<◌, ◌++◌, ◌∷◌, [], Some, length, refl, sym, ap, ◌∙◌, arith}
-use Rattle.apex_ports.specs.Channels.{message_received}
-use Rattle.apex_board.proofs.JournalSteps.{journal_here, journal_is, journal_set, receives_nothing, receives_queuing, receives_within, received-one, no_journal, only_received, found_here}
+use Rattle.apex_ports.specs.Channels.{message_received, as_received}
+use Rattle.apex_board.proofs.JournalSteps.{journal_here, journal_is, journal_set, receives_queuing, receives_within, taken-one, no_journal, only_received, found_here}
 use Rattle.apex_board.proofs.RoomSteps.{kept_room}
-use Rattle.apex_board.proofs.records.Records.push_received.Goals as goal
-
-pub returns-in_default-clause-recorded : goal.returns-in_default-clause-recorded
-returns-in_default-clause-recorded g c = receives_nothing _ _ _ _ c.requires.recorded c.in_default.ensures.found
+use Rattle.apex_board.proofs.records.Records.push_taken.Goals as goal
 
 pub push_reserved-requires : goal.push_reserved-requires
 push_reserved-requires g c =
@@ -13,20 +10,20 @@ push_reserved-requires g c =
     let channel = c.in-Some.ensures.channel in
     let within : c.in-Some.channel < length c.args.self.now.journals.items = omega arith in
     let is = journal_is _ _ _ _ c.in-Some.channel c.in-Some-index_mut.journal c.requires.recorded (journal_here _ c.in-Some.channel _ within c.index_mut.ensures.value ∙ c.in-Some-index_mut.is) in
-    let taken : message_received c.args.config.now c.in-Some.channel c.args.entry.now ≡ Some c.in-Some.message.now = c.in-Some.ensures.found c.in-Some.channel ∙ found_here c.in-Some.channel c.in-Some.message.now in
-    let less = receives_within c.args.config.now c.args.self.now.log.items c.args.entry.now c.in-Some.channel c.in-Some.message.now c.requires.sound taken in
+    let received : message_received c.args.config.now c.in-Some.channel c.args.entry.now ≡ Some c.in-Some.message.now = c.in-Some.ensures.found c.in-Some.channel ∙ found_here c.in-Some.channel c.in-Some.message.now in
+    let less = receives_within c.args.config.now c.args.self.now.log.items c.args.entry.now c.in-Some.channel c.in-Some.message.now c.requires.sound received in
     let accepted : length c.in-Some-index_mut.journal.accepted.items ≡ length _ = ap length is.accepted in
-    let received : length c.in-Some-index_mut.journal.received.items ≡ length _ = ap length is.received in
+    let taken : length c.in-Some-index_mut.journal.taken.items ≡ length _ = ap length is.taken in
     let places = is.places in
-    omega (arith, c.in-Some-index_mut.journal.accepted.ok.0, c.in-Some-index_mut.journal.accepted.ok.1, c.in-Some-index_mut.journal.received.ok.0)
+    omega (arith, c.in-Some-index_mut.journal.accepted.ok.0, c.in-Some-index_mut.journal.accepted.ok.1, c.in-Some-index_mut.journal.taken.ok.0)
 
 pub unreachable-requires : goal.unreachable-requires
 unreachable-requires g c =
     let all = c.requires.recorded.all in
     let channel = c.in-Some.ensures.channel in
     let within : c.in-Some.channel < length c.args.self.now.journals.items = omega arith in
-    let taken : message_received c.args.config.now c.in-Some.channel c.args.entry.now ≡ Some c.in-Some.message.now = c.in-Some.ensures.found c.in-Some.channel ∙ found_here c.in-Some.channel c.in-Some.message.now in
-    let queuing = receives_queuing c.args.config.now c.args.self.now.log.items c.args.entry.now c.in-Some.channel c.in-Some.message.now c.requires.sound taken in
+    let received : message_received c.args.config.now c.in-Some.channel c.args.entry.now ≡ Some c.in-Some.message.now = c.in-Some.ensures.found c.in-Some.channel ∙ found_here c.in-Some.channel c.in-Some.message.now in
+    let queuing = receives_queuing c.args.config.now c.args.self.now.log.items c.args.entry.now c.in-Some.channel c.in-Some.message.now c.requires.sound received in
     no_journal _ _ _ _ c.in-Some.channel c.requires.recorded (journal_here _ c.in-Some.channel _ within c.index_mut.ensures.value ∙ c.in-None.is) queuing
 
 pub returns-clause-recorded : goal.returns-clause-recorded
@@ -35,12 +32,12 @@ returns-clause-recorded g c =
     let channel = c.in-Some.ensures.channel in
     let within : c.in-Some.channel < length c.args.self.now.journals.items = omega arith in
     let is = journal_is _ _ _ _ c.in-Some.channel c.in-Some-index_mut.journal c.requires.recorded (journal_here _ c.in-Some.channel _ within c.index_mut.ensures.value ∙ c.in-Some-index_mut.is) in
-    let taken : message_received c.args.config.now c.in-Some.channel c.args.entry.now ≡ Some c.in-Some.message.now = c.in-Some.ensures.found c.in-Some.channel ∙ found_here c.in-Some.channel c.in-Some.message.now in
-    let pushed = c.push_reserved.ensures.items ∙ (λ i. is.received i ++ c.copy.ensures i ∷ []) in
+    let received : message_received c.args.config.now c.in-Some.channel c.args.entry.now ≡ Some c.in-Some.message.now = c.in-Some.ensures.found c.in-Some.channel ∙ found_here c.in-Some.channel c.in-Some.message.now in
+    let pushed = c.push_reserved.ensures.items ∙ (λ i. is.taken i ++ as_received (c.copy.ensures i) ∷ []) in
     let capacity = c.push_reserved.ensures.capacity in
     let places = is.places in
     journal_set _ _ _ _ _ _ c.in-Some.channel _ c.requires.recorded within is.queuing is.accepted
-    (pushed ∙ sym (received-one c.args.config.now c.args.self.now.log.items c.args.entry.now c.in-Some.channel c.in-Some.message.now taken)) (omega arith)
+    (pushed ∙ sym (taken-one c.args.config.now c.args.self.now.log.items c.args.entry.now c.in-Some.channel c.in-Some.message.now received)) (omega arith)
     (λ d apart. refl) (only_received c.args.config.now c.args.self.now.log.items c.args.entry.now c.in-Some.channel c.in-Some.message.now c.in-Some.ensures.found)
 
 pub returns-clause-room : goal.returns-clause-room
