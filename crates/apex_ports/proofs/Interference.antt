@@ -1,7 +1,7 @@
 -- Partitions that share no channel with the others are answered as if the others made no call.
 use Rattle.std.proofs.Common.{◌≡◌, ◌≢◌, ℕ, ◌-◌, ◌&&◌, ◌||◌, not, Bool, true, false, cond, if◌then◌else◌, List, [], ◌∷◌, ◌++◌, length, drop, fold, Option, Some, None, refl, sym, ap, ◌∙◌, subst, arith, append-nil}
 use Rattle.std.specs.List.{slice_get, filter_map, cons_option}
-use Rattle.std.specs.Option.{unwrap_or}
+use Rattle.std.specs.Option.{unwrap_or, option_to_list}
 use Rattle.std.proofs.lemmas.Bool.Decides.{nat_tests}
 use Rattle.std.proofs.lemmas.List.Elements.{filter-append}
 use Rattle.apex_types.specs.Mode.{mode_numbered}
@@ -11,6 +11,7 @@ use Rattle.apex_types.specs.declared.moment.Moment.{Moment}
 use Rattle.apex_types.specs.declared.mode.Mode.TheVariants.{ColdStart}
 use Rattle.apex_types.specs.declared.reply.Reply.TheVariants.{NotMade}
 use Rattle.apex_types.specs.declared.sample.Sample.{Sample}
+use Rattle.apex_types.specs.declared.taken.Taken.{Taken}
 use Rattle.apex_types.specs.declared.validity.Validity.TheVariants.{Invalid}
 use Rattle.apex_config.specs.Configuration.{Configuration, port_of}
 use Rattle.apex_config.specs.declared.port.Port.{Port}
@@ -19,15 +20,16 @@ use Rattle.apex_ports.specs.History.{History}
 use Rattle.apex_ports.specs.Interference.{IsClosed, entries_inside, requests_inside, IsIndependent, AlwaysFreeFromInterference}
 use Rattle.apex_ports.specs.Modes.{mode_of, mode_set, is_idle, restarts, is_restart}
 use Rattle.apex_ports.specs.Ports.{is_created, creates, NamedPort, queuing_named, sampling_named, queuing_only, sampling_only, queuing_port, sampling_port}
-use Rattle.apex_ports.specs.Channels.{accepted_on, received_on, waiting_on, last_write_on, last_validity_of, validity_read, message_accepted, message_received, sample_written}
+use Rattle.apex_ports.specs.Channels.{accepted_on, taken_after, taken_by, taken_on, waiting_on, last_write_on, last_validity_of, validity_read, message_accepted, sample_written}
 use Rattle.apex_ports.specs.Lawful.{IsLawful, IsLawfulEntry}
 use Rattle.apex_ports.specs.LawfulLaws.{along_lawful, one_history}
-use Rattle.apex_ports.specs.ReplyTable.{reply_to, service_reply, create_queuing_reply, create_sampling_reply, id_reply, send_reply, receive_reply, queuing_status_reply, read_reply, sampling_status_reply, set_mode_reply, write_reply}
+use Rattle.apex_ports.specs.ReplyTable.{reply_to, service_reply, create_queuing_reply, create_sampling_reply, id_reply, send_reply, receive_reply, clear_reply, queuing_status_reply, read_reply, sampling_status_reply, set_mode_reply, write_reply}
+use Rattle.apex_ports.proofs.Appends.{accepted_on-append}
 use Rattle.apex_ports.proofs.Conserved.{queuing_configured, sampling_configured}
 use Rattle.apex_ports.proofs.LawfulSteps.{lawful_push}
-use Rattle.apex_ports.proofs.OneChannel.{LiesElsewhere, off_channel, sends_elsewhere, receives_elsewhere, writes_elsewhere}
+use Rattle.apex_ports.proofs.OneChannel.{LiesElsewhere, off_channel, sends_elsewhere, receives_elsewhere, clears_elsewhere, writes_elsewhere}
 use Rattle.apex_ports.proofs.PartitionSteps.{leaves_others}
-use Rattle.apex_ports.proofs.Stays.{LeavesPartition, LeavesChannel, IsElsewhere, leaves_channel, or_not}
+use Rattle.apex_ports.proofs.Stays.{LeavesPartition, LeavesChannel, IsElsewhere, leaves_channel, or_not, accepted_stays, takes_nothing}
 
 -- ---- what is filtered out of a history, without the entries outside
 
@@ -47,6 +49,24 @@ fold-inside {B} f inside (e ∷ h) b stays = by_test (inside e.partition) refl (
         → fold f b (cond t (e ∷ entries_inside inside h) (entries_inside inside h)) ≡ fold f (f b e) h
     by_test true here rest = rest (f b e)
     by_test false outside rest = rest b ∙ ap (λ c. fold f c h) (sym (stays b e outside))
+
+-- without entries that leave the channel the same is taken out of it
+taken-inside : (config : Configuration) (c : ℕ) (inside : ℕ → Bool) → ((e : Entry) → inside e.partition ≡ false → LeavesChannel config c e) → (before other : History) (taken : List Taken) (h : List Entry)
+    → accepted_on config c other ≡ accepted_on config c before → taken_after config c other taken (entries_inside inside h) ≡ taken_after config c before taken h
+taken-inside config c inside leaves before other taken [] same = refl
+taken-inside config c inside leaves before other taken (e ∷ h) same = by_test (inside e.partition) refl (λ before other taken same. taken-inside config c inside leaves before other taken h same)
+  where
+    by_test : (b : Bool) → inside e.partition ≡ b
+        → ((before other : History) (taken : List Taken) → accepted_on config c other ≡ accepted_on config c before → taken_after config c other taken (entries_inside inside h) ≡ taken_after config c before taken h)
+        → taken_after config c other taken (cond b (e ∷ entries_inside inside h) (entries_inside inside h)) ≡ taken_after config c before taken (e ∷ h)
+    by_test true here rest =
+        (λ i. taken_after config c (other ++ e ∷ []) (taken ++ taken_by config c (drop (length taken) (same i)) e) (entries_inside inside h))
+        ∙ rest (before ++ e ∷ []) (other ++ e ∷ []) (taken ++ taken_by config c (drop (length taken) (accepted_on config c before)) e)
+            (accepted_on-append config c other e ∙ (ap (λ messages. messages ++ option_to_list (message_accepted config c e)) same ∙ sym (accepted_on-append config c before e)))
+    by_test false outside rest =
+        let left = leaves e outside in
+        rest (before ++ e ∷ []) other taken (same ∙ sym (accepted_stays config c before e left.accepted))
+        ∙ sym (ap (λ more. taken_after config c (before ++ e ∷ []) more h) (ap (λ more. taken ++ more) (takes_nothing config c (drop (length taken) (accepted_on config c before)) e left.received left.cleared) ∙ append-nil taken))
 
 -- ---- replies that depend on a port's channel
 
@@ -122,6 +142,7 @@ module _ (config : Configuration) (p : ℕ) (new old : History) (same : IsSameFo
   service_alike now (call.QueuingId name) = id_alike (queuing_named config p name)
   service_alike now (call.QueuingStatus id) =
       ap (queuing_status_reply config new) (queuing_port_alike id) ∙ queuing_status_alike config old new (queuing_port config old p id) (waiting_at id)
+  service_alike now (call.ClearQueuing id) = ap clear_reply (queuing_port_alike id)
   service_alike now (call.SetMode number) = ap (λ mode. set_mode_reply mode (mode_numbered number)) same.mode
 
   reply_alike : (now : Moment) (asked : Call) → reply_to config new p now asked ≡ reply_to config old p now asked
@@ -136,8 +157,9 @@ off_port c (Some other) off = let apart : other.channel ≢ c = off other refl i
 off_call : (config : Configuration) (c q : ℕ) (asked : Call) → ((id : ℕ) → LiesElsewhere c (port_of config q id)) → IsElsewhere config c q asked
 off_call config c q (call.SendQueuing id message) off = sends_elsewhere config c q id message (off id)
 off_call config c q (call.ReceiveQueuing id) off = receives_elsewhere config c q id (off id)
+off_call config c q (call.ClearQueuing id) off = clears_elsewhere config c q id (off id)
 off_call config c q (call.WriteSampling id message) off = writes_elsewhere config c q id message (off id)
-off_call config c q _ off = record { sends = refl; receives = refl; writes = refl }
+off_call config c q _ off = record { sends = refl; receives = refl; clears = refl; writes = refl }
 
 module _ (config : Configuration) (inside : ℕ → Bool) (closed : IsClosed config inside) where
   leaves_inside : (p : ℕ) → inside p ≡ true → (e : Entry) → inside e.partition ≡ false → LeavesPartition p e
@@ -158,15 +180,15 @@ module _ (config : Configuration) (inside : ℕ → Bool) (closed : IsClosed con
           (λ created e outside. let left = leaves_inside p here e outside in (λ i. left.created id i || (created && not (is_restart (left.mode i)))) ∙ or_not created);
       last = λ id. fold-inside (λ last entry. if creates p id entry then Invalid else unwrap_or (validity_read p id entry) last) inside h Invalid
           (λ last e outside. let left = leaves_inside p here e outside in λ i. if left.created id i then Invalid else unwrap_or (left.read id i) last);
-      waiting = λ id port mine i. drop (length (received id port mine i)) (accepted id port mine i);
+      waiting = λ id port mine i. drop (length (taken id port mine i)) (accepted id port mine i);
       sample = λ id port mine. ap (λ (writes : List Sample). slice_get writes (length writes - 1)) (filter_map-inside (sample_written config port.channel) inside h (λ e outside. (leaves_channel_inside p id port here mine e outside).written));
     }
       where
         accepted : (id : ℕ) (port : Port) → port_of config p id ≡ Some port → accepted_on config port.channel (entries_inside inside h) ≡ accepted_on config port.channel h
         accepted id port mine = filter_map-inside (message_accepted config port.channel) inside h (λ e outside. (leaves_channel_inside p id port here mine e outside).accepted)
 
-        received : (id : ℕ) (port : Port) → port_of config p id ≡ Some port → received_on config port.channel (entries_inside inside h) ≡ received_on config port.channel h
-        received id port mine = filter_map-inside (message_received config port.channel) inside h (λ e outside. (leaves_channel_inside p id port here mine e outside).received)
+        taken : (id : ℕ) (port : Port) → port_of config p id ≡ Some port → taken_on config port.channel (entries_inside inside h) ≡ taken_on config port.channel h
+        taken id port mine = taken-inside config port.channel inside (leaves_channel_inside p id port here mine) [] [] [] h refl
 
     reply_inside : (p : ℕ) (now : Moment) (asked : Call) → inside p ≡ true → reply_to config h p now asked ≡ reply_to config (entries_inside inside h) p now asked
     reply_inside p now asked here = sym (reply_alike config p (entries_inside inside h) h (same_inside p here) now asked)
