@@ -42,7 +42,8 @@ fn shows<A: Allocator, R: Abort>(
     refresh: u64,
     wanted: &Sampled,
 )
-    ensures { map (λ known. known.channel) observers.new ≡ map (λ known. known.channel) observers.old }
+    ensures { map (λ known. known.channel) observers.new
+        ≡ map (λ known. known.channel) observers.old }
 {
     assert_eq!(rt; observers.len(), 1);
     let shown = observers[0].read(Moment(now), refresh);
