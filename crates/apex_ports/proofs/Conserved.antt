@@ -31,7 +31,7 @@ use Rattle.apex_ports.proofs.Stays.{LeavesChannel, leaves_channel, accepted_stay
 -- ---- what a reply of the table says of the port
 
 -- the port is created, so it is configured
-queuing_configured : (b : Bool) (port : Option Port) (q : Port) → queuing_only (if b then port else None) ≡ Some q → port ≡ Some q
+pub queuing_configured : (b : Bool) (port : Option Port) (q : Port) → queuing_only (if b then port else None) ≡ Some q → port ≡ Some q
 queuing_configured false port q is = absurd (cc)
 queuing_configured true None q is = absurd (cc)
 queuing_configured true (Some port) q is = by_kind (is_queuing_port port.kind) is
@@ -41,7 +41,7 @@ queuing_configured true (Some port) q is = by_kind (is_queuing_port port.kind) i
     by_kind false h = absurd (cc)
 
 -- and of its kind
-sampling_configured : (b : Bool) (port : Option Port) (q : Port) → sampling_only (if b then port else None) ≡ Some q → (port ≡ Some q) × (is_queuing_port q.kind ≡ false)
+pub sampling_configured : (b : Bool) (port : Option Port) (q : Port) → sampling_only (if b then port else None) ≡ Some q → (port ≡ Some q) × (is_queuing_port q.kind ≡ false)
 sampling_configured false port q is = absurd (cc)
 sampling_configured true None q is = absurd (cc)
 sampling_configured true (Some port) q is = by_kind (is_queuing_port port.kind) refl is

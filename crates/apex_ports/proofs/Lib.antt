@@ -4,6 +4,7 @@ pub mod Conserved
 pub mod Counts
 pub mod Histories
 pub mod Idle
+pub mod Interference
 pub mod LawfulSteps
 pub mod Lookups
 pub mod OneChannel

@@ -18,7 +18,7 @@ pub record LiesElsewhere (c : ℕ) (port : Option Port) : Type 0 where
   pub source : is_source_of c port ≡ false
   pub destination : is_destination_of c port ≡ false
 
-off_channel : (port : Port) (c : ℕ) → (port.channel == c) ≡ false → LiesElsewhere c (Some port)
+pub off_channel : (port : Port) (c : ℕ) → (port.channel == c) ≡ false → LiesElsewhere c (Some port)
 off_channel port c off = record {
   source = (λ i. is_source port.direction && off i) ∙ and_false (is_source port.direction);
   destination = (λ i. not (is_source port.direction) && off i) ∙ and_false (not (is_source port.direction));

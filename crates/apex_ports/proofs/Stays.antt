@@ -52,7 +52,7 @@ pub none_or_none : {X : Type 0} (b : Bool) → ◌≡◌ {A = Option X} (if b th
 none_or_none true = refl
 none_or_none false = refl
 
-or_not : (b : Bool) → (false || (b && not false)) ≡ b
+pub or_not : (b : Bool) → (false || (b && not false)) ≡ b
 or_not true = refl
 or_not false = refl
 
@@ -73,7 +73,7 @@ accepted_stays config c h e none = accepted_on-append config c h e ∙ (ap (λ o
 pub received_stays : (config : Configuration) (c : ℕ) (h : History) (e : Entry) → message_received config c e ≡ None → received_on config c (h ++ e ∷ []) ≡ received_on config c h
 received_stays config c h e none = received_on-append config c h e ∙ (ap (λ o. received_on config c h ++ option_to_list o) none ∙ append-nil (received_on config c h))
 
-takes_nothing : (config : Configuration) (c : ℕ) (waiting : List (List ℕ)) (e : Entry) → message_received config c e ≡ None → clears config c e ≡ false → taken_by config c waiting e ≡ []
+pub takes_nothing : (config : Configuration) (c : ℕ) (waiting : List (List ℕ)) (e : Entry) → message_received config c e ≡ None → clears config c e ≡ false → taken_by config c waiting e ≡ []
 takes_nothing config c waiting e no_receive no_clear = λ i. if no_clear i then map as_cleared waiting else map as_received (option_to_list (no_receive i))
 
 pub taken_stays : (config : Configuration) (c : ℕ) (h : History) (e : Entry) → message_received config c e ≡ None → clears config c e ≡ false → taken_on config c (h ++ e ∷ []) ≡ taken_on config c h

@@ -4,6 +4,7 @@ pub mod Counts
 pub mod Decisions
 pub mod History
 pub mod Idle
+pub mod Interference
 pub mod Kept
 pub mod Lawful
 pub mod LawfulLaws

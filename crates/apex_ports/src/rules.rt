@@ -1,4 +1,5 @@
 //! What the reply table keeps true, whatever is called.
+ghost use Rattle.apex_ports.specs.Interference.{AlwaysFreeFromInterference};
 ghost use Rattle.apex_ports.specs.Rules.{AlwaysConserved};
 ghost use Rattle.apex_ports.specs.WithoutClears.{AlwaysReceivedOrCleared, WithoutClears};
 
@@ -20,4 +21,11 @@ pub fn received_or_cleared()
 /// there what it would give without that service. There is nothing to run.
 pub fn without_clears()
     ensures { WithoutClears }
+{}
+
+/// The law of freedom from interference: partitions that share no channel with the others get the replies
+/// that they would get if the others made no call. It speaks of the reply table alone. There is nothing to
+/// run.
+pub fn free_from_interference()
+    ensures { AlwaysFreeFromInterference }
 {}

@@ -2,6 +2,7 @@
 mod caller;
 mod clears;
 mod creation;
+mod interference;
 mod lines;
 mod long_trace;
 mod queuing;

@@ -1,3 +1,4 @@
+pub mod Alone
 pub mod Crossing
 pub mod Counting
 pub mod Equal

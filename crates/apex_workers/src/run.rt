@@ -3,6 +3,7 @@ ghost use Rattle.std.specs.Prelude.{◌≡◌, ◌<◌, ◌≤◌, [], length, r
 ghost use Rattle.std.specs.Thread.{IsSync, IsSend};
 ghost use Rattle.apex_observers.specs.Channels.{AreObservers};
 ghost use Rattle.apex_ports.specs.Lawful.{IsLawful};
+ghost use Rattle.apex_workers.specs.Alone.{ShowsScriptsAlone};
 ghost use Rattle.apex_workers.specs.Collected.{HasScripts, HasReplies, IsCollectedFor};
 ghost use Rattle.apex_workers.specs.Held.{NamesHeldCall};
 ghost use Rattle.apex_workers.specs.Places.{AreReady};
@@ -59,6 +60,10 @@ pub fn run_scripts<R: Threads + Wait + Sync, A: Allocator + Copy + Send + Sync, 
         HasReplies finished.board.log finished.replies.items) }
     ensures observers { IfOk result (λ finished.
         AreObservers finished.board.published finished.observers.items) }
+
+    // Partitions that share no channel with the others show what their scripts alone can show.
+    ensures isolated { IfOk result (λ finished. ShowsScriptsAlone
+        config.now scripts.now finished.replies.items finished.board.log) }
 
     // Where a worker was held, the gate may refuse the call that the fault names.
     ensures held { IfErr result (NamesHeldCall (G.may_refuse gate.now) scripts.now) }
@@ -142,6 +147,8 @@ fn collected<A: Allocator, R: Wait>(
         HasReplies finished.board.log finished.replies.items) }
     ensures observers { IfOk result (λ finished.
         AreObservers finished.board.published finished.observers.items) }
+    ensures isolated { IfOk result (λ finished. ShowsScriptsAlone
+        config.now scripts.now finished.replies.items finished.board.log) }
     ensures stranger { IfErr result (λ fault. fault ≡ RunFault.Stranger) }
 
     // It is refused only where something differs.

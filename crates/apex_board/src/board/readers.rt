@@ -12,6 +12,7 @@ impl<A: Allocator> Board<A> {
     ghost use Rattle.apex_board.specs.OnChannels.{ArePublished};
     ghost use Rattle.apex_ports.specs.Channels.{accepted_on, messages_of, taken_on, waiting_on, last_write_on};
     ghost use Rattle.apex_ports.specs.Idle.{IdleIsSilent};
+    ghost use Rattle.apex_ports.specs.Interference.{IsFreeFromInterference};
     ghost use Rattle.apex_ports.specs.Lawful.{IsLawful};
     ghost use Rattle.apex_ports.specs.Modes.{mode_of};
     ghost use Rattle.apex_ports.specs.Ports.{is_created, is_queuing, sampling_port};
@@ -33,10 +34,12 @@ impl<A: Allocator> Board<A> {
     }
 
     /// All calls with their replies, oldest first. What they write into sampling channels is published there.
+    /// Partitions that share no channel with the others got the replies that they would get without them.
     pub fn log(&self) -> &[Entry]
         ensures log { result.now ≡ self.now.log }
         ensures lawful { IsLawful self.now.config self.now.log }
         ensures idle { IdleIsSilent self.now.log }
+        ensures isolated { IsFreeFromInterference self.now.config self.now.log }
         ensures published { ArePublished self.now.config self.now.log self.now.published }
     {
         self.records.log.as_slice()

@@ -13,16 +13,12 @@ const READS: u64 = 100_000;
 /// How many samples are written, at the moments from 1 on.
 const WRITES: u64 = 10_000;
 
-// The message that is written at this moment, and at no other.
-fn message_of(rt: &impl Abort, at: u64) -> Message {
+// The message of a write has the bytes of its moment.
+fn write_at<R: Wait + Abort>(rt: &R, publisher: &mut Publisher, at: u64) {
     let Ok(message) = Message::from_bytes(&at.to_be_bytes()) else {
         panic!(rt; "eight bytes are a message");
     };
-    message
-}
-
-fn write_at<R: Wait + Abort>(rt: &R, publisher: &mut Publisher, at: u64) {
-    let published = publisher.publish(rt, &message_of(rt, at), Moment(at));
+    let published = publisher.publish(rt, &message, Moment(at));
     assert_eq!(rt; published, Ok(()));
 }
 
@@ -37,7 +33,7 @@ fn moment_shown<R: Abort>(rt: &R, observer: &mut Observer) -> u64 {
         panic!(rt; "a sample was written");
     };
     assert!(rt; 1 <= at.0 && at.0 <= WRITES);
-    assert_eq!(rt; message, message_of(rt, at.0));
+    assert!(rt; message.bytes() == at.0.to_be_bytes().as_slice());
     at.0
 }
 
