@@ -70,9 +70,22 @@ impl<A: Allocator> Ports<A> {
         ensures config { self.new.config ≡ self.old.config }
         ensures sound { IsSound self.new.config self.new.history }
     {
-        let reply = self.state.answer(&self.config, partition, at, call);
-        self.calls[partition] = self.calls[partition].saturating_add(1);
-        self.state.history.push(partition, at, call, &reply);
+        let mut reply = Reply::NotMade;
+        self.call_into(partition, at, call, &mut reply);
         reply
+    }
+
+    /// The event of `call`, with the reply in the caller's place.
+    pub fn call_into(&mut self, partition: usize, at: Moment, call: &Call, reply: &mut Reply)
+        requires { partition < length self.old.config.partitions }
+        ensures reply { reply.new ≡ reply_to self.old.config self.old.history partition at call.now }
+        ensures entry { self.new.history ≡ self.old.history
+            ++ entry_of partition at call.now reply.new ∷ [] }
+        ensures config { self.new.config ≡ self.old.config }
+        ensures sound { IsSound self.new.config self.new.history }
+    {
+        self.state.answer(&self.config, partition, at, call, reply);
+        self.calls[partition] = self.calls[partition].saturating_add(1);
+        self.state.history.push(partition, at, call, reply);
     }
 }

@@ -114,21 +114,21 @@ impl<A: Allocator> State<A> {
         }
     }
 
-    /// RECEIVE_QUEUING_MESSAGE.
-    pub(crate) fn receive(&mut self, config: &Config, partition: usize, id: u32) -> Reply
+    /// RECEIVE_QUEUING_MESSAGE, with the reply in its place.
+    pub(crate) fn receive(&mut self, config: &Config, partition: usize, id: u32, reply: &mut Reply)
         requires partition { partition < length config.now.partitions }
         requires sound { IsSound config.now self.old.history }
         requires kept { IsKept config.now self.old.history self.old }
         ensures reply { let port = queuing_port config.now self.old.history partition id in
-            result ≡ receive_reply config.now self.old.history port }
+            reply.new ≡ receive_reply config.now self.old.history port }
         ensures kept { (at : Moment) →
-            let entry = entry_of partition at (call.ReceiveQueuing id) result in
+            let entry = entry_of partition at (call.ReceiveQueuing id) reply.new in
             IsKeptWith config.now self.old entry self.new }
         ensures history { self.new.history ≡ self.old.history }
     {
         match self.receive_source(config, partition, id) {
-            Ok(channel) => Reply::Received(self.channels[channel].receive()),
-            Err(code) => Reply::Code(code),
+            Ok(channel) => *reply = Reply::Received(self.channels[channel].receive()),
+            Err(code) => *reply = Reply::Code(code),
         }
     }
 

@@ -139,19 +139,29 @@ impl<A: Allocator> State<A> {
         }
     }
 
-    /// READ_SAMPLING_MESSAGE.
-    pub(crate) fn read(&mut self, config: &Config, partition: usize, at: Moment, id: u32) -> Reply
+    /// READ_SAMPLING_MESSAGE, with the reply in its place.
+    pub(crate) fn read(
+        &mut self,
+        config: &Config,
+        partition: usize,
+        at: Moment,
+        id: u32,
+        reply: &mut Reply,
+    )
         requires partition { partition < length config.now.partitions }
         requires kept { IsKept config.now self.old.history self.old }
         ensures reply { let port = sampling_port config.now self.old.history partition id in
-            result ≡ read_reply config.now self.old.history at port }
-        ensures kept { let entry = entry_of partition at (call.ReadSampling id) result in
+            reply.new ≡ read_reply config.now self.old.history at port }
+        ensures kept { let entry = entry_of partition at (call.ReadSampling id) reply.new in
             IsKeptWith config.now self.old entry self.new }
         ensures history { self.new.history ≡ self.old.history }
     {
         let (message, validity) = match self.sample_shown(config, partition, at, id) {
             Ok((message, validity)) => (message.copy(), validity),
-            Err(code) => return Reply::Code(code),
+            Err(code) => {
+                *reply = Reply::Code(code);
+                return;
+            }
         };
         let created = self.partitions[partition].is_created(id);
         let state = PortState {
@@ -159,7 +169,7 @@ impl<A: Allocator> State<A> {
             last: validity,
         };
         self.partitions[partition].set_port(id, state);
-        Reply::Read { message, validity }
+        *reply = Reply::Read { message, validity };
     }
 
     /// GET_SAMPLING_PORT_STATUS.

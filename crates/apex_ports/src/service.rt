@@ -13,35 +13,45 @@ use apex_types::{Call, Moment, Reply};
 use std::alloc::Allocator;
 
 impl<A: Allocator> State<A> {
-    /// Answers a call. The history doesn't have its entry yet.
+    /// Answers a call, with the reply in its place. The history doesn't have its entry yet.
     pub(crate) fn answer(
         &mut self,
         config: &Config,
         partition: usize,
         at: Moment,
         call: &Call,
-    ) -> Reply
+        reply: &mut Reply,
+    )
         requires partition { partition < length config.now.partitions }
         requires sound { IsSound config.now self.old.history }
         requires kept { IsKept config.now self.old.history self.old }
-        ensures reply { result ≡ reply_to config.now self.old.history partition at call.now }
-        ensures kept { let entry = entry_of partition at call.now result in
+        ensures reply { reply.new ≡ reply_to config.now self.old.history partition at call.now }
+        ensures kept { let entry = entry_of partition at call.now reply.new in
             IsKeptWith config.now self.old entry self.new }
         ensures history { self.new.history ≡ self.old.history }
     {
         if is_idle(self.partitions[partition].mode) {
-            return Reply::NotMade;
+            *reply = Reply::NotMade;
+        } else {
+            self.serve(config, partition, at, call, reply);
         }
-        self.serve(config, partition, at, call)
     }
 
     // Performs the service that the call asks for.
-    fn serve(&mut self, config: &Config, partition: usize, at: Moment, call: &Call) -> Reply
+    fn serve(
+        &mut self,
+        config: &Config,
+        partition: usize,
+        at: Moment,
+        call: &Call,
+        reply: &mut Reply,
+    )
         requires partition { partition < length config.now.partitions }
         requires sound { IsSound config.now self.old.history }
         requires kept { IsKept config.now self.old.history self.old }
-        ensures reply { result ≡ service_reply config.now self.old.history partition at call.now }
-        ensures kept { let entry = entry_of partition at call.now result in
+        ensures reply { let history = self.old.history in
+            reply.new ≡ service_reply config.now history partition at call.now }
+        ensures kept { let entry = entry_of partition at call.now reply.new in
             IsKeptWith config.now self.old entry self.new }
         ensures history { self.new.history ≡ self.old.history }
     {
@@ -57,12 +67,14 @@ impl<A: Allocator> State<A> {
                     direction: *direction,
                     refresh: *refresh,
                 };
-                self.create_sampling(config, partition, name, asked)
+                *reply = self.create_sampling(config, partition, name, asked);
             }
-            Call::WriteSampling { id, message } => self.write(config, partition, at, *id, message),
-            Call::ReadSampling { id } => self.read(config, partition, at, *id),
-            Call::SamplingId { name } => self.sampling_id(config, partition, name),
-            Call::SamplingStatus { id } => self.sampling_status(config, partition, *id),
+            Call::WriteSampling { id, message } => *reply = self.write(
+                config, partition, at, *id, message,
+            ),
+            Call::ReadSampling { id } => self.read(config, partition, at, *id, reply),
+            Call::SamplingId { name } => *reply = self.sampling_id(config, partition, name),
+            Call::SamplingStatus { id } => *reply = self.sampling_status(config, partition, *id),
             Call::CreateQueuing {
                 name,
                 size,
@@ -76,14 +88,16 @@ impl<A: Allocator> State<A> {
                     direction: *direction,
                     discipline: *discipline,
                 };
-                self.create_queuing(config, partition, name, asked)
+                *reply = self.create_queuing(config, partition, name, asked);
             }
-            Call::SendQueuing { id, message } => self.send(config, partition, *id, message),
-            Call::ReceiveQueuing { id } => self.receive(config, partition, *id),
-            Call::QueuingId { name } => self.queuing_id(config, partition, name),
-            Call::QueuingStatus { id } => self.queuing_status(config, partition, *id),
-            Call::ClearQueuing { id } => self.clear(config, partition, *id),
-            Call::SetMode { mode } => self.set_mode(config, partition, *mode),
+            Call::SendQueuing { id, message } => *reply = self.send(
+                config, partition, *id, message,
+            ),
+            Call::ReceiveQueuing { id } => self.receive(config, partition, *id, reply),
+            Call::QueuingId { name } => *reply = self.queuing_id(config, partition, name),
+            Call::QueuingStatus { id } => *reply = self.queuing_status(config, partition, *id),
+            Call::ClearQueuing { id } => *reply = self.clear(config, partition, *id),
+            Call::SetMode { mode } => *reply = self.set_mode(config, partition, *mode),
         }
     }
 }

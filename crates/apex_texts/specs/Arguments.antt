@@ -122,6 +122,13 @@ exactly (suc count) (word ∷ words) = do
   rest ← exactly count words
   Ok (word ∷ rest)
 
+-- the identifier that is the only word
+abbrev pub id_in : List (List ℕ) → Result ℕ LineFault
+id_in words = do
+  arguments ← exactly 1 words
+  id ← number_at arguments
+  Ok id.0
+
 -- ARGUMENTS: as many words as the service takes, and then what each of them is
 unfoldable pub call_with : Service → List (List ℕ) → Result Call LineFault
 call_with service words = do

@@ -2,7 +2,7 @@
 ghost use Rattle.std.specs.Prelude.{◌≡◌, [], ◌∷◌};
 ghost use Rattle.apex_texts.specs.Text.{words_of, number_up_to};
 ghost use Rattle.apex_texts.specs.Service.{service_named};
-ghost use Rattle.apex_texts.specs.Arguments.{Gives, or_fault, exactly, name_in, message_in, word_at, call_with, moment_of};
+ghost use Rattle.apex_texts.specs.Arguments.{Gives, or_fault, exactly, id_in, name_in, message_in, word_at, call_with, moment_of};
 
 use crate::line_fault::LineFault;
 use crate::service::Service;
@@ -112,53 +112,70 @@ pub fn service_at(word: &[u8]) -> Result<Service, LineFault>
     Service::named(word).ok_or(LineFault::UnknownCall)
 }
 
-/// The call to a service with the arguments that the words are. The words are walked once.
+/// Reads the call to a service, with the arguments that the words are, into its place. The words
+/// are walked once. After a fault any call may stand there.
 #[tactic(auto, unfolding(crate::specs::Arguments::call_with, crate::specs::Arguments::call_at))]
-pub fn call_with(service: Service, words: &[u8]) -> Result<Call, LineFault>
-    ensures { result ≡ call_with service (words_of words.now) }
+pub fn read_call(service: Service, words: &[u8], call: &mut Call) -> Result<(), LineFault>
+    ensures { Gives (λ _. call.new) result (call_with service (words_of words.now)) }
 {
     match service {
-        Service::CreateSampling => create_sampling(words),
-        Service::CreateQueuing => create_queuing(words),
-        Service::WriteSampling => {
-            let (id, message) = two_words(words)?;
-            Ok(Call::WriteSampling {
-                id: number_of(id)?,
-                message: message_of(message)?,
-            })
+        Service::CreateSampling => *call = create_sampling(words)?,
+        Service::CreateQueuing => *call = create_queuing(words)?,
+        Service::WriteSampling => read_write(words, call)?,
+        Service::SendQueuing => read_send(words, call)?,
+        Service::ReadSampling => *call = Call::ReadSampling { id: id_in(words)? },
+        Service::SamplingStatus => *call = Call::SamplingStatus { id: id_in(words)? },
+        Service::ReceiveQueuing => *call = Call::ReceiveQueuing { id: id_in(words)? },
+        Service::QueuingStatus => *call = Call::QueuingStatus { id: id_in(words)? },
+        Service::ClearQueuing => *call = Call::ClearQueuing { id: id_in(words)? },
+        Service::SamplingId => {
+            *call = Call::SamplingId {
+                name: name_of(one_word(words)?)?,
+            };
         }
-        Service::SendQueuing => {
-            let (id, message) = two_words(words)?;
-            Ok(Call::SendQueuing {
-                id: number_of(id)?,
-                message: message_of(message)?,
-            })
+        Service::QueuingId => {
+            *call = Call::QueuingId {
+                name: name_of(one_word(words)?)?,
+            };
         }
-        Service::SamplingId => Ok(Call::SamplingId {
-            name: name_of(one_word(words)?)?,
-        }),
-        Service::QueuingId => Ok(Call::QueuingId {
-            name: name_of(one_word(words)?)?,
-        }),
-        Service::ReadSampling => Ok(Call::ReadSampling {
-            id: number_of(one_word(words)?)?,
-        }),
-        Service::SamplingStatus => Ok(Call::SamplingStatus {
-            id: number_of(one_word(words)?)?,
-        }),
-        Service::ReceiveQueuing => Ok(Call::ReceiveQueuing {
-            id: number_of(one_word(words)?)?,
-        }),
-        Service::QueuingStatus => Ok(Call::QueuingStatus {
-            id: number_of(one_word(words)?)?,
-        }),
-        Service::ClearQueuing => Ok(Call::ClearQueuing {
-            id: number_of(one_word(words)?)?,
-        }),
-        Service::SetMode => Ok(Call::SetMode {
-            mode: number_of(one_word(words)?)?,
-        }),
+        Service::SetMode => {
+            *call = Call::SetMode {
+                mode: number_of(one_word(words)?)?,
+            };
+        }
     }
+    Ok(())
+}
+
+fn id_in(words: &[u8]) -> Result<u32, LineFault>
+    ensures { result ≡ id_in (words_of words.now) }
+{
+    number_of(one_word(words)?)
+}
+
+#[tactic(auto, unfolding(crate::specs::Arguments::call_with, crate::specs::Arguments::call_at))]
+fn read_write(words: &[u8], call: &mut Call) -> Result<(), LineFault>
+    ensures { Gives (λ _. call.new) result
+        (call_with Service.WriteSampling (words_of words.now)) }
+{
+    let (id, message) = two_words(words)?;
+    *call = Call::WriteSampling {
+        id: number_of(id)?,
+        message: message_of(message)?,
+    };
+    Ok(())
+}
+
+#[tactic(auto, unfolding(crate::specs::Arguments::call_with, crate::specs::Arguments::call_at))]
+fn read_send(words: &[u8], call: &mut Call) -> Result<(), LineFault>
+    ensures { Gives (λ _. call.new) result (call_with Service.SendQueuing (words_of words.now)) }
+{
+    let (id, message) = two_words(words)?;
+    *call = Call::SendQueuing {
+        id: number_of(id)?,
+        message: message_of(message)?,
+    };
+    Ok(())
 }
 
 #[tactic(auto, unfolding(crate::specs::Arguments::call_with, crate::specs::Arguments::call_at))]

@@ -9,9 +9,10 @@ use crate::fault::{Fault, TraceFault};
 use crate::lines::line_words;
 use crate::report_text::{push_entry, push_totals};
 use crate::text::next_line;
-use crate::trace::request_at;
+use crate::trace::{ANY_REQUEST, read_request};
 use apex_config::Config;
 use apex_ports::{Ports, Request};
+use apex_types::Reply;
 use std::alloc::{AllocError, Global};
 
 /// The report of a trace's calls on new ports of a configuration, from the two texts.
@@ -50,15 +51,22 @@ fn push_calls(text: &mut String, ports: &mut Ports, trace: &[u8]) -> Result<(), 
         (λ fault. IsTraceRead (Err fault) (trace_of ports.old.config trace.now)) }
 {
     let mut rest = trace;
+    let mut request = ANY_REQUEST;
+    let mut reply = Reply::NotMade;
     let mut line_number: usize = 0;
     let mut number: u64 = 0;
     while let Some((line, after)) = next_line(rest) {
         line_number += 1;
         match line_words(line) {
-            Ok(Some((first, words))) => match request_at(ports.config(), first, words) {
-                Ok(request) => {
+            Ok(Some((first, words))) => match read_request(
+                ports.config(),
+                first,
+                words,
+                &mut request,
+            ) {
+                Ok(()) => {
                     number += 1;
-                    push_call(text, ports, number, &request)?;
+                    push_call(text, ports, number, &request, &mut reply)?;
                 }
                 Err(fault) => return Err(TraceFault::at(line_number, fault)),
             },
@@ -70,12 +78,13 @@ fn push_calls(text: &mut String, ports: &mut Ports, trace: &[u8]) -> Result<(), 
     Ok(())
 }
 
-/// Serves a request, and writes its line.
+/// Serves a request, with its reply in the place given, and writes its line.
 fn push_call(
     text: &mut String,
     ports: &mut Ports,
     number: u64,
     request: &Request,
+    reply: &mut Reply,
 ) -> Result<(), AllocError>
     requires { request.now.partition < length ports.old.config.partitions }
     ensures config { ports.new.config ≡ ports.old.config }
@@ -86,7 +95,7 @@ fn push_call(
         OnOk result (string_bytes text.new ≡
         string_bytes text.old ++ line_of ports.old.config number entry) }
 {
-    let reply = ports.call(request.partition, request.at, &request.call);
+    ports.call_into(request.partition, request.at, &request.call, reply);
     let name = ports.config().partition_name(request.partition).text();
-    push_entry(text, number, name, request.at, &request.call, &reply)
+    push_entry(text, number, name, request.at, &request.call, reply)
 }

@@ -3,7 +3,7 @@ ghost use Rattle.std.specs.Prelude.{◌≡◌};
 ghost use Rattle.apex_texts.specs.Text.{words_of};
 ghost use Rattle.apex_texts.specs.Script.{IsScriptRead, timed_call_at, script_of};
 
-use crate::arguments::{call_with, moment_of, service_at, word_at};
+use crate::arguments::{moment_of, read_call, service_at, word_at};
 use crate::fault::TraceFault;
 use crate::line_fault::LineFault;
 use crate::lines::{LineForm, read_lines};
@@ -40,6 +40,9 @@ impl LineForm for ScriptLine {
 fn timed_call_at(moment: &[u8], words: &[u8]) -> Result<(Moment, Call), LineFault>
     ensures { result ≡ timed_call_at moment.now (words_of words.now) }
 {
-    let (call, words) = word_at(words)?;
-    Ok((moment_of(moment)?, call_with(service_at(call)?, words)?))
+    let (word, words) = word_at(words)?;
+    let at = moment_of(moment)?;
+    let mut call = Call::SetMode { mode: 0 };
+    read_call(service_at(word)?, words, &mut call)?;
+    Ok((at, call))
 }

@@ -1,14 +1,16 @@
 //! Reading a trace: the requests of its lines, or its first faulty line.
-ghost use Rattle.std.specs.Prelude.{◌≡◌, ◌<◌, length, IfOk};
+ghost use Rattle.std.specs.Prelude.{◌≡◌, ◌<◌, length, IfOk, OnOk};
+ghost use Rattle.apex_texts.specs.Arguments.{Gives};
 ghost use Rattle.apex_texts.specs.Text.{words_of};
 ghost use Rattle.apex_texts.specs.Trace.{IsTraceRead, HavePartitions, partition_of, request_at, trace_of};
 
-use crate::arguments::{call_with, moment_of, service_at, word_at};
+use crate::arguments::{moment_of, read_call, service_at, word_at};
 use crate::fault::TraceFault;
 use crate::line_fault::LineFault;
 use crate::lines::{LineForm, read_lines};
 use apex_config::Config;
 use apex_ports::Request;
+use apex_types::{Call, Moment};
 use std::alloc::Global;
 
 /// The requests of a trace's lines, in order, or its first faulty line.
@@ -35,19 +37,40 @@ impl LineForm for TraceLine<'_> {
     }
 }
 
+/// A request to read others into.
+pub(crate) const ANY_REQUEST: Request = Request {
+    partition: 0,
+    at: Moment(0),
+    call: Call::SetMode { mode: 0 },
+};
+
 /// The request of a moment and the words after it.
+fn request_at(config: &Config, moment: &[u8], words: &[u8]) -> Result<Request, LineFault>
+    ensures { result ≡ request_at config.now moment.now (words_of words.now) }
+{
+    let mut request = ANY_REQUEST;
+    read_request(config, moment, words, &mut request)?;
+    Ok(request)
+}
+
+/// Reads the request of a moment and the words after it into its place. After a fault any request
+/// may stand there.
 #[tactic(auto, unfolding(crate::specs::Trace::request_at, crate::specs::Arguments::call_of))]
-pub(crate) fn request_at(config: &Config, moment: &[u8], words: &[u8]) -> Result<Request, LineFault>
-    ensures exact { result ≡ request_at config.now moment.now (words_of words.now) }
-    ensures known { IfOk result (λ request. request.partition < length config.now.partitions) }
+pub(crate) fn read_request(
+    config: &Config,
+    moment: &[u8],
+    words: &[u8],
+    request: &mut Request,
+) -> Result<(), LineFault>
+    ensures exact { Gives (λ _. request.new) result
+        (request_at config.now moment.now (words_of words.now)) }
+    ensures known { OnOk result (request.new.partition < length config.now.partitions) }
 {
     let (partition, words) = word_at(words)?;
     let (call, words) = word_at(words)?;
-    Ok(Request {
-        at: moment_of(moment)?,
-        partition: partition_of(config, partition)?,
-        call: call_with(service_at(call)?, words)?,
-    })
+    request.at = moment_of(moment)?;
+    request.partition = partition_of(config, partition)?;
+    read_call(service_at(call)?, words, &mut request.call)
 }
 
 fn partition_of(config: &Config, word: &[u8]) -> Result<usize, LineFault>

@@ -14,8 +14,6 @@ pub mod reply;
 pub mod return_code;
 pub mod sample;
 pub mod taken;
-#[cfg(test)]
-mod tests;
 pub mod validity;
 
 pub use crate::call::Call;

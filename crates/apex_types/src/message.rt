@@ -1,7 +1,8 @@
 //! Messages.
-ghost use Rattle.std.specs.Prelude.{◌≡◌, ◌≤◌, ◌<◌, length, MatchResult};
+ghost use Rattle.std.specs.Prelude.{◌≡◌, ◌≤◌, ◌<◌, ℕ, length, MatchResult};
+ghost use Rattle.std.specs.Result.{result_ok};
 ghost use Rattle.std.specs.List.{list_all};
-ghost use Rattle.hex.specs.Hex.{is_hex_digit};
+ghost use Rattle.hex.specs.Hex.{hex_digit_value, is_hex_digit, pair_value};
 ghost use Rattle.apex_types.specs.Message.{message_of_hex, hex_text_of};
 
 use arrayvec::{ArrayString, ArrayVec};
@@ -88,13 +89,15 @@ impl Message {
             });
         }
         let mut bytes = ArrayVec::new();
-        bytes
-            .try_extend_from_slice(&[0; MESSAGE_LIMIT][..digits.len() / 2])
-            .unwrap();
-        match hex::decode_to_slice(digits, bytes.as_mut_slice()) {
-            Ok(()) => Ok(Message { bytes }),
-            Err(_) => Err(HexFault::BadDigit),
+        let mut rest = digits;
+        while let [high, low, after @ ..] = rest {
+            match byte_of(*high, *low) {
+                Some(byte) => bytes.push(byte),
+                None => return Err(HexFault::BadDigit),
+            }
+            rest = after;
         }
+        Ok(Message { bytes })
     }
 
     /// The lower-case hexadecimal text of the message, `-` for the empty message. `from_hex` gives the message back.
@@ -129,6 +132,31 @@ impl Message {
         let mut bytes = ArrayVec::new();
         bytes.try_extend_from_slice(self.bytes.as_slice()).unwrap();
         Message { bytes }
+    }
+}
+
+// The byte of two hexadecimal digits.
+fn byte_of(high: u8, low: u8) -> Option<u8>
+    ensures { (at : ℕ) → result ≡ result_ok (pair_value high low at) }
+{
+    Some(digit_value(high)? * 16 + digit_value(low)?)
+}
+
+// The value of a hexadecimal digit of either case.
+fn digit_value(digit: u8) -> Option<u8>
+    ensures { result ≡ hex_digit_value digit }
+{
+    let decimal = digit.wrapping_sub(b'0');
+    let lower = digit.wrapping_sub(b'a');
+    let upper = digit.wrapping_sub(b'A');
+    if decimal < 10 {
+        Some(decimal)
+    } else if lower < 6 {
+        Some(lower + 10)
+    } else if upper < 6 {
+        Some(upper + 10)
+    } else {
+        None
     }
 }
 

@@ -23,15 +23,15 @@ loop-line-init c = record {
   bound = omega arith;
 }
 
-pub returns-in-Err-request_at-clause-refused : goal.returns-in-Err-request_at-clause-refused
-returns-in-Err-request_at-clause-refused c =
+pub returns-in-Err-read_request-clause-refused : goal.returns-in-Err-read_request-clause-refused
+returns-in-Err-read_request-clause-refused c =
     let config = c.args.ports.now.config in
     let same = c.config.ensures.config ∙ c.loop-line.invariant.config in
     let found : line_words c.in-Some.line.now ≡ Ok (Some (c.in-Ok-Some.first.now, words_of c.in-Ok-Some.words.now)) = rw c.in-Ok-Some.field-0-is at c.in-Ok-Some.ensures in
-    let asked : request_at config c.in-Ok-Some.first.now (words_of c.in-Ok-Some.words.now) ≡ Err c.in-Err-request_at.fault =
-    ap (λ (given : Configuration). request_at given c.in-Ok-Some.first.now (words_of c.in-Ok-Some.words.now)) (sym same) ∙ sym c.in-Err-request_at.ensures.exact in
-    let is = item-faulty (request_at config) c.in-Some.line.now c.in-Ok-Some.first.now (words_of c.in-Ok-Some.words.now) c.in-Err-request_at.fault found asked in
-    rw c.at.ensures (refuses (request_at config) (requests_of c.loop-line.ports.history) (c.loop-line.line_number + 1) (lines c.loop-line.rest.now) c.in-Some.line.now (lines c.in-Some.after.now) c.in-Err-request_at.fault
+    let asked : request_at config c.in-Ok-Some.first.now (words_of c.in-Ok-Some.words.now) ≡ Err c.in-Err-read_request.fault =
+    ap (λ (given : Configuration). request_at given c.in-Ok-Some.first.now (words_of c.in-Ok-Some.words.now)) (sym same) ∙ c.in-Err-read_request.ensures.exact in
+    let is = item-faulty (request_at config) c.in-Some.line.now c.in-Ok-Some.first.now (words_of c.in-Ok-Some.words.now) c.in-Err-read_request.fault found asked in
+    rw c.at.ensures (refuses (request_at config) (requests_of c.loop-line.ports.history) (c.loop-line.line_number + 1) (lines c.loop-line.rest.now) c.in-Some.line.now (lines c.in-Some.after.now) c.in-Err-read_request.fault
     (trace_of config c.args.trace.now) c.in-Some.ensures.line is c.loop-line.invariant.read)
 
 pub returns-in-Err-clause-refused : goal.returns-in-Err-clause-refused
@@ -47,10 +47,10 @@ loop-line-preserved-in_ok-push_call-in-Ok c =
     let history = c.loop-line.ports.history in
     let same = c.config.ensures.config ∙ c.loop-line.invariant.config in
     let found : line_words c.in-Some.line.now ≡ Ok (Some (c.in-Ok-Some.first.now, words_of c.in-Ok-Some.words.now)) = rw c.in-Ok-Some.field-0-is at c.in-Ok-Some.ensures in
-    let asked : request_at config c.in-Ok-Some.first.now (words_of c.in-Ok-Some.words.now) ≡ Ok c.in-Ok.request =
-    ap (λ (given : Configuration). request_at given c.in-Ok-Some.first.now (words_of c.in-Ok-Some.words.now)) (sym same) ∙ sym c.in-Ok.ensures.exact in
-    let read = item-read (request_at config) c.in-Some.line.now c.in-Ok-Some.first.now (words_of c.in-Ok-Some.words.now) c.in-Ok.request found asked in
-    let entry = entry_after c.loop-line.ports.config history c.in-Ok.request in
+    let asked : request_at config c.in-Ok-Some.first.now (words_of c.in-Ok-Some.words.now) ≡ Ok c.read_request.new.request =
+    ap (λ (given : Configuration). request_at given c.in-Ok-Some.first.now (words_of c.in-Ok-Some.words.now)) (sym same) ∙ c.in-Ok.ensures.exact in
+    let read = item-read (request_at config) c.in-Some.line.now c.in-Ok-Some.first.now (words_of c.in-Ok-Some.words.now) c.read_request.new.request found asked in
+    let entry = entry_after c.loop-line.ports.config history c.read_request.new.request in
     let longer : length c.push_call.new.ports.history ≡ length history + 1 = ap length c.push_call.ensures.history ∙ length-append history (entry ∷ []) in
     let before = c.loop-line.invariant.number in
     let bound = c.loop-line.invariant.bound in
@@ -58,7 +58,7 @@ loop-line-preserved-in_ok-push_call-in-Ok c =
     record {
       read =
           rw (c.push_call.ensures.history, requests_of-push)
-          (goes_on (request_at config) (requests_of history) (c.loop-line.line_number + 1) (lines c.loop-line.rest.now) c.in-Some.line.now (lines c.in-Some.after.now) c.in-Ok.request
+          (goes_on (request_at config) (requests_of history) (c.loop-line.line_number + 1) (lines c.loop-line.rest.now) c.in-Some.line.now (lines c.in-Some.after.now) c.read_request.new.request
           (trace_of config c.args.trace.now) c.in-Some.ensures.line read c.loop-line.invariant.read);
       config = c.push_call.ensures.config ∙ c.loop-line.invariant.config;
       sound = c.push_call.ensures.sound;

@@ -7,8 +7,8 @@ use Rattle.apex_ports.proofs.state.State.answer.Goals as goal
 pub returns-then-is_idle-clause-kept : goal.returns-then-is_idle-clause-kept
 returns-then-is_idle-clause-kept g c = quiet_keeps _ _ _ _ _ c.args.at _ _ c.requires.kept (not_made_is_quiet _)
 
-pub returns-clause-reply : goal.returns-clause-reply
-returns-clause-reply g c =
+pub returns-else-is_idle-clause-reply : goal.returns-else-is_idle-clause-reply
+returns-else-is_idle-clause-reply g c =
     let state = partition_at _ _ _ _ c.requires.kept c.args.partition c.index.result.now c.requires.partition c.index.ensures in
     let active : is_idle (mode_of c.args.partition c.args.self.now.history) ≡ false = ap is_idle (sym state.mode) ∙ (sym c.is_idle.ensures ∙ c.if-is_idle.false) in
     rw active c.serve.ensures.reply

@@ -1,7 +1,6 @@
-use Rattle.std.proofs.Common.{◌≡◌, ap, ◌∙◌, ◌%◌, ◌/◌, length, drop, sym, arith, rules}
-use Rattle.std.proofs.lemmas.List.{take_at}
-use Rattle.hex.proofs.HexLemmas.{decode_of-ok}
-use Rattle.apex_types.proofs.HexText.{bad_digit, decoded, good_digits, read_by_digits, refused, some_bad_digit, too_many_digits}
+use Rattle.std.proofs.Common.{◌≡◌, ◌∙◌, ◌%◌, ◌-◌, ◌≤◌, length, take, drop, length-drop, sym, subst, arith}
+use Rattle.std.proofs.lemmas.List.{take_all}
+use Rattle.apex_types.proofs.HexText.{IsReadUpTo, all_read, bad_pair, good_digits, pair_read, read_by_digits, some_bad_digit, too_many_digits}
 use Rattle.apex_types.proofs.message.Message.from_hex.Goals.{then-has_hex_digits, else-has_hex_digits}
 use Rattle.apex_types.proofs.message.Message.from_hex.Goals as goal
 
@@ -15,25 +14,28 @@ returns-then-digits-gt-HEX_LIMIT c =
       | else-has_hex_digits w ↦ rw (w.result-is, read_by_digits text even, some_bad_digit text even (sym tested ∙ w.if-has_hex_digits.false))
     ]
 
-pub returns-in-Ok : goal.returns-in-Ok
-returns-in-Ok c =
+pub returns-in-None : goal.returns-in-None
+returns-in-None c =
     let text = c.args.text.now in
-    let room = c.as_mut_slice.result.now in
-    let items = c.try_extend_from_slice.new.self.items in
-    let out = c.decode_to_slice.new.out in
-    let even : length text % 2 ≡ 0 = omega arith in
-    let grown : length items ≡ length c.as_bytes-digits.result.now / 2 = search rules in
-    let read = decoded text c.as_bytes-digits.result.now (length room) c.decode_to_slice.result out c.as_bytes-digits.ensures.value (omega (arith, grown, ap length c.as_mut_slice.ensures.value)) c.decode_to_slice.ensures.value c.in-Ok.is in
-    let twice = (decode_of-ok text out read).2 in
-    let written = take_at out (drop (length out) items) (length items) (omega (arith, twice, grown)) in
-    rw (read_by_digits text even, good_digits text out (omega arith) read, written)
+    let bad = bad_pair c.as_bytes-digits.result.now c.loop-rest.bytes.items c.loop-rest.rest.now c.if-digits-ne0.false c.in-len2-up.len_at_least (λ at. sym c.in-None.is ∙ c.byte_of.ensures at) c.loop-rest.invariant.read in
+    rw (read_by_digits text (omega arith)) (sym (rw c.as_bytes-digits.ensures.value at bad))
 
-pub returns-in-Err : goal.returns-in-Err
-returns-in-Err c =
+pub loop-rest-preserved : goal.loop-rest-preserved
+loop-rest-preserved c =
+    let text = c.as_bytes-digits.result.now in
+    let rest = c.loop-rest.rest.now in
+    let after : take (length rest - 2) (drop 2 rest) ≡ drop 2 rest = take_all _ _ (omega (arith, length-drop 2 rest)) in
+    let read = pair_read text c.loop-rest.bytes.items rest c.in-Some.byte c.in-len2-up.len_at_least (λ at. sym c.in-Some.is ∙ c.byte_of.ensures at) c.loop-rest.invariant.read in
+    let two : 2 ≤ length rest = c.in-len2-up.len_at_least in
+    record {
+      read = subst (IsReadUpTo text c.push.new.self.items) (sym after) (subst (λ items. IsReadUpTo text items (drop 2 rest)) (sym c.push.ensures.items) read);
+      count = rw after (omega (arith, length-drop 2 rest, two, c.push.ensures.len, c.loop-rest.invariant.count));
+    }
+
+pub returns : goal.returns
+returns c =
     let text = c.args.text.now in
-    let room = c.as_mut_slice.result.now in
-    let items = c.try_extend_from_slice.new.self.items in
-    let even : length text % 2 ≡ 0 = omega arith in
-    let grown : length items ≡ length c.as_bytes-digits.result.now / 2 = search rules in
-    let bad = refused text c.as_bytes-digits.result.now (length room) c.decode_to_slice.result c.decode_to_slice.new.out c.in-Err.field-0 c.as_bytes-digits.ensures.value (omega (arith, grown, ap length c.as_mut_slice.ensures.value)) c.decode_to_slice.ensures.value c.in-Err.is in
-    rw (read_by_digits text even, bad_digit text c.in-Err.field-0 even bad)
+    let digits = c.as_bytes-digits.result.now in
+    let none : length c.loop-rest.rest.now ≡ 0 = omega (arith, c.loop-rest.invariant.count) in
+    let read = good_digits digits c.loop-rest.bytes.items (omega arith) (all_read digits c.loop-rest.bytes.items c.loop-rest.rest.now c.if-digits-ne0.false none c.loop-rest.invariant.read) in
+    rw (read_by_digits text (omega arith)) (sym (rw c.as_bytes-digits.ensures.value at read))

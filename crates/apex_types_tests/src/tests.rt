@@ -1,5 +1,5 @@
 //! Worked texts, each public call once, and the limits from both sides.
-use crate::{
+use apex_types::{
     Call, Direction, HexFault, Message, Mode, Name, NameFault, OutOfMemory, Reply, ReturnCode,
     TooLong, Validity,
 };
