@@ -73,7 +73,7 @@ taken_by config channel waiting entry =
     if clears config channel entry then map as_cleared waiting
     else map as_received (option_to_list (message_received config channel entry))
 
--- what the entries bring to, after a history in which these were taken
+-- what is taken in the end, where the entries follow a history in which these were taken
 abbrev pub taken_after : Configuration → ℕ → History → List Taken → List Entry → List Taken
 taken_after config channel before taken [] = taken
 taken_after config channel before taken (entry ∷ rest) =

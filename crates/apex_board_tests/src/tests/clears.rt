@@ -24,15 +24,18 @@ fn has_taken<A: Allocator>(
     assert_eq!(rt; taken.len(), wanted.len());
     for (one, (message, cleared)) in taken.iter().zip(wanted) {
         let message = Message::from_hex(message)?;
-        assert_eq!(rt; one, &Taken { message, cleared: *cleared });
+        assert_eq!(rt;
+            one,
+            &Taken {
+                message,
+                cleared: *cleared
+            }
+        );
     }
     Ok(())
 }
 
-fn takes_the_rest<A: Allocator, R: Abort + Wait>(
-    rt: &R,
-    board: &mut Board<A>,
-) -> Result<(), Fail> {
+fn takes_the_rest<A: Allocator, R: Abort + Wait>(rt: &R, board: &mut Board<A>) -> Result<(), Fail> {
     answers(rt, board, &queuing_ports()?)?;
     let rows = [
         (FMS, 5, send(1, "01")?, NO_ERROR),

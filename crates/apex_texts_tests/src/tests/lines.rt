@@ -28,7 +28,7 @@ const FAULTY: [(&str, u32); 22] = [
     ("20 FMX sned 1 0a", 5),
     ("20 FM.S send 1 0a", 5),
     ("20 FMS sned 1 0a", 6),
-    ("20 FMS clear 1", 6),
+    ("20 FMS clear x", 7),
     ("20 FMS SEND 1 0a", 6),
     ("20 FMS send x 0a", 7),
     ("20 FMS receive 4294967296", 7),

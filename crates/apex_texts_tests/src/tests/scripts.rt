@@ -17,7 +17,7 @@ const FAULTY: [(&str, u32); 17] = [
     ("9223372036854775808 sned 1", 4),
     ("20 sned 1 0a", 6),
     ("20 FMS send 1 0a", 6),
-    ("20 clear 1", 6),
+    ("20 clear", 2),
     ("20 send x 0g", 7),
     ("20 receive 4294967296", 7),
     ("20 queuing-id NAV.OUT", 8),

@@ -143,10 +143,7 @@ fn faults_of_a_run(rt: HostRuntime) -> Result<(), Fail> {
             Fault::Run(RunFault::Stranger),
             "run fault 4: collected results do not match",
         ),
-        (
-            Fault::Run(RunFault::NoObserver),
-            "run fault 5: no observer",
-        ),
+        (Fault::Run(RunFault::NoObserver), "run fault 5: no observer"),
         (Fault::Gone, "observer gone"),
     ] {
         let printed = format!(in rt.alloc(); "{fault}")?;
