@@ -62,7 +62,7 @@ taken-inside config c inside leaves before other taken (e ∷ h) same = by_test 
     by_test true here rest =
         (λ i. taken_after config c (other ++ e ∷ []) (taken ++ taken_by config c (drop (length taken) (same i)) e) (entries_inside inside h))
         ∙ rest (before ++ e ∷ []) (other ++ e ∷ []) (taken ++ taken_by config c (drop (length taken) (accepted_on config c before)) e)
-            (accepted_on-append config c other e ∙ (ap (λ messages. messages ++ option_to_list (message_accepted config c e)) same ∙ sym (accepted_on-append config c before e)))
+        (accepted_on-append config c other e ∙ (ap (λ messages. messages ++ option_to_list (message_accepted config c e)) same ∙ sym (accepted_on-append config c before e)))
     by_test false outside rest =
         let left = leaves e outside in
         rest (before ++ e ∷ []) other taken (same ∙ sym (accepted_stays config c before e left.accepted))
