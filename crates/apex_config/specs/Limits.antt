@@ -2,7 +2,7 @@
 use Rattle.std.proofs.Common.{◌≡◌, refl}
 use Rattle.apex_config.specs.declared.limits.TheConstants.{PARTITION_LIMIT, PORT_LIMIT, CHANNEL_LIMIT, SIZE_LIMIT, DEPTH_LIMIT, REFRESH_LIMIT}
 
-pub PARTITION_LIMIT-is : PARTITION_LIMIT ≡ 16
+pub PARTITION_LIMIT-is : PARTITION_LIMIT ≡ 32
 PARTITION_LIMIT-is = refl
 
 -- ports of one partition
@@ -13,7 +13,7 @@ pub CHANNEL_LIMIT-is : CHANNEL_LIMIT ≡ 64
 CHANNEL_LIMIT-is = refl
 
 -- bytes of a channel's messages
-pub SIZE_LIMIT-is : SIZE_LIMIT ≡ 256
+pub SIZE_LIMIT-is : SIZE_LIMIT ≡ 1024
 SIZE_LIMIT-is = refl
 
 -- messages in a queue

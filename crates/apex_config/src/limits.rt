@@ -2,7 +2,7 @@
 use apex_types::MESSAGE_LIMIT;
 
 /// The most partitions.
-pub const PARTITION_LIMIT: usize = 16;
+pub const PARTITION_LIMIT: usize = 32;
 
 /// The most ports of a partition.
 pub const PORT_LIMIT: usize = 32;

@@ -172,8 +172,8 @@ const CHANGES: [(&str, &str, u32); 41] = [
     ("depth = 2\n", "", 2),
     ("refresh = 50", "refresh = -1", 5),
     ("refresh = 50", "refresh = 9223372036854775807", 0),
-    ("size = 4", "size = 256", 0),
-    ("size = 4", "size = 257", 5),
+    ("size = 4", "size = 1024", 0),
+    ("size = 4", "size = 1025", 5),
     ("size = 4", "size = 0", 5),
     ("depth = 2", "depth = 0", 5),
     (

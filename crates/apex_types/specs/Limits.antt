@@ -8,5 +8,5 @@ pub NAME_LIMIT-is : NAME_LIMIT ≡ 30
 NAME_LIMIT-is = refl
 
 -- bytes of a message
-pub MESSAGE_LIMIT-is : MESSAGE_LIMIT ≡ 256
+pub MESSAGE_LIMIT-is : MESSAGE_LIMIT ≡ 1024
 MESSAGE_LIMIT-is = refl

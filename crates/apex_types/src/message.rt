@@ -11,7 +11,7 @@ use std::str;
 use thiserror::Error;
 
 /// The most bytes of a message.
-pub const MESSAGE_LIMIT: usize = 256;
+pub const MESSAGE_LIMIT: usize = 1024;
 
 /// The bytes of the longest message's hexadecimal text: two digits a byte.
 pub const HEX_LIMIT: usize = 2 * MESSAGE_LIMIT;

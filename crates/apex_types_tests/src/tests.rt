@@ -34,11 +34,11 @@ fn name_faults_in_their_order(rt: HostRuntime) {
 
 #[test]
 fn message_of_bytes(rt: HostRuntime) -> Result<(), Fail> {
-    let longest = [7; 256];
+    let longest = [7; 1024];
     let message = Message::from_bytes(&longest)?;
     assert_eq!(rt; message.bytes(), longest.as_slice());
     assert_eq!(rt; message.copy(), message);
-    assert_eq!(rt; Message::from_bytes(&[7; 257]), Err(TooLong));
+    assert_eq!(rt; Message::from_bytes(&[7; 1025]), Err(TooLong));
     assert_ne!(rt; Message::from_bytes(&[1])?, Message::from_bytes(&[1, 0])?);
     Ok(())
 }
@@ -59,15 +59,15 @@ fn digit_faults_in_their_order(rt: HostRuntime) -> Result<(), Fail> {
     assert_eq!(rt; Message::from_hex("g"), Err(HexFault::OddLength));
     assert_eq!(rt; Message::from_hex("0g"), Err(HexFault::BadDigit));
     assert_eq!(rt; Message::from_hex("--"), Err(HexFault::BadDigit));
-    let longest = [b'f'; 512];
+    let longest = [b'f'; 2048];
     let longest = str::from_utf8(&longest)?;
     assert_eq!(rt; Message::from_hex(longest)?.to_hex().as_str(), longest);
-    let mut long = [b'f'; 514];
+    let mut long = [b'f'; 2050];
     assert_eq!(rt;
         Message::from_hex(str::from_utf8(&long)?),
         Err(HexFault::TooLong)
     );
-    long[513] = b'g';
+    long[2049] = b'g';
     assert_eq!(rt;
         Message::from_hex(str::from_utf8(&long)?),
         Err(HexFault::BadDigit)

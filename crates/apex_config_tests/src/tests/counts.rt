@@ -68,11 +68,11 @@ fn counts_have_limits(rt: HostRuntime) -> Result<(), Fail> {
     assert_eq!(rt; fault_of(alloc, with_ports(alloc, 32)?.as_str()), Some(0));
     assert_eq!(rt; fault_of(alloc, with_ports(alloc, 33)?.as_str()), Some(10));
     assert_eq!(rt;
-        fault_of(alloc, with_partitions(alloc, 16)?.as_str()),
+        fault_of(alloc, with_partitions(alloc, 32)?.as_str()),
         Some(0)
     );
     assert_eq!(rt;
-        fault_of(alloc, with_partitions(alloc, 17)?.as_str()),
+        fault_of(alloc, with_partitions(alloc, 33)?.as_str()),
         Some(10)
     );
     assert_eq!(rt;
@@ -86,10 +86,10 @@ fn counts_have_limits(rt: HostRuntime) -> Result<(), Fail> {
     Ok(())
 }
 
-/// One of the ports of the greatest counts, by its number of 0 to 511: the ends of 32 queuing channels, then those of
-/// 32 sampling channels, each with 13 destinations.
+/// One of the ports of the greatest counts, by its number of 0 to 1023: the ends of 32 queuing channels, then those of
+/// 32 sampling channels, each with 29 destinations.
 fn numbered_port(alloc: Global, number: u32) -> Result<String, Fail>
-    requires { number < 512 }
+    requires { number < 1024 }
 {
     let queuing = number < 64;
     let channel = if queuing {
@@ -113,7 +113,7 @@ fn numbered_port(alloc: Global, number: u32) -> Result<String, Fail>
     }
 }
 
-/// The text of 64 channels and of 16 partitions with 32 ports each.
+/// The text of 64 channels and of 32 partitions with 32 ports each.
 fn with_greatest_counts(alloc: Global) -> Result<String, Fail> {
     let mut text = String::new(alloc);
     for number in 0..64 {
@@ -123,11 +123,11 @@ fn with_greatest_counts(alloc: Global) -> Result<String, Fail> {
             "\"sampling\""
         };
         let channel = format!(in alloc;
-            "[[channel]]\nname = \"C{number}\"\nsize = 256\nkind = {kind}\n"
+            "[[channel]]\nname = \"C{number}\"\nsize = 1024\nkind = {kind}\n"
         )?;
         text.push_str(channel.as_str())?;
     }
-    for partition in 0..16 {
+    for partition in 0..32 {
         let heading = format!(in alloc; "[[partition]]\nname = \"P{partition}\"\n")?;
         text.push_str(heading.as_str())?;
         for place in 0..32 {
@@ -142,17 +142,17 @@ fn with_greatest_counts(alloc: Global) -> Result<String, Fail> {
 fn greatest_counts_are_read_and_copied(rt: HostRuntime) -> Result<(), Fail> {
     let text = with_greatest_counts(rt.alloc())?;
     let config = Config::read(rt.alloc(), text.as_bytes())?;
-    assert!(rt; config.partitions() == 16);
+    assert!(rt; config.partitions() == 32);
     assert!(rt; config.channels() == 64);
-    for p in 0..16 {
+    for p in 0..32 {
         assert_eq!(rt; config.ports(p), 32);
     }
-    assert_eq!(rt; config.partition_name(15).text(), "P15");
+    assert_eq!(rt; config.partition_name(31).text(), "P31");
     let last = config
-        .port(15, 32)
+        .port(31, 32)
         .ok_or("the last partition has 32 ports")?;
-    assert_eq!(rt; last.name.text(), "P511");
-    assert_eq!(rt; last.kind, PortKind::Sampling { refresh: 511 });
+    assert_eq!(rt; last.name.text(), "P1023");
+    assert_eq!(rt; last.kind, PortKind::Sampling { refresh: 1023 });
     assert_eq!(rt;
         (last.direction, last.channel),
         (Direction::Destination, 63)

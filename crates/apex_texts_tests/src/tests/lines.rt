@@ -124,6 +124,6 @@ fn long_words_and_many_lines(rt: HostRuntime) -> Result<(), Fail> {
     long_outcome(&rt, "5 FMS ", b'a', 1_000_000, fault(6))?;
     long_outcome(&rt, "", b'\n', 1_000, Ok(0))?;
     long_outcome(&rt, "", b'0', 1_000_000, fault(2))?;
-    long_outcome(&rt, "20 FMS send 1 ", b'a', 512, Ok(1))?;
-    long_outcome(&rt, "20 FMS send 1 ", b'a', 514, fault(9))
+    long_outcome(&rt, "20 FMS send 1 ", b'a', 2_048, Ok(1))?;
+    long_outcome(&rt, "20 FMS send 1 ", b'a', 2_050, fault(9))
 }

@@ -2,6 +2,7 @@
 ghost use Rattle.std.specs.Prelude.{◌≡◌, ◌≤◌, ◌⊎◌};
 
 use apex_workers::{Gate, Held};
+use std::alloc::{AllocError, Global};
 use std::sync::atomic::{AtomicBool, Ordering};
 use std::thread;
 
@@ -101,38 +102,23 @@ impl Gate for After {
     }
 }
 
-/// The flags of sixteen partitions: each raises its own before its first call, and looks for all of them.
+/// The flags of all partitions: each raises its own before its first call, and looks for all of them.
 #[derive(Drop)]
-pub(crate) struct Sixteen {
-    came: [AtomicBool; 16],
+pub(crate) struct Together {
+    came: Vec<AtomicBool>,
 }
 
-impl Sixteen {
-    pub(crate) fn new() -> Sixteen {
-        Sixteen {
-            came: [
-                AtomicBool::new(false),
-                AtomicBool::new(false),
-                AtomicBool::new(false),
-                AtomicBool::new(false),
-                AtomicBool::new(false),
-                AtomicBool::new(false),
-                AtomicBool::new(false),
-                AtomicBool::new(false),
-                AtomicBool::new(false),
-                AtomicBool::new(false),
-                AtomicBool::new(false),
-                AtomicBool::new(false),
-                AtomicBool::new(false),
-                AtomicBool::new(false),
-                AtomicBool::new(false),
-                AtomicBool::new(false),
-            ],
+impl Together {
+    pub(crate) fn new(alloc: Global, partitions: usize) -> Result<Together, AllocError> {
+        let mut came = Vec::with_capacity(alloc, partitions)?;
+        for _ in 0..partitions {
+            came.push(AtomicBool::new(false))?;
         }
+        Ok(Together { came })
     }
 }
 
-impl Gate for Sixteen {
+impl Gate for Together {
     ghost may_refuse = { λ _ partition n. n ≡ 1 };
 
     fn pass(&self, partition: usize, n: usize) -> Result<(), Held> {

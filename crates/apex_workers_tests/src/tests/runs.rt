@@ -1,9 +1,11 @@
-//! Runs of one, two, three and sixteen workers.
+//! Runs of one, two, three, sixteen and thirty-two workers.
+ghost use Rattle.std.specs.Prelude.{◌≤◌};
+
 use crate::tests::examples::{
     AIR, DSP, FMS, GO_NORMAL, NO_ACTION, NO_ERROR, SPD, config_of, create_queuing, create_sampling,
     end, is_repeated, queue_is, replies_are, run, script_of, send, sender_and_receiver, write,
 };
-use crate::tests::gates::{Refuses, Sixteen, TwoFlags};
+use crate::tests::gates::{Refuses, Together, TwoFlags};
 use crate::tests::texts::{BASE, REDUCED, without_ports};
 use apex_board::Board;
 use apex_config::Config;
@@ -13,6 +15,7 @@ use std::alloc::{AllocGlobal, Allocator};
 use std::process::Abort;
 use std::sync::Wait;
 use std::test::Fail;
+use std::thread::Threads;
 
 // The mode of a partition, and how many calls it made.
 fn partition_is<A: Allocator>(
@@ -104,33 +107,51 @@ fn three_workers_under_the_open_gate(rt: HostRuntime) -> Result<(), Fail> {
     checked
 }
 
-fn is_run_by_sixteen<R: Abort + AllocGlobal + Wait>(
+fn is_run_by_all<R: Abort + AllocGlobal + Wait>(
     rt: &R,
     config: &Config,
     finished: &Finished,
-) -> Result<(), Fail> {
-    assert_eq!(rt; finished.replies.len(), 16);
-    for p in 0..16usize {
+    workers: usize,
+) -> Result<(), Fail>
+    requires { workers ≤ 32 }
+{
+    assert_eq!(rt; finished.replies.len(), workers);
+    for p in 0..workers {
         replies_are(rt, finished, p, &[NO_ERROR, NO_ACTION]);
     }
-    assert_eq!(rt; finished.board.log().len(), 32);
+    assert_eq!(rt; finished.board.log().len(), 2 * workers);
     is_repeated(rt, config, finished.board.log())
 }
 
 // All workers run at the same time: each looks for the flags of all others before its first call.
-#[test]
-fn sixteen_workers_wait_for_each_other(rt: HostRuntime) -> Result<(), Fail> {
+fn wait_for_each_other<R: Abort + AllocGlobal + Sync + Threads + Wait>(
+    rt: &R,
+    workers: u32,
+) -> Result<(), Fail>
+    requires { workers ≤ 32 }
+{
     let alloc = rt.alloc();
-    let text = without_ports(alloc, 16)?;
-    let config = config_of(&rt, text.as_str())?;
+    let text = without_ports(alloc, workers)?;
+    let config = config_of(rt, text.as_str())?;
     let mut scripts: Vec<Script> = Vec::new(alloc);
-    for _ in 0..16u32 {
+    for _ in 0..workers {
         scripts.push(script_of(alloc, &[GO_NORMAL, GO_NORMAL])?)?;
     }
-    let finished = run(&rt, alloc, &config, scripts.as_slice(), &Sixteen::new())?;
-    let checked = is_run_by_sixteen(&rt, &config, &finished);
-    end(&rt, finished);
+    let gate = Together::new(alloc, workers as usize)?;
+    let finished = run(rt, alloc, &config, scripts.as_slice(), &gate)?;
+    let checked = is_run_by_all(rt, &config, &finished, workers as usize);
+    end(rt, finished);
     checked
+}
+
+#[test]
+fn sixteen_workers_wait_for_each_other(rt: HostRuntime) -> Result<(), Fail> {
+    wait_for_each_other(&rt, 16)
+}
+
+#[test]
+fn thirty_two_workers_wait_for_each_other(rt: HostRuntime) -> Result<(), Fail> {
+    wait_for_each_other(&rt, 32)
 }
 
 #[test]
