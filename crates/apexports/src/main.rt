@@ -2,13 +2,8 @@
 //! partition, go in, the reply to each call and a report come out.
 #![tactic(auto)]
 
-mod files;
-mod named_scripts;
-mod program;
-
 use apex_command_line::words_given;
-use files::SystemFiles;
-use program::{program, refuse};
+use apex_tasks::{SystemFiles, program, refuse};
 use std::process::ExitCode;
 
 fn main(rt: HostRuntime) -> ExitCode {
@@ -26,6 +21,3 @@ fn main(rt: HostRuntime) -> ExitCode {
         Err(fault) => refuse(fault.into(), &mut errors),
     })
 }
-
-#[cfg(test)]
-mod tests;
