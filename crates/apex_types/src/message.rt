@@ -120,7 +120,8 @@ impl Message {
 
     /// The bytes of the message.
     pub fn bytes(&self) -> &[u8]
-        ensures { result.now ≡ self.now }
+        ensures bytes { result.now ≡ self.now }
+        ensures short { length result.now ≤ MESSAGE_LIMIT }
     {
         self.bytes.as_slice()
     }

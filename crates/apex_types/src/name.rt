@@ -49,10 +49,16 @@ impl Name {
     pub fn read(text: &str) -> Result<Name, NameFault>
         ensures { result ≡ name_of text.now }
     {
+        Name::from_bytes(text.as_bytes())
+    }
+
+    /// Reads a name from the bytes of its text, which need not be UTF-8. The first fault counts, in the order of `NameFault`.
+    pub fn from_bytes(text: &[u8]) -> Result<Name, NameFault>
+        ensures { result ≡ name_of text.now }
+    {
         if text.is_empty() {
             return Err(NameFault::Empty);
         }
-        let text = text.as_bytes();
         if text.len() > NAME_LIMIT {
             return Err(NameFault::TooLong);
         }
