@@ -1,11 +1,11 @@
-//! Messages as the proved program has them: in place, of at most 256 bytes.
+//! Messages as the proved program has them: in place, of at most 1,024 bytes.
 
 use std::iter::FromIterator;
 use std::mem::MaybeUninit;
 use std::ops::Deref;
 use std::slice;
 
-const LIMIT: usize = 256;
+const LIMIT: usize = 1024;
 
 pub struct Message {
     length: usize,
