@@ -1,5 +1,5 @@
 -- What a send, a receive, a clear and a write do to the state of a channel.
-use Rattle.std.proofs.Common.{◌≡◌, ◌≢◌, ⊎_elim, ℕ, ◌+◌, ◌-◌, ◌^◌, true, false, if◌then◌else◌, min, List, [], ◌∷◌, ◌++◌, length, drop, map, set, Option, Some, None, refl, sym, ap, ◌∙◌}
+use Rattle.std.proofs.Common.{◌≡◌, ◌≢◌, ◌<◌, ⊎_elim, ℕ, ◌+◌, ◌-◌, ◌^◌, true, false, if◌then◌else◌, min, List, [], ◌∷◌, ◌++◌, length, drop, map, set, Option, Some, None, refl, sym, ap, ◌∙◌, arith}
 use Rattle.std.specs.List.{slice_get}
 use Rattle.apex_types.specs.declared.call.Call.TheVariants.{SendQueuing, ReceiveQueuing, ClearQueuing, WriteSampling}
 use Rattle.apex_types.specs.declared.moment.Moment.{Moment}
@@ -34,10 +34,10 @@ destination_elsewhere : (port : Option Port) (c d : ℕ) → is_destination_of c
 destination_elsewhere port c d destination apart =
     ⊎_elim (λ (off : LiesElsewhere d port). off) (λ (off : LiesElsewhere c port). let none = off.destination in absurd (cc)) (port_elsewhere port d c apart)
 
--- the reply to a receive that finds a message
-pub oldest_is : (xs : List (List ℕ)) (m : List ℕ) → slice_get xs 0 ≡ Some m → oldest_reply xs ≡ Received m
-oldest_is [] m at = absurd (cc)
-oldest_is (x ∷ xs) m at = let same : x ≡ m = cc in ap Received same
+-- the oldest message, where one waits
+pub oldest_of : (xs : List (List ℕ)) → 0 < length xs → (m : List ℕ) × (slice_get xs 0 ≡ Some m) × (oldest_reply xs ≡ Received m)
+oldest_of [] some = absurd (omega arith)
+oldest_of (x ∷ xs) some = (x, refl, refl)
 
 module _ {A : Type 0} (config : Configuration) (h : History) (partitions : List (PartitionState A)) (channels : List (ChannelState A)) (p : ℕ) (at : Moment) (id c : ℕ) (m : List ℕ) (old new : ChannelState A) where
   -- the state after an accepted send

@@ -2,8 +2,9 @@
 ghost use Rattle.std.specs.Prelude.{◌≡◌, ◌+◌, ◌<◌, ◌^◌, ◌-◌, ◌==◌, [], ◌∷◌, ◌++◌, false, length, min, drop, slice_get, Some, None, IfOk};
 ghost use Rattle.std.specs.Option.{option_copied};
 ghost use Rattle.circular_buffer.specs.Buffer.{buffer};
+ghost use Rattle.apex_ports.specs.ReplyTable.{oldest_reply};
 
-use apex_types::{Message, Sample};
+use apex_types::{Message, Reply, Sample};
 use circular_buffer::HeapCircularBuffer;
 use std::alloc::{AllocError, Allocator};
 
@@ -144,10 +145,10 @@ impl<A: Allocator> ChannelState<A> {
         }
     }
 
-    /// Takes the oldest message. There is one.
-    pub(crate) fn receive(&mut self) -> Message
+    /// Takes the oldest message into the reply. There is one.
+    pub(crate) fn receive(&mut self, reply: &mut Reply)
         requires { 0 < length (waiting_in self.old) }
-        ensures message { slice_get (waiting_in self.old) 0 ≡ Some result }
+        ensures reply { reply.new ≡ oldest_reply (waiting_in self.old) }
         ensures waiting { waiting_in self.new ≡ drop 1 (waiting_in self.old) }
         ensures places { places_in self.new ≡ places_in self.old }
         ensures accepted { accepted_in self.new ≡ accepted_in self.old }
@@ -159,7 +160,13 @@ impl<A: Allocator> ChannelState<A> {
         match self {
             ChannelState::Queuing(queue) => {
                 queue.received = queue.received.saturating_add(1);
-                queue.waiting.pop_front().unwrap()
+                let oldest = queue.waiting.front().unwrap();
+                match reply {
+                    // A new place would be cleared for the longest message.
+                    Reply::Received(message) => message.copy_from(oldest),
+                    _ => *reply = Reply::Received(oldest.copy()),
+                }
+                let _ = queue.waiting.pop_front();
             }
             ChannelState::Sampling(_) => unreachable!(),
         }

@@ -127,7 +127,7 @@ impl<A: Allocator> State<A> {
         ensures history { self.new.history ≡ self.old.history }
     {
         match self.receive_source(config, partition, id) {
-            Ok(channel) => *reply = Reply::Received(self.channels[channel].receive()),
+            Ok(channel) => self.channels[channel].receive(reply),
             Err(code) => *reply = Reply::Code(code),
         }
     }

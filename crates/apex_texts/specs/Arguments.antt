@@ -135,6 +135,14 @@ call_with service words = do
   arguments ← exactly (arguments_of service) words
   call_at service arguments
 
+-- an identifier and a message
+unfoldable pub id_and_message : List (List ℕ) → Result (ℕ × List ℕ) LineFault
+id_and_message words = do
+  arguments ← exactly 2 words
+  id ← number_at arguments
+  message ← message_at id.1
+  Ok (id.0, message.0)
+
 -- CALL ARGUMENTS
 unfoldable pub call_of : List ℕ → List (List ℕ) → Result Call LineFault
 call_of word words = do

@@ -2,7 +2,7 @@
 ghost use Rattle.std.specs.Prelude.{◌≡◌, [], ◌∷◌};
 ghost use Rattle.apex_texts.specs.Text.{words_of, number_up_to};
 ghost use Rattle.apex_texts.specs.Service.{service_named};
-ghost use Rattle.apex_texts.specs.Arguments.{Gives, or_fault, exactly, id_in, name_in, message_in, word_at, call_with, moment_of};
+ghost use Rattle.apex_texts.specs.Arguments.{Gives, or_fault, exactly, id_in, name_in, message_in, id_and_message, word_at, call_with, moment_of};
 
 use crate::line_fault::LineFault;
 use crate::service::Service;
@@ -96,13 +96,15 @@ fn name_of(word: &[u8]) -> Result<Name, LineFault>
     name_in(word).ok_or(LineFault::Name)
 }
 
-fn message_of(word: &[u8]) -> Result<Message, LineFault>
-    ensures { result ≡ or_fault LineFault.Message (message_in word.now) }
+// Reads the message that a word is into its place.
+fn read_message(word: &[u8], message: &mut Message) -> Result<(), LineFault>
+    ensures { Gives (λ _. message.new) result
+        (or_fault LineFault.Message (message_in word.now)) }
 {
     let Ok(text) = str::from_utf8(word) else {
         return Err(LineFault::Message);
     };
-    Message::from_hex(text).map_err(|_| LineFault::Message)
+    message.read_hex(text).map_err(|_| LineFault::Message)
 }
 
 /// The service that a call word names.
@@ -153,28 +155,45 @@ fn id_in(words: &[u8]) -> Result<u32, LineFault>
     number_of(one_word(words)?)
 }
 
-#[tactic(auto, unfolding(crate::specs::Arguments::call_with, crate::specs::Arguments::call_at))]
+// The identifier that the first of two words is; the message that the second is goes into its place.
+#[tactic(auto, unfolding(crate::specs::Arguments::id_and_message))]
+fn id_and_message(words: &[u8], message: &mut Message) -> Result<u32, LineFault>
+    ensures { Gives (λ id. (id, message.new)) result (id_and_message (words_of words.now)) }
+{
+    let (id, word) = two_words(words)?;
+    let id = number_of(id)?;
+    read_message(word, message)?;
+    Ok(id)
+}
+
+#[tactic(auto, unfolding(crate::specs::Arguments::call_with, crate::specs::Arguments::call_at, crate::specs::Arguments::id_and_message))]
 fn read_write(words: &[u8], call: &mut Call) -> Result<(), LineFault>
     ensures { Gives (λ _. call.new) result
         (call_with Service.WriteSampling (words_of words.now)) }
 {
-    let (id, message) = two_words(words)?;
-    *call = Call::WriteSampling {
-        id: number_of(id)?,
-        message: message_of(message)?,
-    };
+    if let Call::WriteSampling { id, message } = call {
+        // A new place for the message would be cleared for the longest one.
+        *id = id_and_message(words, message)?;
+        return Ok(());
+    }
+    let mut message = Message::empty();
+    let id = id_and_message(words, &mut message)?;
+    *call = Call::WriteSampling { id, message };
     Ok(())
 }
 
-#[tactic(auto, unfolding(crate::specs::Arguments::call_with, crate::specs::Arguments::call_at))]
+#[tactic(auto, unfolding(crate::specs::Arguments::call_with, crate::specs::Arguments::call_at, crate::specs::Arguments::id_and_message))]
 fn read_send(words: &[u8], call: &mut Call) -> Result<(), LineFault>
     ensures { Gives (λ _. call.new) result (call_with Service.SendQueuing (words_of words.now)) }
 {
-    let (id, message) = two_words(words)?;
-    *call = Call::SendQueuing {
-        id: number_of(id)?,
-        message: message_of(message)?,
-    };
+    if let Call::SendQueuing { id, message } = call {
+        // A new place for the message would be cleared for the longest one.
+        *id = id_and_message(words, message)?;
+        return Ok(());
+    }
+    let mut message = Message::empty();
+    let id = id_and_message(words, &mut message)?;
+    *call = Call::SendQueuing { id, message };
     Ok(())
 }
 

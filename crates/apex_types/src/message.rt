@@ -1,5 +1,5 @@
 //! Messages.
-ghost use Rattle.std.specs.Prelude.{◌≡◌, ◌≤◌, ◌<◌, ℕ, length, MatchResult};
+ghost use Rattle.std.specs.Prelude.{◌≡◌, ◌≤◌, ◌<◌, ℕ, [], length, Ok, Err, MatchResult};
 ghost use Rattle.std.specs.Result.{result_ok};
 ghost use Rattle.std.specs.List.{list_all};
 ghost use Rattle.hex.specs.Hex.{hex_digit_value, is_hex_digit, pair_value};
@@ -55,6 +55,15 @@ pub enum HexFault {
 }
 
 impl Message {
+    /// The message of no bytes.
+    pub fn empty() -> Message
+        ensures { result ≡ [] }
+    {
+        Message {
+            bytes: ArrayVec::new(),
+        }
+    }
+
     /// The message of these bytes.
     pub fn from_bytes(bytes: &[u8]) -> Result<Message, TooLong>
         ensures { MatchResult result
@@ -72,11 +81,20 @@ impl Message {
     pub fn from_hex(text: &str) -> Result<Message, HexFault>
         ensures { result ≡ message_of_hex text.now }
     {
+        let mut message = Message::empty();
+        message.read_hex(text)?;
+        Ok(message)
+    }
+
+    /// Reads as `from_hex` does, into the message's own place. After a fault any message may stand there.
+    pub fn read_hex(&mut self, text: &str) -> Result<(), HexFault>
+        ensures { MatchResult result (λ _. message_of_hex text.now ≡ Ok self.new)
+            (λ fault. message_of_hex text.now ≡ Err fault) }
+    {
+        self.bytes.clear();
         let digits = text.as_bytes();
         if text == "-" {
-            return Ok(Message {
-                bytes: ArrayVec::new(),
-            });
+            return Ok(());
         }
         if digits.len() % 2 != 0 {
             return Err(HexFault::OddLength);
@@ -88,16 +106,15 @@ impl Message {
                 HexFault::BadDigit
             });
         }
-        let mut bytes = ArrayVec::new();
         let mut rest = digits;
         while let [high, low, after @ ..] = rest {
             match byte_of(*high, *low) {
-                Some(byte) => bytes.push(byte),
+                Some(byte) => self.bytes.push(byte),
                 None => return Err(HexFault::BadDigit),
             }
             rest = after;
         }
-        Ok(Message { bytes })
+        Ok(())
     }
 
     /// The lower-case hexadecimal text of the message, `-` for the empty message. `from_hex` gives the message back.
@@ -130,9 +147,19 @@ impl Message {
     pub fn copy(&self) -> Message
         ensures { result ≡ self.now }
     {
-        let mut bytes = ArrayVec::new();
-        bytes.try_extend_from_slice(self.bytes.as_slice()).unwrap();
-        Message { bytes }
+        let mut message = Message::empty();
+        message.copy_from(self);
+        message
+    }
+
+    /// Makes the message equal to another. Only the other's bytes are copied, and not the place of the longest message.
+    pub fn copy_from(&mut self, other: &Message)
+        ensures { self.new ≡ other.now }
+    {
+        self.bytes.clear();
+        self.bytes
+            .try_extend_from_slice(other.bytes.as_slice())
+            .unwrap();
     }
 }
 
