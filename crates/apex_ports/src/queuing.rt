@@ -13,6 +13,7 @@ ghost use Rattle.apex_ports.specs.Ports.{queuing_port, is_source_of, is_destinat
 ghost use Rattle.apex_ports.specs.ReplyTable.{oldest_reply, send_reply, receive_reply, clear_reply, queuing_status_reply, depth_of};
 ghost use Rattle.apex_ports.specs.Sound.{IsSound};
 
+use crate::service::put_code;
 use crate::state::State;
 use apex_config::Config;
 use apex_types::{Direction, Message, Reply, ReturnCode};
@@ -87,30 +88,31 @@ impl<A: Allocator> State<A> {
         Ok(port.channel)
     }
 
-    /// SEND_QUEUING_MESSAGE.
+    /// SEND_QUEUING_MESSAGE, with the reply in its place.
     pub(crate) fn send(
         &mut self,
         config: &Config,
         partition: usize,
         id: u32,
         message: &Message,
-    ) -> Reply
+        reply: &mut Reply,
+    )
         requires partition { partition < length config.now.partitions }
         requires sound { IsSound config.now self.old.history }
         requires kept { IsKept config.now self.old.history self.old }
         ensures reply { let port = queuing_port config.now self.old.history partition id in
-            result ≡ send_reply config.now self.old.history port message.now }
+            reply.new ≡ send_reply config.now self.old.history port message.now }
         ensures kept { (at : Moment) →
-            let entry = entry_of partition at (call.SendQueuing id message.now) result in
+            let entry = entry_of partition at (call.SendQueuing id message.now) reply.new in
             IsKeptWith config.now self.old entry self.new }
         ensures history { self.new.history ≡ self.old.history }
     {
         match self.send_target(config, partition, id, message) {
             Ok(channel) => {
                 self.channels[channel].send(message);
-                Reply::Code(ReturnCode::NoError)
+                put_code(reply, ReturnCode::NoError);
             }
-            Err(code) => Reply::Code(code),
+            Err(code) => put_code(reply, code),
         }
     }
 
@@ -128,7 +130,7 @@ impl<A: Allocator> State<A> {
     {
         match self.receive_source(config, partition, id) {
             Ok(channel) => self.channels[channel].receive(reply),
-            Err(code) => *reply = Reply::Code(code),
+            Err(code) => put_code(reply, code),
         }
     }
 

@@ -1,5 +1,6 @@
 //! Which service a call asks for. A partition in IDLE gets none.
 ghost use Rattle.std.specs.Prelude.{◌≡◌, ◌<◌, length};
+ghost use Rattle.apex_types.specs.declared.reply.Reply.TheVariants.{Code};
 ghost use Rattle.apex_ports.specs.History.{entry_of};
 ghost use Rattle.apex_ports.specs.Kept.{IsKept, IsKeptWith};
 ghost use Rattle.apex_ports.specs.ReplyTable.{reply_to, service_reply};
@@ -9,7 +10,7 @@ use crate::creation::{QueuingAttributes, SamplingAttributes};
 use crate::modes::is_idle;
 use crate::state::State;
 use apex_config::Config;
-use apex_types::{Call, Moment, Reply};
+use apex_types::{Call, Moment, Reply, ReturnCode};
 use std::alloc::Allocator;
 
 impl<A: Allocator> State<A> {
@@ -90,14 +91,24 @@ impl<A: Allocator> State<A> {
                 };
                 *reply = self.create_queuing(config, partition, name, asked);
             }
-            Call::SendQueuing { id, message } => *reply = self.send(
-                config, partition, *id, message,
-            ),
+            Call::SendQueuing { id, message } => {
+                self.send(config, partition, *id, message, reply);
+            }
             Call::ReceiveQueuing { id } => self.receive(config, partition, *id, reply),
             Call::QueuingId { name } => *reply = self.queuing_id(config, partition, name),
             Call::QueuingStatus { id } => *reply = self.queuing_status(config, partition, *id),
             Call::ClearQueuing { id } => *reply = self.clear(config, partition, *id),
             Call::SetMode { mode } => *reply = self.set_mode(config, partition, *mode),
         }
+    }
+}
+
+// Makes the reply a return code. Where one stands there, the place of the longest reply isn't written whole.
+pub(crate) fn put_code(reply: &mut Reply, code: ReturnCode)
+    ensures { reply.new ≡ Code code }
+{
+    match reply {
+        Reply::Code(place) => *place = code,
+        _ => *reply = Reply::Code(code),
     }
 }

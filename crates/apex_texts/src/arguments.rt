@@ -127,7 +127,7 @@ pub fn read_call(service: Service, words: &[u8], call: &mut Call) -> Result<(), 
         Service::SendQueuing => read_send(words, call)?,
         Service::ReadSampling => *call = Call::ReadSampling { id: id_in(words)? },
         Service::SamplingStatus => *call = Call::SamplingStatus { id: id_in(words)? },
-        Service::ReceiveQueuing => *call = Call::ReceiveQueuing { id: id_in(words)? },
+        Service::ReceiveQueuing => read_receive(words, call)?,
         Service::QueuingStatus => *call = Call::QueuingStatus { id: id_in(words)? },
         Service::ClearQueuing => *call = Call::ClearQueuing { id: id_in(words)? },
         Service::SamplingId => {
@@ -194,6 +194,18 @@ fn read_send(words: &[u8], call: &mut Call) -> Result<(), LineFault>
     let mut message = Message::empty();
     let id = id_and_message(words, &mut message)?;
     *call = Call::SendQueuing { id, message };
+    Ok(())
+}
+
+#[tactic(auto, unfolding(crate::specs::Arguments::call_with, crate::specs::Arguments::call_at))]
+fn read_receive(words: &[u8], call: &mut Call) -> Result<(), LineFault>
+    ensures { Gives (λ _. call.new) result (call_with Service.ReceiveQueuing (words_of words.now)) }
+{
+    let number = id_in(words)?;
+    match call {
+        Call::ReceiveQueuing { id } => *id = number,
+        _ => *call = Call::ReceiveQueuing { id: number },
+    }
     Ok(())
 }
 

@@ -29,4 +29,4 @@ returns-in-Ok-clause-kept g c at =
 
 pub returns-in-Err-clause-kept : goal.returns-in-Err-clause-kept
 returns-in-Err-clause-kept g c at =
-    quiet_keeps _ _ _ _ _ at _ _ c.requires.kept (refused_is_quiet _ _ c.in-Err.ensures.decided.1)
+    rw c.put_code.ensures (quiet_keeps _ _ _ _ _ at _ _ c.requires.kept (refused_is_quiet _ _ c.in-Err.ensures.decided.1))

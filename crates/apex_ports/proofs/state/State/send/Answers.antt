@@ -14,9 +14,9 @@ pub returns-in-Ok-clause-kept : goal.returns-in-Ok-clause-kept
 returns-in-Ok-clause-kept g c at =
     let was = channel_at _ _ _ _ c.requires.kept _ _ c.in-Ok.ensures.channel c.index_mut.ensures.value in
     let conserved = always_conserved _ _ c.in-Ok.channel c.requires.sound in
-    sent_keeps _ _ _ _ _ at _ c.in-Ok.channel _ c.index_mut.result.now c.send.new.self c.requires.kept conserved c.in-Ok.ensures.source was
-    c.send.ensures.waiting c.send.ensures.places c.send.ensures.accepted c.send.ensures.received c.send.ensures.cleared c.send.ensures.sample c.send.ensures.kind
+    rw c.put_code.ensures (sent_keeps _ _ _ _ _ at _ c.in-Ok.channel _ c.index_mut.result.now c.send.new.self c.requires.kept conserved c.in-Ok.ensures.source was
+    c.send.ensures.waiting c.send.ensures.places c.send.ensures.accepted c.send.ensures.received c.send.ensures.cleared c.send.ensures.sample c.send.ensures.kind)
 
 pub returns-in-Err-clause-kept : goal.returns-in-Err-clause-kept
 returns-in-Err-clause-kept g c at =
-    quiet_keeps _ _ _ _ _ at _ _ c.requires.kept (refused_is_quiet _ _ c.in-Err.ensures.decided.1)
+    rw c.put_code-in-Err.ensures (quiet_keeps _ _ _ _ _ at _ _ c.requires.kept (refused_is_quiet _ _ c.in-Err.ensures.decided.1))
