@@ -1,0 +1,5 @@
+pub mod Calls
+pub mod Held
+pub mod Opening
+pub mod Readers
+pub mod Statuses
