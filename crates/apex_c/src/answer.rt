@@ -11,3 +11,18 @@ pub const NO_PARTITION: u32 = 9;
 
 /// More bytes than a message can have.
 pub const TOO_LONG: u32 = 10;
+
+/// The text is no name.
+pub const NO_NAME: u32 = 11;
+
+/// The buffer has fewer bytes than a message can have.
+pub const SHORT_BUFFER: u32 = 12;
+
+/// The module has no channel of the number.
+pub const NO_CHANNEL: u32 = 13;
+
+/// The channel holds no sample.
+pub const NO_SAMPLE: u32 = 14;
+
+/// A reader has read.
+pub const READ: u32 = 0;

@@ -2,6 +2,7 @@
 ghost use Rattle.std.specs.Prelude.{◌≡◌, None, Some, is_some, unwrap_or};
 ghost use Rattle.std.specs.Option.{option_map};
 ghost use Rattle.apex_c.specs.Calls.{answer_in, ports_after, reply_in, reply_number};
+ghost use Rattle.apex_c.specs.Places.{id_after};
 
 use crate::answer::{NO_PARTITION, NOT_MADE, NOT_OPEN};
 use crate::held::Held;
@@ -81,6 +82,28 @@ impl Handle {
             NO_PARTITION
         };
         *self = Handle::of(ports);
+        answer
+    }
+
+    /// A call that gives a port's identifier, which goes to its place where the reply has one. Answers as
+    /// `call`.
+    pub(crate) fn call_for_id(
+        &mut self,
+        alloc: Global,
+        partition: u32,
+        at: Moment,
+        call: &Call,
+        id: &mut u32,
+    ) -> u32
+        ensures answer { result ≡ answer_in self.old.held.ports partition at call.now }
+        ensures ports { self.new.held.ports ≡ ports_after self.old.held.ports partition at call.now }
+        ensures id { id.new ≡ id_after (reply_in self.old.held.ports partition at call.now) id.old }
+    {
+        let mut reply = Reply::NotMade;
+        let answer = self.call(alloc, partition, at, call, &mut reply);
+        if let Reply::Id(number) = reply {
+            *id = number;
+        }
         answer
     }
 }

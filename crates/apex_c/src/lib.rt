@@ -2,6 +2,8 @@
 #![tactic(auto)]
 
 pub mod answer;
+mod buffer;
+pub mod counts;
 pub mod handle;
 pub mod held;
 pub mod modes;

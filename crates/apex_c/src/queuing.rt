@@ -1,14 +1,55 @@
 //! The services of queuing ports.
-ghost use Rattle.std.specs.Prelude.{◌≡◌, ◌≤◌, ◌<◌, length};
+ghost use Rattle.std.specs.Prelude.{◌≡◌, length};
 ghost use Rattle.apex_types.specs.declared.call.Call.TheVariants as call;
+ghost use Rattle.apex_c.specs.Asked.{asked_answer, asked_ports, asked_reply, create_queuing, queuing_id, receive, send};
 ghost use Rattle.apex_c.specs.Calls.{answer_in, ports_after, moment_of, reply_in};
-ghost use Rattle.apex_types.specs.declared.message.TheConstants.{MESSAGE_LIMIT};
-ghost use Rattle.apex_c.specs.Statuses.{queuing_status_after};
+ghost use Rattle.apex_c.specs.Places.{buffer_after, id_after, length_after, message_in, queuing_status_after};
 
-use crate::answer::TOO_LONG;
+use crate::answer::{NO_NAME, SHORT_BUFFER, TOO_LONG};
+use crate::buffer::copy_message;
 use crate::handle::Handle;
-use apex_types::{Call, MESSAGE_LIMIT, Message, Moment, Reply};
+use apex_types::{Call, MESSAGE_LIMIT, Message, Moment, Name, Reply};
 use std::alloc::Global;
+
+/// CREATE_QUEUING_PORT, with the identifier in its place where the answer is NO_ERROR. The size is in bytes, the depth
+/// in messages. Answers the return code, or a number of `answer`.
+#[unsafe(no_mangle)]
+pub extern "C" fn apex_create_queuing_port(
+    alloc: Global,
+    handle: &mut Handle,
+    partition: u32,
+    at: u64,
+    name: &[u8],
+    size: u32,
+    depth: u32,
+    direction: u32,
+    discipline: u32,
+    id: &mut u32,
+) -> u32
+    ensures answer { result ≡ asked_answer handle.old.held.ports partition (moment_of at)
+        (create_queuing name.now size depth direction discipline) }
+    ensures ports { handle.new.held.ports ≡ asked_ports handle.old.held.ports partition (moment_of at)
+        (create_queuing name.now size depth direction discipline) }
+    ensures id { let reply = asked_reply handle.old.held.ports partition (moment_of at)
+        (create_queuing name.now size depth direction discipline) in id.new ≡ id_after reply id.old }
+{
+    let Ok(name) = Name::from_bytes(name) else {
+        return NO_NAME;
+    };
+    handle.call_for_id(
+        alloc,
+        partition,
+        Moment(at),
+        &Call::CreateQueuing {
+            name,
+            size,
+            depth,
+            direction,
+            discipline,
+        },
+        id,
+    )
+}
 
 /// SEND_QUEUING_MESSAGE with a time-out of zero. Answers the return code, or a number of `answer`.
 #[unsafe(no_mangle)]
@@ -20,13 +61,10 @@ pub extern "C" fn apex_send_queuing_message(
     id: u32,
     message: &[u8],
 ) -> u32
-    ensures answer { length message.now ≤ MESSAGE_LIMIT → result
-        ≡ answer_in handle.old.held.ports partition (moment_of at) (call.SendQueuing id message.now) }
-    ensures ports { length message.now ≤ MESSAGE_LIMIT → handle.new.held.ports
-        ≡ ports_after handle.old.held.ports partition (moment_of at) (call.SendQueuing id message.now) }
-    ensures too_long { MESSAGE_LIMIT < length message.now → result ≡ TOO_LONG }
-    ensures unchanged { MESSAGE_LIMIT < length message.now →
-        handle.new.held.ports ≡ handle.old.held.ports }
+    ensures answer { result ≡ asked_answer handle.old.held.ports partition (moment_of at)
+        (send id message.now) }
+    ensures ports { handle.new.held.ports ≡ asked_ports handle.old.held.ports partition (moment_of at)
+        (send id message.now) }
 {
     let Ok(message) = Message::from_bytes(message) else {
         return TOO_LONG;
@@ -39,6 +77,68 @@ pub extern "C" fn apex_send_queuing_message(
         &Call::SendQueuing { id, message },
         &mut reply,
     )
+}
+
+/// RECEIVE_QUEUING_MESSAGE with a time-out of zero. Where the answer is NO_ERROR, the message is in the buffer's first bytes and
+/// its length in its place. Answers the return code, or a number of `answer`.
+#[unsafe(no_mangle)]
+pub extern "C" fn apex_receive_queuing_message(
+    alloc: Global,
+    handle: &mut Handle,
+    partition: u32,
+    at: u64,
+    id: u32,
+    buffer: &mut [u8],
+    message_length: &mut u32,
+) -> u32
+    ensures answer { result ≡ asked_answer handle.old.held.ports partition (moment_of at)
+        (receive (length buffer.old) id) }
+    ensures ports { handle.new.held.ports ≡ asked_ports handle.old.held.ports partition (moment_of at)
+        (receive (length buffer.old) id) }
+    ensures buffer { let reply = asked_reply handle.old.held.ports partition (moment_of at)
+        (receive (length buffer.old) id) in buffer.new ≡ buffer_after (message_in reply) buffer.old }
+    ensures message_length { let reply = asked_reply handle.old.held.ports partition (moment_of at)
+        (receive (length buffer.old) id) in message_length.new ≡ length_after (message_in reply) message_length.old }
+{
+    if buffer.len() < MESSAGE_LIMIT {
+        return SHORT_BUFFER;
+    }
+    let mut reply = Reply::NotMade;
+    let answer = handle.call(
+        alloc,
+        partition,
+        Moment(at),
+        &Call::ReceiveQueuing { id },
+        &mut reply,
+    );
+    if let Reply::Received(message) = &reply {
+        *message_length = copy_message(message, buffer);
+    }
+    answer
+}
+
+/// GET_QUEUING_PORT_ID, with the identifier in its place where the answer is NO_ERROR. Answers the return code, or a
+/// number of `answer`.
+#[unsafe(no_mangle)]
+pub extern "C" fn apex_get_queuing_port_id(
+    alloc: Global,
+    handle: &mut Handle,
+    partition: u32,
+    at: u64,
+    name: &[u8],
+    id: &mut u32,
+) -> u32
+    ensures answer { result ≡ asked_answer handle.old.held.ports partition (moment_of at)
+        (queuing_id name.now) }
+    ensures ports { handle.new.held.ports ≡ asked_ports handle.old.held.ports partition (moment_of at)
+        (queuing_id name.now) }
+    ensures id { let reply = asked_reply handle.old.held.ports partition (moment_of at)
+        (queuing_id name.now) in id.new ≡ id_after reply id.old }
+{
+    let Ok(name) = Name::from_bytes(name) else {
+        return NO_NAME;
+    };
+    handle.call_for_id(alloc, partition, Moment(at), &Call::QueuingId { name }, id)
 }
 
 /// CLEAR_QUEUING_PORT. Answers the return code, or a number of `answer`.
@@ -91,7 +191,8 @@ pub extern "C" fn apex_get_queuing_port_status(
         ≡ answer_in handle.old.held.ports partition (moment_of at) (call.QueuingStatus id) }
     ensures ports { handle.new.held.ports
         ≡ ports_after handle.old.held.ports partition (moment_of at) (call.QueuingStatus id) }
-    ensures status { let reply = reply_in handle.old.held.ports partition (moment_of at) (call.QueuingStatus id) in
+    ensures status { let asked = call.QueuingStatus id in
+        let reply = reply_in handle.old.held.ports partition (moment_of at) asked in
         status.new ≡ queuing_status_after reply status.old }
 {
     let mut reply = Reply::NotMade;
