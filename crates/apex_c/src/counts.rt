@@ -17,8 +17,8 @@ pub enum ChannelCount {
     Waiting,
 }
 
-/// How many messages a channel accepted; 0 on a sampling channel. The count stays at the greatest u64. It is put in its place where the answer
-/// is `READ`. Answers `READ`, `NOT_OPEN` or `NO_CHANNEL`.
+/// How many messages a channel accepted; 0 on a sampling channel. The count stays at the greatest u64.
+/// It is put in its place where the answer is `READ`. Answers `READ`, `NOT_OPEN` or `NO_CHANNEL`.
 #[unsafe(no_mangle)]
 pub extern "C" fn apex_accepted_count(
     alloc: Global,
@@ -34,8 +34,8 @@ pub extern "C" fn apex_accepted_count(
     read_count(alloc, handle, channel, ChannelCount::Accepted, count)
 }
 
-/// How many messages were received from a channel; 0 on a sampling channel. The count stays at the greatest u64. It is put in its place where the answer
-/// is `READ`. Answers `READ`, `NOT_OPEN` or `NO_CHANNEL`.
+/// How many messages were received from a channel; 0 on a sampling channel. The count stays at the greatest u64.
+/// It is put in its place where the answer is `READ`. Answers `READ`, `NOT_OPEN` or `NO_CHANNEL`.
 #[unsafe(no_mangle)]
 pub extern "C" fn apex_received_count(
     alloc: Global,
@@ -51,8 +51,8 @@ pub extern "C" fn apex_received_count(
     read_count(alloc, handle, channel, ChannelCount::Received, count)
 }
 
-/// How many messages of a channel were cleared; 0 on a sampling channel. The count stays at the greatest u64. It is put in its place where the answer
-/// is `READ`. Answers `READ`, `NOT_OPEN` or `NO_CHANNEL`.
+/// How many messages of a channel were cleared; 0 on a sampling channel. The count stays at the greatest u64.
+/// It is put in its place where the answer is `READ`. Answers `READ`, `NOT_OPEN` or `NO_CHANNEL`.
 #[unsafe(no_mangle)]
 pub extern "C" fn apex_cleared_count(
     alloc: Global,

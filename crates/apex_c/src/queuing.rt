@@ -26,12 +26,13 @@ pub extern "C" fn apex_create_queuing_port(
     discipline: u32,
     id: &mut u32,
 ) -> u32
-    ensures answer { result ≡ asked_answer handle.old.held.ports partition (moment_of at)
-        (create_queuing name.now size depth direction discipline) }
-    ensures ports { handle.new.held.ports ≡ asked_ports handle.old.held.ports partition (moment_of at)
-        (create_queuing name.now size depth direction discipline) }
-    ensures id { let reply = asked_reply handle.old.held.ports partition (moment_of at)
-        (create_queuing name.now size depth direction discipline) in id.new ≡ id_after reply id.old }
+    ensures answer { let asked = create_queuing name.now size depth direction discipline in
+        result ≡ asked_answer handle.old.held.ports partition (moment_of at) asked }
+    ensures ports { let asked = create_queuing name.now size depth direction discipline in
+        handle.new.held.ports ≡ asked_ports handle.old.held.ports partition (moment_of at) asked }
+    ensures id { let asked = create_queuing name.now size depth direction discipline in
+        let reply = asked_reply handle.old.held.ports partition (moment_of at) asked in
+        id.new ≡ id_after reply id.old }
 {
     let Ok(name) = Name::from_bytes(name) else {
         return NO_NAME;
@@ -61,10 +62,10 @@ pub extern "C" fn apex_send_queuing_message(
     id: u32,
     message: &[u8],
 ) -> u32
-    ensures answer { result ≡ asked_answer handle.old.held.ports partition (moment_of at)
-        (send id message.now) }
-    ensures ports { handle.new.held.ports ≡ asked_ports handle.old.held.ports partition (moment_of at)
-        (send id message.now) }
+    ensures answer { let asked = send id message.now in
+        result ≡ asked_answer handle.old.held.ports partition (moment_of at) asked }
+    ensures ports { let asked = send id message.now in
+        handle.new.held.ports ≡ asked_ports handle.old.held.ports partition (moment_of at) asked }
 {
     let Ok(message) = Message::from_bytes(message) else {
         return TOO_LONG;
@@ -79,8 +80,8 @@ pub extern "C" fn apex_send_queuing_message(
     )
 }
 
-/// RECEIVE_QUEUING_MESSAGE with a time-out of zero. Where the answer is NO_ERROR, the message is in the buffer's first bytes and
-/// its length in its place. Answers the return code, or a number of `answer`.
+/// RECEIVE_QUEUING_MESSAGE with a time-out of zero. Where the answer is NO_ERROR, the message is in the buffer's first
+/// bytes, and its length in its place. Answers the return code, or a number of `answer`.
 #[unsafe(no_mangle)]
 pub extern "C" fn apex_receive_queuing_message(
     alloc: Global,
@@ -91,14 +92,16 @@ pub extern "C" fn apex_receive_queuing_message(
     buffer: &mut [u8],
     message_length: &mut u32,
 ) -> u32
-    ensures answer { result ≡ asked_answer handle.old.held.ports partition (moment_of at)
-        (receive (length buffer.old) id) }
-    ensures ports { handle.new.held.ports ≡ asked_ports handle.old.held.ports partition (moment_of at)
-        (receive (length buffer.old) id) }
-    ensures buffer { let reply = asked_reply handle.old.held.ports partition (moment_of at)
-        (receive (length buffer.old) id) in buffer.new ≡ buffer_after (message_in reply) buffer.old }
-    ensures message_length { let reply = asked_reply handle.old.held.ports partition (moment_of at)
-        (receive (length buffer.old) id) in message_length.new ≡ length_after (message_in reply) message_length.old }
+    ensures answer { let asked = receive (length buffer.old) id in
+        result ≡ asked_answer handle.old.held.ports partition (moment_of at) asked }
+    ensures ports { let asked = receive (length buffer.old) id in
+        handle.new.held.ports ≡ asked_ports handle.old.held.ports partition (moment_of at) asked }
+    ensures buffer { let asked = receive (length buffer.old) id in
+        let reply = asked_reply handle.old.held.ports partition (moment_of at) asked in
+        buffer.new ≡ buffer_after (message_in reply) buffer.old }
+    ensures message_length { let asked = receive (length buffer.old) id in
+        let reply = asked_reply handle.old.held.ports partition (moment_of at) asked in
+        message_length.new ≡ length_after (message_in reply) message_length.old }
 {
     if buffer.len() < MESSAGE_LIMIT {
         return SHORT_BUFFER;
@@ -128,12 +131,13 @@ pub extern "C" fn apex_get_queuing_port_id(
     name: &[u8],
     id: &mut u32,
 ) -> u32
-    ensures answer { result ≡ asked_answer handle.old.held.ports partition (moment_of at)
-        (queuing_id name.now) }
-    ensures ports { handle.new.held.ports ≡ asked_ports handle.old.held.ports partition (moment_of at)
-        (queuing_id name.now) }
-    ensures id { let reply = asked_reply handle.old.held.ports partition (moment_of at)
-        (queuing_id name.now) in id.new ≡ id_after reply id.old }
+    ensures answer { let asked = queuing_id name.now in
+        result ≡ asked_answer handle.old.held.ports partition (moment_of at) asked }
+    ensures ports { let asked = queuing_id name.now in
+        handle.new.held.ports ≡ asked_ports handle.old.held.ports partition (moment_of at) asked }
+    ensures id { let asked = queuing_id name.now in
+        let reply = asked_reply handle.old.held.ports partition (moment_of at) asked in
+        id.new ≡ id_after reply id.old }
 {
     let Ok(name) = Name::from_bytes(name) else {
         return NO_NAME;

@@ -1,7 +1,8 @@
 //! What the ports show to C of partitions and of samples. A reader adds nothing to the history.
 ghost use Rattle.std.specs.Prelude.{◌≡◌, length, unwrap_or};
 ghost use Rattle.apex_c.specs.Places.{buffer_after, length_after};
-ghost use Rattle.apex_c.specs.Readers.{calls_in, message_of, mode_in, moment_after, partition_answer, sample_answer, sample_in};
+ghost use Rattle.apex_c.specs.Readers.{calls_in, mode_in, partition_answer};
+ghost use Rattle.apex_c.specs.Readers.{message_of, moment_after, sample_answer, sample_in};
 
 use crate::answer::{NO_CHANNEL, NO_PARTITION, NO_SAMPLE, NOT_OPEN, READ, SHORT_BUFFER};
 use crate::buffer::copy_message;
@@ -9,7 +10,8 @@ use crate::handle::Handle;
 use apex_types::MESSAGE_LIMIT;
 use std::alloc::Global;
 
-/// The number of a partition's mode, in its place where the answer is `READ`. Answers `READ`, `NOT_OPEN` or `NO_PARTITION`.
+/// The number of a partition's mode, in its place where the answer is `READ`. Answers `READ`, `NOT_OPEN` or
+/// `NO_PARTITION`.
 #[unsafe(no_mangle)]
 pub extern "C" fn apex_partition_mode(
     alloc: Global,
@@ -60,9 +62,9 @@ pub extern "C" fn apex_call_count(
     answer
 }
 
-/// The message that a sampling channel holds, whether or not a port was created. Where the answer is `READ`, the message is in
-/// the buffer's first bytes, and its length and the moment of its writing in their places. Answers `READ`,
-/// `NOT_OPEN`, `NO_CHANNEL`, `SHORT_BUFFER`, or `NO_SAMPLE` on a queuing channel or before the first write.
+/// The message that a sampling channel holds. Where the answer is `READ`, the message is in the buffer's first bytes,
+/// and its length and the moment of its writing, in nanoseconds, in their places. Answers `READ`, `NOT_OPEN`,
+/// `NO_CHANNEL`, `SHORT_BUFFER`, or `NO_SAMPLE` on a queuing channel or before the first write.
 #[unsafe(no_mangle)]
 pub extern "C" fn apex_last_sample(
     alloc: Global,

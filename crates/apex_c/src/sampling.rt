@@ -3,7 +3,8 @@ ghost use Rattle.std.specs.Prelude.{◌≡◌, length};
 ghost use Rattle.apex_types.specs.declared.call.Call.TheVariants as call;
 ghost use Rattle.apex_c.specs.Asked.{asked_answer, asked_ports, asked_reply, create_sampling, read, sampling_id, write};
 ghost use Rattle.apex_c.specs.Calls.{answer_in, ports_after, moment_of, reply_in};
-ghost use Rattle.apex_c.specs.Places.{buffer_after, id_after, length_after, message_in, sampling_status_after, validity_after};
+ghost use Rattle.apex_c.specs.Places.{buffer_after, id_after, length_after, message_in};
+ghost use Rattle.apex_c.specs.Places.{sampling_status_after, validity_after};
 
 use crate::answer::{NO_NAME, SHORT_BUFFER, TOO_LONG};
 use crate::buffer::copy_message;
@@ -11,8 +12,8 @@ use crate::handle::Handle;
 use apex_types::{Call, MESSAGE_LIMIT, Message, Moment, Name, Reply};
 use std::alloc::Global;
 
-/// CREATE_SAMPLING_PORT, with the identifier in its place where the answer is NO_ERROR. The size is in bytes, the refresh
-/// period in nanoseconds. Answers the return code, or a number of `answer`.
+/// CREATE_SAMPLING_PORT, with the identifier in its place where the answer is NO_ERROR. The size is in bytes, the
+/// refresh period in nanoseconds. Answers the return code, or a number of `answer`.
 #[unsafe(no_mangle)]
 pub extern "C" fn apex_create_sampling_port(
     alloc: Global,
@@ -25,12 +26,13 @@ pub extern "C" fn apex_create_sampling_port(
     refresh: u64,
     id: &mut u32,
 ) -> u32
-    ensures answer { result ≡ asked_answer handle.old.held.ports partition (moment_of at)
-        (create_sampling name.now size direction refresh) }
-    ensures ports { handle.new.held.ports ≡ asked_ports handle.old.held.ports partition (moment_of at)
-        (create_sampling name.now size direction refresh) }
-    ensures id { let reply = asked_reply handle.old.held.ports partition (moment_of at)
-        (create_sampling name.now size direction refresh) in id.new ≡ id_after reply id.old }
+    ensures answer { let asked = create_sampling name.now size direction refresh in
+        result ≡ asked_answer handle.old.held.ports partition (moment_of at) asked }
+    ensures ports { let asked = create_sampling name.now size direction refresh in
+        handle.new.held.ports ≡ asked_ports handle.old.held.ports partition (moment_of at) asked }
+    ensures id { let asked = create_sampling name.now size direction refresh in
+        let reply = asked_reply handle.old.held.ports partition (moment_of at) asked in
+        id.new ≡ id_after reply id.old }
 {
     let Ok(name) = Name::from_bytes(name) else {
         return NO_NAME;
@@ -59,10 +61,10 @@ pub extern "C" fn apex_write_sampling_message(
     id: u32,
     message: &[u8],
 ) -> u32
-    ensures answer { result ≡ asked_answer handle.old.held.ports partition (moment_of at)
-        (write id message.now) }
-    ensures ports { handle.new.held.ports ≡ asked_ports handle.old.held.ports partition (moment_of at)
-        (write id message.now) }
+    ensures answer { let asked = write id message.now in
+        result ≡ asked_answer handle.old.held.ports partition (moment_of at) asked }
+    ensures ports { let asked = write id message.now in
+        handle.new.held.ports ≡ asked_ports handle.old.held.ports partition (moment_of at) asked }
 {
     let Ok(message) = Message::from_bytes(message) else {
         return TOO_LONG;
@@ -77,8 +79,8 @@ pub extern "C" fn apex_write_sampling_message(
     )
 }
 
-/// READ_SAMPLING_MESSAGE. Where the answer is NO_ERROR, the message is in the buffer's first bytes, and its length and its
-/// validity's number in their places. Answers the return code, or a number of `answer`.
+/// READ_SAMPLING_MESSAGE. Where the answer is NO_ERROR, the message is in the buffer's first bytes, and its length and
+/// its validity's number in their places. Answers the return code, or a number of `answer`.
 #[unsafe(no_mangle)]
 pub extern "C" fn apex_read_sampling_message(
     alloc: Global,
@@ -90,16 +92,19 @@ pub extern "C" fn apex_read_sampling_message(
     message_length: &mut u32,
     validity: &mut u32,
 ) -> u32
-    ensures answer { result ≡ asked_answer handle.old.held.ports partition (moment_of at)
-        (read (length buffer.old) id) }
-    ensures ports { handle.new.held.ports ≡ asked_ports handle.old.held.ports partition (moment_of at)
-        (read (length buffer.old) id) }
-    ensures buffer { let reply = asked_reply handle.old.held.ports partition (moment_of at)
-        (read (length buffer.old) id) in buffer.new ≡ buffer_after (message_in reply) buffer.old }
-    ensures message_length { let reply = asked_reply handle.old.held.ports partition (moment_of at)
-        (read (length buffer.old) id) in message_length.new ≡ length_after (message_in reply) message_length.old }
-    ensures validity { let reply = asked_reply handle.old.held.ports partition (moment_of at)
-        (read (length buffer.old) id) in validity.new ≡ validity_after reply validity.old }
+    ensures answer { let asked = read (length buffer.old) id in
+        result ≡ asked_answer handle.old.held.ports partition (moment_of at) asked }
+    ensures ports { let asked = read (length buffer.old) id in
+        handle.new.held.ports ≡ asked_ports handle.old.held.ports partition (moment_of at) asked }
+    ensures buffer { let asked = read (length buffer.old) id in
+        let reply = asked_reply handle.old.held.ports partition (moment_of at) asked in
+        buffer.new ≡ buffer_after (message_in reply) buffer.old }
+    ensures message_length { let asked = read (length buffer.old) id in
+        let reply = asked_reply handle.old.held.ports partition (moment_of at) asked in
+        message_length.new ≡ length_after (message_in reply) message_length.old }
+    ensures validity { let asked = read (length buffer.old) id in
+        let reply = asked_reply handle.old.held.ports partition (moment_of at) asked in
+        validity.new ≡ validity_after reply validity.old }
 {
     if buffer.len() < MESSAGE_LIMIT {
         return SHORT_BUFFER;
@@ -134,12 +139,13 @@ pub extern "C" fn apex_get_sampling_port_id(
     name: &[u8],
     id: &mut u32,
 ) -> u32
-    ensures answer { result ≡ asked_answer handle.old.held.ports partition (moment_of at)
-        (sampling_id name.now) }
-    ensures ports { handle.new.held.ports ≡ asked_ports handle.old.held.ports partition (moment_of at)
-        (sampling_id name.now) }
-    ensures id { let reply = asked_reply handle.old.held.ports partition (moment_of at)
-        (sampling_id name.now) in id.new ≡ id_after reply id.old }
+    ensures answer { let asked = sampling_id name.now in
+        result ≡ asked_answer handle.old.held.ports partition (moment_of at) asked }
+    ensures ports { let asked = sampling_id name.now in
+        handle.new.held.ports ≡ asked_ports handle.old.held.ports partition (moment_of at) asked }
+    ensures id { let asked = sampling_id name.now in
+        let reply = asked_reply handle.old.held.ports partition (moment_of at) asked in
+        id.new ≡ id_after reply id.old }
 {
     let Ok(name) = Name::from_bytes(name) else {
         return NO_NAME;
@@ -147,8 +153,8 @@ pub extern "C" fn apex_get_sampling_port_id(
     handle.call_for_id(alloc, partition, Moment(at), &Call::SamplingId { name }, id)
 }
 
-/// What GET_SAMPLING_PORT_STATUS shows: the refresh period in nanoseconds, the greatest length of a message in bytes, and
-/// the numbers of the direction and of the validity of the last read.
+/// What GET_SAMPLING_PORT_STATUS shows: the refresh period in nanoseconds, the greatest length of a message in bytes,
+/// and the numbers of the direction and of the validity of the last read.
 #[repr(C)]
 #[derive(Clone, Copy, Drop)]
 pub struct SamplingPortStatus {
