@@ -1,0 +1,6 @@
+pub mod Asked
+pub mod Calls
+pub mod Held
+pub mod Opening
+pub mod Places
+pub mod Readers

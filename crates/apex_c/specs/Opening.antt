@@ -1,0 +1,20 @@
+-- Opening a handle.
+use Rattle.std.specs.Prelude.{ℕ, [], None, Some, Result, Ok, Err, unwrap_or}
+use Rattle.apex_config.specs.Configuration.{Configuration}
+use Rattle.apex_config.specs.Fault.{pass_of}
+use Rattle.apex_config.specs.declared.fault.ConfigFault.{ConfigFault}
+use Rattle.apex_c.specs.Held.{PortsHeld}
+use Rattle.apex_c.specs.declared.opening.TheConstants.{OPENED, OUT_OF_MEMORY}
+
+-- the ports before the first call; none of a configuration that is refused
+abbrev pub ports_at_start : Result Configuration ConfigFault → PortsHeld
+ports_at_start (Ok config) = Some (record { config = config; history = [] })
+ports_at_start (Err fault) = None
+
+abbrev pub fault_number : ConfigFault → ℕ
+fault_number fault = unwrap_or (pass_of fault) OUT_OF_MEMORY
+
+-- the number of the configuration's fault, if it has one
+abbrev pub opening_number : Result Configuration ConfigFault → ℕ
+opening_number (Ok config) = OPENED
+opening_number (Err fault) = fault_number fault

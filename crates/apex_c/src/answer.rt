@@ -1,0 +1,28 @@
+//! What the functions answer beside the standard's return codes, which are 0 to 6.
+
+/// The partition is in IDLE: the call wasn't made.
+pub const NOT_MADE: u32 = 7;
+
+/// The handle isn't open.
+pub const NOT_OPEN: u32 = 8;
+
+/// The module has no partition of the number.
+pub const NO_PARTITION: u32 = 9;
+
+/// More bytes than a message can have.
+pub const TOO_LONG: u32 = 10;
+
+/// The text is no name.
+pub const NO_NAME: u32 = 11;
+
+/// The buffer has fewer bytes than a message can have.
+pub const SHORT_BUFFER: u32 = 12;
+
+/// The module has no channel of the number.
+pub const NO_CHANNEL: u32 = 13;
+
+/// The channel holds no sample.
+pub const NO_SAMPLE: u32 = 14;
+
+/// A reader has read.
+pub const READ: u32 = 0;

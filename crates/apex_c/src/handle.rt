@@ -1,0 +1,119 @@
+//! The handle that C keeps.
+ghost use Rattle.std.specs.Prelude.{◌≡◌, None, Some, is_some, unwrap_or};
+ghost use Rattle.std.specs.Option.{option_map};
+ghost use Rattle.apex_c.specs.Calls.{answer_in, ports_after, reply_in, reply_number};
+ghost use Rattle.apex_c.specs.Places.{id_after};
+
+use crate::answer::{NO_PARTITION, NOT_MADE, NOT_OPEN};
+use crate::held::Held;
+use apex_ports::Ports;
+use apex_types::{Call, Moment, Reply};
+use std::alloc::Global;
+use std::mem;
+
+/// The ports of a module, or none. C keeps it, and lends it to each function. All zero, it has none.
+#[repr(C)]
+#[derive(Drop)]
+pub struct Handle {
+    is_open: bool,
+    pub held: Held,
+    ghost told: { is_some held.ports ≡ is_open },
+}
+
+impl Handle {
+    /// A handle of no ports.
+    pub(crate) fn closed(alloc: Global) -> Handle
+        ensures { result.held.ports ≡ None }
+    {
+        Handle {
+            is_open: false,
+            held: Held::none(alloc),
+        }
+    }
+
+    /// A handle of the ports.
+    pub(crate) fn of(ports: Box<Ports>) -> Handle
+        ensures { result.held.ports ≡ Some ports.value }
+    {
+        Handle {
+            is_open: true,
+            held: Held::of_box(ports),
+        }
+    }
+
+    /// Whether the handle has ports.
+    pub(crate) fn is_open(&self) -> bool
+        ensures { result ≡ is_some self.now.held.ports }
+    {
+        self.is_open
+    }
+
+    /// Takes the ports out.
+    pub(crate) fn take(&mut self, alloc: Global) -> Option<Box<Ports>>
+        ensures taken { option_map (λ ports. ports.value) result ≡ self.old.held.ports }
+        ensures closed { self.new.held.ports ≡ None }
+    {
+        let Handle { is_open, held } = mem::replace(self, Handle::closed(alloc));
+        if is_open { Some(held.into_box()) } else { None }
+    }
+
+    /// The partition makes the call at the moment, where the handle is open and has the partition. Answers
+    /// the return code's number, or one of the numbers of `answer`.
+    pub(crate) fn call(
+        &mut self,
+        alloc: Global,
+        partition: u32,
+        at: Moment,
+        call: &Call,
+        reply: &mut Reply,
+    ) -> u32
+        ensures answer { result ≡ answer_in self.old.held.ports partition at call.now }
+        ensures ports { self.new.held.ports ≡ ports_after self.old.held.ports partition at call.now }
+        ensures reply { reply.new
+            ≡ unwrap_or (reply_in self.old.held.ports partition at call.now) reply.old }
+    {
+        let Some(mut ports) = self.take(alloc) else {
+            return NOT_OPEN;
+        };
+        let answer = if (partition as usize) < ports.config().partitions() {
+            ports.call_into(partition as usize, at, call, reply);
+            number_of_reply(reply)
+        } else {
+            NO_PARTITION
+        };
+        *self = Handle::of(ports);
+        answer
+    }
+
+    /// A call that gives a port's identifier, which goes to its place where the reply has one. Answers as
+    /// `call`.
+    pub(crate) fn call_for_id(
+        &mut self,
+        alloc: Global,
+        partition: u32,
+        at: Moment,
+        call: &Call,
+        id: &mut u32,
+    ) -> u32
+        ensures answer { result ≡ answer_in self.old.held.ports partition at call.now }
+        ensures ports { self.new.held.ports ≡ ports_after self.old.held.ports partition at call.now }
+        ensures id { id.new ≡ id_after (reply_in self.old.held.ports partition at call.now) id.old }
+    {
+        let mut reply = Reply::NotMade;
+        let answer = self.call(alloc, partition, at, call, &mut reply);
+        if let Reply::Id(number) = reply {
+            *id = number;
+        }
+        answer
+    }
+}
+
+// The number of a reply's return code, or that of a call that wasn't made.
+fn number_of_reply(reply: &Reply) -> u32
+    ensures { result ≡ reply_number reply.now }
+{
+    match reply.code() {
+        None => NOT_MADE,
+        Some(code) => code.number(),
+    }
+}

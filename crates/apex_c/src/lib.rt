@@ -1,0 +1,13 @@
+//! The ports of a module for programs in C. `docs/C.md` has how it is linked, and what is assumed of the caller.
+#![tactic(auto)]
+
+pub mod answer;
+mod buffer;
+pub mod counts;
+pub mod handle;
+pub mod held;
+pub mod modes;
+pub mod opening;
+pub mod queuing;
+pub mod readers;
+pub mod sampling;

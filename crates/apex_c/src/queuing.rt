@@ -1,0 +1,225 @@
+//! The services of queuing ports.
+ghost use Rattle.std.specs.Prelude.{◌≡◌, length};
+ghost use Rattle.apex_types.specs.declared.call.Call.TheVariants as call;
+ghost use Rattle.apex_c.specs.Asked.{asked_answer, asked_ports, asked_reply, create_queuing, queuing_id, receive, send};
+ghost use Rattle.apex_c.specs.Calls.{answer_in, ports_after, moment_of, reply_in};
+ghost use Rattle.apex_c.specs.Places.{buffer_after, id_after, length_after, message_in, queuing_status_after};
+
+use crate::answer::{NO_NAME, SHORT_BUFFER, TOO_LONG};
+use crate::buffer::copy_message;
+use crate::handle::Handle;
+use apex_types::{Call, MESSAGE_LIMIT, Message, Moment, Name, Reply};
+use std::alloc::Global;
+
+/// CREATE_QUEUING_PORT, with the identifier in its place where the answer is NO_ERROR. The size is in bytes, the depth
+/// in messages. Answers the return code, or a number of `answer`.
+#[unsafe(no_mangle)]
+pub extern "C" fn apex_create_queuing_port(
+    alloc: Global,
+    handle: &mut Handle,
+    partition: u32,
+    at: u64,
+    name: &[u8],
+    size: u32,
+    depth: u32,
+    direction: u32,
+    discipline: u32,
+    id: &mut u32,
+) -> u32
+    ensures answer { let asked = create_queuing name.now size depth direction discipline in
+        result ≡ asked_answer handle.old.held.ports partition (moment_of at) asked }
+    ensures ports { let asked = create_queuing name.now size depth direction discipline in
+        handle.new.held.ports ≡ asked_ports handle.old.held.ports partition (moment_of at) asked }
+    ensures id { let asked = create_queuing name.now size depth direction discipline in
+        let reply = asked_reply handle.old.held.ports partition (moment_of at) asked in
+        id.new ≡ id_after reply id.old }
+{
+    let Ok(name) = Name::from_bytes(name) else {
+        return NO_NAME;
+    };
+    handle.call_for_id(
+        alloc,
+        partition,
+        Moment(at),
+        &Call::CreateQueuing {
+            name,
+            size,
+            depth,
+            direction,
+            discipline,
+        },
+        id,
+    )
+}
+
+/// SEND_QUEUING_MESSAGE with a time-out of zero. Answers the return code, or a number of `answer`.
+#[unsafe(no_mangle)]
+pub extern "C" fn apex_send_queuing_message(
+    alloc: Global,
+    handle: &mut Handle,
+    partition: u32,
+    at: u64,
+    id: u32,
+    message: &[u8],
+) -> u32
+    ensures answer { let asked = send id message.now in
+        result ≡ asked_answer handle.old.held.ports partition (moment_of at) asked }
+    ensures ports { let asked = send id message.now in
+        handle.new.held.ports ≡ asked_ports handle.old.held.ports partition (moment_of at) asked }
+{
+    let Ok(message) = Message::from_bytes(message) else {
+        return TOO_LONG;
+    };
+    let mut reply = Reply::NotMade;
+    handle.call(
+        alloc,
+        partition,
+        Moment(at),
+        &Call::SendQueuing { id, message },
+        &mut reply,
+    )
+}
+
+/// RECEIVE_QUEUING_MESSAGE with a time-out of zero. Where the answer is NO_ERROR, the message is in the buffer's first
+/// bytes, and its length in its place. Answers the return code, or a number of `answer`.
+#[unsafe(no_mangle)]
+pub extern "C" fn apex_receive_queuing_message(
+    alloc: Global,
+    handle: &mut Handle,
+    partition: u32,
+    at: u64,
+    id: u32,
+    buffer: &mut [u8],
+    message_length: &mut u32,
+) -> u32
+    ensures answer { let asked = receive (length buffer.old) id in
+        result ≡ asked_answer handle.old.held.ports partition (moment_of at) asked }
+    ensures ports { let asked = receive (length buffer.old) id in
+        handle.new.held.ports ≡ asked_ports handle.old.held.ports partition (moment_of at) asked }
+    ensures buffer { let asked = receive (length buffer.old) id in
+        let reply = asked_reply handle.old.held.ports partition (moment_of at) asked in
+        buffer.new ≡ buffer_after (message_in reply) buffer.old }
+    ensures message_length { let asked = receive (length buffer.old) id in
+        let reply = asked_reply handle.old.held.ports partition (moment_of at) asked in
+        message_length.new ≡ length_after (message_in reply) message_length.old }
+{
+    if buffer.len() < MESSAGE_LIMIT {
+        return SHORT_BUFFER;
+    }
+    let mut reply = Reply::NotMade;
+    let answer = handle.call(
+        alloc,
+        partition,
+        Moment(at),
+        &Call::ReceiveQueuing { id },
+        &mut reply,
+    );
+    if let Reply::Received(message) = &reply {
+        *message_length = copy_message(message, buffer);
+    }
+    answer
+}
+
+/// GET_QUEUING_PORT_ID, with the identifier in its place where the answer is NO_ERROR. Answers the return code, or a
+/// number of `answer`.
+#[unsafe(no_mangle)]
+pub extern "C" fn apex_get_queuing_port_id(
+    alloc: Global,
+    handle: &mut Handle,
+    partition: u32,
+    at: u64,
+    name: &[u8],
+    id: &mut u32,
+) -> u32
+    ensures answer { let asked = queuing_id name.now in
+        result ≡ asked_answer handle.old.held.ports partition (moment_of at) asked }
+    ensures ports { let asked = queuing_id name.now in
+        handle.new.held.ports ≡ asked_ports handle.old.held.ports partition (moment_of at) asked }
+    ensures id { let asked = queuing_id name.now in
+        let reply = asked_reply handle.old.held.ports partition (moment_of at) asked in
+        id.new ≡ id_after reply id.old }
+{
+    let Ok(name) = Name::from_bytes(name) else {
+        return NO_NAME;
+    };
+    handle.call_for_id(alloc, partition, Moment(at), &Call::QueuingId { name }, id)
+}
+
+/// CLEAR_QUEUING_PORT. Answers the return code, or a number of `answer`.
+#[unsafe(no_mangle)]
+pub extern "C" fn apex_clear_queuing_port(
+    alloc: Global,
+    handle: &mut Handle,
+    partition: u32,
+    at: u64,
+    id: u32,
+) -> u32
+    ensures answer { result
+        ≡ answer_in handle.old.held.ports partition (moment_of at) (call.ClearQueuing id) }
+    ensures ports { handle.new.held.ports
+        ≡ ports_after handle.old.held.ports partition (moment_of at) (call.ClearQueuing id) }
+{
+    let mut reply = Reply::NotMade;
+    handle.call(
+        alloc,
+        partition,
+        Moment(at),
+        &Call::ClearQueuing { id },
+        &mut reply,
+    )
+}
+
+/// What GET_QUEUING_PORT_STATUS shows: the messages that wait, the depth, the greatest length of a message in bytes and
+/// the direction's number.
+#[repr(C)]
+#[derive(Clone, Copy, Drop)]
+pub struct QueuingPortStatus {
+    pub waiting: u32,
+    pub depth: u32,
+    pub size: u32,
+    pub direction: u32,
+}
+
+/// GET_QUEUING_PORT_STATUS, with the status in its place where the answer is NO_ERROR. Answers the return code, or a
+/// number of `answer`.
+#[unsafe(no_mangle)]
+pub extern "C" fn apex_get_queuing_port_status(
+    alloc: Global,
+    handle: &mut Handle,
+    partition: u32,
+    at: u64,
+    id: u32,
+    status: &mut QueuingPortStatus,
+) -> u32
+    ensures answer { result
+        ≡ answer_in handle.old.held.ports partition (moment_of at) (call.QueuingStatus id) }
+    ensures ports { handle.new.held.ports
+        ≡ ports_after handle.old.held.ports partition (moment_of at) (call.QueuingStatus id) }
+    ensures status { let asked = call.QueuingStatus id in
+        let reply = reply_in handle.old.held.ports partition (moment_of at) asked in
+        status.new ≡ queuing_status_after reply status.old }
+{
+    let mut reply = Reply::NotMade;
+    let answer = handle.call(
+        alloc,
+        partition,
+        Moment(at),
+        &Call::QueuingStatus { id },
+        &mut reply,
+    );
+    if let Reply::QueuingStatus {
+        waiting,
+        depth,
+        size,
+        direction,
+    } = reply
+    {
+        *status = QueuingPortStatus {
+            waiting,
+            depth,
+            size,
+            direction: direction.number(),
+        };
+    }
+    answer
+}

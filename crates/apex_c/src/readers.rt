@@ -1,0 +1,103 @@
+//! What the ports show to C of partitions and of samples. A reader adds nothing to the history.
+ghost use Rattle.std.specs.Prelude.{◌≡◌, length, unwrap_or};
+ghost use Rattle.apex_c.specs.Places.{buffer_after, length_after};
+ghost use Rattle.apex_c.specs.Readers.{calls_in, mode_in, partition_answer};
+ghost use Rattle.apex_c.specs.Readers.{message_of, moment_after, sample_answer, sample_in};
+
+use crate::answer::{NO_CHANNEL, NO_PARTITION, NO_SAMPLE, NOT_OPEN, READ, SHORT_BUFFER};
+use crate::buffer::copy_message;
+use crate::handle::Handle;
+use apex_types::MESSAGE_LIMIT;
+use std::alloc::Global;
+
+/// The number of a partition's mode, in its place where the answer is `READ`. Answers `READ`, `NOT_OPEN` or
+/// `NO_PARTITION`.
+#[unsafe(no_mangle)]
+pub extern "C" fn apex_partition_mode(
+    alloc: Global,
+    handle: &mut Handle,
+    partition: u32,
+    mode: &mut u32,
+) -> u32
+    ensures answer { result ≡ partition_answer handle.old.held.ports partition }
+    ensures mode { mode.new ≡ unwrap_or (mode_in handle.old.held.ports partition) mode.old }
+    ensures ports { handle.new.held.ports ≡ handle.old.held.ports }
+{
+    let Some(ports) = handle.take(alloc) else {
+        return NOT_OPEN;
+    };
+    let answer = if (partition as usize) < ports.config().partitions() {
+        *mode = ports.mode(partition as usize).number();
+        READ
+    } else {
+        NO_PARTITION
+    };
+    *handle = Handle::of(ports);
+    answer
+}
+
+/// How many calls a partition made, those that were not made included; the count stays at the greatest u64. It is put
+/// in its place where the answer is `READ`. Answers `READ`, `NOT_OPEN` or `NO_PARTITION`.
+#[unsafe(no_mangle)]
+pub extern "C" fn apex_call_count(
+    alloc: Global,
+    handle: &mut Handle,
+    partition: u32,
+    count: &mut u64,
+) -> u32
+    ensures answer { result ≡ partition_answer handle.old.held.ports partition }
+    ensures count { count.new ≡ unwrap_or (calls_in handle.old.held.ports partition) count.old }
+    ensures ports { handle.new.held.ports ≡ handle.old.held.ports }
+{
+    let Some(ports) = handle.take(alloc) else {
+        return NOT_OPEN;
+    };
+    let answer = if (partition as usize) < ports.config().partitions() {
+        *count = ports.calls(partition as usize);
+        READ
+    } else {
+        NO_PARTITION
+    };
+    *handle = Handle::of(ports);
+    answer
+}
+
+/// The message that a sampling channel holds. Where the answer is `READ`, the message is in the buffer's first bytes,
+/// and its length and the moment of its writing, in nanoseconds, in their places. Answers `READ`, `NOT_OPEN`,
+/// `NO_CHANNEL`, `SHORT_BUFFER`, or `NO_SAMPLE` on a queuing channel or before the first write.
+#[unsafe(no_mangle)]
+pub extern "C" fn apex_last_sample(
+    alloc: Global,
+    handle: &mut Handle,
+    channel: u32,
+    buffer: &mut [u8],
+    message_length: &mut u32,
+    at: &mut u64,
+) -> u32
+    ensures answer { result ≡ sample_answer (length buffer.old) handle.old.held.ports channel }
+    ensures buffer { let sample = sample_in (length buffer.old) handle.old.held.ports channel in
+        buffer.new ≡ buffer_after (message_of sample) buffer.old }
+    ensures message_length { let sample = sample_in (length buffer.old) handle.old.held.ports channel in
+        message_length.new ≡ length_after (message_of sample) message_length.old }
+    ensures at { let sample = sample_in (length buffer.old) handle.old.held.ports channel in
+        at.new ≡ moment_after sample at.old }
+    ensures ports { handle.new.held.ports ≡ handle.old.held.ports }
+{
+    if buffer.len() < MESSAGE_LIMIT {
+        return SHORT_BUFFER;
+    }
+    let Some(ports) = handle.take(alloc) else {
+        return NOT_OPEN;
+    };
+    let answer = if (channel as usize) >= ports.config().channels() {
+        NO_CHANNEL
+    } else if let Some(sample) = ports.last_sample(channel as usize) {
+        *message_length = copy_message(&sample.message, buffer);
+        *at = sample.at.0;
+        READ
+    } else {
+        NO_SAMPLE
+    };
+    *handle = Handle::of(ports);
+    answer
+}

@@ -1,0 +1,209 @@
+//! The services of sampling ports.
+ghost use Rattle.std.specs.Prelude.{◌≡◌, length};
+ghost use Rattle.apex_types.specs.declared.call.Call.TheVariants as call;
+ghost use Rattle.apex_c.specs.Asked.{asked_answer, asked_ports, asked_reply, create_sampling, read, sampling_id, write};
+ghost use Rattle.apex_c.specs.Calls.{answer_in, ports_after, moment_of, reply_in};
+ghost use Rattle.apex_c.specs.Places.{buffer_after, id_after, length_after, message_in};
+ghost use Rattle.apex_c.specs.Places.{sampling_status_after, validity_after};
+
+use crate::answer::{NO_NAME, SHORT_BUFFER, TOO_LONG};
+use crate::buffer::copy_message;
+use crate::handle::Handle;
+use apex_types::{Call, MESSAGE_LIMIT, Message, Moment, Name, Reply};
+use std::alloc::Global;
+
+/// CREATE_SAMPLING_PORT, with the identifier in its place where the answer is NO_ERROR. The size is in bytes, the
+/// refresh period in nanoseconds. Answers the return code, or a number of `answer`.
+#[unsafe(no_mangle)]
+pub extern "C" fn apex_create_sampling_port(
+    alloc: Global,
+    handle: &mut Handle,
+    partition: u32,
+    at: u64,
+    name: &[u8],
+    size: u32,
+    direction: u32,
+    refresh: u64,
+    id: &mut u32,
+) -> u32
+    ensures answer { let asked = create_sampling name.now size direction refresh in
+        result ≡ asked_answer handle.old.held.ports partition (moment_of at) asked }
+    ensures ports { let asked = create_sampling name.now size direction refresh in
+        handle.new.held.ports ≡ asked_ports handle.old.held.ports partition (moment_of at) asked }
+    ensures id { let asked = create_sampling name.now size direction refresh in
+        let reply = asked_reply handle.old.held.ports partition (moment_of at) asked in
+        id.new ≡ id_after reply id.old }
+{
+    let Ok(name) = Name::from_bytes(name) else {
+        return NO_NAME;
+    };
+    handle.call_for_id(
+        alloc,
+        partition,
+        Moment(at),
+        &Call::CreateSampling {
+            name,
+            size,
+            direction,
+            refresh,
+        },
+        id,
+    )
+}
+
+/// WRITE_SAMPLING_MESSAGE. Answers the return code, or a number of `answer`.
+#[unsafe(no_mangle)]
+pub extern "C" fn apex_write_sampling_message(
+    alloc: Global,
+    handle: &mut Handle,
+    partition: u32,
+    at: u64,
+    id: u32,
+    message: &[u8],
+) -> u32
+    ensures answer { let asked = write id message.now in
+        result ≡ asked_answer handle.old.held.ports partition (moment_of at) asked }
+    ensures ports { let asked = write id message.now in
+        handle.new.held.ports ≡ asked_ports handle.old.held.ports partition (moment_of at) asked }
+{
+    let Ok(message) = Message::from_bytes(message) else {
+        return TOO_LONG;
+    };
+    let mut reply = Reply::NotMade;
+    handle.call(
+        alloc,
+        partition,
+        Moment(at),
+        &Call::WriteSampling { id, message },
+        &mut reply,
+    )
+}
+
+/// READ_SAMPLING_MESSAGE. Where the answer is NO_ERROR, the message is in the buffer's first bytes, and its length and
+/// its validity's number in their places. Answers the return code, or a number of `answer`.
+#[unsafe(no_mangle)]
+pub extern "C" fn apex_read_sampling_message(
+    alloc: Global,
+    handle: &mut Handle,
+    partition: u32,
+    at: u64,
+    id: u32,
+    buffer: &mut [u8],
+    message_length: &mut u32,
+    validity: &mut u32,
+) -> u32
+    ensures answer { let asked = read (length buffer.old) id in
+        result ≡ asked_answer handle.old.held.ports partition (moment_of at) asked }
+    ensures ports { let asked = read (length buffer.old) id in
+        handle.new.held.ports ≡ asked_ports handle.old.held.ports partition (moment_of at) asked }
+    ensures buffer { let asked = read (length buffer.old) id in
+        let reply = asked_reply handle.old.held.ports partition (moment_of at) asked in
+        buffer.new ≡ buffer_after (message_in reply) buffer.old }
+    ensures message_length { let asked = read (length buffer.old) id in
+        let reply = asked_reply handle.old.held.ports partition (moment_of at) asked in
+        message_length.new ≡ length_after (message_in reply) message_length.old }
+    ensures validity { let asked = read (length buffer.old) id in
+        let reply = asked_reply handle.old.held.ports partition (moment_of at) asked in
+        validity.new ≡ validity_after reply validity.old }
+{
+    if buffer.len() < MESSAGE_LIMIT {
+        return SHORT_BUFFER;
+    }
+    let mut reply = Reply::NotMade;
+    let answer = handle.call(
+        alloc,
+        partition,
+        Moment(at),
+        &Call::ReadSampling { id },
+        &mut reply,
+    );
+    if let Reply::Read {
+        message,
+        validity: shown,
+    } = &reply
+    {
+        *message_length = copy_message(message, buffer);
+        *validity = shown.number();
+    }
+    answer
+}
+
+/// GET_SAMPLING_PORT_ID, with the identifier in its place where the answer is NO_ERROR. Answers the return code, or a
+/// number of `answer`.
+#[unsafe(no_mangle)]
+pub extern "C" fn apex_get_sampling_port_id(
+    alloc: Global,
+    handle: &mut Handle,
+    partition: u32,
+    at: u64,
+    name: &[u8],
+    id: &mut u32,
+) -> u32
+    ensures answer { let asked = sampling_id name.now in
+        result ≡ asked_answer handle.old.held.ports partition (moment_of at) asked }
+    ensures ports { let asked = sampling_id name.now in
+        handle.new.held.ports ≡ asked_ports handle.old.held.ports partition (moment_of at) asked }
+    ensures id { let asked = sampling_id name.now in
+        let reply = asked_reply handle.old.held.ports partition (moment_of at) asked in
+        id.new ≡ id_after reply id.old }
+{
+    let Ok(name) = Name::from_bytes(name) else {
+        return NO_NAME;
+    };
+    handle.call_for_id(alloc, partition, Moment(at), &Call::SamplingId { name }, id)
+}
+
+/// What GET_SAMPLING_PORT_STATUS shows: the refresh period in nanoseconds, the greatest length of a message in bytes,
+/// and the numbers of the direction and of the validity of the last read.
+#[repr(C)]
+#[derive(Clone, Copy, Drop)]
+pub struct SamplingPortStatus {
+    pub refresh: u64,
+    pub size: u32,
+    pub direction: u32,
+    pub last_validity: u32,
+}
+
+/// GET_SAMPLING_PORT_STATUS, with the status in its place where the answer is NO_ERROR. Answers the return code, or a
+/// number of `answer`.
+#[unsafe(no_mangle)]
+pub extern "C" fn apex_get_sampling_port_status(
+    alloc: Global,
+    handle: &mut Handle,
+    partition: u32,
+    at: u64,
+    id: u32,
+    status: &mut SamplingPortStatus,
+) -> u32
+    ensures answer { result
+        ≡ answer_in handle.old.held.ports partition (moment_of at) (call.SamplingStatus id) }
+    ensures ports { handle.new.held.ports
+        ≡ ports_after handle.old.held.ports partition (moment_of at) (call.SamplingStatus id) }
+    ensures status { let asked = call.SamplingStatus id in
+        let reply = reply_in handle.old.held.ports partition (moment_of at) asked in
+        status.new ≡ sampling_status_after reply status.old }
+{
+    let mut reply = Reply::NotMade;
+    let answer = handle.call(
+        alloc,
+        partition,
+        Moment(at),
+        &Call::SamplingStatus { id },
+        &mut reply,
+    );
+    if let Reply::SamplingStatus {
+        refresh,
+        size,
+        direction,
+        last,
+    } = reply
+    {
+        *status = SamplingPortStatus {
+            refresh,
+            size,
+            direction: direction.number(),
+            last_validity: last.number(),
+        };
+    }
+    answer
+}
