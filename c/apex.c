@@ -59,7 +59,7 @@ static size_t name_length(const char *name) { return strnlen(name, MAX_NAME_LENG
 /* A message of a negative length is asked for as one of length 0, and both are answered INVALID_PARAM. */
 static size_t byte_count(MESSAGE_SIZE_TYPE length) { return length < 0 ? 0 : (size_t)length; }
 
-/* What a message is answered that is longer than any channel's: INVALID_CONFIG, where the port's status has NO_ERROR. */
+/* What a message that is longer than any channel's is answered: INVALID_CONFIG where the port has a status. */
 static uint32_t answer_too_long(uint32_t status_answer) {
     return status_answer == NO_ERROR ? INVALID_CONFIG : status_answer;
 }

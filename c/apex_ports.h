@@ -10,8 +10,9 @@
  *   - one call at a time on a handle, and none from a signal handler.
  * What is assumed beyond that stands beside the function.
  *
- * All else is tested, and has an answer of its own: a handle that isn't open, or is open already, a partition, a channel
- * or an identifier that isn't there, a text that is no name, a message that is too long, a buffer that is too short. */
+ * All else is tested, and has an answer of its own: a handle that is not open, or is open already; a partition,
+ * a channel or an identifier that is not there; a text that is no name; a message that is too long; a buffer that is
+ * too short. */
 #ifndef APEX_PORTS_H
 #define APEX_PORTS_H
 
@@ -73,8 +74,8 @@ uint32_t apex_create_sampling_port(struct apex_handle *handle, uint32_t partitio
 uint32_t apex_write_sampling_message(struct apex_handle *handle, uint32_t partition, uint64_t at, uint32_t id,
                                      const uint8_t *message, size_t message_length);
 
-/* READ_SAMPLING_MESSAGE. Where the answer is 0, `message_length` and `validity` have the message's length and 0 (INVALID)
- * or 1 (VALID). Assumed: `buffer` points to `buffer_length` bytes. */
+/* READ_SAMPLING_MESSAGE. Where the answer is 0, `message_length` has the message's length and `validity` 0 (INVALID) or
+ * 1 (VALID). Assumed: `buffer` points to `buffer_length` bytes. */
 uint32_t apex_read_sampling_message(struct apex_handle *handle, uint32_t partition, uint64_t at, uint32_t id,
                                     uint8_t *buffer, size_t buffer_length, uint32_t *message_length,
                                     uint32_t *validity);
