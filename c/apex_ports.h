@@ -7,7 +7,8 @@
  *   - the handle begins all zero; it isn't copied, and nothing but these functions writes it;
  *   - no pointer is null, not even with a length of 0, and each points to a value of its type;
  *   - no two parameters of a call overlap;
- *   - one call at a time on a handle, and none from a signal handler.
+ *   - one call at a time on a handle, and none from a signal handler;
+ *   - the program's malloc, realloc and free are of one allocator.
  * What is assumed beyond that stands beside the function.
  *
  * All else is tested, and has an answer of its own: a handle that is not open, or is open already; a partition,

@@ -159,7 +159,8 @@ static struct given any_given(void) {
         g.refresh = any(100);
     } else {
         give_right_numbers(&g);
-        g.partition = (uint32_t)any(4);
+        g.partition = (uint32_t)any(3);
+        g.id = 1 + (uint32_t)any(2);
         g.handle = 0;
     }
     return g;
