@@ -1,0 +1,298 @@
+/* The services of apex.h: each is one call of apex_ports.h, made behind a lock. */
+#define _POSIX_C_SOURCE 200809L
+
+#include "apex.h"
+
+#include <pthread.h>
+#include <string.h>
+#include <time.h>
+
+static pthread_mutex_t lock = PTHREAD_MUTEX_INITIALIZER;
+
+/* Behind the lock: the module, the moment where the bench has set one, and the place for a message on its way out. */
+static struct apex_handle module;
+static bool is_moment_set;
+static uint64_t set_moment;
+static uint8_t message[APEX_MESSAGE_LIMIT];
+
+/* No module has a partition of the greatest number. */
+static _Thread_local uint32_t partition = UINT32_MAX;
+
+static uint64_t moment(void) {
+    if (is_moment_set) {
+        return set_moment;
+    }
+    struct timespec now;
+    clock_gettime(CLOCK_MONOTONIC, &now);
+    return (uint64_t)now.tv_sec * 1000000000 + (uint64_t)now.tv_nsec;
+}
+
+/* The return code of an answer of apex_ports.h. */
+static RETURN_CODE_TYPE return_code(uint32_t answer) {
+    switch (answer) {
+    case APEX_NOT_MADE:
+        return INVALID_MODE;
+    case APEX_NOT_OPEN:
+    case APEX_NO_PARTITION:
+    case APEX_NO_NAME:
+        return INVALID_CONFIG;
+    default:
+        return (RETURN_CODE_TYPE)answer;
+    }
+}
+
+/* The return code of a call with a time-out. Nothing comes to pass while a call waits: time runs out at once. */
+static RETURN_CODE_TYPE timed_return_code(uint32_t answer, SYSTEM_TIME_TYPE time_out) {
+    return answer == NOT_AVAILABLE && time_out != 0 ? TIMED_OUT : return_code(answer);
+}
+
+/* Whether each of the places is there: the return code says so where one isn't. */
+static bool are_there(RETURN_CODE_TYPE *code, const void *place, const void *other) {
+    if (code != NULL && (place == NULL || other == NULL)) {
+        *code = INVALID_PARAM;
+    }
+    return code != NULL && place != NULL && other != NULL;
+}
+
+static size_t name_length(const char *name) { return strnlen(name, MAX_NAME_LENGTH); }
+
+/* A message of a negative length is asked for as one of length 0, and both are answered INVALID_PARAM. */
+static size_t byte_count(MESSAGE_SIZE_TYPE length) { return length < 0 ? 0 : (size_t)length; }
+
+/* What a message that is longer than any channel's is answered: INVALID_CONFIG where the port has a status. */
+static uint32_t answer_too_long(uint32_t status_answer) {
+    return status_answer == NO_ERROR ? INVALID_CONFIG : status_answer;
+}
+
+void CREATE_SAMPLING_PORT(SAMPLING_PORT_NAME_TYPE SAMPLING_PORT_NAME, MESSAGE_SIZE_TYPE MAX_MESSAGE_SIZE,
+                          PORT_DIRECTION_TYPE PORT_DIRECTION, SYSTEM_TIME_TYPE REFRESH_PERIOD,
+                          SAMPLING_PORT_ID_TYPE *SAMPLING_PORT_ID, RETURN_CODE_TYPE *RETURN_CODE) {
+    if (!are_there(RETURN_CODE, SAMPLING_PORT_NAME, SAMPLING_PORT_ID)) {
+        return;
+    }
+    uint32_t id = 0;
+    pthread_mutex_lock(&lock);
+    uint32_t answer = apex_create_sampling_port(
+        &module, partition, moment(), (const uint8_t *)SAMPLING_PORT_NAME, name_length(SAMPLING_PORT_NAME),
+        (uint32_t)MAX_MESSAGE_SIZE, (uint32_t)PORT_DIRECTION, (uint64_t)REFRESH_PERIOD, &id);
+    pthread_mutex_unlock(&lock);
+    if (answer == NO_ERROR) {
+        *SAMPLING_PORT_ID = (SAMPLING_PORT_ID_TYPE)id;
+    }
+    *RETURN_CODE = return_code(answer);
+}
+
+void WRITE_SAMPLING_MESSAGE(SAMPLING_PORT_ID_TYPE SAMPLING_PORT_ID, MESSAGE_ADDR_TYPE MESSAGE_ADDR,
+                            MESSAGE_SIZE_TYPE LENGTH, RETURN_CODE_TYPE *RETURN_CODE) {
+    if (!are_there(RETURN_CODE, MESSAGE_ADDR, MESSAGE_ADDR)) {
+        return;
+    }
+    uint32_t id = (uint32_t)SAMPLING_PORT_ID;
+    pthread_mutex_lock(&lock);
+    uint64_t now = moment();
+    uint32_t answer = apex_write_sampling_message(&module, partition, now, id, MESSAGE_ADDR, byte_count(LENGTH));
+    if (answer == APEX_TOO_LONG) {
+        struct apex_sampling_port_status status;
+        answer = answer_too_long(apex_get_sampling_port_status(&module, partition, now, id, &status));
+    }
+    pthread_mutex_unlock(&lock);
+    *RETURN_CODE = return_code(answer);
+}
+
+void READ_SAMPLING_MESSAGE(SAMPLING_PORT_ID_TYPE SAMPLING_PORT_ID, MESSAGE_ADDR_TYPE MESSAGE_ADDR,
+                           MESSAGE_SIZE_TYPE *LENGTH, VALIDITY_TYPE *VALIDITY, RETURN_CODE_TYPE *RETURN_CODE) {
+    if (!are_there(RETURN_CODE, MESSAGE_ADDR, LENGTH) || !are_there(RETURN_CODE, VALIDITY, VALIDITY)) {
+        return;
+    }
+    uint32_t length = 0, validity = INVALID;
+    pthread_mutex_lock(&lock);
+    uint32_t answer = apex_read_sampling_message(&module, partition, moment(), (uint32_t)SAMPLING_PORT_ID, message,
+                                                 sizeof message, &length, &validity);
+    memcpy(MESSAGE_ADDR, message, length);
+    pthread_mutex_unlock(&lock);
+    *LENGTH = (MESSAGE_SIZE_TYPE)length;
+    *VALIDITY = (VALIDITY_TYPE)validity;
+    *RETURN_CODE = return_code(answer);
+}
+
+void GET_SAMPLING_PORT_ID(SAMPLING_PORT_NAME_TYPE SAMPLING_PORT_NAME, SAMPLING_PORT_ID_TYPE *SAMPLING_PORT_ID,
+                          RETURN_CODE_TYPE *RETURN_CODE) {
+    if (!are_there(RETURN_CODE, SAMPLING_PORT_NAME, SAMPLING_PORT_ID)) {
+        return;
+    }
+    uint32_t id = 0;
+    pthread_mutex_lock(&lock);
+    uint32_t answer = apex_get_sampling_port_id(&module, partition, moment(), (const uint8_t *)SAMPLING_PORT_NAME,
+                                                name_length(SAMPLING_PORT_NAME), &id);
+    pthread_mutex_unlock(&lock);
+    if (answer == NO_ERROR) {
+        *SAMPLING_PORT_ID = (SAMPLING_PORT_ID_TYPE)id;
+    }
+    *RETURN_CODE = return_code(answer);
+}
+
+void GET_SAMPLING_PORT_STATUS(SAMPLING_PORT_ID_TYPE SAMPLING_PORT_ID, SAMPLING_PORT_STATUS_TYPE *SAMPLING_PORT_STATUS,
+                              RETURN_CODE_TYPE *RETURN_CODE) {
+    if (!are_there(RETURN_CODE, SAMPLING_PORT_STATUS, SAMPLING_PORT_STATUS)) {
+        return;
+    }
+    struct apex_sampling_port_status status;
+    pthread_mutex_lock(&lock);
+    uint32_t answer =
+        apex_get_sampling_port_status(&module, partition, moment(), (uint32_t)SAMPLING_PORT_ID, &status);
+    pthread_mutex_unlock(&lock);
+    if (answer == NO_ERROR) {
+        SAMPLING_PORT_STATUS->REFRESH_PERIOD = (SYSTEM_TIME_TYPE)status.refresh;
+        SAMPLING_PORT_STATUS->MAX_MESSAGE_SIZE = (MESSAGE_SIZE_TYPE)status.size;
+        SAMPLING_PORT_STATUS->PORT_DIRECTION = (PORT_DIRECTION_TYPE)status.direction;
+        SAMPLING_PORT_STATUS->LAST_MSG_VALIDITY = (VALIDITY_TYPE)status.last_validity;
+    }
+    *RETURN_CODE = return_code(answer);
+}
+
+void CREATE_QUEUING_PORT(QUEUING_PORT_NAME_TYPE QUEUING_PORT_NAME, MESSAGE_SIZE_TYPE MAX_MESSAGE_SIZE,
+                         MESSAGE_RANGE_TYPE MAX_NB_MESSAGE, PORT_DIRECTION_TYPE PORT_DIRECTION,
+                         QUEUING_DISCIPLINE_TYPE QUEUING_DISCIPLINE, QUEUING_PORT_ID_TYPE *QUEUING_PORT_ID,
+                         RETURN_CODE_TYPE *RETURN_CODE) {
+    if (!are_there(RETURN_CODE, QUEUING_PORT_NAME, QUEUING_PORT_ID)) {
+        return;
+    }
+    uint32_t id = 0;
+    pthread_mutex_lock(&lock);
+    uint32_t answer = apex_create_queuing_port(
+        &module, partition, moment(), (const uint8_t *)QUEUING_PORT_NAME, name_length(QUEUING_PORT_NAME),
+        (uint32_t)MAX_MESSAGE_SIZE, (uint32_t)MAX_NB_MESSAGE, (uint32_t)PORT_DIRECTION, (uint32_t)QUEUING_DISCIPLINE,
+        &id);
+    pthread_mutex_unlock(&lock);
+    if (answer == NO_ERROR) {
+        *QUEUING_PORT_ID = (QUEUING_PORT_ID_TYPE)id;
+    }
+    *RETURN_CODE = return_code(answer);
+}
+
+void SEND_QUEUING_MESSAGE(QUEUING_PORT_ID_TYPE QUEUING_PORT_ID, MESSAGE_ADDR_TYPE MESSAGE_ADDR,
+                          MESSAGE_SIZE_TYPE LENGTH, SYSTEM_TIME_TYPE TIME_OUT, RETURN_CODE_TYPE *RETURN_CODE) {
+    if (!are_there(RETURN_CODE, MESSAGE_ADDR, MESSAGE_ADDR)) {
+        return;
+    }
+    uint32_t id = (uint32_t)QUEUING_PORT_ID;
+    pthread_mutex_lock(&lock);
+    uint64_t now = moment();
+    uint32_t answer = apex_send_queuing_message(&module, partition, now, id, MESSAGE_ADDR, byte_count(LENGTH));
+    if (answer == APEX_TOO_LONG) {
+        struct apex_queuing_port_status status;
+        answer = answer_too_long(apex_get_queuing_port_status(&module, partition, now, id, &status));
+    }
+    pthread_mutex_unlock(&lock);
+    *RETURN_CODE = timed_return_code(answer, TIME_OUT);
+}
+
+void RECEIVE_QUEUING_MESSAGE(QUEUING_PORT_ID_TYPE QUEUING_PORT_ID, SYSTEM_TIME_TYPE TIME_OUT,
+                             MESSAGE_ADDR_TYPE MESSAGE_ADDR, MESSAGE_SIZE_TYPE *LENGTH,
+                             RETURN_CODE_TYPE *RETURN_CODE) {
+    if (!are_there(RETURN_CODE, MESSAGE_ADDR, LENGTH)) {
+        return;
+    }
+    uint32_t length = 0;
+    pthread_mutex_lock(&lock);
+    uint32_t answer = apex_receive_queuing_message(&module, partition, moment(), (uint32_t)QUEUING_PORT_ID, message,
+                                                   sizeof message, &length);
+    memcpy(MESSAGE_ADDR, message, length);
+    pthread_mutex_unlock(&lock);
+    *LENGTH = (MESSAGE_SIZE_TYPE)length;
+    *RETURN_CODE = timed_return_code(answer, TIME_OUT);
+}
+
+void GET_QUEUING_PORT_ID(QUEUING_PORT_NAME_TYPE QUEUING_PORT_NAME, QUEUING_PORT_ID_TYPE *QUEUING_PORT_ID,
+                         RETURN_CODE_TYPE *RETURN_CODE) {
+    if (!are_there(RETURN_CODE, QUEUING_PORT_NAME, QUEUING_PORT_ID)) {
+        return;
+    }
+    uint32_t id = 0;
+    pthread_mutex_lock(&lock);
+    uint32_t answer = apex_get_queuing_port_id(&module, partition, moment(), (const uint8_t *)QUEUING_PORT_NAME,
+                                               name_length(QUEUING_PORT_NAME), &id);
+    pthread_mutex_unlock(&lock);
+    if (answer == NO_ERROR) {
+        *QUEUING_PORT_ID = (QUEUING_PORT_ID_TYPE)id;
+    }
+    *RETURN_CODE = return_code(answer);
+}
+
+void GET_QUEUING_PORT_STATUS(QUEUING_PORT_ID_TYPE QUEUING_PORT_ID, QUEUING_PORT_STATUS_TYPE *QUEUING_PORT_STATUS,
+                             RETURN_CODE_TYPE *RETURN_CODE) {
+    if (!are_there(RETURN_CODE, QUEUING_PORT_STATUS, QUEUING_PORT_STATUS)) {
+        return;
+    }
+    struct apex_queuing_port_status status;
+    pthread_mutex_lock(&lock);
+    uint32_t answer = apex_get_queuing_port_status(&module, partition, moment(), (uint32_t)QUEUING_PORT_ID, &status);
+    pthread_mutex_unlock(&lock);
+    if (answer == NO_ERROR) {
+        QUEUING_PORT_STATUS->NB_MESSAGE = (MESSAGE_RANGE_TYPE)status.waiting;
+        QUEUING_PORT_STATUS->MAX_NB_MESSAGE = (MESSAGE_RANGE_TYPE)status.depth;
+        QUEUING_PORT_STATUS->MAX_MESSAGE_SIZE = (MESSAGE_SIZE_TYPE)status.size;
+        QUEUING_PORT_STATUS->PORT_DIRECTION = (PORT_DIRECTION_TYPE)status.direction;
+        QUEUING_PORT_STATUS->WAITING_PROCESSES = 0;
+    }
+    *RETURN_CODE = return_code(answer);
+}
+
+void CLEAR_QUEUING_PORT(QUEUING_PORT_ID_TYPE QUEUING_PORT_ID, RETURN_CODE_TYPE *RETURN_CODE) {
+    if (RETURN_CODE == NULL) {
+        return;
+    }
+    pthread_mutex_lock(&lock);
+    uint32_t answer = apex_clear_queuing_port(&module, partition, moment(), (uint32_t)QUEUING_PORT_ID);
+    pthread_mutex_unlock(&lock);
+    *RETURN_CODE = return_code(answer);
+}
+
+void SET_PARTITION_MODE(OPERATING_MODE_TYPE OPERATING_MODE, RETURN_CODE_TYPE *RETURN_CODE) {
+    if (RETURN_CODE == NULL) {
+        return;
+    }
+    pthread_mutex_lock(&lock);
+    uint32_t answer = apex_set_partition_mode(&module, partition, moment(), (uint32_t)OPERATING_MODE);
+    pthread_mutex_unlock(&lock);
+    *RETURN_CODE = return_code(answer);
+}
+
+uint32_t bench_open(const void *text, size_t length) {
+    if (text == NULL) {
+        return 1;
+    }
+    pthread_mutex_lock(&lock);
+    uint32_t answer = apex_open(&module, text, length);
+    pthread_mutex_unlock(&lock);
+    return answer;
+}
+
+uint32_t bench_close(void) {
+    pthread_mutex_lock(&lock);
+    uint32_t answer = apex_close(&module);
+    pthread_mutex_unlock(&lock);
+    return answer;
+}
+
+void bench_set_partition(uint32_t number) { partition = number; }
+
+void bench_set_moment(uint64_t set) {
+    pthread_mutex_lock(&lock);
+    is_moment_set = true;
+    set_moment = set;
+    pthread_mutex_unlock(&lock);
+}
+
+void bench_follow_clock(void) {
+    pthread_mutex_lock(&lock);
+    is_moment_set = false;
+    pthread_mutex_unlock(&lock);
+}
+
+struct apex_handle *bench_take_handle(void) {
+    pthread_mutex_lock(&lock);
+    return &module;
+}
+
+void bench_give_handle_back(void) { pthread_mutex_unlock(&lock); }

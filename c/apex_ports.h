@@ -1,0 +1,162 @@
+/* The ports of a module for programs in C: what the static library of crates/apex_c exports.
+ *
+ * The contracts of these functions are in crates/apex_c/src, and are proved of every call that keeps what is
+ * assumed of the caller. docs/C.md has how to link, and a whole example. apex.h has the standard's own names.
+ *
+ * Assumed of the caller of every function:
+ *   - the handle begins all zero; it isn't copied, and nothing but these functions writes it;
+ *   - no pointer is null, not even with a length of 0, and each points to a value of its type;
+ *   - no two parameters of a call overlap;
+ *   - one call at a time on a handle, and none from a signal handler;
+ *   - the program's malloc, realloc and free are of one allocator.
+ * What is assumed beyond that stands beside the function.
+ *
+ * All else is tested, and has an answer of its own: a handle that is not open, or is open already; a partition,
+ * a channel or an identifier that is not there; a text that is no name; a message that is too long; a buffer that is
+ * too short. */
+#ifndef APEX_PORTS_H
+#define APEX_PORTS_H
+
+#include <stdbool.h>
+#include <stddef.h>
+#include <stdint.h>
+
+#ifdef __cplusplus
+extern "C" {
+#endif
+
+/* The most bytes that a message can have. */
+enum { APEX_MESSAGE_LIMIT = 1024 };
+
+/* The ports of a module, or none. */
+struct apex_handle {
+    bool is_open;
+    void *ports;
+};
+
+/* What a service answers: the standard's return code, 0 (NO_ERROR) to 5 (INVALID_MODE), or one of these. */
+enum {
+    APEX_NOT_MADE = 7,      /* the partition is in IDLE: the call wasn't made, and is recorded so */
+    APEX_NOT_OPEN = 8,      /* the handle isn't open; nothing changed */
+    APEX_NO_PARTITION = 9,  /* the module has no partition of the number; nothing changed */
+    APEX_TOO_LONG = 10,     /* the message has more than APEX_MESSAGE_LIMIT bytes; nothing changed */
+    APEX_NO_NAME = 11,      /* the text isn't 1 to 30 letters, digits or _; nothing changed */
+    APEX_SHORT_BUFFER = 12, /* the buffer has fewer than APEX_MESSAGE_LIMIT bytes; nothing changed */
+    APEX_NO_CHANNEL = 13,   /* a reader's answer: the module has no channel of the number */
+    APEX_NO_SAMPLE = 14     /* apex_last_sample's answer: a queuing channel, or one that was never written */
+};
+
+/* What apex_open answers beside 0, and 1 to 10 for a fault of the configuration (docs/FORMATS.md). */
+enum {
+    APEX_OUT_OF_MEMORY = 11, /* memory was refused */
+    APEX_ALREADY_OPEN = 12   /* the handle was open before; nothing changed */
+};
+
+/* Opens a handle with the ports of a configuration, a TOML text, every partition in COLD_START. The handle stays closed
+ * where the answer isn't 0. All memory is taken here, and given back by apex_close.
+ * Assumed: `text` points to `text_length` bytes. */
+uint32_t apex_open(struct apex_handle *handle, const uint8_t *text, size_t text_length);
+
+/* Closes a handle, which can be opened again. Answers 0, or APEX_NOT_OPEN. Assumed: no more than above. */
+uint32_t apex_close(struct apex_handle *handle);
+
+/* The services. `partition` is the partition's number, from 0 in the order of the configuration; `at` is the moment in
+ * nanoseconds; then come the parameters of the standard in its order. Time-outs are zero. What a service gives beside
+ * its answer goes to its place (`id`, `status`, `message_length`, `validity`, the buffer's first bytes) where the
+ * answer is 0, and otherwise the place stays as it was. */
+
+/* CREATE_SAMPLING_PORT. `size` is in bytes, `refresh` in nanoseconds.
+ * Assumed: `name` points to `name_length` bytes. */
+uint32_t apex_create_sampling_port(struct apex_handle *handle, uint32_t partition, uint64_t at, const uint8_t *name,
+                                   size_t name_length, uint32_t size, uint32_t direction, uint64_t refresh,
+                                   uint32_t *id);
+
+/* WRITE_SAMPLING_MESSAGE. Assumed: `message` points to `message_length` bytes. */
+uint32_t apex_write_sampling_message(struct apex_handle *handle, uint32_t partition, uint64_t at, uint32_t id,
+                                     const uint8_t *message, size_t message_length);
+
+/* READ_SAMPLING_MESSAGE. Where the answer is 0, `message_length` has the message's length and `validity` 0 (INVALID) or
+ * 1 (VALID). Assumed: `buffer` points to `buffer_length` bytes. */
+uint32_t apex_read_sampling_message(struct apex_handle *handle, uint32_t partition, uint64_t at, uint32_t id,
+                                    uint8_t *buffer, size_t buffer_length, uint32_t *message_length,
+                                    uint32_t *validity);
+
+/* GET_SAMPLING_PORT_ID. Assumed: `name` points to `name_length` bytes. */
+uint32_t apex_get_sampling_port_id(struct apex_handle *handle, uint32_t partition, uint64_t at, const uint8_t *name,
+                                   size_t name_length, uint32_t *id);
+
+/* The refresh period in nanoseconds, the greatest length of a message in bytes, and the numbers of the direction and of
+ * the validity of the last read. */
+struct apex_sampling_port_status {
+    uint64_t refresh;
+    uint32_t size;
+    uint32_t direction;
+    uint32_t last_validity;
+};
+
+/* GET_SAMPLING_PORT_STATUS. Assumed: no more than above. */
+uint32_t apex_get_sampling_port_status(struct apex_handle *handle, uint32_t partition, uint64_t at, uint32_t id,
+                                       struct apex_sampling_port_status *status);
+
+/* CREATE_QUEUING_PORT. `size` is in bytes, `depth` in messages. Assumed: `name` points to `name_length` bytes. */
+uint32_t apex_create_queuing_port(struct apex_handle *handle, uint32_t partition, uint64_t at, const uint8_t *name,
+                                  size_t name_length, uint32_t size, uint32_t depth, uint32_t direction,
+                                  uint32_t discipline, uint32_t *id);
+
+/* SEND_QUEUING_MESSAGE. Assumed: `message` points to `message_length` bytes. */
+uint32_t apex_send_queuing_message(struct apex_handle *handle, uint32_t partition, uint64_t at, uint32_t id,
+                                   const uint8_t *message, size_t message_length);
+
+/* RECEIVE_QUEUING_MESSAGE. Assumed: `buffer` points to `buffer_length` bytes. */
+uint32_t apex_receive_queuing_message(struct apex_handle *handle, uint32_t partition, uint64_t at, uint32_t id,
+                                      uint8_t *buffer, size_t buffer_length, uint32_t *message_length);
+
+/* GET_QUEUING_PORT_ID. Assumed: `name` points to `name_length` bytes. */
+uint32_t apex_get_queuing_port_id(struct apex_handle *handle, uint32_t partition, uint64_t at, const uint8_t *name,
+                                  size_t name_length, uint32_t *id);
+
+/* The messages that wait, the depth, the greatest length of a message in bytes, and the direction's number. */
+struct apex_queuing_port_status {
+    uint32_t waiting;
+    uint32_t depth;
+    uint32_t size;
+    uint32_t direction;
+};
+
+/* GET_QUEUING_PORT_STATUS. Assumed: no more than above. */
+uint32_t apex_get_queuing_port_status(struct apex_handle *handle, uint32_t partition, uint64_t at, uint32_t id,
+                                      struct apex_queuing_port_status *status);
+
+/* CLEAR_QUEUING_PORT. Assumed: no more than above. */
+uint32_t apex_clear_queuing_port(struct apex_handle *handle, uint32_t partition, uint64_t at, uint32_t id);
+
+/* SET_PARTITION_MODE. Assumed: no more than above. */
+uint32_t apex_set_partition_mode(struct apex_handle *handle, uint32_t partition, uint64_t at, uint32_t mode);
+
+/* The readers, which change nothing. Each answers 0, APEX_NOT_OPEN, and APEX_NO_PARTITION or APEX_NO_CHANNEL; where it
+ * isn't 0, the place stays as it was. Partitions and channels are numbered from 0 in the order of the configuration.
+ * A count stays at the greatest uint64_t. Assumed: no more than above, but of apex_last_sample. */
+
+/* The number of a partition's mode. */
+uint32_t apex_partition_mode(struct apex_handle *handle, uint32_t partition, uint32_t *mode);
+
+/* How many calls a partition made, those that were not made in IDLE included. */
+uint32_t apex_call_count(struct apex_handle *handle, uint32_t partition, uint64_t *count);
+
+/* How many messages a queuing channel accepted; how many of them were received, were cleared, and wait. All are 0 on a
+ * sampling channel. */
+uint32_t apex_accepted_count(struct apex_handle *handle, uint32_t channel, uint64_t *count);
+uint32_t apex_received_count(struct apex_handle *handle, uint32_t channel, uint64_t *count);
+uint32_t apex_cleared_count(struct apex_handle *handle, uint32_t channel, uint64_t *count);
+uint32_t apex_waiting_count(struct apex_handle *handle, uint32_t channel, uint64_t *count);
+
+/* The message that a sampling channel holds, with its length and the moment of its writing in nanoseconds. Answers
+ * APEX_SHORT_BUFFER or APEX_NO_SAMPLE too. Assumed: `buffer` points to `buffer_length` bytes. */
+uint32_t apex_last_sample(struct apex_handle *handle, uint32_t channel, uint8_t *buffer, size_t buffer_length,
+                          uint32_t *message_length, uint64_t *at);
+
+#ifdef __cplusplus
+}
+#endif
+
+#endif

@@ -1,0 +1,135 @@
+/* c_refused_memory CONFIG: opens with every request for memory refused in turn, and with all refused from each on,
+ * until an opening meets no refusal. Each refused opening has to answer want of memory, leave the handle closed and
+ * give all memory back. Then come calls with all memory refused, which have to ask for none. Prints the numbers. Linked
+ * with --wrap for malloc, calloc, realloc and free. */
+#include "../c/apex_ports.h"
+
+#include <stdio.h>
+#include <stdlib.h>
+#include <string.h>
+
+enum { CALLS = 10000 };
+
+void *__real_malloc(size_t size);
+void *__real_calloc(size_t count, size_t size);
+void *__real_realloc(void *block, size_t size);
+void __real_free(void *block);
+void *__wrap_malloc(size_t size);
+void *__wrap_calloc(size_t count, size_t size);
+void *__wrap_realloc(void *block, size_t size);
+void __wrap_free(void *block);
+
+/* The requests so far, which of them are refused, how many were, and how many blocks are held. */
+static unsigned long asked, refuse_from, refuse_to, refused;
+static long held;
+
+static bool is_refused(void) {
+    asked++;
+    bool is = asked >= refuse_from && asked < refuse_to;
+    refused += is;
+    return is;
+}
+
+void *__wrap_malloc(size_t size) {
+    void *block = is_refused() ? NULL : __real_malloc(size);
+    held += block != NULL;
+    return block;
+}
+
+void *__wrap_calloc(size_t count, size_t size) {
+    void *block = is_refused() ? NULL : __real_calloc(count, size);
+    held += block != NULL;
+    return block;
+}
+
+void *__wrap_realloc(void *block, size_t size) {
+    void *other = is_refused() ? NULL : __real_realloc(block, size);
+    held += block == NULL && other != NULL;
+    return other;
+}
+
+void __wrap_free(void *block) {
+    held -= block != NULL;
+    __real_free(block);
+}
+
+static void expect(bool is_so, const char *what) {
+    if (!is_so) {
+        fprintf(stderr, "c_refused_memory: FAILED: %s (request %lu)\n", what, refuse_from);
+        exit(1);
+    }
+}
+
+static void refuse(unsigned long from, unsigned long to) {
+    asked = refused = 0;
+    refuse_from = from;
+    refuse_to = to;
+}
+
+/* Opens with these requests refused; whether one was. */
+static bool is_opening_refused(const uint8_t *text, size_t length, unsigned long from, unsigned long to) {
+    struct apex_handle handle;
+    uint32_t mode = 7;
+    memset(&handle, 0, sizeof handle);
+    refuse(from, to);
+    const uint32_t answer = apex_open(&handle, text, length);
+    const bool was_refused = refused > 0;
+    refuse(0, 0);
+    if (was_refused) {
+        expect(answer == APEX_OUT_OF_MEMORY, "a refused opening answers want of memory");
+        expect(apex_partition_mode(&handle, 0, &mode) == APEX_NOT_OPEN && mode == 7, "the handle stays closed");
+        expect(held == 0, "a refused opening gives all memory back");
+        expect(apex_close(&handle) == APEX_NOT_OPEN, "there is nothing to close");
+        expect(apex_open(&handle, text, length) == 0, "the handle can be opened afterwards");
+    } else {
+        expect(answer == 0, "an opening with ample memory");
+    }
+    expect(held > 0 && apex_close(&handle) == 0 && held == 0, "closing gives all memory back");
+    return was_refused;
+}
+
+/* Calls on open ports, which ask for no memory. */
+static void call_without_memory(const uint8_t *text, size_t length) {
+    static uint8_t bytes[APEX_MESSAGE_LIMIT];
+    struct apex_handle handle;
+    memset(&handle, 0, sizeof handle);
+    refuse(0, 0);
+    expect(apex_open(&handle, text, length) == 0, "opening");
+    const long held_before = held;
+    refuse(1, -1UL);
+    for (uint32_t i = 0; i < CALLS; i++) {
+        uint32_t id = 0, count = 0, validity = 0;
+        struct apex_queuing_port_status status;
+        apex_create_queuing_port(&handle, 0, i, (const uint8_t *)"NAV_OUT", 7, 4, 2, 0, 0, &id);
+        apex_create_queuing_port(&handle, 1, i, (const uint8_t *)"NAV_IN", 6, 4, 2, 1, 0, &id);
+        apex_send_queuing_message(&handle, 0, i, 1, bytes, 4);
+        apex_receive_queuing_message(&handle, 1, i, 1, bytes, sizeof bytes, &count);
+        apex_read_sampling_message(&handle, 1, i, 2, bytes, sizeof bytes, &count, &validity);
+        apex_get_queuing_port_status(&handle, 1, i, 1, &status);
+        apex_clear_queuing_port(&handle, 1, i, 1);
+        apex_set_partition_mode(&handle, i % 2, i, 1 + i % 3);
+    }
+    uint64_t calls = 0;
+    expect(apex_call_count(&handle, 0, &calls) == 0 && calls == CALLS * 2 + CALLS / 2, "each call was served");
+    expect(asked == 0 && held == held_before, "a call asks for no memory");
+    expect(apex_close(&handle) == 0 && held == 0, "closing afterwards");
+}
+
+int main(int count, char **words) {
+    static uint8_t text[1048576];
+    FILE *file = count == 2 ? fopen(words[1], "rb") : NULL;
+    expect(file != NULL, "usage: c_refused_memory CONFIG");
+    const size_t length = fread(text, 1, sizeof text, file);
+    fclose(file);
+    held = 0;
+    unsigned long one = 0, all = 0;
+    while (is_opening_refused(text, length, one + 1, one + 2)) {
+        one++;
+    }
+    while (is_opening_refused(text, length, all + 1, -1UL)) {
+        all++;
+    }
+    call_without_memory(text, length);
+    printf("%lu openings with one request refused, %lu with all from one on\n", one, all);
+    return 0;
+}
