@@ -1,5 +1,8 @@
 //! The places with too few or too many partitions, ports or channels.
-use crate::config_text::ConfigText;
+ghost use Rattle.std.specs.Prelude.{◌&&◌, nat_le, sum_by, OnOk};
+ghost use Rattle.apex_config_faults.specs.Places.{Adds, one_unless, too_many_ports, bad_counts};
+
+use crate::config_text::{ConfigText, PartitionText};
 use crate::finding::Finding;
 use crate::place::{Owner, Place, add};
 use crate::values::labelled;
@@ -13,7 +16,9 @@ fn add_count<'a>(
     count: usize,
     least: usize,
     most: usize,
-) -> Result<(), AllocError> {
+) -> Result<(), AllocError>
+    ensures { OnOk result (Adds (one_unless (nat_le least count && nat_le count most)) places.old.items places.new.items) }
+{
     if least <= count && count <= most {
         return Ok(());
     }
@@ -26,11 +31,27 @@ fn add_count<'a>(
     add(places, owner, finding)
 }
 
+fn add_too_many_ports<'a>(
+    places: &mut Vec<Place<'a>>,
+    partitions: &[PartitionText<'a>],
+) -> Result<(), AllocError>
+    ensures { OnOk result
+        (Adds (sum_by too_many_ports partitions.now) places.old.items places.new.items) }
+{
+    for (place, partition) in partitions.iter().enumerate() {
+        let owner = Owner::Partition(labelled(place + 1, partition.name));
+        add_count(places, owner, "ports", partition.ports.len(), 0, PORT_LIMIT)?;
+    }
+    Ok(())
+}
+
 /// Adds the configuration and the partitions that have too few or too many entries.
 pub fn add_wrong_counts<'a>(
     places: &mut Vec<Place<'a>>,
     config: &ConfigText<'a>,
-) -> Result<(), AllocError> {
+) -> Result<(), AllocError>
+    ensures { OnOk result (Adds (bad_counts config.now) places.old.items places.new.items) }
+{
     let owner = Owner::Configuration;
     let partitions = config.partitions.as_slice();
     add_count(
@@ -41,10 +62,7 @@ pub fn add_wrong_counts<'a>(
         1,
         PARTITION_LIMIT,
     )?;
-    for (place, partition) in partitions.iter().enumerate() {
-        let owner = Owner::Partition(labelled(place + 1, partition.name));
-        add_count(places, owner, "ports", partition.ports.len(), 0, PORT_LIMIT)?;
-    }
+    add_too_many_ports(places, partitions)?;
     add_count(
         places,
         owner,

@@ -1,4 +1,9 @@
 //! The places whose name or number is wrong, and those whose name stood before.
+ghost use Rattle.std.specs.Prelude.{◌≡◌, sum_by, OnOk};
+ghost use Rattle.apex_config_faults.specs.Places.{Adds, one_unless, bad_port_names, bad_partition_names, bad_channel_name, bad_names, bad_refreshes, bad_partition_refreshes, bad_channel_numbers, bad_numbers};
+ghost use Rattle.apex_config.specs.Passes.{is_name};
+ghost use Rattle.apex_config.specs.Meaning.{is_from_one_to, is_from_one_to_if_any};
+
 use crate::config_text::{ChannelText, ConfigText, PartitionText, PortText};
 use crate::finding::{Finding, Found, Wanted};
 use crate::place::{Label, Owner, Place, add};
@@ -24,7 +29,9 @@ fn add_bad_name<'a>(
     places: &mut Vec<Place<'a>>,
     owner: Owner<'a>,
     name: &'a str,
-) -> Result<(), AllocError> {
+) -> Result<(), AllocError>
+    ensures { OnOk result (Adds (one_unless (is_name name.now)) places.old.items places.new.items) }
+{
     if Name::read(name).is_ok() {
         return Ok(());
     }
@@ -40,7 +47,9 @@ fn add_bad_port_names<'a>(
     places: &mut Vec<Place<'a>>,
     partition: Label<'a>,
     ports: &[PortText<'a>],
-) -> Result<(), AllocError> {
+) -> Result<(), AllocError>
+    ensures { OnOk result (Adds (bad_port_names ports.now) places.old.items places.new.items) }
+{
     for (place, port) in ports.iter().enumerate() {
         let owner = Owner::Port {
             partition,
@@ -51,21 +60,50 @@ fn add_bad_port_names<'a>(
     Ok(())
 }
 
-/// Adds the places whose name is no name.
-pub fn add_bad_names<'a>(
+fn add_bad_partition_names<'a>(
     places: &mut Vec<Place<'a>>,
-    config: &ConfigText<'a>,
-) -> Result<(), AllocError> {
-    for (place, partition) in config.partitions.iter().enumerate() {
+    partitions: &[PartitionText<'a>],
+) -> Result<(), AllocError>
+    ensures { OnOk result
+        (Adds (sum_by bad_partition_names partitions.now) places.old.items places.new.items) }
+{
+    for (place, partition) in partitions.iter().enumerate() {
         let label = labelled(place + 1, partition.name);
         add_bad_name(places, Owner::Partition(label), partition.name)?;
         add_bad_port_names(places, label, partition.ports.as_slice())?;
     }
-    for (place, channel) in config.channels.iter().enumerate() {
+    Ok(())
+}
+
+fn add_bad_channel_names<'a>(
+    places: &mut Vec<Place<'a>>,
+    channels: &[ChannelText<'a>],
+) -> Result<(), AllocError>
+    ensures { OnOk result
+        (Adds (sum_by bad_channel_name channels.now) places.old.items places.new.items) }
+{
+    for (place, channel) in channels.iter().enumerate() {
         let label = labelled(place + 1, channel.name);
         add_bad_name(places, Owner::Channel(label), channel.name)?;
     }
     Ok(())
+}
+
+/// Adds the places whose name is no name.
+pub fn add_bad_names<'a>(
+    places: &mut Vec<Place<'a>>,
+    config: &ConfigText<'a>,
+) -> Result<(), AllocError>
+    ensures { OnOk result (Adds (bad_names config.now) places.old.items places.new.items) }
+{
+    add_bad_partition_names(places, config.partitions.as_slice())?;
+    add_bad_channel_names(places, config.channels.as_slice())
+}
+
+fn is_from_one_to(most: u64, number: i64) -> bool
+    ensures { result ≡ is_from_one_to most number }
+{
+    1 <= number && number as u64 <= most
 }
 
 fn add_out_of_range<'a>(
@@ -74,11 +112,13 @@ fn add_out_of_range<'a>(
     key: &'static str,
     number: Option<i64>,
     most: u64,
-) -> Result<(), AllocError> {
+) -> Result<(), AllocError>
+    ensures { OnOk result (Adds (one_unless (is_from_one_to_if_any most number)) places.old.items places.new.items) }
+{
     let Some(number) = number else {
         return Ok(());
     };
-    if 1 <= number && number as u64 <= most {
+    if is_from_one_to(most, number) {
         return Ok(());
     }
     let finding = Finding::Wrong {
@@ -93,7 +133,9 @@ fn add_bad_refreshes<'a>(
     places: &mut Vec<Place<'a>>,
     partition: Label<'a>,
     ports: &[PortText<'a>],
-) -> Result<(), AllocError> {
+) -> Result<(), AllocError>
+    ensures { OnOk result (Adds (bad_refreshes ports.now) places.old.items places.new.items) }
+{
     for (place, port) in ports.iter().enumerate() {
         let owner = Owner::Port {
             partition,
@@ -104,22 +146,45 @@ fn add_bad_refreshes<'a>(
     Ok(())
 }
 
-/// Adds the places whose number is out of its limits.
-pub fn add_bad_numbers<'a>(
+fn add_bad_partition_refreshes<'a>(
     places: &mut Vec<Place<'a>>,
-    config: &ConfigText<'a>,
-) -> Result<(), AllocError> {
-    for (place, partition) in config.partitions.iter().enumerate() {
+    partitions: &[PartitionText<'a>],
+) -> Result<(), AllocError>
+    ensures { OnOk result
+        (Adds (sum_by bad_partition_refreshes partitions.now) places.old.items places.new.items) }
+{
+    for (place, partition) in partitions.iter().enumerate() {
         let label = labelled(place + 1, partition.name);
         add_bad_refreshes(places, label, partition.ports.as_slice())?;
     }
-    for (place, channel) in config.channels.iter().enumerate() {
+    Ok(())
+}
+
+fn add_bad_channel_numbers<'a>(
+    places: &mut Vec<Place<'a>>,
+    channels: &[ChannelText<'a>],
+) -> Result<(), AllocError>
+    ensures { OnOk result
+        (Adds (sum_by bad_channel_numbers channels.now) places.old.items places.new.items) }
+{
+    for (place, channel) in channels.iter().enumerate() {
         let owner = Owner::Channel(labelled(place + 1, channel.name));
         let size = Some(channel.size);
         add_out_of_range(places, owner, "size", size, SIZE_LIMIT as u64)?;
         add_out_of_range(places, owner, "depth", channel.depth, DEPTH_LIMIT as u64)?;
     }
     Ok(())
+}
+
+/// Adds the places whose number is out of its limits.
+pub fn add_bad_numbers<'a>(
+    places: &mut Vec<Place<'a>>,
+    config: &ConfigText<'a>,
+) -> Result<(), AllocError>
+    ensures { OnOk result (Adds (bad_numbers config.now) places.old.items places.new.items) }
+{
+    add_bad_partition_refreshes(places, config.partitions.as_slice())?;
+    add_bad_channel_numbers(places, config.channels.as_slice())
 }
 
 /// What the entries of a list are.
