@@ -4,10 +4,9 @@
 
 pub mod explanation;
 pub mod history;
-pub mod table;
 pub mod remarks;
+pub mod table;
 pub mod trace_lines;
 
 pub use crate::explanation::{Explanation, explain_trace};
-
 pub use crate::table::port_table;

@@ -1,6 +1,8 @@
 //! What is worth a look when a trace has ended, a line each.
-ghost use Rattle.std.specs.Prelude.{◌≡◌, ◌<◌, length};
+ghost use Rattle.std.specs.Prelude.{◌≡◌};
 ghost use Rattle.std.specs.List.{list_any};
+ghost use Rattle.apex_ports.specs.Ports.{creates};
+ghost use Rattle.apex_explanations.specs.Remarks.{shows_sample};
 
 use crate::trace_lines::call_lines;
 use apex_config::Config;
@@ -67,21 +69,43 @@ pub fn push_ports(text: &mut String, ports: &Ports, entries: &[Entry]) -> Result
 }
 
 /// Whether a call of partition `p` created its port of the identifier.
-fn is_ever_created(p: usize, id: u32, entries: &[Entry]) -> bool {
-    entries.iter().any(|entry| {
-        matches!(entry.call, Call::CreateSampling { .. } | Call::CreateQueuing { .. })
-            && entry.reply == Reply::Id(id)
-            && entry.partition == p
-    })
+fn is_ever_created(p: usize, id: u32, entries: &[Entry]) -> bool
+    ensures { result ≡ list_any (creates p id) entries.now }
+{
+    entries.iter().any(|entry| creates(p, id, entry))
 }
 
 /// Whether a call of partition `p` read a sample at its port of the identifier.
-fn is_ever_read(p: usize, id: u32, entries: &[Entry]) -> bool {
-    entries.iter().any(|entry| {
-        entry.call == (Call::ReadSampling { id })
-            && matches!(entry.reply, Reply::Read { .. })
-            && entry.partition == p
-    })
+fn is_ever_read(p: usize, id: u32, entries: &[Entry]) -> bool
+    ensures { result ≡ list_any (shows_sample p id) entries.now }
+{
+    entries.iter().any(|entry| shows_sample(p, id, entry))
+}
+
+/// Whether an entry created the port of the identifier of partition `p`.
+fn creates(p: usize, id: u32, entry: &Entry) -> bool
+    ensures { result ≡ creates p id entry.now }
+{
+    let creating = matches!(
+        entry.call,
+        Call::CreateSampling { .. } | Call::CreateQueuing { .. }
+    );
+    let identifier = match entry.reply {
+        Reply::Id(number) => number == id,
+        _ => false,
+    };
+    creating && identifier && entry.partition == p
+}
+
+/// Whether an entry read a sample at the port of the identifier of partition `p`.
+fn shows_sample(p: usize, id: u32, entry: &Entry) -> bool
+    ensures { result ≡ shows_sample p id entry.now }
+{
+    let reading = match entry.call {
+        Call::ReadSampling { id: number } => number == id,
+        _ => false,
+    };
+    reading && entry.partition == p && matches!(entry.reply, Reply::Read { .. })
 }
 
 /// `channel NAME: messages waiting N`, for each channel on which messages wait.

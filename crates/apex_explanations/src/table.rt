@@ -56,19 +56,17 @@ fn push_port(
 
 /// `ID NAME KIND DIRECTION CHANNEL size SIZE`.
 #[tactic(auto, unfolding(crate::specs::PortTable::port_head))]
-fn push_head(
-    text: &mut String,
-    id: u32,
-    port: &Port,
-    channel: &Channel,
-) -> Result<(), AllocError>
+fn push_head(text: &mut String, id: u32, port: &Port, channel: &Channel) -> Result<(), AllocError>
     ensures { OnOk result (string_bytes text.new
         ≡ string_bytes text.old ++ port_head id port.now channel.now) }
 {
     let (kind, direction) = (kind_word(port.kind), direction_word(port.direction));
     let (name, channel_name) = (port.name.text(), channel.name.text());
     let size = channel.size;
-    write!(text, "  {id} {name} {kind} {direction} {channel_name} size {size}")
+    write!(
+        text,
+        "  {id} {name} {kind} {direction} {channel_name} size {size}"
+    )
 }
 
 fn kind_word(kind: PortKind) -> &'static str

@@ -14,11 +14,5 @@ fn main(rt: HostRuntime) -> ExitCode {
     let files = SystemFiles { rt: &rt };
     let (mut output, mut errors) = (rt.stdout(), rt.stderr());
     let words = words_given(&rt);
-    ExitCode::from(explain(
-        rt.alloc(),
-        words,
-        &files,
-        &mut output,
-        &mut errors,
-    ))
+    ExitCode::from(explain(rt.alloc(), words, &files, &mut output, &mut errors))
 }

@@ -23,7 +23,10 @@ pub fn explain<O: Opener, W: Write, E: Write>(
             Err(why) => told(&why, errors),
         },
         Err(WordsFault::Usage) => told(&Unexplained::Usage, errors),
-        Err(WordsFault::OutOfMemory) => told(&Unexplained::Refused(Refusal::Text(Fault::Memory)), errors),
+        Err(WordsFault::OutOfMemory) => told(
+            &Unexplained::Refused(Refusal::Text(Fault::Memory)),
+            errors,
+        ),
     }
 }
 
@@ -41,7 +44,9 @@ fn perform<'a, O: Opener, W: Write>(
 ) -> Result<(), Unexplained<'a>> {
     match task_of(words) {
         Some(Task::Config { config }) => Ok(show_ports(alloc, opener, config, output)?),
-        Some(Task::Trace { config, trace }) => Ok(show_trace(alloc, opener, config, trace, output)?),
+        Some(Task::Trace { config, trace }) => Ok(show_trace(
+            alloc, opener, config, trace, output,
+        )?),
         None => Err(Unexplained::Usage),
     }
 }
@@ -99,7 +104,11 @@ fn places_of_fault(alloc: Global, _text: &[u8], _fault: ConfigFault) -> Result<S
     Ok(String::new(alloc))
 }
 
-fn read_file<'a, O: Opener>(alloc: Global, opener: &O, path: &'a str) -> Result<Vec<u8>, Refusal<'a>> {
+fn read_file<'a, O: Opener>(
+    alloc: Global,
+    opener: &O,
+    path: &'a str,
+) -> Result<Vec<u8>, Refusal<'a>> {
     match read_path(alloc, opener, path) {
         Ok(bytes) => Ok(bytes),
         Err(FileFault::Unreadable) => Err(Refusal::File(path)),
