@@ -1,0 +1,3 @@
+pub mod Explanation
+pub mod PortTable
+pub mod Remarks

@@ -1,0 +1,12 @@
+//! What a bench engineer is told of a configuration and of a trace: the table of ports, each line of the trace
+//! beside its reply, and what is worth a look when the trace has ended.
+#![tactic(auto)]
+
+pub mod explanation;
+pub mod history;
+pub mod remarks;
+pub mod table;
+pub mod trace_lines;
+
+pub use crate::explanation::{Explanation, explain_trace};
+pub use crate::table::port_table;
