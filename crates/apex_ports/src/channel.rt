@@ -160,11 +160,12 @@ impl<A: Allocator> ChannelState<A> {
         match self {
             ChannelState::Queuing(queue) => {
                 queue.received = queue.received.saturating_add(1);
-                let oldest = queue.waiting.front().unwrap();
-                match reply {
-                    // A new place would be cleared for the longest message.
-                    Reply::Received(message) => message.copy_from(oldest),
-                    _ => *reply = Reply::Received(oldest.copy()),
+                // A new place is cleared for the longest message.
+                if !matches!(reply, Reply::Received(_)) {
+                    *reply = Reply::Received(Message::empty());
+                }
+                if let Reply::Received(message) = reply {
+                    message.copy_from(queue.waiting.front().unwrap());
                 }
                 let _ = queue.waiting.pop_front();
             }

@@ -171,14 +171,14 @@ fn read_write(words: &[u8], call: &mut Call) -> Result<(), LineFault>
     ensures { Gives (λ _. call.new) result
         (call_with Service.WriteSampling (words_of words.now)) }
 {
-    if let Call::WriteSampling { id, message } = call {
-        // A new place for the message would be cleared for the longest one.
-        *id = id_and_message(words, message)?;
-        return Ok(());
+    // A new place for a message is cleared for the longest one.
+    if !matches!(call, Call::WriteSampling { .. }) {
+        let message = Message::empty();
+        *call = Call::WriteSampling { id: 0, message };
     }
-    let mut message = Message::empty();
-    let id = id_and_message(words, &mut message)?;
-    *call = Call::WriteSampling { id, message };
+    if let Call::WriteSampling { id, message } = call {
+        *id = id_and_message(words, message)?;
+    }
     Ok(())
 }
 
@@ -186,14 +186,14 @@ fn read_write(words: &[u8], call: &mut Call) -> Result<(), LineFault>
 fn read_send(words: &[u8], call: &mut Call) -> Result<(), LineFault>
     ensures { Gives (λ _. call.new) result (call_with Service.SendQueuing (words_of words.now)) }
 {
-    if let Call::SendQueuing { id, message } = call {
-        // A new place for the message would be cleared for the longest one.
-        *id = id_and_message(words, message)?;
-        return Ok(());
+    // A new place for a message is cleared for the longest one.
+    if !matches!(call, Call::SendQueuing { .. }) {
+        let message = Message::empty();
+        *call = Call::SendQueuing { id: 0, message };
     }
-    let mut message = Message::empty();
-    let id = id_and_message(words, &mut message)?;
-    *call = Call::SendQueuing { id, message };
+    if let Call::SendQueuing { id, message } = call {
+        *id = id_and_message(words, message)?;
+    }
     Ok(())
 }
 
