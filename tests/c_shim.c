@@ -2,10 +2,7 @@
  * stands for, on ports of their own. Both have to give the same, by the rules of docs/C.md. Prints how many calls were
  * made. */
 #include "../c/apex.h"
-
-#include <stdio.h>
-#include <stdlib.h>
-#include <string.h>
+#include "c_test.h"
 
 enum { PARTITIONS = 3, FILL = 0x5a };
 
@@ -13,22 +10,6 @@ static struct apex_handle beside;
 static uint32_t partition;
 static uint64_t at;
 static unsigned long done, null_pointers;
-
-static void expect(bool is_so, const char *what) {
-    if (!is_so) {
-        fprintf(stderr, "c_shim: FAILED: %s\n", what);
-        exit(1);
-    }
-}
-
-static uint64_t state = 653;
-
-static uint64_t any(uint64_t count) {
-    state ^= state << 13;
-    state ^= state >> 7;
-    state ^= state << 17;
-    return (state >> 11) % count;
-}
 
 static int32_t any_number(void) {
     static const int32_t numbers[] = {0, 1, 2, 3, 4, 4, 2, 1, -1, INT32_MAX, INT32_MIN, 1024, 1025};
@@ -266,10 +247,8 @@ static bool are_counts_same(void) {
 
 int main(int count, char **words) {
     static char text[65536];
-    FILE *file = count == 3 ? fopen(words[1], "rb") : NULL;
-    expect(file != NULL, "usage: c_shim CONFIG CALLS");
-    const size_t length = fread(text, 1, sizeof text, file);
-    fclose(file);
+    expect(count == 3, "usage: c_shim CONFIG CALLS");
+    const size_t length = read_config(words[1], text, sizeof text);
     RETURN_CODE_TYPE code = NO_ERROR;
     SET_PARTITION_MODE(NORMAL, &code);
     expect(code == INVALID_CONFIG, "a call before the module is open");
