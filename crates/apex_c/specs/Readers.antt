@@ -1,5 +1,5 @@
 -- What the readers answer. A reader adds nothing to the history.
-use Rattle.std.specs.Prelude.{ℕ, nat_lt, if◌then◌else◌, List, length, map, Option, None, Some}
+use Rattle.std.specs.Prelude.{ℕ, nat_lt, if◌then◌else◌, List, length, Option, None, Some}
 use Rattle.std.specs.Option.{option_map}
 use Rattle.apex_types.specs.Mode.{number_of}
 use Rattle.apex_types.specs.declared.message.TheConstants.{MESSAGE_LIMIT}
