@@ -3,10 +3,7 @@
  * neither a count nor a place; whatever isn't adds one call to its partition. Prints how many calls were of each
  * kind. */
 #include "../c/apex_ports.h"
-
-#include <stdio.h>
-#include <stdlib.h>
-#include <string.h>
+#include "c_test.h"
 
 enum { HANDLES = 4, PARTITIONS = 8, SERVED = 0, REFUSED = 1, DONE = 2, FILL = 0xa5 };
 
@@ -17,22 +14,6 @@ static uint32_t partitions;
 static uint8_t config[65536];
 static size_t config_length;
 static unsigned long kinds[3];
-
-static void expect(bool is_so, const char *what) {
-    if (!is_so) {
-        fprintf(stderr, "c_hostile: FAILED: %s\n", what);
-        exit(1);
-    }
-}
-
-static uint64_t state = 20261123;
-
-static uint64_t any(uint64_t count) {
-    state ^= state << 13;
-    state ^= state >> 7;
-    state ^= state << 17;
-    return (state >> 11) % count;
-}
 
 static uint32_t any_number(void) {
     static const uint32_t edges[] = {0, 1, 2, 3, 4, 31, 32, 33, 64, 1u << 31, UINT32_MAX};
@@ -283,10 +264,8 @@ static void open_or_close(void) {
 }
 
 int main(int count, char **words) {
-    FILE *file = count == 3 ? fopen(words[1], "rb") : NULL;
-    expect(file != NULL, "usage: c_hostile CONFIG CALLS");
-    config_length = fread(config, 1, sizeof config, file);
-    fclose(file);
+    expect(count == 3, "usage: c_hostile CONFIG CALLS");
+    config_length = read_config(words[1], config, sizeof config);
     expect(apex_open(&handles[0], config, config_length) == 0, "the configuration is opened");
     is_open[0] = true;
     uint32_t mode;

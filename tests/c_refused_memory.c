@@ -3,10 +3,7 @@
  * give all memory back. Then come calls with all memory refused, which have to ask for none. Prints the numbers. Linked
  * with --wrap for malloc, calloc, realloc and free. */
 #include "../c/apex_ports.h"
-
-#include <stdio.h>
-#include <stdlib.h>
-#include <string.h>
+#include "c_test.h"
 
 enum { CALLS = 10000 };
 
@@ -51,13 +48,6 @@ void *__wrap_realloc(void *block, size_t size) {
 void __wrap_free(void *block) {
     held -= block != NULL;
     __real_free(block);
-}
-
-static void expect(bool is_so, const char *what) {
-    if (!is_so) {
-        fprintf(stderr, "c_refused_memory: FAILED: %s (request %lu)\n", what, refuse_from);
-        exit(1);
-    }
 }
 
 static void refuse(unsigned long from, unsigned long to) {
@@ -117,10 +107,8 @@ static void call_without_memory(const uint8_t *text, size_t length) {
 
 int main(int count, char **words) {
     static uint8_t text[1048576];
-    FILE *file = count == 2 ? fopen(words[1], "rb") : NULL;
-    expect(file != NULL, "usage: c_refused_memory CONFIG");
-    const size_t length = fread(text, 1, sizeof text, file);
-    fclose(file);
+    expect(count == 2, "usage: c_refused_memory CONFIG");
+    const size_t length = read_config(words[1], text, sizeof text);
     held = 0;
     unsigned long one = 0, all = 0;
     while (is_opening_refused(text, length, one + 1, one + 2)) {

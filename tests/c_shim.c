@@ -2,10 +2,7 @@
  * stands for, on ports of their own. Both have to give the same, by the rules of docs/C.md. Prints how many calls were
  * made. */
 #include "../c/apex.h"
-
-#include <stdio.h>
-#include <stdlib.h>
-#include <string.h>
+#include "c_test.h"
 
 enum { PARTITIONS = 3, FILL = 0x5a };
 
@@ -14,26 +11,12 @@ static uint32_t partition;
 static uint64_t at;
 static unsigned long done, null_pointers;
 
-static void expect(bool is_so, const char *what) {
-    if (!is_so) {
-        fprintf(stderr, "c_shim: FAILED: %s\n", what);
-        exit(1);
-    }
-}
-
-static uint64_t state = 653;
-
-static uint64_t any(uint64_t count) {
-    state ^= state << 13;
-    state ^= state >> 7;
-    state ^= state << 17;
-    return (state >> 11) % count;
-}
-
 static int32_t any_number(void) {
     static const int32_t numbers[] = {0, 1, 2, 3, 4, 4, 2, 1, -1, INT32_MAX, INT32_MIN, 1024, 1025};
     return numbers[any(sizeof numbers / sizeof *numbers)];
 }
+
+static int32_t any_id(void) { return any(3) == 0 ? any_number() : 1 + (int32_t)any(2); }
 
 /* The return code that an answer of apex_ports.h stands for, to a call with this time-out. */
 static RETURN_CODE_TYPE expected(uint32_t answer, SYSTEM_TIME_TYPE time_out) {
@@ -58,18 +41,21 @@ static void create_or_find(void) {
     char *name = names[any(sizeof names / sizeof *names)];
     const uint8_t *bytes = (const uint8_t *)name;
     const size_t length = strnlen(name, MAX_NAME_LENGTH);
-    const bool is_right = any(2) == 0, is_null = any(20) == 0;
-    const int32_t size = is_right ? 4 : any_number(), depth = is_right ? 2 : any_number();
-    const uint32_t direction = is_right ? name[length > 4 ? 4 : 0] == 'I' : (uint32_t)any_number();
-    const SYSTEM_TIME_TYPE refresh = is_right ? 50 : any_number();
+    const uint64_t wrong = any(7); /* which parameter is any number; from 5 on, none */
+    const bool is_null = any(20) == 0;
+    const int32_t size = wrong == 0 ? any_number() : 4, depth = wrong == 1 ? any_number() : 2;
+    const uint32_t direction = wrong == 2 ? (uint32_t)any_number() : name[length > 4 ? 4 : 0] == 'I';
+    const uint32_t discipline = wrong == 3 ? (uint32_t)any_number() : FIFO;
+    const SYSTEM_TIME_TYPE refresh = wrong == 4 ? any_number() : 50;
     int32_t id = 77, *place = is_null ? NULL : &id;
     uint32_t answer = 0, other = 77;
     RETURN_CODE_TYPE code;
     switch (any(4)) {
     case 0:
-        CREATE_QUEUING_PORT(name, size, depth, (PORT_DIRECTION_TYPE)direction, FIFO, place, &code);
+        CREATE_QUEUING_PORT(name, size, depth, (PORT_DIRECTION_TYPE)direction, (QUEUING_DISCIPLINE_TYPE)discipline,
+                            place, &code);
         answer = is_null ? 0 : apex_create_queuing_port(&beside, partition, at, bytes, length, (uint32_t)size,
-                                                        (uint32_t)depth, direction, 0, &other);
+                                                        (uint32_t)depth, direction, discipline, &other);
         break;
     case 1:
         CREATE_SAMPLING_PORT(name, size, (PORT_DIRECTION_TYPE)direction, refresh, place, &code);
@@ -100,7 +86,7 @@ static uint32_t too_long(bool is_queuing, uint32_t id) {
 
 static void send_or_write(void) {
     static uint8_t bytes[2000];
-    const int32_t id = any_number();
+    const int32_t id = any_id();
     const int32_t lengths[] = {1, 2, 4, 4, 5, 0, -1, INT32_MIN, 1024, 1025, 2000};
     const int32_t length = lengths[any(sizeof lengths / sizeof *lengths)];
     const bool is_queuing = any(2) == 0, is_null = any(20) == 0;
@@ -129,7 +115,7 @@ static void send_or_write(void) {
 static void receive_or_read(void) {
     static uint8_t bytes[APEX_MESSAGE_LIMIT];
     uint8_t at_address[APEX_MESSAGE_LIMIT];
-    const int32_t id = any_number();
+    const int32_t id = any_id();
     const bool is_queuing = any(2) == 0, is_null = any(20) == 0;
     const SYSTEM_TIME_TYPE time_out = any(2) == 0 ? 0 : any(2) == 0 ? INFINITE_TIME_VALUE : 1000;
     int32_t length = 77;
@@ -159,7 +145,7 @@ static void receive_or_read(void) {
 }
 
 static void ask_for_status(void) {
-    const int32_t id = any_number();
+    const int32_t id = any_id();
     QUEUING_PORT_STATUS_TYPE queuing;
     SAMPLING_PORT_STATUS_TYPE sampling;
     struct apex_queuing_port_status other_queuing;
@@ -192,13 +178,12 @@ static void clear_or_set_mode(void) {
     RETURN_CODE_TYPE code;
     uint32_t answer;
     const int32_t number = any_number();
-    if (any(25) > 0) {
+    if (any(10) > 0) {
         CLEAR_QUEUING_PORT(number, &code);
         answer = apex_clear_queuing_port(&beside, partition, at, (uint32_t)number);
     } else {
-        const int32_t mode = number == IDLE && any(4) > 0 ? NORMAL : number;
-        SET_PARTITION_MODE((OPERATING_MODE_TYPE)mode, &code);
-        answer = apex_set_partition_mode(&beside, partition, at, (uint32_t)mode);
+        SET_PARTITION_MODE((OPERATING_MODE_TYPE)number, &code);
+        answer = apex_set_partition_mode(&beside, partition, at, (uint32_t)number);
     }
     expect(code == expected(answer, 0), "the code of a clear or a mode");
     done += code == NO_ERROR;
@@ -262,22 +247,22 @@ static bool are_counts_same(void) {
 
 int main(int count, char **words) {
     static char text[65536];
-    FILE *file = count == 3 ? fopen(words[1], "rb") : NULL;
-    expect(file != NULL, "usage: c_shim CONFIG CALLS");
-    const size_t length = fread(text, 1, sizeof text, file);
-    fclose(file);
+    expect(count == 3, "usage: c_shim CONFIG CALLS");
+    const size_t length = read_config(words[1], text, sizeof text);
     RETURN_CODE_TYPE code = NO_ERROR;
     SET_PARTITION_MODE(NORMAL, &code);
     expect(code == INVALID_CONFIG, "a call before the module is open");
     expect(bench_close() == APEX_NOT_OPEN && bench_open(NULL, 9) == 1, "closing first, opening with no text");
     const long calls = atol(words[2]);
     for (long i = 0; i < calls; i++) {
-        if (i % 500 == 0) { /* (a partition in IDLE stays there) */
+        if (i % 200 == 0) { /* (a partition in IDLE stays there) */
             expect(bench_close() == (i == 0 ? APEX_NOT_OPEN : 0), "closing");
             expect(apex_close(&beside) == (i == 0 ? APEX_NOT_OPEN : 0), "closing beside");
             expect(bench_open(text, length) == 0 && apex_open(&beside, (uint8_t *)text, length) == 0, "opening");
             expect(bench_open(text, length) == APEX_ALREADY_OPEN, "opening twice");
-            create_ports();
+            if (i % 400 == 0) {
+                create_ports();
+            }
         }
         partition = any(30) == 0 ? PARTITIONS + (uint32_t)any(30) : (uint32_t)any(PARTITIONS);
         bench_set_partition(partition);

@@ -2,21 +2,12 @@
  * them but that of the lock, and the clock runs. Every message has to come once and in order. Beside them partition 2
  * writes samples that partition 1 reads, and none may be older than one that it read before. */
 #include "../c/apex.h"
+#include "c_test.h"
 
 #include <pthread.h>
 #include <sched.h>
-#include <stdio.h>
-#include <stdlib.h>
-#include <string.h>
 
 static uint32_t messages;
-
-static void expect(bool is_so, const char *what) {
-    if (!is_so) {
-        fprintf(stderr, "c_threads: FAILED: %s\n", what);
-        exit(1);
-    }
-}
 
 static void *send(void *unused) {
     QUEUING_PORT_NAME_TYPE name = "NAV_OUT";
@@ -98,10 +89,8 @@ int main(int count, char **words) {
     static char text[65536];
     void *(*const bodies[])(void *) = {send, receive, write_samples};
     pthread_t threads[3];
-    FILE *file = count == 3 ? fopen(words[1], "rb") : NULL;
-    expect(file != NULL, "usage: c_threads CONFIG MESSAGES");
-    const size_t length = fread(text, 1, sizeof text, file);
-    fclose(file);
+    expect(count == 3, "usage: c_threads CONFIG MESSAGES");
+    const size_t length = read_config(words[1], text, sizeof text);
     messages = (uint32_t)atol(words[2]);
     expect(bench_open(text, length) == 0, "opening");
     for (int i = 0; i < 3; i++) {
