@@ -11,7 +11,7 @@ use Rattle.apex_config.proofs.WithoutFault.{port_at_suc}
 use Rattle.apex_texts.specs.Report.{name_of_partition}
 use Rattle.apex_explanations.specs.PortTable.{partner_text, partners_in, partners_text, port_line, line_on, port_lines, partition_text, partition_texts}
 
-drop_at : {X : Type 0} (xs : List X) (i : ℕ) (x : X) → slice_get xs i ≡ Some x → drop i xs ≡ x ∷ drop (i + 1) xs
+pub drop_at : {X : Type 0} (xs : List X) (i : ℕ) (x : X) → slice_get xs i ≡ Some x → drop i xs ≡ x ∷ drop (i + 1) xs
 drop_at xs i x is = rw add-one (drop-cons xs i x (slice_get_within xs i x is) ∙ ap (λ y. y ∷ drop (suc i) xs) (get_or_from_slice_get xs i x x is))
 
 -- ---- partners
