@@ -1,8 +1,14 @@
-# Tells whether the program is built from the sources, and by the toolchain, that are there now.
-# For the scripts 'apexports' and 'test', which set root to the checkout.
-crate=$root/crates/apexports
-program=$crate/out/apexports
-record=$crate/out/built_from
+# Tells whether a program is built from the sources, and by the toolchain, that are there now.
+# For the scripts 'apexports' and 'explain' and for 'test', which set root to the checkout.
+
+# of_program NAME: what follows is asked of this program.
+of_program() {
+    name=$1
+    crate=$root/crates/$name
+    program=$crate/out/$name
+    record=$crate/out/built_from
+}
+of_program apexports
 
 # Sets toolchain to the folder of the command rt, and puts that first into the search path. Where there is none, what
 # the last build recorded of its toolchain stands for it.
@@ -25,12 +31,12 @@ archive() (
 # Whether the program is the one of the last record, and all that it was built from is as it was.
 is_built() {
     [ -x "$program" ] && [ -f "$record/archive" ] &&
-        archive crates/apexports/out/apexports 2> /dev/null | cmp -s - "$record/archive"
+        archive "crates/$name/out/$name" 2> /dev/null | cmp -s - "$record/archive"
 }
 
 # record_build FILE: records that the program was built from what the archive in the file has, if that is still there.
 record_build() {
-    mkdir -p "$record" && archive crates/apexports/out/apexports > "$record/archive.$$" &&
+    mkdir -p "$record" && archive "crates/$name/out/$name" > "$record/archive.$$" &&
         archive | cmp -s - "$1" && cp "$toolchain/WHAT" "$record/WHAT.$$" &&
         mv -f "$record/WHAT.$$" "$record/WHAT" && mv -f "$record/archive.$$" "$record/archive" && return
     rm -f "$record/WHAT.$$" "$record/archive.$$"

@@ -1,1 +1,2 @@
+pub mod RemarkLemmas
 pub mod TableLemmas

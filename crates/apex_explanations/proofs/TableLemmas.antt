@@ -4,14 +4,14 @@ use Rattle.std.specs.Prelude.{slice_get, option_map, unwrap_or}
 use Rattle.std.proofs.Math.Seq.{drop-cons}
 use Rattle.std.proofs.Math.ListN.{drop_of_length-le}
 use Rattle.std.proofs.lemmas.Option.{slice_get-get_or, slice_get_within, get_or_from_slice_get}
-use Rattle.apex_config.specs.Configuration.{Configuration, PartitionData, ports_of_partition, ports_of, port_at, port_of, channel_of, partition_name_of}
+use Rattle.apex_config.specs.Configuration.{Configuration, PartitionData, ports_of, port_at, channel_of, partition_name_of}
 use Rattle.apex_config.specs.declared.channel.Channel.{Channel}
 use Rattle.apex_config.specs.declared.port.Port.{Port}
 use Rattle.apex_config.proofs.WithoutFault.{port_at_suc}
 use Rattle.apex_texts.specs.Report.{name_of_partition}
-use Rattle.apex_explanations.specs.PortTable.{partner_text, partners_in, partners_text, port_line, line_on, port_lines, partition_text, partition_texts}
+use Rattle.apex_explanations.specs.PortTable.{partner_text, partners_in, partners_text, port_line, port_lines, partition_text, partition_texts}
 
-drop_at : {X : Type 0} (xs : List X) (i : ℕ) (x : X) → slice_get xs i ≡ Some x → drop i xs ≡ x ∷ drop (i + 1) xs
+pub drop_at : {X : Type 0} (xs : List X) (i : ℕ) (x : X) → slice_get xs i ≡ Some x → drop i xs ≡ x ∷ drop (i + 1) xs
 drop_at xs i x is = rw add-one (drop-cons xs i x (slice_get_within xs i x is) ∙ ap (λ y. y ∷ drop (suc i) xs) (get_or_from_slice_get xs i x x is))
 
 -- ---- partners

@@ -1,5 +1,5 @@
 -- What the explanation of a trace tells of its fault.
-use Rattle.std.specs.Prelude.{◌≡◌, List, Option, Some, None, Result, IsOk}
+use Rattle.std.specs.Prelude.{List, Option, Some, None, Result, IsOk}
 use Rattle.apex_ports.specs.declared.history.Request.{Request}
 use Rattle.apex_texts.specs.declared.fault.TraceFault.{TraceFault}
 use Rattle.apex_texts.specs.Lines.{FaultyLine}

@@ -1,6 +1,5 @@
 -- The table of a configuration's ports: a line for each partition, and beneath it one for each of its ports.
 use Rattle.std.specs.Prelude.{ℕ, ◌+◌, ◌==◌, Bool, true, false, ◌&&◌, if◌then◌else◌, List, [], ◌∷◌, ◌++◌, codes, decimal, Option, Some, None}
-use Rattle.std.specs.List.{flat_map}
 use Rattle.apex_types.specs.declared.direction.Direction.{Direction}
 use Rattle.apex_types.specs.declared.direction.Direction.TheVariants.{Source, Destination}
 use Rattle.apex_config.specs.Configuration.{Configuration, PartitionData, channel_of}

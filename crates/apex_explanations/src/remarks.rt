@@ -1,8 +1,8 @@
 //! What is worth a look when a trace has ended, a line each.
-ghost use Rattle.std.specs.Prelude.{◌≡◌};
+ghost use Rattle.std.specs.Prelude.{◌≡◌, ◌++◌, string_bytes, OnOk};
 ghost use Rattle.std.specs.List.{list_any};
 ghost use Rattle.apex_ports.specs.Ports.{creates};
-ghost use Rattle.apex_explanations.specs.Remarks.{shows_sample};
+ghost use Rattle.apex_explanations.specs.Remarks.{shows_sample, waiting_line, waiting_lines};
 
 use crate::trace_lines::call_lines;
 use apex_config::Config;
@@ -56,8 +56,7 @@ pub fn push_ports(text: &mut String, ports: &Ports, entries: &[Entry]) -> Result
             let name = port.name.text();
             if !is_ever_created(p, id, entries) {
                 writeln!(text, "  port {partition}.{name}: never created")?;
-            }
-            if port.direction == Direction::Destination
+            } else if port.direction == Direction::Destination
                 && ports.last_sample(port.channel).is_some()
                 && !is_ever_read(p, id, entries)
             {
@@ -108,16 +107,29 @@ fn shows_sample(p: usize, id: u32, entry: &Entry) -> bool
     reading && entry.partition == p && matches!(entry.reply, Reply::Read { .. })
 }
 
-/// `channel NAME: messages waiting N`, for each channel on which messages wait.
-pub fn push_waiting(text: &mut String, ports: &Ports) -> Result<(), AllocError> {
+/// A line for each channel on which messages wait.
+fn push_waiting(text: &mut String, ports: &Ports) -> Result<(), AllocError>
+    ensures { let config = ports.now.config in
+        let lines = waiting_lines config ports.now.history 0 config.channels in
+        OnOk result (string_bytes text.new ≡ string_bytes text.old ++ lines) }
+{
     for c in 0..ports.config().channels() {
-        let waiting = ports.waiting_count(c);
-        if waiting > 0 {
-            let name = ports.config().channel(c).name.text();
-            writeln!(text, "  channel {name}: messages waiting {waiting}")?;
-        }
+        let name = ports.config().channel(c).name.text();
+        push_count(text, name, ports.waiting_count(c))?;
     }
     Ok(())
+}
+
+/// `channel NAME: messages waiting N`, where some wait.
+#[tactic(auto, unfolding(crate::specs::Remarks::waiting_line))]
+fn push_count(text: &mut String, name: &str, count: usize) -> Result<(), AllocError>
+    ensures { OnOk result (string_bytes text.new
+        ≡ string_bytes text.old ++ waiting_line name.now count) }
+{
+    if count == 0 {
+        return Ok(());
+    }
+    writeln!(text, "  channel {name}: messages waiting {count}")
 }
 
 /// All remarks, beneath a line with the number of calls.

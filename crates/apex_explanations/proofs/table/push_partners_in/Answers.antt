@@ -1,9 +1,8 @@
 use Rattle.std.proofs.Common.{◌≡◌, Some, sym, ap, ◌∙◌, string_bytes}
 use Rattle.std.specs.Prelude.{slice_get}
 use Rattle.std.specs.Option.{option_copied}
-use Rattle.apex_config.specs.Configuration.{ports_of, partition_name_of}
+use Rattle.apex_config.specs.Configuration.{ports_of}
 use Rattle.apex_texts.proofs.ReportLemmas.{grows, complete}
-use Rattle.apex_explanations.specs.PortTable.{partner_text}
 use Rattle.apex_explanations.proofs.TableLemmas.{partner_cut, partner_end, port_at_place, named}
 use Rattle.apex_explanations.proofs.table.push_partners_in.Goals as goal
 
