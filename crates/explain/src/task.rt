@@ -1,12 +1,13 @@
 //! What the program does: from the words of the command line to a status.
 use crate::words::{Task, Unexplained, task_of};
 use apex_command_line::WordsFault;
-use apex_config::{Config, ConfigFault};
+use apex_config::Config;
+use apex_config_faults::places_of_fault;
 use apex_explanations::{explain_trace, port_table};
 use apex_tasks::Refusal;
 use apex_tasks::files::{FileFault, Opener, read_path};
 use apex_texts::{Fault, TraceFault};
-use std::alloc::{AllocError, Global};
+use std::alloc::Global;
 use std::io::Write;
 
 /// Explains what the words name, and answers the status.
@@ -97,11 +98,6 @@ fn read_config<'a, O: Opener, W: Write>(
             Err(Refusal::Text(Fault::from(fault)))
         }
     }
-}
-
-/// The places of a configuration's fault, a line each.
-fn places_of_fault(alloc: Global, _text: &[u8], _fault: ConfigFault) -> Result<String, AllocError> {
-    Ok(String::new(alloc))
 }
 
 fn read_file<'a, O: Opener>(
