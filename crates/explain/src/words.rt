@@ -12,19 +12,28 @@ pub enum Task<'a> {
     Trace { config: &'a str, trace: &'a str },
 }
 
-/// The task that the words name; the first word is the program's own name. A word that begins with `-` is no path.
+/// The task that the words name; the first word is the program's own name.
 pub fn task_of<S: AsStr>(words: &[S]) -> Option<Task<'_>> {
-    let task = match words {
-        [_, config] => Task::Config {
-            config: config.as_str(),
-        },
-        [_, config, trace] => Task::Trace {
-            config: config.as_str(),
-            trace: trace.as_str(),
-        },
-        _ => return None,
-    };
-    Some(task)
+    match words {
+        [_, config] => Some(Task::Config {
+            config: path_in(config)?,
+        }),
+        [_, config, trace] => Some(Task::Trace {
+            config: path_in(config)?,
+            trace: path_in(trace)?,
+        }),
+        _ => None,
+    }
+}
+
+/// The path that a word is; one that begins with `-` is none.
+fn path_in<S: AsStr>(word: &S) -> Option<&str> {
+    let path = word.as_str();
+    if path.starts_with('-') {
+        None
+    } else {
+        Some(path)
+    }
 }
 
 /// Why the program did not do all that it was asked to do.
