@@ -2,6 +2,7 @@
 ghost use Rattle.std.specs.Prelude.{◌≡◌, ◌+◌, ◌<◌, ◌^◌, ◌-◌, ◌==◌, [], ◌∷◌, ◌++◌, false, length, min, drop, slice_get, Some, None, IfOk};
 ghost use Rattle.std.specs.Option.{option_copied};
 ghost use Rattle.circular_buffer.specs.Buffer.{buffer};
+ghost use Rattle.apex_types.specs.declared.reply.Reply.TheVariants.{Received};
 ghost use Rattle.apex_ports.specs.ReplyTable.{oldest_reply};
 
 use apex_types::{Message, Reply, Sample};
@@ -160,9 +161,8 @@ impl<A: Allocator> ChannelState<A> {
         match self {
             ChannelState::Queuing(queue) => {
                 queue.received = queue.received.saturating_add(1);
-                // A new place is cleared for the longest message.
                 if !matches!(reply, Reply::Received(_)) {
-                    *reply = Reply::Received(Message::empty());
+                    make_received(reply);
                 }
                 if let Reply::Received(message) = reply {
                     message.copy_from(queue.waiting.front().unwrap());
@@ -192,4 +192,12 @@ impl<A: Allocator> ChannelState<A> {
             ChannelState::Sampling(_) => {}
         }
     }
+}
+
+// Makes the reply an empty message. Not inlined, since the place of a new message is cleared where a function begins.
+#[inline(never)]
+fn make_received(reply: &mut Reply)
+    ensures { reply.new ≡ Received [] }
+{
+    *reply = Reply::Received(Message::empty());
 }

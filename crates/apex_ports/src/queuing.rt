@@ -134,26 +134,26 @@ impl<A: Allocator> State<A> {
         }
     }
 
-    /// CLEAR_QUEUING_PORT.
-    pub(crate) fn clear(&mut self, config: &Config, partition: usize, id: u32) -> Reply
+    /// CLEAR_QUEUING_PORT, with the reply in its place.
+    pub(crate) fn clear(&mut self, config: &Config, partition: usize, id: u32, reply: &mut Reply)
         requires partition { partition < length config.now.partitions }
         requires sound { IsSound config.now self.old.history }
         requires kept { IsKept config.now self.old.history self.old }
         ensures reply { let port = queuing_port config.now self.old.history partition id in
-            result ≡ clear_reply port }
+            reply.new ≡ clear_reply port }
         ensures kept { (at : Moment) →
-            let entry = entry_of partition at (call.ClearQueuing id) result in
+            let entry = entry_of partition at (call.ClearQueuing id) reply.new in
             IsKeptWith config.now self.old entry self.new }
         ensures history { self.new.history ≡ self.old.history }
     {
         let Some(port) = self.queuing_port(config, partition, id) else {
-            return Reply::Code(ReturnCode::InvalidParam);
+            return put_code(reply, ReturnCode::InvalidParam);
         };
         if let Direction::Source = port.direction {
-            return Reply::Code(ReturnCode::InvalidMode);
+            return put_code(reply, ReturnCode::InvalidMode);
         }
         self.channels[port.channel].clear();
-        Reply::Code(ReturnCode::NoError)
+        put_code(reply, ReturnCode::NoError);
     }
 
     /// GET_QUEUING_PORT_STATUS.

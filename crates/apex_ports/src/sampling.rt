@@ -14,6 +14,7 @@ ghost use Rattle.apex_ports.specs.Writes.{Writes, WritesNothing};
 use crate::channel::ChannelState;
 use crate::modes::is_idle;
 use crate::partition::PortState;
+use crate::service::put_code;
 use crate::state::State;
 use apex_config::Config;
 use apex_types::{Call, Direction, Message, Moment, Reply, ReturnCode, Sample, Validity};
@@ -109,7 +110,7 @@ impl<A: Allocator> State<A> {
         Ok((&sample.message, validity))
     }
 
-    /// WRITE_SAMPLING_MESSAGE.
+    /// WRITE_SAMPLING_MESSAGE, with the reply in its place.
     pub(crate) fn write(
         &mut self,
         config: &Config,
@@ -117,13 +118,14 @@ impl<A: Allocator> State<A> {
         at: Moment,
         id: u32,
         message: &Message,
-    ) -> Reply
+        reply: &mut Reply,
+    )
         requires partition { partition < length config.now.partitions }
         requires kept { IsKept config.now self.old.history self.old }
         ensures reply { let port = sampling_port config.now self.old.history partition id in
-            result ≡ write_reply config.now port message.now }
+            reply.new ≡ write_reply config.now port message.now }
         ensures kept { let asking = call.WriteSampling id message.now in
-            let entry = entry_of partition at asking result in
+            let entry = entry_of partition at asking reply.new in
             IsKeptWith config.now self.old entry self.new }
         ensures history { self.new.history ≡ self.old.history }
     {
@@ -133,9 +135,9 @@ impl<A: Allocator> State<A> {
                     message: message.copy(),
                     at,
                 }));
-                Reply::Code(ReturnCode::NoError)
+                put_code(reply, ReturnCode::NoError);
             }
-            Err(code) => Reply::Code(code),
+            Err(code) => put_code(reply, code),
         }
     }
 
@@ -159,7 +161,7 @@ impl<A: Allocator> State<A> {
         let (message, validity) = match self.sample_shown(config, partition, at, id) {
             Ok((message, validity)) => (message.copy(), validity),
             Err(code) => {
-                *reply = Reply::Code(code);
+                put_code(reply, code);
                 return;
             }
         };

@@ -70,9 +70,9 @@ impl<A: Allocator> State<A> {
                 };
                 *reply = self.create_sampling(config, partition, name, asked);
             }
-            Call::WriteSampling { id, message } => *reply = self.write(
-                config, partition, at, *id, message,
-            ),
+            Call::WriteSampling { id, message } => {
+                self.write(config, partition, at, *id, message, reply);
+            }
             Call::ReadSampling { id } => self.read(config, partition, at, *id, reply),
             Call::SamplingId { name } => *reply = self.sampling_id(config, partition, name),
             Call::SamplingStatus { id } => *reply = self.sampling_status(config, partition, *id),
@@ -97,7 +97,7 @@ impl<A: Allocator> State<A> {
             Call::ReceiveQueuing { id } => self.receive(config, partition, *id, reply),
             Call::QueuingId { name } => *reply = self.queuing_id(config, partition, name),
             Call::QueuingStatus { id } => *reply = self.queuing_status(config, partition, *id),
-            Call::ClearQueuing { id } => *reply = self.clear(config, partition, *id),
+            Call::ClearQueuing { id } => self.clear(config, partition, *id, reply),
             Call::SetMode { mode } => *reply = self.set_mode(config, partition, *mode),
         }
     }
@@ -109,6 +109,14 @@ pub(crate) fn put_code(reply: &mut Reply, code: ReturnCode)
 {
     match reply {
         Reply::Code(place) => *place = code,
-        _ => *reply = Reply::Code(code),
+        _ => make_code(reply, code),
     }
+}
+
+// Not inlined, since the place of a new reply is cleared where a function begins.
+#[inline(never)]
+fn make_code(reply: &mut Reply, code: ReturnCode)
+    ensures { reply.new ≡ Code code }
+{
+    *reply = Reply::Code(code);
 }

@@ -116,13 +116,15 @@ pub fn service_at(word: &[u8]) -> Result<Service, LineFault>
 
 /// Reads the call to a service, with the arguments that the words are, into its place. The words
 /// are walked once. After a fault any call may stand there.
+// A function clears the places of its values where it begins, those of functions inlined into it too. So each
+// function that makes a call with a message or a name isn't inlined.
 #[tactic(auto, unfolding(crate::specs::Arguments::call_with, crate::specs::Arguments::call_at))]
 pub fn read_call(service: Service, words: &[u8], call: &mut Call) -> Result<(), LineFault>
     ensures { Gives (λ _. call.new) result (call_with service (words_of words.now)) }
 {
     match service {
-        Service::CreateSampling => *call = create_sampling(words)?,
-        Service::CreateQueuing => *call = create_queuing(words)?,
+        Service::CreateSampling => read_create_sampling(words, call)?,
+        Service::CreateQueuing => read_create_queuing(words, call)?,
         Service::WriteSampling => read_write(words, call)?,
         Service::SendQueuing => read_send(words, call)?,
         Service::ReadSampling => *call = Call::ReadSampling { id: id_in(words)? },
@@ -130,16 +132,8 @@ pub fn read_call(service: Service, words: &[u8], call: &mut Call) -> Result<(), 
         Service::ReceiveQueuing => read_receive(words, call)?,
         Service::QueuingStatus => *call = Call::QueuingStatus { id: id_in(words)? },
         Service::ClearQueuing => *call = Call::ClearQueuing { id: id_in(words)? },
-        Service::SamplingId => {
-            *call = Call::SamplingId {
-                name: name_of(one_word(words)?)?,
-            };
-        }
-        Service::QueuingId => {
-            *call = Call::QueuingId {
-                name: name_of(one_word(words)?)?,
-            };
-        }
+        Service::SamplingId => read_sampling_id(words, call)?,
+        Service::QueuingId => read_queuing_id(words, call)?,
         Service::SetMode => {
             *call = Call::SetMode {
                 mode: number_of(one_word(words)?)?,
@@ -166,12 +160,12 @@ fn id_and_message(words: &[u8], message: &mut Message) -> Result<u32, LineFault>
     Ok(id)
 }
 
+#[inline(never)]
 #[tactic(auto, unfolding(crate::specs::Arguments::call_with, crate::specs::Arguments::call_at, crate::specs::Arguments::id_and_message))]
 fn read_write(words: &[u8], call: &mut Call) -> Result<(), LineFault>
     ensures { Gives (λ _. call.new) result
         (call_with Service.WriteSampling (words_of words.now)) }
 {
-    // A new place for a message is cleared for the longest one.
     if !matches!(call, Call::WriteSampling { .. }) {
         let message = Message::empty();
         *call = Call::WriteSampling { id: 0, message };
@@ -182,11 +176,11 @@ fn read_write(words: &[u8], call: &mut Call) -> Result<(), LineFault>
     Ok(())
 }
 
+#[inline(never)]
 #[tactic(auto, unfolding(crate::specs::Arguments::call_with, crate::specs::Arguments::call_at, crate::specs::Arguments::id_and_message))]
 fn read_send(words: &[u8], call: &mut Call) -> Result<(), LineFault>
     ensures { Gives (λ _. call.new) result (call_with Service.SendQueuing (words_of words.now)) }
 {
-    // A new place for a message is cleared for the longest one.
     if !matches!(call, Call::SendQueuing { .. }) {
         let message = Message::empty();
         *call = Call::SendQueuing { id: 0, message };
@@ -209,29 +203,55 @@ fn read_receive(words: &[u8], call: &mut Call) -> Result<(), LineFault>
     Ok(())
 }
 
+#[inline(never)]
 #[tactic(auto, unfolding(crate::specs::Arguments::call_with, crate::specs::Arguments::call_at))]
-fn create_sampling(words: &[u8]) -> Result<Call, LineFault>
-    ensures { result ≡ call_with Service.CreateSampling (words_of words.now) }
+fn read_create_sampling(words: &[u8], call: &mut Call) -> Result<(), LineFault>
+    ensures { Gives (λ _. call.new) result
+        (call_with Service.CreateSampling (words_of words.now)) }
 {
     let (name, size, direction, refresh) = four_words(words)?;
-    Ok(Call::CreateSampling {
+    *call = Call::CreateSampling {
         name: name_of(name)?,
         size: number_of(size)?,
         direction: number_of(direction)?,
         refresh: period_of(refresh)?,
-    })
+    };
+    Ok(())
 }
 
+#[inline(never)]
 #[tactic(auto, unfolding(crate::specs::Arguments::call_with, crate::specs::Arguments::call_at))]
-fn create_queuing(words: &[u8]) -> Result<Call, LineFault>
-    ensures { result ≡ call_with Service.CreateQueuing (words_of words.now) }
+fn read_create_queuing(words: &[u8], call: &mut Call) -> Result<(), LineFault>
+    ensures { Gives (λ _. call.new) result
+        (call_with Service.CreateQueuing (words_of words.now)) }
 {
     let (name, size, depth, direction, discipline) = five_words(words)?;
-    Ok(Call::CreateQueuing {
+    *call = Call::CreateQueuing {
         name: name_of(name)?,
         size: number_of(size)?,
         depth: number_of(depth)?,
         direction: number_of(direction)?,
         discipline: number_of(discipline)?,
-    })
+    };
+    Ok(())
+}
+
+#[inline(never)]
+#[tactic(auto, unfolding(crate::specs::Arguments::call_with, crate::specs::Arguments::call_at))]
+fn read_sampling_id(words: &[u8], call: &mut Call) -> Result<(), LineFault>
+    ensures { Gives (λ _. call.new) result (call_with Service.SamplingId (words_of words.now)) }
+{
+    let name = name_of(one_word(words)?)?;
+    *call = Call::SamplingId { name };
+    Ok(())
+}
+
+#[inline(never)]
+#[tactic(auto, unfolding(crate::specs::Arguments::call_with, crate::specs::Arguments::call_at))]
+fn read_queuing_id(words: &[u8], call: &mut Call) -> Result<(), LineFault>
+    ensures { Gives (λ _. call.new) result (call_with Service.QueuingId (words_of words.now)) }
+{
+    let name = name_of(one_word(words)?)?;
+    *call = Call::QueuingId { name };
+    Ok(())
 }
