@@ -68,7 +68,8 @@ impl Handle {
         reply: &mut Reply,
     ) -> u32
         ensures answer { result ≡ answer_in self.old.held.ports partition at call.now }
-        ensures ports { self.new.held.ports ≡ ports_after self.old.held.ports partition at call.now }
+        ensures ports { self.new.held.ports
+            ≡ ports_after self.old.held.ports partition at call.now }
         ensures reply { reply.new
             ≡ unwrap_or (reply_in self.old.held.ports partition at call.now) reply.old }
     {
@@ -96,7 +97,8 @@ impl Handle {
         id: &mut u32,
     ) -> u32
         ensures answer { result ≡ answer_in self.old.held.ports partition at call.now }
-        ensures ports { self.new.held.ports ≡ ports_after self.old.held.ports partition at call.now }
+        ensures ports { self.new.held.ports
+            ≡ ports_after self.old.held.ports partition at call.now }
         ensures id { id.new ≡ id_after (reply_in self.old.held.ports partition at call.now) id.old }
     {
         let mut reply = Reply::NotMade;

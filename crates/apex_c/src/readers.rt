@@ -77,7 +77,8 @@ pub extern "C" fn apex_last_sample(
     ensures answer { result ≡ sample_answer (length buffer.old) handle.old.held.ports channel }
     ensures buffer { let sample = sample_in (length buffer.old) handle.old.held.ports channel in
         buffer.new ≡ buffer_after (message_of sample) buffer.old }
-    ensures message_length { let sample = sample_in (length buffer.old) handle.old.held.ports channel in
+    ensures message_length { let bytes = length buffer.old in
+        let sample = sample_in bytes handle.old.held.ports channel in
         message_length.new ≡ length_after (message_of sample) message_length.old }
     ensures at { let sample = sample_in (length buffer.old) handle.old.held.ports channel in
         at.new ≡ moment_after sample at.old }

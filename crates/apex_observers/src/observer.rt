@@ -38,7 +38,8 @@ impl<A: Allocator> Model for Observer<A> {
 
     ghost view = { λ observer. observer.receipt };
 
-    ghost invariant = { λ observer. Knows observer.receipt.channel (known_at observer.reader.place) };
+    ghost invariant = { λ observer.
+        Knows observer.receipt.channel (known_at observer.reader.place) };
 }
 
 impl<A: Allocator> Observer<A> {

@@ -111,7 +111,8 @@ impl<A: Allocator> Publishers<A> {
     ) -> Result<(), OutOfMemory>
         requires { (published : Published) × (slice_get self.old channel ≡ Some (Some published)) }
         ensures { MatchResult result
-            (λ _. self.new ≡ written_on channel (record { message = message.now; at = at }) self.old)
+            (λ _. self.new
+            ≡ written_on channel (record { message = message.now; at = at }) self.old)
             (λ _. self.new ≡ self.old) }
     {
         match &mut self.list[channel] {

@@ -33,7 +33,8 @@ impl<G> Drop for NamesItsCall<'_, G> {
 }
 
 impl<'a, G: Gate, A: Allocator> Promise<Result<Replies<A>, RunFault>> for NamesItsCall<'a, G> {
-    ghost kept_by = { λ promise outcome. IfErr outcome (NamesHeldCall (G.may_refuse promise.gate.now) promise.scripts.now) };
+    ghost kept_by = { λ promise outcome. IfErr outcome
+        (NamesHeldCall (G.may_refuse promise.gate.now) promise.scripts.now) };
 }
 
 /// Starts a worker for each partition that has a vector for its replies, the highest first, and joins them once all were started.

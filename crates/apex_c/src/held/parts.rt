@@ -12,7 +12,8 @@ pub(crate) struct Parts<T, A: Allocator> {
 }
 
 impl<T, A: Allocator> Model for Parts<T, A> {
-    ghost also_owns = { λ parts. box_owns (A.dealloc_token parts.alloc) T.row parts.ptr parts.value };
+    ghost also_owns = { λ parts.
+        box_owns (A.dealloc_token parts.alloc) T.row parts.ptr parts.value };
 }
 
 impl<T, A: Allocator> Parts<T, A> {
