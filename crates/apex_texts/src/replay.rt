@@ -31,10 +31,19 @@ pub fn replay_trace(alloc: Global, config: Config, trace: &[u8]) -> Result<Strin
     ensures { IsTraceReplay result config trace.now }
 {
     let mut ports = Ports::new(alloc, config)?;
+    replay_on(alloc, &mut ports, trace)
+}
+
+/// The report of a trace's calls on new ports.
+fn replay_on(alloc: Global, ports: &mut Ports, trace: &[u8]) -> Result<String, Fault>
+    requires fresh { ports.old.history ≡ [] }
+    requires sound { IsSound ports.old.config ports.old.history }
+    ensures { IsTraceReplay result ports.old.config trace.now }
+{
     // Most lines of a report are about as long as two lines of the trace.
     let mut text = String::with_capacity(alloc, trace.len().saturating_mul(2))?;
-    push_calls(&mut text, &mut ports, trace)?;
-    push_totals(&mut text, &ports)?;
+    push_calls(&mut text, ports, trace)?;
+    push_totals(&mut text, ports)?;
     Ok(text)
 }
 

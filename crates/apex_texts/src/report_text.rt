@@ -62,6 +62,15 @@ fn push_number(text: &mut String, number: u64) -> Result<(), AllocError>
     push_word(text, buffer.format(number))
 }
 
+/// A word, and a number after it.
+fn push_count(text: &mut String, word: &str, number: u64) -> Result<(), AllocError>
+    ensures { OnOk result (string_bytes text.new
+        ≡ string_bytes text.old ++ word.now ++ decimal number) }
+{
+    push_word(text, word)?;
+    push_number(text, number)
+}
+
 fn push_message(text: &mut String, message: &Message) -> Result<(), AllocError>
     ensures { OnOk result (string_bytes text.new
         ≡ string_bytes text.old ++ hex_text_of message.now) }
@@ -119,10 +128,7 @@ fn push_reply(text: &mut String, reply: &Reply) -> Result<(), AllocError>
     match reply {
         Reply::NotMade => push_word(text, "not made"),
         Reply::Code(code) => push_word(text, code.word()),
-        Reply::Id(id) => {
-            push_word(text, "NO_ERROR id ")?;
-            push_number(text, u64::from(*id))
-        }
+        Reply::Id(id) => push_count(text, "NO_ERROR id ", u64::from(*id)),
         Reply::Received(message) => {
             push_word(text, "NO_ERROR message ")?;
             push_message(text, message)
@@ -159,12 +165,9 @@ fn push_queuing_status(
     ensures { OnOk result (string_bytes text.new
         ≡ string_bytes text.old ++ queuing_status_text waiting depth size direction) }
 {
-    push_word(text, "NO_ERROR waiting ")?;
-    push_number(text, u64::from(waiting))?;
-    push_word(text, " depth ")?;
-    push_number(text, u64::from(depth))?;
-    push_word(text, " size ")?;
-    push_number(text, u64::from(size))?;
+    push_count(text, "NO_ERROR waiting ", u64::from(waiting))?;
+    push_count(text, " depth ", u64::from(depth))?;
+    push_count(text, " size ", u64::from(size))?;
     push_word(text, " ")?;
     push_word(text, direction.word())?;
     push_word(text, " processes 0")
@@ -181,10 +184,8 @@ fn push_sampling_status(
     ensures { OnOk result (string_bytes text.new
         ≡ string_bytes text.old ++ sampling_status_text refresh size direction last) }
 {
-    push_word(text, "NO_ERROR refresh ")?;
-    push_number(text, refresh)?;
-    push_word(text, " size ")?;
-    push_number(text, u64::from(size))?;
+    push_count(text, "NO_ERROR refresh ", refresh)?;
+    push_count(text, " size ", u64::from(size))?;
     push_word(text, " ")?;
     push_word(text, direction.word())?;
     push_word(text, " last ")?;
@@ -217,8 +218,7 @@ fn push_partition(text: &mut String, ports: &Ports, p: usize, name: &str) -> Res
     push_word(text, name)?;
     push_word(text, " mode ")?;
     push_word(text, ports.mode(p).word())?;
-    push_word(text, " calls ")?;
-    push_number(text, calls_of(ports, p))?;
+    push_count(text, " calls ", calls_of(ports, p))?;
     push_word(text, "\n")
 }
 
@@ -308,8 +308,7 @@ fn push_cleared(text: &mut String, count: u64) -> Result<(), AllocError>
     if count == 0 {
         return Ok(());
     }
-    push_word(text, " cleared ")?;
-    push_number(text, count)
+    push_count(text, " cleared ", count)
 }
 
 /// ` accepted A received B cleared C waiting W`, and the messages that wait, oldest first.
@@ -320,13 +319,10 @@ fn push_queue(text: &mut String, ports: &Ports, c: usize) -> Result<(), AllocErr
     ensures { OnOk result (string_bytes text.new ≡
         string_bytes text.old ++ queue_text ports.now.config c ports.now.history) }
 {
-    push_word(text, " accepted ")?;
-    push_number(text, accepted_by(ports, c))?;
-    push_word(text, " received ")?;
-    push_number(text, received_from(ports, c))?;
+    push_count(text, " accepted ", accepted_by(ports, c))?;
+    push_count(text, " received ", received_from(ports, c))?;
     push_cleared(text, cleared_from(ports, c))?;
-    push_word(text, " waiting ")?;
-    push_number(text, ports.waiting_count(c) as u64)?;
+    push_count(text, " waiting ", ports.waiting_count(c) as u64)?;
     push_waiting(text, ports, c)
 }
 
@@ -357,8 +353,7 @@ fn push_sample(text: &mut String, sample: Option<&Sample>) -> Result<(), AllocEr
             let Moment(at) = sample.at;
             push_word(text, " ")?;
             push_message(text, &sample.message)?;
-            push_word(text, " at ")?;
-            push_number(text, at)
+            push_count(text, " at ", at)
         }
     }
 }

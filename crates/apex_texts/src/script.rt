@@ -22,7 +22,7 @@ pub fn read_script(alloc: Global, text: &[u8]) -> Result<Script, TraceFault>
 }
 
 /// `MOMENT CALL ARGUMENTS`.
-#[derive(Clone, Copy, Drop)]
+#[derive(Drop)]
 struct ScriptLine;
 
 impl LineForm for ScriptLine {

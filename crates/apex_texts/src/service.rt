@@ -5,7 +5,7 @@ ghost use Rattle.apex_texts.specs.Service.{word_of, service_named, service_of};
 use apex_types::Call;
 
 /// A service of the standard, as a trace names it.
-#[derive(Clone, Copy, Debug, PartialEq, Eq)]
+#[derive(Clone, Copy)]
 pub enum Service {
     /// CREATE_SAMPLING_PORT.
     CreateSampling,

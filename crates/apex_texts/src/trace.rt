@@ -22,7 +22,7 @@ pub fn read_trace(alloc: Global, config: &Config, text: &[u8]) -> Result<Vec<Req
 }
 
 /// `MOMENT PARTITION CALL ARGUMENTS`.
-#[derive(Clone, Copy, Drop)]
+#[derive(Drop)]
 struct TraceLine<'a> {
     config: &'a Config,
 }

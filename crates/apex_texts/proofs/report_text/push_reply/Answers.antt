@@ -1,14 +1,13 @@
-use Rattle.std.proofs.Common.{◌++◌, append_assoc, decimal, string_bytes}
+use Rattle.std.proofs.Common.{◌++◌, append_assoc, codes, decimal, string_bytes}
 use Rattle.std.proofs.lemmas.Result.{IfOk-equal}
 use Rattle.apex_types.specs.Message.{hex_text_of}
 use Rattle.apex_texts.specs.Report.{reply_text}
 use Rattle.apex_texts.proofs.report_text.push_reply.Goals as goal
 
-pub returns-in_ok-push_word-in-Id : goal.returns-in_ok-push_word-in-Id
+pub returns-in-Id : goal.returns-in-Id
 unfolding reply_text
-returns-in_ok-push_word-in-Id c =
-    rw c.in-Id.is (IfOk-equal c.push_number.result (string_bytes c.push_number.new.text) (string_bytes c.push_word-in-Id.new.text ++ decimal c.from.result) _ c.push_number.ensures
-    (rw (c.in_ok-push_word-in-Id.ensures, c.from.ensures) (simp append_assoc)))
+returns-in-Id c =
+    rw c.in-Id.is (IfOk-equal c.push_count.result (string_bytes c.push_count.new.text) (string_bytes c.args.text.now ++ codes "NO_ERROR id " ++ decimal c.from.result) _ c.push_count.ensures (rw c.from.ensures (simp append_assoc)))
 
 pub returns-in_ok-push_word-in-Received : goal.returns-in_ok-push_word-in-Received
 unfolding reply_text

@@ -6,5 +6,5 @@ use Rattle.apex_texts.proofs.report_text.push_sampling_status.Goals as goal
 pub returns : goal.returns
 unfolding sampling_status_text
 returns c =
-    IfOk-equal c.push_word-6.result (string_bytes c.push_word-6.new.text) (string_bytes c.push_word-5.new.text ++ c.word-2.result.now) _ c.push_word-6.ensures
-    (rw (c.word-2.ensures, c.in_ok-push_word-5.ensures, c.in_ok-push_word-4.ensures, c.word.ensures, c.in_ok-push_word-3.ensures, c.in_ok-push_number-2.ensures, c.from.ensures, c.in_ok-push_word-2.ensures, c.in_ok-push_number.ensures, c.in_ok-push_word.ensures) (simp append_assoc))
+    IfOk-equal c.push_word-4.result (string_bytes c.push_word-4.new.text) (string_bytes c.push_word-3.new.text ++ c.word-2.result.now) _ c.push_word-4.ensures
+    (rw (c.word-2.ensures, c.in_ok-push_word-3.ensures, c.in_ok-push_word-2.ensures, c.word.ensures, c.in_ok-push_word.ensures, c.in_ok-push_count-2.ensures, c.from.ensures, c.in_ok-push_count.ensures) (simp append_assoc))
