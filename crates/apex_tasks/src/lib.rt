@@ -10,6 +10,7 @@ pub mod refusal;
 pub mod tasks;
 
 pub use crate::files::{Opener, SystemFiles};
-pub use crate::outputs::refuse;
+pub use crate::outputs::{print, refuse};
+pub use crate::reading::read_file;
 pub use crate::refusal::Refusal;
 pub use crate::tasks::program;

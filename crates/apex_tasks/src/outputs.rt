@@ -7,13 +7,13 @@ use crate::refusal::Refusal;
 use std::io;
 use std::io::Write;
 
-/// Writes a text whole.
-pub fn print<'a, W: Write>(output: &mut W, text: &str) -> Result<(), Refusal<'a>>
+/// Writes bytes whole.
+pub fn print<'a, W: Write>(output: &mut W, bytes: &[u8]) -> Result<(), Refusal<'a>>
     ensures written { OnOk result
-        (Appends (W.contents output.old) (W.contents output.new) text.now) }
+        (Appends (W.contents output.old) (W.contents output.new) bytes.now) }
     ensures refused { IfErr result (λ refusal. refusal ≡ Refusal.Output) }
 {
-    if output.write_all(text.as_bytes()).is_err() || output.flush().is_err() {
+    if output.write_all(bytes).is_err() || output.flush().is_err() {
         return Err(Refusal::Output);
     }
     Ok(())
@@ -29,8 +29,8 @@ pub fn refuse<E: Write>(refusal: Refusal<'_>, errors: &mut E) -> u8
 
 /// Writes the line of a refusal.
 fn tell<E: Write>(refusal: &Refusal<'_>, errors: &mut E) -> io::Result<()>
-    ensures { OnOk result
-        (Appends (E.contents errors.old) (E.contents errors.new) (refusal_line refusal.now ++ 10 ∷ [])) }
+    ensures { let line = refusal_line refusal.now ++ 10 ∷ [] in
+        OnOk result (Appends (E.contents errors.old) (E.contents errors.new) line) }
 {
     writeln!(errors, "{refusal}")
 }

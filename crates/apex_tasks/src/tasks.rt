@@ -44,7 +44,7 @@ fn perform<'a, R: Threads + Wait + Sync, S: AsStr, O: Opener, W: Write>(
         Task::Replay { config, trace } => replay_files(alloc, opener, config, trace)?,
         Task::Run { config, scripts } => run_files(rt, alloc, opener, config, scripts.as_slice())?,
     };
-    print(output, text.as_str())
+    print(output, text.as_bytes())
 }
 
 /// The line of the configuration in a file.
