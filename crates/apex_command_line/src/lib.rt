@@ -72,19 +72,26 @@ pub fn words_given<R: Env + AllocGlobal>(rt: &R) -> Result<Vec<String>, WordsFau
     Ok(env::args(rt)?.collect(rt.alloc())?)
 }
 
+fn command_on_config<'a>(alloc: Global, name: &'a str) -> Result<Command<'a>, AllocError> {
+    Command::new(alloc, name).arg(Arg::new(alloc, "CONFIG").required(true))
+}
+
+fn replay_command<'a>(alloc: Global) -> Result<Command<'a>, AllocError> {
+    let trace = Arg::new(alloc, "TRACE").required(true);
+    command_on_config(alloc, "replay")?.arg(trace)
+}
+
+fn run_command<'a>(alloc: Global) -> Result<Command<'a>, AllocError> {
+    let scripts = Arg::new(alloc, "NAME=SCRIPT").num_args(0..);
+    command_on_config(alloc, "run")?.arg(scripts)
+}
+
 fn command<'a>(alloc: Global) -> Result<Command<'a>, AllocError> {
-    let check = Command::new(alloc, "check").arg(Arg::new(alloc, "CONFIG").required(true))?;
-    let replay = Command::new(alloc, "replay")
-        .arg(Arg::new(alloc, "CONFIG").required(true))?
-        .arg(Arg::new(alloc, "TRACE").required(true))?;
-    let run = Command::new(alloc, "run")
-        .arg(Arg::new(alloc, "CONFIG").required(true))?
-        .arg(Arg::new(alloc, "NAME=SCRIPT").num_args(0..))?;
     Command::new(alloc, "apexports")
         .subcommand_required(true)
-        .subcommand(check)?
-        .subcommand(replay)?
-        .subcommand(run)
+        .subcommand(command_on_config(alloc, "check")?)?
+        .subcommand(replay_command(alloc)?)?
+        .subcommand(run_command(alloc)?)
 }
 
 /// The task that the words name; the first word is the program's own name.
