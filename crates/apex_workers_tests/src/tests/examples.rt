@@ -1,11 +1,8 @@
 //! What the examples share: short ways to write a call and a reply, scripts, and runs of them.
-ghost use Rattle.std.specs.Prelude.{IfErr};
-ghost use Rattle.apex_workers.specs.Held.{NamesHeldCall};
-
-use apex_board::{Board, Entry, Request, Stopped, run_list};
+use apex_board::{Board, Entry};
 use apex_config::Config;
-use apex_types::{Call, Message, Moment, Name, Reply, ReturnCode};
-use apex_workers::{Finished, Gate, RunFault, Script, run_scripts};
+use apex_types::{Call, Message, Mode, Moment, Name, OutOfMemory, Reply, ReturnCode};
+use apex_workers::{Finished, Gate, Replies, RunFault, Script, run_scripts};
 use std::alloc::{AllocError, AllocGlobal, Allocator, Global};
 use std::process::Abort;
 use std::sync::Wait;
@@ -17,10 +14,6 @@ pub(crate) const FMS: usize = 0;
 pub(crate) const DSP: usize = 1;
 
 pub(crate) const AIR: usize = 2;
-
-pub(crate) const NAV: usize = 0;
-
-pub(crate) const SPD: usize = 1;
 
 pub(crate) const NO_ERROR: Reply = Reply::Code(ReturnCode::NoError);
 
@@ -105,8 +98,47 @@ pub(crate) fn sender_and_waiting_receiver(alloc: Global) -> Result<[Script; 2], 
     ])
 }
 
+/// The scripts of FMS, DSP and AIR: FMS creates its port of NAV and sends two messages, DSP makes no call, and AIR
+/// creates its port of SPD and writes.
+pub(crate) fn three_scripts(alloc: Global) -> Result<[Script; 3], Fail> {
+    let queuing = create_queuing("NAV_OUT", 4, 2, 0)?;
+    let sender = script_of(alloc, &[queuing, send("01")?, send("02")?])?;
+    let sampling = create_sampling("SPD_OUT")?;
+    let writer = script_of(alloc, &[sampling, write(1, "00ff")?])?;
+    Ok([sender, script_of(alloc, &[])?, writer])
+}
+
 pub(crate) fn config_of<R: AllocGlobal>(rt: &R, text: &str) -> Result<Config, Fail> {
     Ok(Config::read(rt.alloc(), text.as_bytes())?)
+}
+
+/// Makes a call of the partition on the board.
+pub(crate) fn ask<R: Wait + Abort>(
+    rt: &R,
+    board: &mut Board,
+    partition: usize,
+    at: Moment,
+    call: &Call,
+) -> Result<Reply, OutOfMemory> {
+    assert!(rt; partition < board.config().partitions());
+    board.call(rt, partition, at, call)
+}
+
+/// What a channel holds after a run.
+#[derive(Clone, Copy)]
+pub(crate) enum Left<'a> {
+    /// How many messages it accepted and gave away, and how many wait.
+    Queue(usize, usize, usize),
+    /// The bytes of the last message, and its moment.
+    Sample(&'a [u8], u64),
+}
+
+/// What a run leaves: of each partition the replies to its worker and its mode, and what each channel holds.
+#[derive(Clone, Copy)]
+pub(crate) struct Wanted<'a> {
+    pub(crate) replies: &'a [&'a [Reply]],
+    pub(crate) modes: &'a [Mode],
+    pub(crate) channels: &'a [Left<'a>],
 }
 
 /// Runs the scripts, which are as many as the partitions.
@@ -116,9 +148,7 @@ pub(crate) fn run<R: Threads + Wait + Sync + Abort, A: Allocator + Copy + Send +
     config: &Config,
     scripts: &[Script],
     gate: &G,
-) -> Result<Finished<A>, RunFault>
-    ensures { IfErr result (NamesHeldCall (G.may_refuse gate.now) scripts.now) }
-{
+) -> Result<Finished<A>, RunFault> {
     assert!(rt; scripts.len() == config.partitions());
     run_scripts(rt, alloc, config, scripts, gate)
 }
@@ -133,71 +163,129 @@ pub(crate) fn end<R: Wait, A: Allocator>(rt: &R, finished: Finished<A>) {
     board.close(rt);
 }
 
-/// The requests of a log.
-pub(crate) fn requests_of(alloc: Global, log: &[Entry]) -> Result<Vec<Request>, AllocError> {
-    let mut requests = Vec::with_capacity(alloc, log.len())?;
-    for entry in log {
-        requests.push(Request {
-            partition: entry.partition,
-            at: entry.at,
-            call: entry.call.copy(),
-        })?;
-    }
-    Ok(requests)
+/// A run of the scripts leaves this.
+pub(crate) fn run_leaves<R: Threads + Wait + Sync + Abort + AllocGlobal, G: Gate>(
+    rt: &R,
+    config: &Config,
+    scripts: &[Script],
+    gate: &G,
+    wanted: &Wanted,
+) -> Result<(), Fail> {
+    let finished = run(rt, rt.alloc(), config, scripts, gate)?;
+    let checked = is_left(rt, config, &finished, wanted);
+    end(rt, finished);
+    checked
 }
 
-/// A new board that answers the requests of the log, one after the other, has the same log.
-pub(crate) fn is_repeated<R: AllocGlobal + Abort + Wait>(
+/// The finished run leaves this, and a new board answers the calls of its log in the same way.
+fn is_left<R: Abort + AllocGlobal + Wait, A: Allocator>(
+    rt: &R,
+    config: &Config,
+    finished: &Finished<A>,
+    wanted: &Wanted,
+) -> Result<(), Fail> {
+    assert_eq!(rt; finished.board.config(), config);
+    replies_are(rt, finished.replies.as_slice(), wanted.replies);
+    modes_are(rt, &finished.board, wanted.modes);
+    channels_hold(rt, &finished.board, wanted.channels);
+    let log = finished.board.log();
+    replies_are_logged(rt, log, finished.replies.as_slice())?;
+    is_repeated(rt, config, log)
+}
+
+/// The finished run of `three_scripts` on the base configuration leaves what it should.
+pub(crate) fn is_left_by_three<R: Abort + AllocGlobal + Wait, A: Allocator>(
+    rt: &R,
+    config: &Config,
+    finished: &Finished<A>,
+) -> Result<(), Fail> {
+    let wanted = Wanted {
+        replies: &[
+            &[Reply::Id(1), NO_ERROR, NO_ERROR],
+            &[],
+            &[Reply::Id(1), NO_ERROR],
+        ],
+        modes: &[Mode::ColdStart, Mode::ColdStart, Mode::ColdStart],
+        channels: &[Left::Queue(2, 0, 2), Left::Sample(&[0, 255], 2)],
+    };
+    is_left(rt, config, finished, &wanted)
+}
+
+fn replies_are<A: Allocator>(rt: &impl Abort, replies: &[Replies<A>], wanted: &[&[Reply]]) {
+    assert_eq!(rt; replies.len(), wanted.len());
+    for (replies, wanted) in replies.iter().zip(wanted) {
+        assert_eq!(rt; replies.list(), *wanted);
+    }
+}
+
+fn modes_are<A: Allocator>(rt: &impl Abort, board: &Board<A>, wanted: &[Mode]) {
+    assert!(rt; board.config().partitions() == wanted.len());
+    for (p, mode) in wanted.iter().enumerate() {
+        assert_eq!(rt; board.mode(p), *mode);
+    }
+}
+
+fn channels_hold<A: Allocator>(rt: &impl Abort, board: &Board<A>, wanted: &[Left]) {
+    assert!(rt; board.config().channels() == wanted.len());
+    for (c, left) in wanted.iter().enumerate() {
+        match left {
+            Left::Queue(accepted, received, waiting) => {
+                assert_eq!(rt; board.accepted(c).len(), *accepted);
+                assert_eq!(rt; board.taken(c).len(), *received);
+                assert_eq!(rt; board.waiting_count(c), *waiting);
+            }
+            Left::Sample(message, at) => {
+                let Some(sample) = board.last_sample(c) else {
+                    panic!(rt; "no sample");
+                };
+                assert_eq!(rt; sample.message.bytes(), *message);
+                assert_eq!(rt; sample.at, Moment(*at));
+            }
+        }
+    }
+}
+
+/// The replies to each partition's worker are those of its entries.
+pub(crate) fn replies_are_logged<R: Abort + AllocGlobal, A: Allocator>(
+    rt: &R,
+    log: &[Entry],
+    replies: &[Replies<A>],
+) -> Result<(), Fail> {
+    for (p, replies) in replies.iter().enumerate() {
+        let logged = replies_in(rt.alloc(), log, p)?;
+        assert_eq!(rt; replies.list(), logged.as_slice());
+    }
+    Ok(())
+}
+
+fn replies_in(alloc: Global, log: &[Entry], partition: usize) -> Result<Vec<Reply>, AllocError> {
+    let mut replies = Vec::new(alloc);
+    for entry in log {
+        if entry.partition == partition {
+            replies.push(entry.reply.copy())?;
+        }
+    }
+    Ok(replies)
+}
+
+/// A new board that answers the calls of the log, one after the other, has the same configuration and the same log.
+fn is_repeated<R: AllocGlobal + Abort + Wait>(
     rt: &R,
     config: &Config,
     log: &[Entry],
 ) -> Result<(), Fail> {
-    let requests = requests_of(rt.alloc(), log)?;
     let mut board = Board::new(rt, rt.alloc(), config.copy()?)?;
-    let repeated = repeat(rt, &mut board, requests.as_slice(), log);
+    let answered = repeat(rt, &mut board, log);
+    let repeated = board.log() == log;
     board.close(rt);
-    Ok(repeated?)
-}
-
-// The new board answers the requests, and has this log.
-fn repeat<R: Abort + Wait>(
-    rt: &R,
-    board: &mut Board,
-    requests: &[Request],
-    log: &[Entry],
-) -> Result<(), Stopped> {
-    let partitions = board.config().partitions();
-    assert!(rt;
-        requests
-            .iter()
-            .all(|request| request.partition < partitions)
-    );
-    run_list(rt, board, requests)?;
-    assert_eq!(rt; board.log(), log);
+    answered?;
+    assert!(rt; repeated);
     Ok(())
 }
 
-/// The replies of a partition's worker.
-pub(crate) fn replies_are<A: Allocator>(
-    rt: &impl Abort,
-    finished: &Finished<A>,
-    p: usize,
-    wanted: &[Reply],
-) {
-    assert!(rt; p < finished.replies.len());
-    assert_eq!(rt; finished.replies[p].list(), wanted, "of partition {p}");
-}
-
-/// How many messages NAV accepted and gave away, and how many wait there.
-pub(crate) fn queue_is<A: Allocator>(
-    rt: &impl Abort,
-    board: &Board<A>,
-    accepted: usize,
-    received: usize,
-    waiting: usize,
-) {
-    assert!(rt; NAV < board.config().channels());
-    assert_eq!(rt; board.accepted(NAV).len(), accepted);
-    assert_eq!(rt; board.taken(NAV).len(), received);
-    assert_eq!(rt; board.waiting_count(NAV), waiting);
+fn repeat<R: Abort + Wait>(rt: &R, board: &mut Board, log: &[Entry]) -> Result<(), OutOfMemory> {
+    for entry in log {
+        ask(rt, board, entry.partition, entry.at, &entry.call)?;
+    }
+    Ok(())
 }

@@ -1,12 +1,12 @@
 //! Many runs of eight workers, each log checked against a model of this file's own.
 use crate::tests::examples::{
-    GO_NORMAL, NO_ERROR, NOT_AVAILABLE, config_of, create_queuing, end, run,
+    GO_NORMAL, NO_ERROR, NOT_AVAILABLE, config_of, create_queuing, end, replies_are_logged, run,
 };
 use crate::tests::texts::{RING, RING_TEXT};
 use apex_board::Entry;
 use apex_types::{Call, Message, Moment, Reply};
 use apex_workers::{Finished, OpenGate, Script};
-use std::alloc::Global;
+use std::alloc::{AllocGlobal, Global};
 use std::process::Abort;
 use std::test::Fail;
 
@@ -20,7 +20,7 @@ const DEPTH: usize = 4;
 
 // The channel to the next partition in the ring has the partition's own number.
 fn channel_before(p: usize) -> usize {
-    if p == 0 { RING - 1 } else { (p - 1) % RING }
+    if p == 0 { RING - 1 } else { p - 1 }
 }
 
 fn message_of(channel: usize, n: u64) -> Result<Message, Fail> {
@@ -72,21 +72,26 @@ impl Model {
         })
     }
 
-    // What the partition's next call has to be answered.
-    fn reply_to_next(&mut self, p: usize) -> Result<Reply, Fail> {
+    // The partition's next call, and what it has to be answered.
+    fn next_entry(&mut self, p: usize) -> Result<Entry, Fail> {
         let made = self.made.get_mut(p).ok_or("no such partition")?;
         let n = *made;
         *made = n.wrapping_add(1);
-        if n < 2 {
-            return Ok(Reply::Id(n + 1));
-        }
-        if n == 2 {
-            return Ok(NO_ERROR);
-        }
-        if n % 3 == 0 {
-            self.reply_to_receive(channel_before(p))
-        } else {
-            self.reply_to_send(p, u64::from(n))
+        Ok(Entry {
+            partition: p,
+            at: Moment(u64::from(n)),
+            call: call_of(p, n)?,
+            reply: self.reply_to(p, n)?,
+        })
+    }
+
+    fn reply_to(&mut self, p: usize, n: u32) -> Result<Reply, Fail> {
+        match n {
+            0 => Ok(Reply::Id(1)),
+            1 => Ok(Reply::Id(2)),
+            2 => Ok(NO_ERROR),
+            _ if n % 3 == 0 => self.reply_to_receive(channel_before(p)),
+            _ => self.reply_to_send(p, u64::from(n)),
         }
     }
 
@@ -109,44 +114,26 @@ impl Model {
     }
 }
 
-// Each entry has the next call of its partition's script, and the reply of the model.
-fn check(rt: &impl Abort, alloc: Global, log: &[Entry]) -> Result<(), Fail> {
+// The log of the model, where the partitions make their calls in the order of this log.
+fn modelled(alloc: Global, log: &[Entry]) -> Result<Vec<Entry>, Fail> {
     let mut model = Model::new(alloc)?;
-    for (k, entry) in log.iter().enumerate() {
-        let p = entry.partition;
-        let n = *model.made.get(p).ok_or("no such partition")?;
-        assert_eq!(rt; &entry.call, &call_of(p, n)?, "entry {k}");
-        assert_eq!(rt; entry.at, Moment(u64::from(n)), "entry {k}");
-        assert_eq!(rt; &entry.reply, &model.reply_to_next(p)?, "entry {k}");
-    }
-    for made in &model.made {
-        assert_eq!(rt; *made, CALLS);
-    }
-    Ok(())
-}
-
-// The replies of each worker are those of its entries.
-fn has_replies(rt: &impl Abort, log: &[Entry], p: usize, replies: &[Reply]) {
-    let own = log.iter().filter(|entry| entry.partition == p);
-    assert_eq!(rt; own.count(), replies.len());
-    let mut next = 0usize;
+    let mut entries = Vec::with_capacity(alloc, log.len())?;
     for entry in log {
-        if entry.partition == p {
-            assert_eq!(rt; replies.get(next), Some(&entry.reply));
-            next = next.wrapping_add(1);
-        }
+        entries.push(model.next_entry(entry.partition)?)?;
     }
+    Ok(entries)
 }
 
-// The run's log is the model's, and each worker has its replies.
-fn is_as_modelled(rt: &impl Abort, alloc: Global, finished: &Finished) -> Result<(), Fail> {
+// The run's log is the model's, and each worker has the replies to all its calls.
+fn is_as_modelled<R: Abort + AllocGlobal>(rt: &R, finished: &Finished) -> Result<(), Fail> {
     let log = finished.board.log();
-    check(rt, alloc, log)?;
+    let wanted = modelled(rt.alloc(), log)?;
+    assert!(rt; log == wanted.as_slice());
     assert_eq!(rt; finished.replies.len(), RING);
-    for (p, replies) in finished.replies.iter().enumerate() {
-        has_replies(rt, log, p, replies.list());
+    for replies in &finished.replies {
+        assert_eq!(rt; replies.list().len(), CALLS as usize);
     }
-    Ok(())
+    replies_are_logged(rt, log, finished.replies.as_slice())
 }
 
 #[test]
@@ -156,7 +143,7 @@ fn two_hundred_runs_of_eight_workers(rt: HostRuntime) -> Result<(), Fail> {
     let scripts = scripts_of(alloc)?;
     for _ in 0..RUNS {
         let finished = run(&rt, alloc, &config, scripts.as_slice(), &OpenGate)?;
-        let checked = is_as_modelled(&rt, alloc, &finished);
+        let checked = is_as_modelled(&rt, &finished);
         end(&rt, finished);
         checked?;
     }

@@ -1,12 +1,12 @@
 //! Observers beside a lock, in a thread of their own, and of a finished run.
-use crate::tests::examples::{AIR, config_of, create_sampling, run, script_of, write};
+use crate::tests::examples::{AIR, ask, config_of, create_sampling, run, script_of, write};
 use crate::tests::texts::{BASE, TWO_SAMPLING};
 use apex_board::Board;
 use apex_observers::{Observer, Sampled};
 use apex_types::Validity::{Invalid, Valid};
 use apex_types::{Call, Direction, Message, Moment, OutOfMemory, Reply, Validity};
 use apex_workers::{Finished, LockedBoard, OpenGate, SharedBoard};
-use std::alloc::AllocGlobal;
+use std::alloc::{AllocError, AllocGlobal, Global};
 use std::process::Abort;
 use std::sync::atomic::{AtomicBool, Ordering};
 use std::sync::{MutexGuard, Wait};
@@ -40,10 +40,9 @@ fn shows_before_and_after<R: Wait + Abort>(
     board: &mut Board,
     observer: &mut Observer,
 ) -> Result<(), Fail> {
-    assert!(rt; AIR < board.config().partitions());
-    board.call(rt, AIR, Moment(1), &create_sampling("SPD_OUT")?)?;
+    ask(rt, board, AIR, Moment(1), &create_sampling("SPD_OUT")?)?;
     assert_eq!(rt; observer.read(Moment(5), 50), Sampled::Empty);
-    board.call(rt, AIR, Moment(100), &write(1, "00ff")?)?;
+    ask(rt, board, AIR, Moment(100), &write(1, "00ff")?)?;
     let valid = sample("00ff", 100, Valid)?;
     assert_eq!(rt; observer.read(Moment(150), 50), valid);
     let invalid = sample("00ff", 100, Invalid)?;
@@ -88,6 +87,16 @@ fn sees_both(mut observer: Observer, first: &Sampled, second: &Sampled, seen: &A
     one && waits_for(&mut observer, first, second)
 }
 
+// Waits until the flag is raised, in so many turns at most.
+fn waits_until(seen: &AtomicBool) {
+    for _ in 0..TURNS {
+        if seen.load(Ordering::SeqCst) {
+            break;
+        }
+        thread::yield_now();
+    }
+}
+
 fn writes_both<R: Wait + Abort>(
     rt: &R,
     board: &mut Board,
@@ -95,16 +104,10 @@ fn writes_both<R: Wait + Abort>(
     seen: &AtomicBool,
 ) -> Result<(), OutOfMemory> {
     let [create, first, second] = calls;
-    assert!(rt; AIR < board.config().partitions());
-    board.call(rt, AIR, Moment(1), create)?;
-    board.call(rt, AIR, Moment(1), first)?;
-    for _ in 0..TURNS {
-        if seen.load(Ordering::SeqCst) {
-            break;
-        }
-        thread::yield_now();
-    }
-    board.call(rt, AIR, Moment(2), second)?;
+    ask(rt, board, AIR, Moment(1), create)?;
+    ask(rt, board, AIR, Moment(1), first)?;
+    waits_until(seen);
+    ask(rt, board, AIR, Moment(2), second)?;
     Ok(())
 }
 
@@ -142,14 +145,12 @@ fn an_observer_that_is_told_nothing_sees_both_writes(rt: HostRuntime) -> Result<
 }
 
 // What the observers show at the moment 55, one after the other, with a refresh period of 50.
-fn shows(rt: &impl Abort, observers: &mut [Observer], wanted: &[Sampled]) {
-    assert_eq!(rt; observers.len(), wanted.len());
-    let mut next = 0usize;
+fn shown_by(alloc: Global, observers: &mut [Observer]) -> Result<Vec<Sampled>, AllocError> {
+    let mut shown = Vec::new(alloc);
     for observer in observers {
-        let shown = observer.read(Moment(55), 50);
-        assert_eq!(rt; Some(&shown), wanted.get(next));
-        next = next.wrapping_add(1);
+        shown.push(observer.read(Moment(55), 50))?;
     }
+    Ok(shown)
 }
 
 #[test]
@@ -171,12 +172,10 @@ fn observers_show_the_last_samples_until_the_board_is_closed(rt: HostRuntime) ->
         replies: _,
         mut observers,
     } = finished;
-    shows(&rt, observers.as_mut_slice(), &last);
+    let before = shown_by(alloc, observers.as_mut_slice());
     board.close(&rt);
-    shows(
-        &rt,
-        observers.as_mut_slice(),
-        &[Sampled::Gone, Sampled::Gone],
-    );
+    let after = shown_by(alloc, observers.as_mut_slice())?;
+    assert_eq!(rt; before?.as_slice(), last.as_slice());
+    assert_eq!(rt; after.as_slice(), [Sampled::Gone, Sampled::Gone].as_slice());
     Ok(())
 }

@@ -1,15 +1,11 @@
 //! Every allocation of a run refused in turn: it ends in want of memory, in a worker that wasn't started, or as with ample
 //! memory. The configuration is copied with memory of its own, which this sweep doesn't reach.
-use crate::tests::examples::{
-    AIR, DSP, FMS, NO_ERROR, config_of, create_queuing, create_sampling, end, is_repeated,
-    queue_is, replies_are, run, script_of, send, write,
-};
+use crate::tests::examples::{config_of, end, is_left_by_three, run, three_scripts};
 use crate::tests::texts::BASE;
 use apex_config::Config;
-use apex_types::Reply;
-use apex_workers::{Finished, OpenGate, RunFault, Script};
+use apex_workers::{OpenGate, RunFault, Script};
 use refusing::Switch;
-use std::alloc::{AllocGlobal, Allocator, Global};
+use std::alloc::AllocGlobal;
 use std::process::Abort;
 use std::sync::Wait;
 use std::test::Fail;
@@ -17,34 +13,6 @@ use std::thread::Threads;
 
 /// More allocations than a run of these scripts asks for.
 const ALLOCATION_LIMIT: u64 = 200;
-
-fn scripts_of(alloc: Global) -> Result<[Script; 3], Fail> {
-    Ok([
-        script_of(
-            alloc,
-            &[
-                create_queuing("NAV_OUT", 4, 2, 0)?,
-                send("01")?,
-                send("02")?,
-            ],
-        )?,
-        script_of(alloc, &[])?,
-        script_of(alloc, &[create_sampling("SPD_OUT")?, write(1, "00ff")?])?,
-    ])
-}
-
-// The run is that of ample memory.
-fn is_complete<R: Abort + AllocGlobal + Wait, A: Allocator>(
-    rt: &R,
-    config: &Config,
-    finished: &Finished<A>,
-) -> Result<(), Fail> {
-    replies_are(rt, finished, FMS, &[Reply::Id(1), NO_ERROR, NO_ERROR]);
-    replies_are(rt, finished, DSP, &[]);
-    replies_are(rt, finished, AIR, &[Reply::Id(1), NO_ERROR]);
-    queue_is(rt, &finished.board, 2, 0, 2);
-    is_repeated(rt, config, finished.board.log())
-}
 
 // A run with `refuse` allocations refused after `granted` others; whether one was.
 fn run_refused_after<R: Threads + Wait + Sync + Abort + AllocGlobal>(
@@ -61,7 +29,7 @@ fn run_refused_after<R: Threads + Wait + Sync + Abort + AllocGlobal>(
     switch.allow_all();
     match answered {
         Ok(finished) => {
-            let checked = is_complete(rt, config, &finished);
+            let checked = is_left_by_three(rt, config, &finished);
             end(rt, finished);
             checked?;
         }
@@ -78,7 +46,7 @@ fn run_refused_in_turn<R: Threads + Wait + Sync + Abort + AllocGlobal>(
     refuse: u64,
 ) -> Result<(), Fail> {
     let config = config_of(rt, BASE)?;
-    let scripts = scripts_of(rt.alloc())?;
+    let scripts = three_scripts(rt.alloc())?;
     for granted in 0..ALLOCATION_LIMIT {
         if !run_refused_after(rt, &config, &scripts, granted, refuse)? {
             assert!(rt; granted > 0);

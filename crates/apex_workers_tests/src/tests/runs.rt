@@ -2,61 +2,35 @@
 ghost use Rattle.std.specs.Prelude.{◌≤◌};
 
 use crate::tests::examples::{
-    AIR, DSP, FMS, GO_NORMAL, NO_ACTION, NO_ERROR, SPD, config_of, create_queuing, create_sampling,
-    end, is_repeated, queue_is, replies_are, run, script_of, send, sender_and_receiver, write,
+    DSP, FMS, GO_NORMAL, Left, NO_ACTION, NO_ERROR, Wanted, config_of, end, is_left_by_three, run,
+    run_leaves, script_of, sender_and_receiver, three_scripts,
 };
 use crate::tests::gates::{Refuses, Together, TwoFlags};
 use crate::tests::texts::{BASE, REDUCED, without_ports};
-use apex_board::Board;
 use apex_config::Config;
-use apex_types::{Message, Mode, Moment, Reply};
-use apex_workers::{Finished, Gate, OpenGate, RunFault, Script};
-use std::alloc::{AllocGlobal, Allocator};
+use apex_types::{Mode, Reply};
+use apex_workers::{Gate, OpenGate, RunFault, Script};
+use std::alloc::AllocGlobal;
 use std::process::Abort;
 use std::sync::Wait;
 use std::test::Fail;
 use std::thread::Threads;
 
-// The mode of a partition, and how many calls it made.
-fn partition_is<A: Allocator>(
-    rt: &impl Abort,
-    board: &Board<A>,
-    p: usize,
-    mode: Mode,
-    calls: usize,
-) {
-    assert!(rt; p < board.config().partitions());
-    assert_eq!(rt; board.mode(p), mode);
-    let made = board.log().iter().filter(|entry| entry.partition == p);
-    assert_eq!(rt; made.count(), calls);
-}
-
-fn is_run_by_two<R: Abort + AllocGlobal + Wait>(
-    rt: &R,
-    config: &Config,
-    finished: &Finished,
-) -> Result<(), Fail> {
-    replies_are(rt, finished, FMS, &[Reply::Id(1), NO_ERROR, NO_ERROR]);
-    replies_are(rt, finished, DSP, &[Reply::Id(1), NO_ERROR]);
-    assert_eq!(rt; finished.board.config(), config);
-    assert_eq!(rt; finished.board.log().len(), 5);
-    partition_is(rt, &finished.board, FMS, Mode::Normal, 3);
-    partition_is(rt, &finished.board, DSP, Mode::Normal, 2);
-    queue_is(rt, &finished.board, 1, 0, 1);
-    is_repeated(rt, config, finished.board.log())
-}
-
 // Each of the two workers comes to its first call before the other makes it, and to its second once the other's first was
 // answered. So both run at the same time.
 #[test]
 fn two_workers_between_two_flags(rt: HostRuntime) -> Result<(), Fail> {
-    let alloc = rt.alloc();
     let config = config_of(&rt, REDUCED)?;
-    let scripts = sender_and_receiver(alloc)?;
-    let finished = run(&rt, alloc, &config, &scripts, &TwoFlags::new())?;
-    let checked = is_run_by_two(&rt, &config, &finished);
-    end(&rt, finished);
-    checked
+    let scripts = sender_and_receiver(rt.alloc())?;
+    let wanted = Wanted {
+        replies: &[
+            &[Reply::Id(1), NO_ERROR, NO_ERROR],
+            &[Reply::Id(1), NO_ERROR],
+        ],
+        modes: &[Mode::Normal, Mode::Normal],
+        channels: &[Left::Queue(1, 0, 1)],
+    };
+    run_leaves(&rt, &config, &scripts, &TwoFlags::new(), &wanted)
 }
 
 // A worker that runs alone doesn't pass the flags.
@@ -66,67 +40,20 @@ fn a_worker_alone_is_held(rt: HostRuntime) {
     assert!(rt; TwoFlags::new().pass(DSP, 2).is_err());
 }
 
-fn is_run_by_three<R: Abort + AllocGlobal + Wait>(
-    rt: &R,
-    config: &Config,
-    finished: &Finished,
-) -> Result<(), Fail> {
-    replies_are(rt, finished, FMS, &[Reply::Id(1), NO_ERROR, NO_ERROR]);
-    replies_are(rt, finished, DSP, &[]);
-    replies_are(rt, finished, AIR, &[Reply::Id(1), NO_ERROR]);
-    partition_is(rt, &finished.board, FMS, Mode::ColdStart, 3);
-    partition_is(rt, &finished.board, DSP, Mode::ColdStart, 0);
-    partition_is(rt, &finished.board, AIR, Mode::ColdStart, 2);
-    queue_is(rt, &finished.board, 2, 0, 2);
-    assert!(rt; SPD < finished.board.config().channels());
-    let sample = finished.board.last_sample(SPD).ok_or("no sample")?;
-    assert_eq!(rt; sample.at, Moment(2));
-    assert_eq!(rt; &sample.message, &Message::from_hex("00ff")?);
-    is_repeated(rt, config, finished.board.log())
-}
-
 #[test]
 fn three_workers_under_the_open_gate(rt: HostRuntime) -> Result<(), Fail> {
-    let alloc = rt.alloc();
     let config = config_of(&rt, BASE)?;
-    let scripts = [
-        script_of(
-            alloc,
-            &[
-                create_queuing("NAV_OUT", 4, 2, 0)?,
-                send("01")?,
-                send("02")?,
-            ],
-        )?,
-        script_of(alloc, &[])?,
-        script_of(alloc, &[create_sampling("SPD_OUT")?, write(1, "00ff")?])?,
-    ];
-    let finished = run(&rt, alloc, &config, &scripts, &OpenGate)?;
-    let checked = is_run_by_three(&rt, &config, &finished);
+    let scripts = three_scripts(rt.alloc())?;
+    let finished = run(&rt, rt.alloc(), &config, &scripts, &OpenGate)?;
+    let checked = is_left_by_three(&rt, &config, &finished);
     end(&rt, finished);
     checked
-}
-
-fn is_run_by_all<R: Abort + AllocGlobal + Wait>(
-    rt: &R,
-    config: &Config,
-    finished: &Finished,
-    workers: usize,
-) -> Result<(), Fail>
-    requires { workers ≤ 32 }
-{
-    assert_eq!(rt; finished.replies.len(), workers);
-    for p in 0..workers {
-        replies_are(rt, finished, p, &[NO_ERROR, NO_ACTION]);
-    }
-    assert_eq!(rt; finished.board.log().len(), 2 * workers);
-    is_repeated(rt, config, finished.board.log())
 }
 
 // All workers run at the same time: each looks for the flags of all others before its first call.
 fn wait_for_each_other<R: Abort + AllocGlobal + Sync + Threads + Wait>(
     rt: &R,
-    workers: u32,
+    workers: usize,
 ) -> Result<(), Fail>
     requires { workers ≤ 32 }
 {
@@ -137,11 +64,14 @@ fn wait_for_each_other<R: Abort + AllocGlobal + Sync + Threads + Wait>(
     for _ in 0..workers {
         scripts.push(script_of(alloc, &[GO_NORMAL, GO_NORMAL])?)?;
     }
-    let gate = Together::new(alloc, workers as usize)?;
-    let finished = run(rt, alloc, &config, scripts.as_slice(), &gate)?;
-    let checked = is_run_by_all(rt, &config, &finished, workers as usize);
-    end(rt, finished);
-    checked
+    let gate = Together::new(alloc, workers)?;
+    let replies: &[Reply] = &[NO_ERROR, NO_ACTION];
+    let wanted = Wanted {
+        replies: &[replies; 32][..workers],
+        modes: &[Mode::Normal; 32][..workers],
+        channels: &[],
+    };
+    run_leaves(rt, &config, scripts.as_slice(), &gate, &wanted)
 }
 
 #[test]
@@ -156,51 +86,45 @@ fn thirty_two_workers_wait_for_each_other(rt: HostRuntime) -> Result<(), Fail> {
 
 #[test]
 fn one_worker_with_an_empty_script(rt: HostRuntime) -> Result<(), Fail> {
-    let alloc = rt.alloc();
-    let text = without_ports(alloc, 1)?;
+    let text = without_ports(rt.alloc(), 1)?;
     let config = config_of(&rt, text.as_str())?;
-    let finished = run(&rt, alloc, &config, &[script_of(alloc, &[])?], &OpenGate)?;
-    replies_are(&rt, &finished, 0, &[]);
-    let entries = finished.board.log().len();
-    end(&rt, finished);
-    assert_eq!(rt; entries, 0);
-    Ok(())
+    let scripts = [script_of(rt.alloc(), &[])?];
+    let wanted = Wanted {
+        replies: &[&[]],
+        modes: &[Mode::ColdStart],
+        channels: &[],
+    };
+    run_leaves(&rt, &config, &scripts, &OpenGate, &wanted)
 }
 
-// The fault of a run; a run without one is ended.
-fn fault_of<R: Wait>(rt: &R, answered: Result<Finished, RunFault>) -> Option<RunFault> {
-    match answered {
-        Ok(finished) => {
-            end(rt, finished);
-            None
-        }
-        Err(fault) => Some(fault),
-    }
+// A run, whose board is ended.
+fn run_and_end<R: Threads + Wait + Sync + Abort + AllocGlobal, G: Gate>(
+    rt: &R,
+    config: &Config,
+    scripts: &[Script],
+    gate: &G,
+) -> Result<(), RunFault> {
+    let finished = run(rt, rt.alloc(), config, scripts, gate)?;
+    end(rt, finished);
+    Ok(())
 }
 
 #[test]
 fn a_gate_that_refuses(rt: HostRuntime) -> Result<(), Fail> {
-    let alloc = rt.alloc();
     let config = config_of(&rt, REDUCED)?;
-    let scripts = sender_and_receiver(alloc)?;
+    let scripts = sender_and_receiver(rt.alloc())?;
+    let held = |partition, n| Err(RunFault::Held { partition, n });
     let nowhere = (2, 1);
-    for (one, other, held) in [
-        ((DSP, 2), nowhere, (DSP, 2)),
-        ((FMS, 3), (DSP, 1), (FMS, 3)),
-        ((DSP, 2), (DSP, 1), (DSP, 1)),
+    for (one, other, wanted) in [
+        ((DSP, 2), nowhere, held(DSP, 2)),
+        ((FMS, 3), (DSP, 1), held(FMS, 3)),
+        ((DSP, 2), (DSP, 1), held(DSP, 1)),
+        // No worker comes to these calls.
+        ((FMS, 4), (DSP, 3), Ok(())),
     ] {
-        let gate = Refuses { one, other };
-        let fault = fault_of(&rt, run(&rt, alloc, &config, &scripts, &gate));
-        let (partition, n) = held;
-        assert_eq!(rt; fault, Some(RunFault::Held { partition, n }));
+        let ended = run_and_end(&rt, &config, &scripts, &Refuses { one, other });
+        assert_eq!(rt; ended, wanted);
     }
-    // No worker comes to these calls.
-    let gate = Refuses {
-        one: (FMS, 4),
-        other: (DSP, 3),
-    };
-    let fault = fault_of(&rt, run(&rt, alloc, &config, &scripts, &gate));
-    assert_eq!(rt; fault, None);
     Ok(())
 }
 

@@ -92,19 +92,14 @@ kind = \"sampling\"
 size = 4
 ";
 
-/// So many partitions P1, P2 and so on, without ports.
-pub(crate) fn without_ports(alloc: Global, partitions: u32) -> Result<String, AllocError> {
+/// So many partitions P0, P1 and so on, without ports.
+pub(crate) fn without_ports(alloc: Global, partitions: usize) -> Result<String, AllocError> {
     let mut text = String::new(alloc);
     for number in 0..partitions {
-        text.push_str("[[partition]]\nname = \"P")?;
-        text.push_str(decimal(alloc, u64::from(number) + 1)?.as_str())?;
-        text.push_str("\"\n")?;
+        let partition = format!(in alloc; "[[partition]]\nname = \"P{number}\"\n")?;
+        text.push_str(partition.as_str())?;
     }
     Ok(text)
-}
-
-fn decimal(alloc: Global, number: u64) -> Result<String, AllocError> {
-    number.to_string(alloc)
 }
 
 /// The number of partitions in a ring.
