@@ -213,8 +213,8 @@ pub(crate) fn is_left_by_three<R: Abort + AllocGlobal + Wait, A: Allocator>(
 
 fn replies_are<A: Allocator>(rt: &impl Abort, replies: &[Replies<A>], wanted: &[&[Reply]]) {
     assert_eq!(rt; replies.len(), wanted.len());
-    for (replies, wanted) in replies.iter().zip(wanted) {
-        assert_eq!(rt; replies.list(), *wanted);
+    for (p, wanted) in wanted.iter().enumerate() {
+        assert_eq!(rt; replies[p].list(), *wanted, "of partition {p}");
     }
 }
 

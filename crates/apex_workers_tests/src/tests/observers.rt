@@ -6,7 +6,7 @@ use apex_observers::{Observer, Sampled};
 use apex_types::Validity::{Invalid, Valid};
 use apex_types::{Call, Direction, Message, Moment, OutOfMemory, Reply, Validity};
 use apex_workers::{Finished, LockedBoard, OpenGate, SharedBoard};
-use std::alloc::{AllocError, AllocGlobal, Global};
+use std::alloc::AllocGlobal;
 use std::process::Abort;
 use std::sync::atomic::{AtomicBool, Ordering};
 use std::sync::{MutexGuard, Wait};
@@ -144,13 +144,13 @@ fn an_observer_that_is_told_nothing_sees_both_writes(rt: HostRuntime) -> Result<
     Ok(())
 }
 
-// What the observers show at the moment 55, one after the other, with a refresh period of 50.
-fn shown_by(alloc: Global, observers: &mut [Observer]) -> Result<Vec<Sampled>, AllocError> {
-    let mut shown = Vec::new(alloc);
-    for observer in observers {
-        shown.push(observer.read(Moment(55), 50))?;
-    }
-    Ok(shown)
+// What both observers show at the moment 55, with a refresh period of 50.
+fn shown_by(rt: &impl Abort, observers: &mut [Observer]) -> [Sampled; 2] {
+    assert_eq!(rt; observers.len(), 2);
+    [
+        observers[0].read(Moment(55), 50),
+        observers[1].read(Moment(55), 50),
+    ]
 }
 
 #[test]
@@ -172,10 +172,10 @@ fn observers_show_the_last_samples_until_the_board_is_closed(rt: HostRuntime) ->
         replies: _,
         mut observers,
     } = finished;
-    let before = shown_by(alloc, observers.as_mut_slice());
+    let before = shown_by(&rt, observers.as_mut_slice());
     board.close(&rt);
-    let after = shown_by(alloc, observers.as_mut_slice())?;
-    assert_eq!(rt; before?.as_slice(), last.as_slice());
-    assert_eq!(rt; after.as_slice(), [Sampled::Gone, Sampled::Gone].as_slice());
+    let after = shown_by(&rt, observers.as_mut_slice());
+    assert_eq!(rt; before, last);
+    assert_eq!(rt; after, [Sampled::Gone, Sampled::Gone]);
     Ok(())
 }

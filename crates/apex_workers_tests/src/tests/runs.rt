@@ -109,11 +109,14 @@ fn run_and_end<R: Threads + Wait + Sync + Abort + AllocGlobal, G: Gate>(
     Ok(())
 }
 
+fn held(partition: usize, n: usize) -> Result<(), RunFault> {
+    Err(RunFault::Held { partition, n })
+}
+
 #[test]
 fn a_gate_that_refuses(rt: HostRuntime) -> Result<(), Fail> {
     let config = config_of(&rt, REDUCED)?;
     let scripts = sender_and_receiver(rt.alloc())?;
-    let held = |partition, n| Err(RunFault::Held { partition, n });
     let nowhere = (2, 1);
     for (one, other, wanted) in [
         ((DSP, 2), nowhere, held(DSP, 2)),
