@@ -5,7 +5,7 @@ use crate::tests::examples::{
 use crate::tests::texts::{BASE, DSP, FMS, NAV};
 use apex_board::Board;
 use apex_config::Config;
-use apex_types::{Message, Taken};
+use apex_types::Taken;
 use refusing::Switch;
 use std::alloc::Allocator;
 use std::process::Abort;
@@ -13,26 +13,18 @@ use std::sync::Wait;
 use std::test::Fail;
 
 // The messages taken from NAV are these, each with whether it was cleared, and none waits.
-fn has_taken<A: Allocator>(
-    rt: &impl Abort,
-    board: &Board<A>,
-    wanted: &[(&str, bool)],
-) -> Result<(), Fail> {
+fn has_taken<A: Allocator>(rt: &impl Abort, board: &Board<A>, wanted: &[(&[u8], bool)]) {
     assert!(rt; NAV < board.config().channels());
     assert_eq!(rt; board.waiting_count(NAV), 0);
-    let taken = board.taken(NAV);
+    taken_are(rt, board.taken(NAV), wanted);
+}
+
+fn taken_are(rt: &impl Abort, taken: &[Taken], wanted: &[(&[u8], bool)]) {
     assert_eq!(rt; taken.len(), wanted.len());
     for (one, (message, cleared)) in taken.iter().zip(wanted) {
-        let message = Message::from_hex(message)?;
-        assert_eq!(rt;
-            one,
-            &Taken {
-                message,
-                cleared: *cleared
-            }
-        );
+        assert_eq!(rt; one.message.bytes(), *message);
+        assert_eq!(rt; one.cleared, *cleared);
     }
-    Ok(())
 }
 
 fn takes_the_rest<A: Allocator, R: Abort + Wait>(rt: &R, board: &mut Board<A>) -> Result<(), Fail> {
@@ -50,8 +42,9 @@ fn takes_the_rest<A: Allocator, R: Abort + Wait>(rt: &R, board: &mut Board<A>) -
     has_taken(
         rt,
         board,
-        &[("01", false), ("02", true), ("03", true), ("04", false)],
-    )
+        &[(&[1], false), (&[2], true), (&[3], true), (&[4], false)],
+    );
+    Ok(())
 }
 
 #[test]
@@ -76,7 +69,8 @@ fn clears_without_memory<A: Allocator, B: Allocator, R: Abort + Wait>(
     board.reserve(1)?;
     switch.refuse_all();
     answers(rt, board, &[(DSP, 7, clear(1), NO_ERROR)])?;
-    has_taken(rt, board, &[("01", true), ("02", true)])
+    has_taken(rt, board, &[(&[1], true), (&[2], true)]);
+    Ok(())
 }
 
 #[test]

@@ -6,7 +6,7 @@ use crate::tests::texts::{AIR, DSP, FMS};
 use apex_board::{Board, Request, Stopped, run_list};
 use apex_config::Config;
 use apex_types::{Call, Message, Moment, Name, OutOfMemory, Reply, ReturnCode, Validity};
-use std::alloc::{AllocGlobal, Allocator};
+use std::alloc::{AllocError, AllocGlobal, Allocator, Global};
 use std::process::Abort;
 use std::sync::Wait;
 use std::test::Fail;
@@ -89,6 +89,11 @@ pub(crate) fn shown(message: &str, validity: Validity) -> Result<Reply, Fail> {
     })
 }
 
+/// The message of a number: its four bytes, the highest first.
+pub(crate) fn numbered(number: u32) -> Result<Message, Fail> {
+    Ok(Message::from_bytes(&number.to_be_bytes())?)
+}
+
 /// FMS and DSP create the ports of the channel NAV and go into NORMAL.
 pub(crate) fn queuing_ports() -> Result<[Row; 4], Fail> {
     Ok([
@@ -150,6 +155,34 @@ pub(crate) fn answers<A: Allocator, R: Abort + Wait>(
         answer(rt, board, row)?;
     }
     Ok(())
+}
+
+/// How many entries the board's log has.
+pub(crate) fn entries<A: Allocator>(board: &Board<A>) -> usize {
+    board.log().len()
+}
+
+/// How many messages a channel of the board accepted, how many were taken from it, and how many wait there.
+pub(crate) fn counts<A: Allocator>(rt: &impl Abort, board: &Board<A>, c: usize) -> [usize; 3] {
+    assert!(rt; c < board.config().channels());
+    [
+        board.accepted(c).len(),
+        board.taken(c).len(),
+        board.waiting_count(c),
+    ]
+}
+
+/// The calls of a table as a list.
+pub(crate) fn requests_of(rows: &[Row], alloc: Global) -> Result<Vec<Request>, AllocError> {
+    let mut requests = Vec::with_capacity(alloc, rows.len())?;
+    for (partition, at, call, _) in rows {
+        requests.push(Request {
+            partition: *partition,
+            at: Moment(*at),
+            call: call.copy(),
+        })?;
+    }
+    Ok(requests)
 }
 
 /// Answers the list, whose partitions the board has.

@@ -2,9 +2,10 @@
 ghost use Rattle.std.specs.Prelude.{◌<◌};
 
 use crate::tests::examples::{
-    NO_ERROR, Row, answers, board_of, create_queuing, create_sampling, read, receive,
+    NO_ERROR, Row, answers, board_of, counts, create_queuing, create_sampling, entries, numbered,
+    read, receive,
 };
-use crate::tests::many_calls::ports_answer;
+use crate::tests::many_calls::{calls_are, ports_answer, ports_counts};
 use apex_board::Board;
 use apex_config::Config;
 use apex_ports::Ports;
@@ -107,11 +108,6 @@ fn creation(alloc: Global, partition: u32, place: u32) -> Result<Row, Fail>
     Ok((partition as usize, 1, call, Reply::Id(place + 1)))
 }
 
-/// The one message that goes through a channel: the channel's number in four bytes.
-fn message_of(channel: u32) -> Result<Message, Fail> {
-    Ok(Message::from_bytes(&channel.to_be_bytes())?)
-}
-
 fn queuing_usage(partition: usize, id: u32, source: bool, message: Message) -> Row {
     if source {
         (partition, 2, Call::SendQueuing { id, message }, NO_ERROR)
@@ -131,12 +127,12 @@ fn sampling_usage(partition: usize, id: u32, source: bool, message: Message) -> 
     (partition, 2, read(id), shown)
 }
 
-/// The use of a port: its channel's message is sent or written, or received or read.
+/// The use of a port: its channel's message, which has the channel's number, is sent or written, or received or read.
 fn usage(partition: u32, place: u32) -> Result<Row, Fail>
     requires partition { partition < 16 }
     requires place { place < 32 }
 {
-    let message = message_of(channel_at(partition, place))?;
+    let message = numbered(channel_at(partition, place))?;
     let source = is_source(place);
     if is_queuing(place) {
         return Ok(queuing_usage(partition as usize, place + 1, source, message));
@@ -170,13 +166,11 @@ fn serves_full_module<A: Allocator, R: Abort + Wait>(
     rows: &[Row],
 ) -> Result<(), Fail> {
     answers(rt, board, rows)?;
-    assert_eq!(rt; board.log().len(), 1024);
+    assert_eq!(rt; entries(board), 1024);
     assert!(rt; board.config().channels() == 64);
     for c in 0..64usize {
         let queued = if c < 32 { 1 } else { 0 };
-        assert_eq!(rt; board.accepted(c).len(), queued);
-        assert_eq!(rt; board.taken(c).len(), queued);
-        assert_eq!(rt; board.waiting_count(c), 0);
+        assert_eq!(rt; counts(rt, board, c), [queued, queued, 0]);
         assert_eq!(rt; board.last_sample(c).is_some(), c >= 32);
     }
     Ok(())
@@ -200,19 +194,13 @@ fn ports_serve_full_module(rt: HostRuntime) -> Result<(), Fail> {
     let switch = Switch::new(rt.alloc());
     let mut ports = Ports::new(&switch, config)?;
     switch.refuse_all();
-    for row in &rows {
-        ports_answer(&rt, &mut ports, row);
-    }
+    ports_answer(&rt, &mut ports, rows.as_slice());
     assert_eq!(rt; switch.requests(), 0);
-    assert!(rt; ports.config().partitions() == 16);
-    for p in 0..16usize {
-        assert_eq!(rt; ports.calls(p), 64);
-    }
+    calls_are(&rt, &ports, &[64; 16]);
     assert!(rt; ports.config().channels() == 64);
     for c in 0..64usize {
         let queued = if c < 32 { 1 } else { 0 };
-        assert_eq!(rt; ports.accepted_count(c), queued);
-        assert_eq!(rt; ports.received_count(c), queued);
+        assert_eq!(rt; ports_counts(&rt, &ports, c), [queued, queued]);
         assert_eq!(rt; ports.last_sample(c).is_some(), c >= 32);
     }
     Ok(())

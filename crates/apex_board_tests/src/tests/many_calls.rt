@@ -1,12 +1,13 @@
 //! Thousands of calls: within the room of a board, in a list, and on the ports alone, which take no memory.
 use crate::tests::examples::{
-    NO_ERROR, Row, answers, board_of, mode, queuing_ports, receive, run, send,
+    NO_ERROR, Row, answers, board_of, counts, entries, mode, numbered, queuing_ports, receive,
+    requests_of, run, send,
 };
 use crate::tests::texts::{AIR, BASE, DSP, FMS, NAV};
 use apex_board::{Board, Request};
 use apex_config::Config;
 use apex_ports::Ports;
-use apex_types::{Call, Message, Moment, Reply};
+use apex_types::{Call, Moment, Reply};
 use refusing::Switch;
 use std::alloc::{Allocator, Global};
 use std::process::Abort;
@@ -15,7 +16,7 @@ use std::test::Fail;
 
 /// FMS sends the message of a number into NAV, and DSP receives it.
 fn exchange(number: u32) -> Result<[Row; 2], Fail> {
-    let sent = Message::from_bytes(&number.to_be_bytes())?;
+    let sent = numbered(number)?;
     let message = sent.copy();
     Ok([
         (FMS, 5, Call::SendQueuing { id: 1, message }, NO_ERROR),
@@ -23,12 +24,33 @@ fn exchange(number: u32) -> Result<[Row; 2], Fail> {
     ])
 }
 
-/// Makes a call on the ports alone, and compares the reply.
-pub(crate) fn ports_answer<A: Allocator>(rt: &impl Abort, ports: &mut Ports<A>, row: &Row) {
-    let (partition, at, call, wanted) = row;
+// Makes a call on the ports alone.
+fn ports_reply<A: Allocator>(rt: &impl Abort, ports: &mut Ports<A>, row: &Row) -> Reply {
+    let (partition, at, call, _) = row;
     assert!(rt; *partition < ports.config().partitions());
-    let reply = ports.call(*partition, Moment(*at), call);
-    assert_eq!(rt; &reply, wanted, "at {at}");
+    ports.call(*partition, Moment(*at), call)
+}
+
+/// Makes the calls of a table on the ports alone, and compares each reply.
+pub(crate) fn ports_answer<A: Allocator>(rt: &impl Abort, ports: &mut Ports<A>, rows: &[Row]) {
+    for row in rows {
+        let (_, at, _, wanted) = row;
+        assert_eq!(rt; &ports_reply(rt, ports, row), wanted, "at {at}");
+    }
+}
+
+/// How many calls each partition made.
+pub(crate) fn calls_are<A: Allocator>(rt: &impl Abort, ports: &Ports<A>, wanted: &[u64]) {
+    assert!(rt; ports.config().partitions() == wanted.len());
+    for (p, calls) in wanted.iter().enumerate() {
+        assert_eq!(rt; ports.calls(p), *calls);
+    }
+}
+
+/// How many messages a channel accepted, and how many were received from it.
+pub(crate) fn ports_counts<A: Allocator>(rt: &impl Abort, ports: &Ports<A>, c: usize) -> [u64; 2] {
+    assert!(rt; c < ports.config().channels());
+    [ports.accepted_count(c), ports.received_count(c)]
 }
 
 fn exchanges<A: Allocator, R: Abort + Wait>(
@@ -52,10 +74,8 @@ fn five_thousand_calls<A: Allocator, B: Allocator, R: Abort + Wait>(
     switch.refuse_all();
     exchanges(rt, board, 2498)?;
     assert_eq!(rt; switch.requests(), 0);
-    assert_eq!(rt; board.log().len(), 5000);
-    assert!(rt; NAV < board.config().channels());
-    assert_eq!(rt; board.accepted(NAV).len(), 2498);
-    assert_eq!(rt; board.taken(NAV).len(), 2498);
+    assert_eq!(rt; entries(board), 5000);
+    assert_eq!(rt; counts(rt, board, NAV), [2498, 2498, 0]);
     Ok(())
 }
 
@@ -73,34 +93,24 @@ fn five_thousand_calls_within_room(rt: HostRuntime) -> Result<(), Fail> {
 fn three_thousand_calls_without_reserve(rt: HostRuntime) -> Result<(), Fail> {
     let mut board = board_of(&rt, BASE)?;
     let served = exchanges(&rt, &mut board, 1498);
-    let entries = board.log().len();
+    let made = entries(&board);
     board.close(&rt);
-    assert_eq!(rt; entries, 3000);
+    assert_eq!(rt; made, 3000);
     served
-}
-
-fn push_request(requests: &mut Vec<Request>, row: &Row) -> Result<(), Fail> {
-    let (partition, at, call, _) = row;
-    requests.push(Request {
-        partition: *partition,
-        at: Moment(*at),
-        call: call.copy(),
-    })?;
-    Ok(())
 }
 
 /// The ports of NAV are created, and 1,498 messages go through it: 3,000 requests.
 fn long_list(alloc: Global) -> Result<Vec<Request>, Fail> {
-    let mut requests = Vec::new(alloc);
-    for row in &queuing_ports()? {
-        push_request(&mut requests, row)?;
+    let mut rows = Vec::new(alloc);
+    for row in queuing_ports()? {
+        rows.push(row)?;
     }
     for number in 0..1498u32 {
-        for row in &exchange(number)? {
-            push_request(&mut requests, row)?;
-        }
+        let [sent, received] = exchange(number)?;
+        rows.push(sent)?;
+        rows.push(received)?;
     }
-    Ok(requests)
+    Ok(requests_of(rows.as_slice(), alloc)?)
 }
 
 fn answers_long_list<A: Allocator, R: Abort + Wait>(
@@ -109,10 +119,8 @@ fn answers_long_list<A: Allocator, R: Abort + Wait>(
     requests: &[Request],
 ) {
     assert!(rt; run(rt, board, requests).is_ok());
-    assert_eq!(rt; board.log().len(), 3000);
-    assert!(rt; NAV < board.config().channels());
-    assert_eq!(rt; board.accepted(NAV).len(), 1498);
-    assert_eq!(rt; board.taken(NAV).len(), 1498);
+    assert_eq!(rt; entries(board), 3000);
+    assert_eq!(rt; counts(rt, board, NAV), [1498, 1498, 0]);
 }
 
 #[test]
@@ -125,36 +133,41 @@ fn list_of_three_thousand_requests(rt: HostRuntime) -> Result<(), Fail> {
     Ok(())
 }
 
+// The ports of NAV are created, and so many messages go through it.
+fn ports_exchange<A: Allocator>(
+    rt: &impl Abort,
+    ports: &mut Ports<A>,
+    messages: u32,
+) -> Result<(), Fail> {
+    ports_answer(rt, ports, &queuing_ports()?);
+    for number in 0..messages {
+        ports_answer(rt, ports, &exchange(number)?);
+    }
+    Ok(())
+}
+
 // The counts after 4,000 messages, one that waits, and 1,000 calls in IDLE.
 fn counts_are_shown<A: Allocator>(rt: &impl Abort, ports: &Ports<A>) {
-    assert!(rt; ports.config().partitions() == 3);
-    assert_eq!(rt; ports.calls(FMS), 4003);
-    assert_eq!(rt; ports.calls(DSP), 4002);
-    assert_eq!(rt; ports.calls(AIR), 1001);
+    calls_are(rt, ports, &[4003, 4002, 1001]);
+    assert_eq!(rt; ports_counts(rt, ports, NAV), [4001, 4000]);
     assert!(rt; NAV < ports.config().channels());
-    assert_eq!(rt; ports.accepted_count(NAV), 4001);
-    assert_eq!(rt; ports.received_count(NAV), 4000);
     assert_eq!(rt; ports.waiting_count(NAV), 1);
 }
 
 #[test]
 fn ports_answer_without_memory(rt: HostRuntime) -> Result<(), Fail> {
     let config = Config::read(rt.alloc(), BASE.as_bytes())?;
+    let last = [
+        (FMS, 7, send(1, "01")?, NO_ERROR),
+        (AIR, 7, mode(0), NO_ERROR),
+    ];
     let switch = Switch::new(rt.alloc());
     let mut ports = Ports::new(&switch, config)?;
     switch.refuse_all();
-    for row in &queuing_ports()? {
-        ports_answer(&rt, &mut ports, row);
-    }
-    for number in 0..4000u32 {
-        for row in &exchange(number)? {
-            ports_answer(&rt, &mut ports, row);
-        }
-    }
-    ports_answer(&rt, &mut ports, &(FMS, 7, send(1, "01")?, NO_ERROR));
-    ports_answer(&rt, &mut ports, &(AIR, 7, mode(0), NO_ERROR));
+    ports_exchange(&rt, &mut ports, 4000)?;
+    ports_answer(&rt, &mut ports, &last);
     for _ in 0..1000u32 {
-        ports_answer(&rt, &mut ports, &(AIR, 8, mode(3), Reply::NotMade));
+        ports_answer(&rt, &mut ports, &[(AIR, 8, mode(3), Reply::NotMade)]);
     }
     assert_eq!(rt; switch.requests(), 0);
     counts_are_shown(&rt, &ports);

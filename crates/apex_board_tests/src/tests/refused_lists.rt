@@ -1,28 +1,17 @@
 //! Refused memory, of lists of requests: those before the stop are answered and no other.
-use crate::tests::examples::{NO_ERROR, Row, answers, board_of, receive, received, run, send};
+use crate::tests::examples::{
+    NO_ERROR, Row, answers, board_of, entries, receive, received, requests_of, run, send,
+};
 use crate::tests::refused_memory::{
     ALLOCATION_LIMIT, config_of, full_queue, shows_same, shows_same_after,
 };
 use crate::tests::texts::{BASE, DSP, FMS};
 use apex_board::{Board, Request};
-use apex_types::Moment;
 use refusing::Switch;
-use std::alloc::{AllocError, AllocGlobal, Allocator, Global};
+use std::alloc::{AllocGlobal, Allocator};
 use std::process::Abort;
 use std::sync::Wait;
 use std::test::Fail;
-
-fn requests_of(rows: &[Row], alloc: Global) -> Result<Vec<Request>, AllocError> {
-    let mut requests = Vec::with_capacity(alloc, rows.len())?;
-    for (partition, at, call, _) in rows {
-        requests.push(Request {
-            partition: *partition,
-            at: Moment(*at),
-            call: call.copy(),
-        })?;
-    }
-    Ok(requests)
-}
 
 // The board shows the same as one with ample memory that has answered the requests.
 fn shows_same_after_list<R: AllocGlobal + Abort + Wait, A: Allocator>(
@@ -45,7 +34,7 @@ fn goes_on<R: AllocGlobal + Abort + Wait, A: Allocator>(
     done: usize,
 ) -> Result<(), Fail> {
     assert!(rt; done <= requests.len());
-    assert_eq!(rt; board.log().len(), done);
+    assert_eq!(rt; entries(board), done);
     shows_same_after_list(rt, board, &requests[..done])?;
     run(rt, board, &requests[done..])?;
     shows_same_after_list(rt, board, requests)

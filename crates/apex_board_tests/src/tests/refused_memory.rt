@@ -2,14 +2,14 @@
 ghost use Rattle.std.specs.Prelude.{◌<◌, length};
 
 use crate::tests::examples::{
-    NO_ERROR, NOT_AVAILABLE, Row, answer, answers, ask, board_of, create_queuing, queuing_ports,
-    read, receive, received, sampling_ports, send, shown, write,
+    NO_ERROR, NOT_AVAILABLE, Row, answer, answers, ask, board_of, counts, create_queuing, entries,
+    queuing_ports, read, receive, received, sampling_ports, send, shown, write,
 };
 use crate::tests::texts::{AIR, BASE, DSP, FMS, NAV};
 use apex_board::Board;
 use apex_config::Config;
-use apex_types::Reply;
 use apex_types::Validity::Valid;
+use apex_types::{Message, Reply, Sample, Taken, Validity};
 use refusing::Switch;
 use std::alloc::{AllocGlobal, Allocator};
 use std::process::Abort;
@@ -24,6 +24,13 @@ pub(crate) fn config_of<R: AllocGlobal>(rt: &R) -> Result<Config, Fail> {
     Ok(Config::read(rt.alloc(), BASE.as_bytes())?)
 }
 
+// What a board shows of an identifier: whether its port is created, and what its last read showed.
+fn port_shown<A: Allocator>(board: &Board<A>, p: usize, id: u32) -> (bool, Validity)
+    requires { p < length board.now.config.partitions }
+{
+    (board.created(p, id), board.last_validity(p, id))
+}
+
 // Both boards show the same of a partition.
 fn partition_shows_same<A: Allocator, B: Allocator>(
     rt: &impl Abort,
@@ -36,28 +43,30 @@ fn partition_shows_same<A: Allocator, B: Allocator>(
 {
     assert_eq!(rt; one.mode(p), other.mode(p));
     for id in 0..4u32 {
-        assert_eq!(rt; one.created(p, id), other.created(p, id));
-        assert_eq!(rt; one.last_validity(p, id), other.last_validity(p, id));
+        assert!(rt; port_shown(one, p, id) == port_shown(other, p, id));
     }
 }
 
-// Both boards show the same of a channel.
-fn channel_shows_same<A: Allocator, B: Allocator>(
-    rt: &impl Abort,
-    one: &Board<A>,
-    other: &Board<B>,
+// The messages that a channel accepted, those taken from it, and the last sample.
+fn history_shown<A: Allocator>(
+    board: &Board<A>,
     c: usize,
-)
-    requires one { c < length one.now.config.channels }
-    requires other { c < length other.now.config.channels }
+) -> (&[Message], &[Taken], Option<&Sample>)
+    requires { c < length board.now.config.channels }
 {
-    assert_eq!(rt; one.accepted(c), other.accepted(c));
-    assert_eq!(rt; one.taken(c), other.taken(c));
-    assert_eq!(rt; one.waiting_count(c), other.waiting_count(c));
-    for i in 0..3usize {
-        assert_eq!(rt; one.waiting(c, i), other.waiting(c, i));
-    }
-    assert_eq!(rt; one.last_sample(c), other.last_sample(c));
+    (board.accepted(c), board.taken(c), board.last_sample(c))
+}
+
+// The messages that wait on a channel, and how many they are.
+fn waiting_shown<A: Allocator>(board: &Board<A>, c: usize) -> (usize, [Option<&Message>; 3])
+    requires { c < length board.now.config.channels }
+{
+    let waiting = [
+        board.waiting(c, 0),
+        board.waiting(c, 1),
+        board.waiting(c, 2),
+    ];
+    (board.waiting_count(c), waiting)
 }
 
 /// Both boards show the same, their rooms excepted.
@@ -74,7 +83,8 @@ pub(crate) fn shows_same<A: Allocator, B: Allocator>(
     }
     assert_eq!(rt; one.config().channels(), other.config().channels());
     for c in 0..one.config().channels() {
-        channel_shows_same(rt, one, other, c);
+        assert!(rt; history_shown(one, c) == history_shown(other, c));
+        assert!(rt; waiting_shown(one, c) == waiting_shown(other, c));
     }
 }
 
@@ -120,6 +130,15 @@ pub(crate) fn shows_same_after<R: AllocGlobal + Abort + Wait, A: Allocator>(
     answered
 }
 
+// FMS creates its port and sends a message, and DSP creates its port.
+fn three_calls() -> Result<[Row; 3], Fail> {
+    Ok([
+        (FMS, 5, create_queuing("NAV_OUT", 4, 2, 0, 0)?, Reply::Id(1)),
+        (FMS, 5, send(1, "01")?, NO_ERROR),
+        (DSP, 5, create_queuing("NAV_IN", 4, 2, 1, 0)?, Reply::Id(1)),
+    ])
+}
+
 fn serves_within_room<R: AllocGlobal + Abort + Wait, A: Allocator, B: Allocator>(
     rt: &R,
     switch: &Switch<B>,
@@ -127,16 +146,11 @@ fn serves_within_room<R: AllocGlobal + Abort + Wait, A: Allocator, B: Allocator>
 ) -> Result<(), Fail> {
     board.reserve(3)?;
     assert!(rt; board.room() >= 3);
-    let rows = [
-        (FMS, 5, create_queuing("NAV_OUT", 4, 2, 0, 0)?, Reply::Id(1)),
-        (FMS, 5, send(1, "01")?, NO_ERROR),
-        (DSP, 5, create_queuing("NAV_IN", 4, 2, 1, 0)?, Reply::Id(1)),
-    ];
+    let rows = three_calls()?;
     switch.refuse_all();
     answers(rt, board, &rows)?;
-    assert_eq!(rt; board.log().len(), 3);
-    assert!(rt; NAV < board.config().channels());
-    assert_eq!(rt; board.accepted(NAV).len(), 1);
+    assert_eq!(rt; entries(board), 3);
+    assert_eq!(rt; counts(rt, board, NAV), [1, 0, 1]);
     shows_same_after(rt, board, &rows)?;
     assert_eq!(rt; switch.requests(), 0);
     Ok(())
