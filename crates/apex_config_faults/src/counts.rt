@@ -1,6 +1,6 @@
 //! The places with too few or too many partitions, ports or channels.
-ghost use Rattle.std.specs.Prelude.{◌&&◌, nat_le, sum_by, OnOk};
-ghost use Rattle.apex_config_faults.specs.Places.{Adds, one_unless, too_many_ports, bad_counts};
+ghost use Rattle.std.specs.Prelude.{sum_by, OnOk};
+ghost use Rattle.apex_config_faults.specs.Places.{Adds, bad_count, too_many_ports, bad_counts};
 
 use crate::config_text::{ConfigText, PartitionText};
 use crate::finding::Finding;
@@ -17,7 +17,7 @@ fn add_count<'a>(
     least: usize,
     most: usize,
 ) -> Result<(), AllocError>
-    ensures { OnOk result (Adds (one_unless (nat_le least count && nat_le count most)) places.old.items places.new.items) }
+    ensures { OnOk result (Adds (bad_count least most count) places.old.items places.new.items) }
 {
     if least <= count && count <= most {
         return Ok(());

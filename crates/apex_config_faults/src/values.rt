@@ -1,8 +1,8 @@
 //! The places whose name or number is wrong, and those whose name stood before.
 ghost use Rattle.std.specs.Prelude.{◌≡◌, sum_by, OnOk};
-ghost use Rattle.apex_config_faults.specs.Places.{Adds, one_unless, bad_port_names, bad_partition_names, bad_channel_name, bad_names, bad_refreshes, bad_partition_refreshes, bad_channel_numbers, bad_numbers};
+ghost use Rattle.apex_config_faults.specs.Places.{Adds, one_unless, bad_port_names, bad_partition_names, bad_channel_name, bad_names, bad_number, bad_refreshes, bad_partition_refreshes, bad_channel_numbers, bad_numbers};
 ghost use Rattle.apex_config.specs.Passes.{is_name};
-ghost use Rattle.apex_config.specs.Meaning.{is_from_one_to, is_from_one_to_if_any};
+ghost use Rattle.apex_config.specs.Meaning.{is_from_one_to};
 
 use crate::config_text::{ChannelText, ConfigText, PartitionText, PortText};
 use crate::finding::{Finding, Found, Wanted};
@@ -113,7 +113,7 @@ fn add_out_of_range<'a>(
     number: Option<i64>,
     most: u64,
 ) -> Result<(), AllocError>
-    ensures { OnOk result (Adds (one_unless (is_from_one_to_if_any most number)) places.old.items places.new.items) }
+    ensures { OnOk result (Adds (bad_number most number) places.old.items places.new.items) }
 {
     let Some(number) = number else {
         return Ok(());
