@@ -46,14 +46,27 @@ fn explain_calls(
     ensures { IfOk result (λ told. told.fault ≡ None) }
 {
     let mut text = replied(alloc, config.copy()?, trace)?;
-    let mut ports = Ports::new(alloc, config)?;
-    let entries = entries_of(alloc, &mut ports, requests.as_slice())?;
-    let trace = str::from_utf8(trace).unwrap_or("");
-    push_remarks(alloc, &mut text, &ports, trace, entries.as_slice())?;
+    push_ending(alloc, &mut text, config, requests.as_slice(), trace)?;
     Ok(Explanation {
         text: text.into_bytes(),
         fault: None,
     })
+}
+
+/// What is worth a look when the calls of a trace have been made.
+fn push_ending(
+    alloc: Global,
+    text: &mut String,
+    config: Config,
+    requests: &[Request],
+    trace: &[u8],
+) -> Result<(), Fault>
+    requires { HavePartitions config requests.now }
+{
+    let mut ports = Ports::new(alloc, config)?;
+    let entries = entries_of(alloc, &mut ports, requests)?;
+    let trace = str::from_utf8(trace).unwrap_or("");
+    Ok(push_remarks(alloc, text, &ports, trace, entries.as_slice())?)
 }
 
 /// The explanation of a trace up to its first faulty line, and what is wrong with that.
