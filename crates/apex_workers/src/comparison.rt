@@ -28,8 +28,8 @@ pub(crate) fn is_collected_for<A: Allocator>(
 
 /// Whether the log has the calls of each partition's script with the replies to them, each once and in order.
 ///
-/// It goes over the log once. The counts say how many calls of each partition it has met.
-pub(crate) fn is_collected<A: Allocator>(
+/// It goes over the log once. The counts, 0 for each partition before, say then how many of its calls were met.
+pub fn is_collected<A: Allocator>(
     log: &[Entry],
     scripts: &[Script],
     replies: &[Replies<A>],

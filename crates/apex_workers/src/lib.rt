@@ -10,15 +10,14 @@ pub mod replies;
 pub mod run;
 pub mod script;
 pub mod shared;
-#[cfg(test)]
-mod tests;
 mod worker;
 mod workers;
 
+pub use crate::comparison::is_collected;
 pub use crate::fault::RunFault;
 pub use crate::gate::{Gate, Held, OpenGate};
 pub use crate::locked::LockedBoard;
 pub use crate::replies::Replies;
-pub use crate::run::{Finished, run_scripts};
+pub use crate::run::{Finished, run_over, run_scripts};
 pub use crate::script::Script;
 pub use crate::shared::{AskFault, SharedBoard};

@@ -68,11 +68,9 @@ pub fn run_scripts<R: Threads + Wait + Sync, A: Allocator + Copy + Send + Sync, 
     // Where a worker was held, the gate may refuse the call that the fault names.
     ensures held { IfErr result (NamesHeldCall (G.may_refuse gate.now) scripts.now) }
 {
-    let empty = lists_for(alloc, scripts)?;
-    let room = Vec::with_capacity(alloc, scripts.len())?;
     let counts = vec![in alloc; 0usize; scripts.len()]?;
     let shared = LockedObservedBoard::new(ObservedBoard::new(rt, alloc, config.copy()?)?);
-    let answered = run_all(rt, &shared, gate, scripts, empty, room);
+    let answered = run_over(rt, alloc, &shared, gate, scripts);
     let observed = shared.into_observed();
     match answered {
         Ok(replies) => collected(rt, config, scripts, observed, replies, counts),
@@ -83,8 +81,25 @@ pub fn run_scripts<R: Threads + Wait + Sync, A: Allocator + Copy + Send + Sync, 
     }
 }
 
+/// Runs the scripts as `run_scripts` does, over a shared board of the caller's, and answers the replies of each
+/// partition's worker, in the partitions' order.
+pub fn run_over<R: Threads + Wait + Sync, S: SharedBoard, G: Gate, A: Allocator + Copy + Send>(
+    rt: &R,
+    alloc: A,
+    board: &S,
+    gate: &G,
+    scripts: &[Script],
+) -> Result<Vec<Replies<A>, A>, RunFault>
+    ensures count { IfOk result (λ replies. vec_len replies ≡ length scripts.now) }
+    ensures held { IfErr result (NamesHeldCall (G.may_refuse gate.now) scripts.now) }
+{
+    let empty = lists_for(alloc, scripts)?;
+    let room = Vec::with_capacity(alloc, scripts.len())?;
+    run_all(rt, board, gate, scripts, empty, room)
+}
+
 /// An empty vector for each script, with places for all replies to it.
-pub(crate) fn lists_for<A: Allocator + Copy>(
+fn lists_for<A: Allocator + Copy>(
     alloc: A,
     scripts: &[Script],
 ) -> Result<Vec<Vec<Reply, A>, A>, AllocError>
@@ -100,7 +115,7 @@ pub(crate) fn lists_for<A: Allocator + Copy>(
 }
 
 /// Runs all workers in one scope.
-pub(crate) fn run_all<R: Threads + Wait + Sync, S: SharedBoard, G: Gate, A: Allocator + Send>(
+fn run_all<R: Threads + Wait + Sync, S: SharedBoard, G: Gate, A: Allocator + Send>(
     rt: &R,
     board: &S,
     gate: &G,

@@ -1,4 +1,5 @@
 //! Runs with real threads: worked examples, orders forced by gates, many runs, and refused memory.
+mod comparison;
 mod examples;
 mod gates;
 mod locked;
@@ -6,5 +7,6 @@ mod many_runs;
 mod observers;
 mod orders;
 mod refused_memory;
+mod refusing_board;
 mod runs;
 mod texts;

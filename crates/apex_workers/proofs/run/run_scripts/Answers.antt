@@ -7,6 +7,6 @@ pub returns-in-Ok-clause-count : goal.returns-in-Ok-clause-count
 returns-in-Ok-clause-count g c =
     subst (λ (n : ℕ). IfOk c.collected.result (λ finished. vec_len finished.replies ≡ n)) c.requires c.collected.ensures.count
 
-pub run_all-answered-requires-sync-S : goal.run_all-answered-requires-sync-S
-run_all-answered-requires-sync-S g c κs within =
+pub run_over-answered-requires-sync-S : goal.run_over-answered-requires-sync-S
+run_over-answered-requires-sync-S g c κs within =
     record { shared = (LockedObservedBoard-sync (run_scripts.A-row g.row.R g.row.A g.row.G) g.A.Allocator c.type_bounds.send-A c.type_bounds.sync-A c.type_bounds.frees-A-Allocator).shared }

@@ -1,100 +1,17 @@
-//! Workers over a board in memory that refuses calls, and the comparison with what was handed out.
-use crate::comparison::is_collected;
-use crate::fault::RunFault;
-use crate::gate::OpenGate;
-use crate::replies::Replies;
-use crate::run::{lists_for, run_all};
-use crate::script::Script;
-use crate::shared::{AskFault, SharedBoard};
+//! The comparison of a log with the scripts and the replies that were handed out.
 use apex_board::Entry;
 use apex_types::{Call, Moment, Reply, ReturnCode};
+use apex_workers::{Replies, Script, is_collected};
 use std::alloc::{AllocError, Global};
-use std::process::Abort;
-use std::sync::Wait;
-use std::sync::atomic::{AtomicU64, Ordering};
 use std::test::Fail;
-use std::thread::Threads;
 
-/// A board that answers NO_ERROR, except that it refuses the second call of each partition that has a refusal.
-#[derive(Drop)]
-struct Fake {
-    asked: [AtomicU64; 2],
-    refusals: [Option<AskFault>; 2],
-}
-
-impl Fake {
-    fn new(refusals: [Option<AskFault>; 2]) -> Fake {
-        Fake {
-            asked: [AtomicU64::new(0), AtomicU64::new(0)],
-            refusals,
-        }
-    }
-
-    fn asked(&self) -> [u64; 2] {
-        [
-            self.asked[0].load(Ordering::SeqCst),
-            self.asked[1].load(Ordering::SeqCst),
-        ]
-    }
-}
-
-impl SharedBoard for Fake {
-    fn ask<R: Wait>(
-        &self,
-        _rt: &R,
-        partition: usize,
-        _at: Moment,
-        _call: &Call,
-    ) -> Result<Reply, AskFault> {
-        if partition >= 2 {
-            return Err(AskFault::NoPartition);
-        }
-        let before = self.asked[partition].fetch_add(1, Ordering::SeqCst);
-        match self.refusals[partition] {
-            Some(refusal) if before == 1 => Err(refusal),
-            _ => Ok(Reply::Code(ReturnCode::NoError)),
-        }
-    }
-}
-
-// So many changes of mode, at the moments from 1 on.
-fn script_of(alloc: Global, calls: u32) -> Result<Script, AllocError> {
+/// The script of so many changes of mode, at the moments from 1 on.
+pub(crate) fn mode_changes(alloc: Global, calls: u32) -> Result<Script, AllocError> {
     let mut script = Vec::with_capacity(alloc, calls as usize)?;
     for mode in 0..calls {
         script.push((Moment(u64::from(mode) + 1), Call::SetMode { mode }))?;
     }
     Ok(Script { calls: script })
-}
-
-// The fault of two workers with four calls each over the board.
-fn fault_over<R: Threads + Wait + Sync + Abort>(
-    rt: &R,
-    alloc: Global,
-    fake: &Fake,
-) -> Result<Option<RunFault>, Fail> {
-    let scripts = [script_of(alloc, 4)?, script_of(alloc, 4)?];
-    let lists = lists_for(alloc, &scripts)?;
-    let room = Vec::with_capacity(alloc, 2)?;
-    Ok(run_all(rt, fake, &OpenGate, &scripts, lists, room).err())
-}
-
-#[test]
-fn a_worker_stops_and_the_other_ends_its_script(rt: HostRuntime) -> Result<(), Fail> {
-    let wanting = Some(AskFault::OutOfMemory);
-    let foreign = Some(AskFault::NoPartition);
-    for (refusals, asked, fault) in [
-        ([None, None], [4, 4], None),
-        ([wanting, None], [2, 4], Some(RunFault::OutOfMemory)),
-        ([None, wanting], [4, 2], Some(RunFault::OutOfMemory)),
-        ([None, foreign], [4, 2], Some(RunFault::Stranger)),
-        ([foreign, wanting], [2, 2], Some(RunFault::Stranger)),
-        ([wanting, foreign], [2, 2], Some(RunFault::OutOfMemory)),
-    ] {
-        let fake = Fake::new(refusals);
-        assert_eq!(rt; fault_over(&rt, rt.alloc(), &fake)?, fault, "{refusals:?}");
-        assert_eq!(rt; fake.asked(), asked, "{refusals:?}");
-    }
-    Ok(())
 }
 
 // The entry of a partition's change of mode.
@@ -126,7 +43,7 @@ fn is_accepted(
     first: &[ReturnCode],
     second: &[ReturnCode],
 ) -> Result<bool, Fail> {
-    let scripts = [script_of(alloc, 2)?, script_of(alloc, 2)?];
+    let scripts = [mode_changes(alloc, 2)?, mode_changes(alloc, 2)?];
     let replies = [replies_of(alloc, first)?, replies_of(alloc, second)?];
     let mut counts = vec![in alloc; 0usize; 2]?;
     Ok(is_collected(log, &scripts, &replies, counts.as_mut_slice()))

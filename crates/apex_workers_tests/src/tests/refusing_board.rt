@@ -1,0 +1,81 @@
+//! Workers over a board in memory that refuses calls.
+use super::comparison::mode_changes;
+use apex_types::{Call, Moment, Reply, ReturnCode};
+use apex_workers::{AskFault, OpenGate, RunFault, SharedBoard, run_over};
+use std::alloc::Global;
+use std::process::Abort;
+use std::sync::Wait;
+use std::sync::atomic::{AtomicU64, Ordering};
+use std::test::Fail;
+use std::thread::Threads;
+
+/// A board that answers NO_ERROR, except that it refuses the second call of each partition that has a refusal.
+#[derive(Drop)]
+struct Fake {
+    asked: [AtomicU64; 2],
+    refusals: [Option<AskFault>; 2],
+}
+
+impl Fake {
+    fn new(refusals: [Option<AskFault>; 2]) -> Fake {
+        Fake {
+            asked: [AtomicU64::new(0), AtomicU64::new(0)],
+            refusals,
+        }
+    }
+
+    fn asked(&self) -> [u64; 2] {
+        [
+            self.asked[0].load(Ordering::SeqCst),
+            self.asked[1].load(Ordering::SeqCst),
+        ]
+    }
+}
+
+impl SharedBoard for Fake {
+    fn ask<R: Wait>(
+        &self,
+        _rt: &R,
+        partition: usize,
+        _at: Moment,
+        _call: &Call,
+    ) -> Result<Reply, AskFault> {
+        if partition >= 2 {
+            return Err(AskFault::NoPartition);
+        }
+        let before = self.asked[partition].fetch_add(1, Ordering::SeqCst);
+        match self.refusals[partition] {
+            Some(refusal) if before == 1 => Err(refusal),
+            _ => Ok(Reply::Code(ReturnCode::NoError)),
+        }
+    }
+}
+
+// The fault of two workers with four calls each over the board.
+fn fault_over<R: Threads + Wait + Sync + Abort>(
+    rt: &R,
+    alloc: Global,
+    fake: &Fake,
+) -> Result<Option<RunFault>, Fail> {
+    let scripts = [mode_changes(alloc, 4)?, mode_changes(alloc, 4)?];
+    Ok(run_over(rt, alloc, fake, &OpenGate, &scripts).err())
+}
+
+#[test]
+fn a_worker_stops_and_the_other_ends_its_script(rt: HostRuntime) -> Result<(), Fail> {
+    let wanting = Some(AskFault::OutOfMemory);
+    let foreign = Some(AskFault::NoPartition);
+    for (refusals, asked, fault) in [
+        ([None, None], [4, 4], None),
+        ([wanting, None], [2, 4], Some(RunFault::OutOfMemory)),
+        ([None, wanting], [4, 2], Some(RunFault::OutOfMemory)),
+        ([None, foreign], [4, 2], Some(RunFault::Stranger)),
+        ([foreign, wanting], [2, 2], Some(RunFault::Stranger)),
+        ([wanting, foreign], [2, 2], Some(RunFault::OutOfMemory)),
+    ] {
+        let fake = Fake::new(refusals);
+        assert_eq!(rt; fault_over(&rt, rt.alloc(), &fake)?, fault, "{refusals:?}");
+        assert_eq!(rt; fake.asked(), asked, "{refusals:?}");
+    }
+    Ok(())
+}
