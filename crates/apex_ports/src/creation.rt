@@ -130,7 +130,8 @@ impl<A: Allocator> State<A> {
             result ≡ create_queuing_reply config.now self.old.history partition named
             asked.size asked.depth asked.direction asked.discipline }
         ensures kept { (at : Moment) →
-            let asking = call.CreateQueuing name.now asked.size asked.depth asked.direction asked.discipline in
+            let asking = call.CreateQueuing name.now
+            asked.size asked.depth asked.direction asked.discipline in
             IsKeptWith config.now self.old (entry_of partition at asking result) self.new }
         ensures history { self.new.history ≡ self.old.history }
     {

@@ -88,7 +88,8 @@ pub(crate) fn queuing_named<'a>(
     requires { partition < length config.now.partitions }
     ensures found { MatchOption result
         (queuing_named config.now partition name.now ≡ None)
-        (λ found. queuing_named config.now partition name.now ≡ Some (record { id = found.0; port = found.1.now })) }
+        (λ found. queuing_named config.now partition name.now
+        ≡ Some (record { id = found.0; port = found.1.now })) }
     ensures place { IfSome result (λ found. IsPlace (ports_of config.now partition) found.0) }
     ensures linked { IfSome result (λ found. found.1.now.channel < length config.now.channels) }
 {
@@ -109,7 +110,8 @@ pub(crate) fn sampling_named<'a>(
     requires { partition < length config.now.partitions }
     ensures found { MatchOption result
         (sampling_named config.now partition name.now ≡ None)
-        (λ found. sampling_named config.now partition name.now ≡ Some (record { id = found.0; port = found.1.now })) }
+        (λ found. sampling_named config.now partition name.now
+        ≡ Some (record { id = found.0; port = found.1.now })) }
     ensures place { IfSome result (λ found. IsPlace (ports_of config.now partition) found.0) }
     ensures linked { IfSome result (λ found. found.1.now.channel < length config.now.channels) }
 {

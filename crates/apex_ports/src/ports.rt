@@ -78,7 +78,8 @@ impl<A: Allocator> Ports<A> {
     /// The event of `call`, with the reply in the caller's place.
     pub fn call_into(&mut self, partition: usize, at: Moment, call: &Call, reply: &mut Reply)
         requires { partition < length self.old.config.partitions }
-        ensures reply { reply.new ≡ reply_to self.old.config self.old.history partition at call.now }
+        ensures reply { reply.new
+            ≡ reply_to self.old.config self.old.history partition at call.now }
         ensures entry { self.new.history ≡ self.old.history
             ++ entry_of partition at call.now reply.new ∷ [] }
         ensures config { self.new.config ≡ self.old.config }

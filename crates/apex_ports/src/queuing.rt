@@ -32,7 +32,8 @@ impl<A: Allocator> State<A> {
         requires sound { IsSound config.now self.now.history }
         requires kept { IsKept config.now self.now.history self.now }
         ensures decided { let port = queuing_port config.now self.now.history partition id in
-            Decides (send_reply config.now self.now.history port message.now) (λ _. Code NoError) result }
+            Decides (send_reply config.now self.now.history port message.now)
+            (λ _. Code NoError) result }
         ensures channel { IfOk result (λ channel. channel < length config.now.channels) }
         ensures source { IfOk result
             (λ channel. is_source_of channel (port_of config.now partition id) ≡ true) }
