@@ -4,8 +4,7 @@ use apex_command_line::WordsFault;
 use apex_config::Config;
 use apex_config_faults::places_of_fault;
 use apex_explanations::{explain_trace, port_table};
-use apex_tasks::Refusal;
-use apex_tasks::files::{FileFault, Opener, read_path};
+use apex_tasks::{Opener, Refusal, print, read_file};
 use apex_texts::{Fault, TraceFault};
 use std::alloc::Global;
 use std::io::Write;
@@ -98,24 +97,4 @@ fn read_config<'a, O: Opener, W: Write>(
             Err(Refusal::Text(Fault::from(fault)))
         }
     }
-}
-
-fn read_file<'a, O: Opener>(
-    alloc: Global,
-    opener: &O,
-    path: &'a str,
-) -> Result<Vec<u8>, Refusal<'a>> {
-    match read_path(alloc, opener, path) {
-        Ok(bytes) => Ok(bytes),
-        Err(FileFault::Unreadable) => Err(Refusal::File(path)),
-        Err(FileFault::OutOfMemory) => Err(Refusal::Text(Fault::Memory)),
-    }
-}
-
-/// Writes bytes whole.
-fn print<'a, W: Write>(output: &mut W, bytes: &[u8]) -> Result<(), Refusal<'a>> {
-    if output.write_all(bytes).is_err() || output.flush().is_err() {
-        return Err(Refusal::Output);
-    }
-    Ok(())
 }

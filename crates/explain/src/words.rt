@@ -4,7 +4,7 @@ use std::convert::AsStr;
 use std::fmt;
 
 /// What is asked for, with the paths of the files.
-#[derive(Clone, Copy, Debug, PartialEq, Eq)]
+#[derive(Drop)]
 pub enum Task<'a> {
     /// The table of a configuration's ports.
     Config { config: &'a str },
@@ -37,7 +37,7 @@ fn path_in<S: AsStr>(word: &S) -> Option<&str> {
 }
 
 /// Why the program did not do all that it was asked to do.
-#[derive(Debug, Drop, PartialEq, Eq)]
+#[derive(Drop)]
 pub enum Unexplained<'a> {
     /// The words aren't those of the usage line.
     Usage,
