@@ -28,7 +28,7 @@ pub(crate) fn is_collected_for<A: Allocator>(
 
 /// Whether the log has the calls of each partition's script with the replies to them, each once and in order.
 ///
-/// It goes over the log once. The counts, 0 for each partition before, say then how many of its calls were met.
+/// It goes over the log once, and counts each partition's calls in the places given, which are 0 before.
 pub fn is_collected<A: Allocator>(
     log: &[Entry],
     scripts: &[Script],
