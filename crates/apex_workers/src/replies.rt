@@ -21,7 +21,8 @@ impl<A: Allocator> Model for Replies<A> {
 }
 
 impl<A: Allocator> Replies<A> {
-    pub(crate) fn new(replies: Vec<Reply, A>) -> Replies<A>
+    /// The replies of a list, oldest first.
+    pub fn new(replies: Vec<Reply, A>) -> Replies<A>
         ensures { result ≡ replies.items }
     {
         Replies { replies }
