@@ -23,6 +23,14 @@ of_library() {
     kind=-f
 }
 
+# of_each COMMAND..: the command is run for each program and then for the static library, up to the first that fails.
+of_each() {
+    for each in $(programs); do
+        of_program "$each" && "$@" || return
+    done
+    of_library apex_c && "$@"
+}
+
 # Sets toolchain to the folder of the command rt, and puts that first into the search path. Where there is none, what
 # the last build recorded of its toolchain stands for it.
 find_toolchain() {
