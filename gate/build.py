@@ -156,7 +156,7 @@ def build(root, name, words):
     if made.failed:
         crate, status = made.failed
         what = f"{'proving and building' if crate == name else 'proving'} {crate}"
-        said, why = failures.of_crate(what, made.folder(crate), made.log(crate), status, line)
+        said, why = failures.of_crate(what, f"{made.folder(crate)}/out", made.log(crate), status, line)
         sys.stderr.write("".join(said))
         failures.refuse(name, why)
     return is_built, took

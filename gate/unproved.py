@@ -20,7 +20,7 @@ NOTICE = "not proved: this answer is from an unproved build"
 ENDED = re.compile(rb"^run=ended status=(\d+) .*proved=no\n\Z", re.M)
 OF_TOOLCHAIN = re.compile(rb"(^(interpreter|checked|races): .*\n)*\Z", re.M)
 TOO_MUCH = re.compile(rb"^checked: no-answer: .*wrote more than \d+ bytes", re.M)
-TOO_LONG = re.compile(rb"^checked: no-answer: .*\bseconds\b", re.M)
+TOO_LONG = re.compile(rb"^checked: no-answer: .*did not end within the time limit", re.M)
 
 
 def whole(name, words):
