@@ -94,7 +94,8 @@ class Progress:
         with self.lock:
             so_far, unit = words_of(time.monotonic() - self.began)
             words = [f"{self.doing} {listed([*self.running])}"] if self.running else []
-            words += [self.count(), f"{so_far} {unit} so far"]
+            words += [self.count()] if len(self.after) > 1 else []
+            words.append(f"{so_far} {unit} so far")
             left = self.seconds_left()
         if left is not None:
             to_go, its_unit = words_of(left)

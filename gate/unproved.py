@@ -5,9 +5,11 @@ unproved.py NAME WORD..   what the program writes, and its status, are those of 
 import contextlib
 import os
 import re
+import shutil
 import signal
 import subprocess
 import sys
+import tempfile
 
 import crates
 import failures
@@ -23,20 +25,54 @@ TOO_MUCH = re.compile(rb"^checked: no-answer: .*wrote more than \d+ bytes", re.M
 TOO_LONG = re.compile(rb"^checked: no-answer: .*did not end within the time limit", re.M)
 
 
-def whole(name, words):
-    """Returns the words with the whole path of each file that they name, since the program runs in another folder;
-    and each whole path with what was written for it."""
-    is_after_verb, paths, found = name == "explain", {}, []
-    for word in words:
-        before, path = "", word
-        if is_after_verb and not os.path.lexists(word) and "=" in word:
-            before, path = word[:word.index("=") + 1], word[word.index("=") + 1:]
-        if is_after_verb and path and not path.startswith("-"):
-            paths[os.path.abspath(path)] = path
-            path = os.path.abspath(path)
-        found.append(before + path)
-        is_after_verb = True
-    return found, paths
+def paths_in(name, words):
+    """Returns for each word what stands in it before a path, and the path, or the word and nothing where it has none."""
+    found = []
+    for at, word in enumerate(words):
+        if name == "apexports" and words[0] == "run" and at > 1:
+            before, sign, path = word.partition("=")
+            found.append((before + sign, path))
+        elif at == 0 and name == "apexports" or word.startswith("-"):
+            found.append((word, ""))
+        else:
+            found.append(("", word))
+    return found
+
+
+def readable(path, folder):
+    """Returns the whole path of the file, since the program runs in another folder; what isn't a file, as standard
+    input, is read here and put into one in the folder."""
+    if not os.path.exists(path) or os.path.isfile(path) or os.path.isdir(path):
+        return os.path.abspath(path)
+    copy = os.path.join(folder, str(len(os.listdir(folder))))
+    try:
+        with open(path, "rb") as given, open(copy, "wb") as it:
+            shutil.copyfileobj(given, it)
+    except OSError:
+        return os.path.abspath(path)
+    return copy
+
+
+def as_written(said, paths):
+    """Returns the program's words with each path as the caller wrote it."""
+    names = {os.fsencode(whole): os.fsencode(path) for whole, path in paths.items()}
+    form = b"|".join(re.escape(it) for it in sorted(names, key=len, reverse=True))
+    return re.sub(form, lambda it: names[it[0]], said) if names else said
+
+
+class Stopped(Exception):
+    """The signal by which the run was to end."""
+
+
+@contextlib.contextmanager
+def spoken(name):
+    """Says on a terminal how long it takes; elsewhere standard error is the program's."""
+    if not sys.stderr.isatty():
+        yield
+        return
+    with progress.Progress({name: []}, 1, stored={}, doing="building without a proof:") as shown:
+        shown.begin(name)
+        yield
 
 
 def try_program(kit, name, words):
@@ -53,8 +89,7 @@ def try_program(kit, name, words):
         signal.signal(it, stop)
     said = ran.communicate()[1]
     if stopped_by:
-        signal.signal(stopped_by[0], signal.SIG_DFL)
-        os.kill(os.getpid(), stopped_by[0])
+        raise Stopped(stopped_by[0])
     return said
 
 
@@ -68,26 +103,36 @@ def why_not(said):
     return "the unproved build gave no answer, and the toolchain says above why: mend that, and run this again"
 
 
-def main(name, *words):
-    print(NOTICE, file=sys.stderr, flush=True)
+def answer(name, words, folder):
+    """Returns the status of the program, whose output is written; the folder is for copies."""
     kit = crates.toolchain()
     failures.usable_toolchain(name, kit)
-    words, paths = whole(name, words)
-    waiting = progress.Progress({name: []}, 1, stored={}, doing="building without a proof:")
-    with waiting if sys.stderr.isatty() else contextlib.nullcontext():
-        waiting.running[name] = waiting.began
+    parts = paths_in(name, words)
+    paths = {readable(path, folder): path for _, path in parts if path}
+    whole = {path: it for it, path in paths.items()}
+    words = [before + whole.get(path, path) for before, path in parts]
+    with spoken(name):
         said = try_program(kit, name, words)
     ended = ENDED.search(said)
     if not ended:
         sys.stderr.buffer.write(b"" if TOO_MUCH.search(said) or TOO_LONG.search(said) else said)
         sys.stderr.flush()
         failures.refuse(name, why_not(said))
-    own = OF_TOOLCHAIN.sub(b"", said[:ended.start()])
-    for path, word in paths.items():
-        own = own.replace(os.fsencode(path), os.fsencode(word))
-    sys.stderr.buffer.write(own)
+    sys.stderr.buffer.write(as_written(OF_TOOLCHAIN.sub(b"", said[:ended.start()]), paths))
     sys.stderr.flush()
     return int(ended[1])
+
+
+def main(name, *words):
+    print(NOTICE, file=sys.stderr, flush=True)
+    try:
+        with tempfile.TemporaryDirectory() as folder:
+            return answer(name, words, folder)
+    except Stopped as by:
+        number = by.args[0]
+    signal.signal(number, signal.SIG_DFL)
+    os.kill(os.getpid(), number)
+    return failures.STATUS
 
 
 if __name__ == "__main__":
