@@ -1,0 +1,127 @@
+"""The crates of the repository with what they stand on, the toolchain, the machine, and work that is done side by side."""
+import concurrent.futures
+import os
+import re
+import shutil
+
+# What a proof takes at most, but for a few. The toolchain itself takes fewer jobs where memory is short.
+MEMORY_EACH = 3_000_000_000
+# More jobs than these gain nothing in a crate of the usual size.
+MOST_JOBS = 4
+# A control group's limits, of its second and its first version: the file of the limit, and the file and form of what
+# goes with it, which is what the group holds already, or the period of its quota.
+MEMORY_LIMITS = [
+    ("/sys/fs/cgroup/memory.max", "/sys/fs/cgroup/memory.stat", r"^anon (\d+)"),
+    ("/sys/fs/cgroup/memory/memory.limit_in_bytes", "/sys/fs/cgroup/memory/memory.stat", r"^total_rss (\d+)"),
+]
+QUOTAS = [
+    ("/sys/fs/cgroup/cpu.max", "/sys/fs/cgroup/cpu.max", r" (\d+)"),
+    ("/sys/fs/cgroup/cpu/cpu.cfs_quota_us", "/sys/fs/cgroup/cpu/cpu.cfs_period_us", r"^(\d+)"),
+]
+
+
+def crates_of(root):
+    """Returns, in the order of crates.txt, each crate's name and the repository's own crates that it stands on."""
+    said = {}
+    with open(os.path.join(root, "crates.txt"), encoding="utf-8") as lines:
+        for line in lines:
+            head, colon, libraries = line.partition("#")[0].partition(":")
+            if colon:
+                said[head.split()[0]] = libraries.split()
+    return {name: [it for it in libraries if it in said] for name, libraries in said.items()}
+
+
+def below(crates, name):
+    """Returns the crates that the crate stands on, also through others, lowest first."""
+    found = []
+    for it in crates[name]:
+        found += [each for each in [*below(crates, it), it] if each not in found]
+    return found
+
+
+def toolchain():
+    """Returns the toolchain's folder, found as built_from.sh finds it, or None."""
+    for rt in (shutil.which("rt"), os.path.join(os.environ.get("RATTLE_KIT") or "/opt/rattle", "bin/rt")):
+        folder = os.path.dirname(os.path.dirname(os.path.realpath(rt))) if rt else ""
+        if os.path.isfile(os.path.join(folder, "WHAT")):
+            return folder
+    return None
+
+
+def number_in(file, pattern):
+    """Returns the number that the pattern finds in the file, or None."""
+    try:
+        with open(file, encoding="utf-8") as it:
+            found = re.search(pattern, it.read(), re.M)
+    except OSError:
+        return None
+    return int(found[1]) if found else None
+
+
+def processors():
+    """Returns how many processors this process may use: those that taskset leaves it, within its group's quota."""
+    found = len(os.sched_getaffinity(0))
+    for file, other, form in QUOTAS:
+        quota, period = number_in(file, r"^(\d+)"), number_in(other, form)
+        if quota and period:
+            found = min(found, max(quota // period, 1))
+    return found
+
+
+def free_memory():
+    """Returns the bytes of memory that are free, within its group's limit."""
+    found = [1024 * (number_in("/proc/meminfo", r"^MemAvailable:\s+(\d+)") or 0)]
+    for file, other, form in MEMORY_LIMITS:
+        limit, held = number_in(file, r"^(\d+)"), number_in(other, form)
+        if limit and held is not None:
+            found.append(limit - held)
+    return min(found)
+
+
+def lanes():
+    """Returns how many proofs may run at once."""
+    return max(1, min(processors(), free_memory() // MEMORY_EACH))
+
+
+class Task:
+    """What is done in one lane: after the tasks with the names given, in about so many seconds."""
+
+    def __init__(self, after, seconds, work):
+        """The work gets how many jobs it may use, and returns whether it went well."""
+        self.after, self.seconds, self.work = after, seconds, work
+
+
+def behind(tasks):
+    """Returns for each task the seconds of the longest chain that begins with it."""
+    found = {}
+
+    def chain(name):
+        if name not in found:
+            above = [it for it in tasks if name in tasks[it].after]
+            found[name] = tasks[name].seconds + max(map(chain, above), default=0)
+        return found[name]
+
+    return {name: chain(name) for name in tasks}
+
+
+def side_by_side(tasks, at_once=None):
+    """Does the tasks, given by their names, as many at once as lanes() says or as at_once gives; each when all that it
+    comes after went well, and first those with the longest chain behind them. Of those that run, the one with the longest
+    chain may use all processors, and each other one job. Returns by name whether each went well; those that were not
+    begun are left out."""
+    at_once = at_once or lanes()
+    most = max(1, min(processors(), MOST_JOBS))
+    length = behind(tasks)
+    left, running, done = sorted(tasks, key=lambda it: -length[it]), {}, {}
+    with concurrent.futures.ThreadPoolExecutor(at_once) as pool:
+        while left or running:
+            for name in [it for it in left if all(done.get(below) for below in tasks[it].after)]:
+                if len(running) < at_once:
+                    left.remove(name)
+                    is_first = all(length[name] > length[it] for it in running.values())
+                    running[pool.submit(tasks[name].work, most if is_first else 1)] = name
+            if not running:
+                break
+            for it in concurrent.futures.wait(running, return_when=concurrent.futures.FIRST_COMPLETED).done:
+                done[running.pop(it)] = it.result()
+    return done
