@@ -53,7 +53,7 @@ archive() (
 
 # Whether the program is the one of the last record, and all that it was built from is as it was.
 is_built() {
-    [ "$kind" "$program" ] && [ -f "$record/archive" ] &&
+    test "$kind" "$program" && [ -f "$record/archive" ] &&
         archive "${program#"$root/"}" 2> /dev/null | cmp -s - "$record/archive"
 }
 
