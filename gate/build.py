@@ -139,8 +139,8 @@ def build(root, name, words):
     """Builds the program, says what failed, and returns what prove() does."""
     kit = crates.toolchain()
     if kit is None:
-        failures.refuse(name, "there is no command rt: put the toolchain's bin folder into PATH, or name the toolchain in "
-                              "RATTLE_KIT")
+        failures.refuse(name, "there is no command rt: put the toolchain's bin folder into PATH, or name the "
+                              "toolchain in RATTLE_KIT")
     line = failures.usable_toolchain(name, kit)
     made = Build(root, name, words, kit)
     made.prepare()
