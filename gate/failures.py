@@ -68,6 +68,8 @@ def of_crate(what, folder, log, status, line):
     if disk:
         return said, (f"{what} failed, since the disk of {disk} is full: make room there (the proofs of all crates "
                       f"take some gigabytes), {again}")
+    if status == toolchain.CHANGED:
+        return said, "a source changed while the program was built, as the line above says: run this again"
     if by:
         return said, (f"{what} was killed by the signal {by}; by KILL the system mostly ends what takes too much "
                       f"memory: end other programs, or give it fewer processors, as by 'taskset -c 0', {again}")
