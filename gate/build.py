@@ -33,6 +33,8 @@ class Build:
     def __init__(self, root, name, words, kit):
         self.root, self.name, self.words, self.kit = root, name, words, kit
         self.graph = crates.crates_of(root)
+        if name not in self.graph:
+            failures.refuse(name, f"{root}/crates.txt has no line for {name}: put it back")
         self.names = [*crates.below(self.graph, name), name]
         self.logs = os.path.join(root, "out", "build")
         self.held, self.running, self.failed, self.ends = [], {}, None, False
@@ -49,9 +51,10 @@ class Build:
 
     def prepare(self):
         """Makes the folders that are written, or ends where one can't be."""
+        os.makedirs(self.logs, exist_ok=True)
         for it in [self.logs, *(f"{self.folder(crate)}/out" for crate in self.names)]:
             with contextlib.suppress(OSError):
-                os.makedirs(it, exist_ok=True)
+                os.mkdir(it)
             if not os.access(it, os.W_OK | os.X_OK):
                 failures.refuse(self.name, f"the program is not built from these sources, and {it} cannot be written: "
                                            "make it writable for you, or build in a checkout of your own")
@@ -104,6 +107,8 @@ class Build:
 
     def work(self, crate, shown):
         def done(jobs):
+            if self.ends:
+                return False
             shown.begin(crate)
             status = self.run(crate, jobs)
             if status and not self.ends:
@@ -139,8 +144,8 @@ def build(root, name, words):
     """Builds the program, says what failed, and returns what prove() does."""
     kit = crates.toolchain()
     if kit is None:
-        failures.refuse(name, "there is no command rt: put the toolchain's bin folder into PATH, or name the toolchain in "
-                              "RATTLE_KIT")
+        failures.refuse(name, "there is no command rt: put the toolchain's bin folder into PATH, or name the "
+                              "toolchain in RATTLE_KIT")
     line = failures.usable_toolchain(name, kit)
     made = Build(root, name, words, kit)
     made.prepare()

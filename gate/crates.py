@@ -1,4 +1,4 @@
-"""The crates of the repository with what they stand on, the toolchain, the machine, and work that is done side by side."""
+"""The crates of the repository with what they stand on, the toolchain, the machine, and tasks side by side."""
 import concurrent.futures
 import os
 import re
@@ -106,9 +106,9 @@ def behind(tasks):
 
 def side_by_side(tasks, at_once=None):
     """Does the tasks, given by their names, as many at once as lanes() says or as at_once gives; each when all that it
-    comes after went well, and first those with the longest chain behind them. Of those that run, the one with the longest
-    chain may use all processors, and each other one job. Returns by name whether each went well; those that were not
-    begun are left out."""
+    comes after went well, and first those with the longest chain behind them. Of those that run, the one with the
+    longest chain may use all processors, and each other one job. Returns by name whether each went well; those that
+    were not begun are left out."""
     at_once = at_once or lanes()
     most = max(1, min(processors(), MOST_JOBS))
     length = behind(tasks)

@@ -13,6 +13,8 @@ STATUS = 125
 # With less room than this on a disk, a proof that failed is taken to have failed for it.
 LEAST_ROOM = 1 << 20
 TAIL = 40
+# Of what the toolchain says, lines that tell nothing of a failure.
+COUNTS = re.compile(r"(library|statements|crate) \w+: modules loaded=|logic /")
 
 
 def refuse(name, why):
@@ -36,7 +38,7 @@ def usable_toolchain(name, kit):
 
 def tail(log):
     with open(log, encoding="utf-8", errors="replace") as lines:
-        return lines.readlines()[-TAIL:]
+        return [line for line in lines if not COUNTS.match(line)][-TAIL:]
 
 
 def full_disk(folders, said):
@@ -64,11 +66,13 @@ def of_crate(what, folder, log, status, line):
     disk, by = full_disk([folder, tempfile.gettempdir()], "".join(said)), signal_of(status)
     again = "and run this again, which goes on from what is proved"
     if disk:
-        return said, (f"{what} failed, since the disk of {disk} is full: make room there (the proofs of all crates take "
-                      f"some gigabytes), {again}")
+        return said, (f"{what} failed, since the disk of {disk} is full: make room there (the proofs of all crates "
+                      f"take some gigabytes), {again}")
+    if status == toolchain.CHANGED:
+        return said, "a source changed while the program was built, as the line above says: run this again"
     if by:
-        return said, (f"{what} was killed by the signal {by}; by KILL the system mostly ends what takes too much memory: "
-                      f"end other programs, or give it fewer processors, as by 'taskset -c 0', {again}")
+        return said, (f"{what} was killed by the signal {by}; by KILL the system mostly ends what takes too much "
+                      f"memory: end other programs, or give it fewer processors, as by 'taskset -c 0', {again}")
     older = "" if line == toolchain.WANTED else f", or take the toolchain '{toolchain.WANTED}'"
     return said, (f"{what} failed with the status {status}; what the toolchain says stands above and whole in {log}: "
                   f"mend it{older}, {again}")

@@ -9,6 +9,8 @@ import re
 import subprocess
 import sys
 
+# The status of a command that found a library beneath its crate changed since it was proved.
+CHANGED = 124
 # The line of `rt version` with which the sources were proved.
 WANTED = "rattle-kit-13b logic dac8208d650f15bf"
 
@@ -72,12 +74,20 @@ def held(folder, wait):
 
 
 def without_locks(folder, words):
-    """Does what the command rt does, but for its locks: whoever calls this holds the folders of all crates, so that
-    several can be proved at once over libraries which nobody changes."""
+    """Does what the command rt does in a crate, but for its locks: whoever calls this holds the folders of all crates, so
+    that several can be proved at once over libraries which are proved already. Proves none of these."""
     rt = loaded(folder)
     if rt is None:
         os.execv(f"{folder}/bin/rt", ["rt", *words])
-    rt.rtlib.lock = lambda crates: []
+
+    def in_place_of_lock(crates):
+        changed = [it.name for it in crates[:-1] if not it.is_built()]
+        if changed:
+            print(f"changed since it was proved: {', '.join(changed)}", flush=True)
+            sys.exit(CHANGED)
+        return []
+
+    rt.rtlib.lock = in_place_of_lock
     return rt.main(words)
 
 

@@ -26,7 +26,7 @@ TOO_LONG = re.compile(rb"^checked: no-answer: .*did not end within the time limi
 
 
 def paths_in(name, words):
-    """Returns for each word what stands in it before a path, and the path, or the word and nothing where it has none."""
+    """Returns for each word what stands in it before a path, and the path; or the word and nothing."""
     found = []
     for at, word in enumerate(words):
         if name == "apexports" and words[0] == "run" and at > 1:

@@ -1,5 +1,5 @@
-# A small checkout with a stand-in for the toolchain, and what the tests of the script 'apexports' ask of its runs. The test
-# sets root to the checkout that it stands in, and test to its own name.
+# A small checkout with a stand-in for the toolchain, and what the tests of the script 'apexports' ask of its runs. The
+# test sets root to the checkout that it stands in, and test to its own name.
 # shellcheck shell=bash disable=SC2015
 work=$(mktemp -d) || exit 3
 trap 'chmod -R u+w "$work"; rm -rf "$work"' EXIT
@@ -15,7 +15,8 @@ fail() {
 make_checkout() {
     chmod -R u+w "$work"
     rm -rf "${work:?}"/*
-    kit=$work/kit checkout="$work/a checkout" crates="$work/a checkout/crates" crate="$work/a checkout/crates/apexports"
+    kit=$work/kit checkout="$work/a checkout"
+    crates=$checkout/crates crate=$checkout/crates/apexports
     mkdir -p "$kit/bin" "$crate/specs" "$crate/proofs" "$work/elsewhere" "$checkout/gate"
     cp "$root/apexports" "$root/explain" "$root/built_from.sh" "$checkout"
     cp "$root"/gate/*.py "$checkout/gate"
@@ -32,7 +33,8 @@ make_checkout() {
 # make_libraries: a small checkout whose program stands on three libraries, of which two can be proved side by side.
 make_libraries() {
     make_checkout
-    printf '%s\n' 'low:' 'left: low arrayvec' 'right: low' 'apexports: left right' 'explain: left' > "$checkout/crates.txt"
+    printf '%s\n' 'low:' 'left: low arrayvec' 'right: low' 'apexports: left right' 'explain: left' \
+        > "$checkout/crates.txt"
     for library in low left right; do
         mkdir -p "$crates/$library/src"
         echo "$library" > "$crates/$library/src/lib.rt"
