@@ -11,7 +11,7 @@ use apex_config::{Channel, ChannelKind};
 use apex_ports::Ports;
 use apex_types::{Call, Direction, HEX_LIMIT, Message, Moment, Reply, Sample, Validity};
 use itoa::Buffer;
-use std::alloc::{AllocError, Global};
+use std::alloc::AllocError;
 
 /// The lines after those of the calls: partitions, then channels.
 #[tactic(auto, unfolding(crate::specs::Report::totals_of))]
