@@ -194,7 +194,7 @@ def record():
             seconds.update(took)
     with open(progress.TABLE, "w", encoding="utf-8") as table:
         table.write("# The seconds that each crate took in a first build, by `python3 gate/build.py --record`.\n")
-        table.writelines(f"{name} {took:.0f}\n" for name, took in seconds.items())
+        table.writelines(f"{name} {seconds[name]:.0f}\n" for name in crates.crates_of(ROOT) if name in seconds)
     return 0
 
 
