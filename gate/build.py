@@ -37,7 +37,7 @@ class Build:
             failures.refuse(name, f"{root}/crates.txt has no line for {name}: put it back")
         self.names = [*crates.below(self.graph, name), name]
         self.logs = os.path.join(root, "out", "build")
-        self.held, self.running, self.failed, self.ends = [], {}, None, False
+        self.held, self.running, self.failed, self.ends, self.waits = [], {}, None, False, False
         self.lock = threading.Lock()
 
     def folder(self, crate):
@@ -61,9 +61,11 @@ class Build:
 
     def hold(self, rt):
         """Keeps all other commands of the toolchain out of the crates; see toolchain.without_locks."""
+        self.waits = True
         for it in self.names if rt else []:
             self.held.append(toolchain.held(
                 self.folder(it), lambda at: self.say(f"another command rt works in {at}: waiting until it ends")))
+        self.waits = False
 
     def let_go(self):
         for it in self.held:
@@ -110,7 +112,10 @@ class Build:
             if self.ends:
                 return False
             shown.begin(crate)
-            status = self.run(crate, jobs)
+            try:
+                status = self.run(crate, jobs)
+            except OSError as error:
+                status = error
             if status and not self.ends:
                 self.failed = self.failed or (crate, status)
                 threading.Thread(target=self.end, daemon=True).start()
@@ -120,6 +125,14 @@ class Build:
 
         return done
 
+    def stored(self):
+        """Returns the seconds that crates take. Of one that was proved before, from other sources, most is taken over,
+        so the table tells nothing of it."""
+        def was_proved(crate):
+            return any(os.path.exists(f"{self.folder(crate)}/out/{it}") for it in ("rlib/stamp", f"{crate}.stamp"))
+
+        return {it: seconds for it, seconds in progress.durations().items() if not was_proved(it)}
+
     def prove(self):
         """Returns whether all crates are proved and the program is built, and the seconds that each took."""
         rt = toolchain.loaded(self.kit)
@@ -128,11 +141,7 @@ class Build:
         left = [it for it in self.names if it not in ready]
         if ready and len(left) > 1:
             self.say(f"going on from an earlier build: {len(ready)} of {len(self.names)} crates are proved")
-        # Of a crate that was proved from other sources most is taken over, so the table tells nothing of it.
-        stored = {it: seconds for it, seconds in progress.durations().items()
-                  if not os.path.exists(f"{self.folder(it)}/out/rlib/stamp")}
-        after = {it: self.graph[it] for it in self.names}
-        at_once = crates.lanes()
+        after, stored, at_once = {it: self.graph[it] for it in self.names}, self.stored(), crates.lanes()
         with progress.Progress(after, at_once, ready, stored, prefix=f"{self.name}: ") as shown:
             tasks = {it: crates.Task([on for on in crates.below(self.graph, it) if on in left], stored.get(it, 1),
                                      self.work(it, shown)) for it in left}
@@ -153,6 +162,8 @@ def build(root, name, words):
     def stop(number, _):
         # (a second signal changes nothing)
         signal.signal(number, signal.SIG_IGN)
+        if made.waits:
+            sys.exit(failures.STATUS)
         threading.Thread(target=made.end).start()
 
     signal.signal(signal.SIGTERM, stop)
@@ -183,7 +194,7 @@ def record():
             seconds.update(took)
     with open(progress.TABLE, "w", encoding="utf-8") as table:
         table.write("# The seconds that each crate took in a first build, by `python3 gate/build.py --record`.\n")
-        table.writelines(f"{name} {took:.0f}\n" for name, took in seconds.items())
+        table.writelines(f"{name} {seconds[name]:.0f}\n" for name in crates.crates_of(ROOT) if name in seconds)
     return 0
 
 

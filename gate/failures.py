@@ -62,9 +62,11 @@ def signal_of(status):
 def of_crate(what, folder, log, status, line):
     """Returns the lines to show, and then what happened to the crate and what to do. what: the words for what was
     done, as 'proving apex_ports'; line: that of the toolchain."""
+    again = "and run this again, which goes on from what is proved"
+    if isinstance(status, OSError):
+        return [], f"{what} failed, since there is no {log}: {status.strerror}: make room for it, {again}"
     said = tail(log)
     disk, by = full_disk([folder, tempfile.gettempdir()], "".join(said)), signal_of(status)
-    again = "and run this again, which goes on from what is proved"
     if disk:
         return said, (f"{what} failed, since the disk of {disk} is full: make room there (the proofs of all crates "
                       f"take some gigabytes), {again}")

@@ -74,8 +74,8 @@ def held(folder, wait):
 
 
 def without_locks(folder, words):
-    """Does what the command rt does in a crate, but for its locks: whoever calls this holds the folders of all crates, so
-    that several can be proved at once over libraries which are proved already. Proves none of these."""
+    """Does what the command rt does in a crate, but for its locks: whoever calls this holds the folders of all crates,
+    so that several can be proved at once over libraries which are proved already. Proves none of these."""
     rt = loaded(folder)
     if rt is None:
         os.execv(f"{folder}/bin/rt", ["rt", *words])
