@@ -22,8 +22,10 @@ find_toolchain() {
     return 1
 }
 
-# archive [FILE]: all that the toolchain itself compares before it builds, and the file, as one stream of bytes.
+# archive [FILE]: all that the toolchain itself compares before it builds, and the file, as one stream of bytes. Its order
+# is that of no locale, so that it is the same in each.
 archive() (
+    export LC_ALL=C
     cd "$root" && TAR_OPTIONS='' exec tar -c --format=gnu --sort=name --mtime=@0 --owner=:0 --group=:0 --mode=0 \
         crates.txt crates/*/src crates/*/specs crates/*/proofs "$@" -C "$toolchain" WHAT
 )

@@ -61,12 +61,13 @@ class Progress:
             self.running[name] = time.monotonic()
             self.tell(f"{self.doing} {name}, {self.count()}")
 
-    def end(self, name, how="ended"):
-        """The words say how the part ended, as 'is proved'."""
+    def end(self, name, how="is done", is_done=True):
+        """The words say how the part ended, as 'is proved', and is_done whether that was well."""
         with self.lock:
-            self.took[name] = time.monotonic() - self.running.pop(name)
-            self.done[name] = None
-            self.tell(f"{name} {how}, {self.took[name]:.0f} s, {self.count()}")
+            took = time.monotonic() - self.running.pop(name)
+            if is_done:
+                self.took[name], self.done[name] = took, None
+            self.tell(f"{name} {how}, {took:.0f} s, {self.count()}")
 
     def count(self):
         return f"{len(self.done)} of {len(self.after)} {self.kind}"
@@ -93,7 +94,8 @@ class Progress:
         with self.lock:
             so_far, unit = words_of(time.monotonic() - self.began)
             words = [f"{self.doing} {listed([*self.running])}"] if self.running else []
-            words += [self.count(), f"{so_far} {unit} so far"]
+            words += [self.count()] if len(self.after) > 1 else []
+            words.append(f"{so_far} {unit} so far")
             left = self.seconds_left()
         if left is not None:
             to_go, its_unit = words_of(left)

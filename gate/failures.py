@@ -1,0 +1,74 @@
+"""What a script says where it cannot build or try a program: what happened, where, and what to do."""
+import os
+import re
+import shutil
+import signal
+import sys
+import tempfile
+
+import toolchain
+
+# The status of what fails in a script, and not in the program.
+STATUS = 125
+# With less room than this on a disk, a proof that failed is taken to have failed for it.
+LEAST_ROOM = 1 << 20
+TAIL = 40
+
+
+def refuse(name, why):
+    """Ends the script with its reason."""
+    print(f"{name}: {why}", file=sys.stderr, flush=True)
+    sys.exit(STATUS)
+
+
+def usable_toolchain(name, kit):
+    """Returns the toolchain's line, and ends the script where it is too old."""
+    line = toolchain.version(kit)
+    if toolchain.is_too_old(line):
+        has = f"is '{line}'" if line else "does not know 'rt version'"
+        refuse(name, f"the toolchain in {kit} is too old: it {has}, and these sources want '{toolchain.WANTED}': "
+                     "put the bin folder of that one into PATH, or name it in RATTLE_KIT")
+    if line != toolchain.WANTED:
+        print(f"{name}: the toolchain in {kit} is '{line}', and these sources were proved with '{toolchain.WANTED}'",
+              file=sys.stderr, flush=True)
+    return line
+
+
+def tail(log):
+    with open(log, encoding="utf-8", errors="replace") as lines:
+        return lines.readlines()[-TAIL:]
+
+
+def full_disk(folders, said):
+    """Returns the first of the folders whose disk is full, by its room or by what was said."""
+    for it in folders:
+        if os.path.isdir(it) and shutil.disk_usage(it).free < LEAST_ROOM:
+            return it
+    return folders[0] if re.search(r"No space left on device|os error 28|Errno 28|Disk quota exceeded", said) else None
+
+
+def signal_of(status):
+    """Returns the name of the signal by which a command, or one that it ran, was killed, or None."""
+    # rt hands on the number of a signal as a status below zero, of which a byte is left.
+    number = -status if status < 0 else 256 - status if status > 192 else status - 128
+    try:
+        return signal.Signals(number).name[3:] if number > 0 else None
+    except ValueError:
+        return None
+
+
+def of_crate(what, folder, log, status, line):
+    """Returns the lines to show, and then what happened to the crate and what to do. what: the words for what was
+    done, as 'proving apex_ports'; line: that of the toolchain."""
+    said = tail(log)
+    disk, by = full_disk([folder, tempfile.gettempdir()], "".join(said)), signal_of(status)
+    again = "and run this again, which goes on from what is proved"
+    if disk:
+        return said, (f"{what} failed, since the disk of {disk} is full: make room there (the proofs of all crates take "
+                      f"some gigabytes), {again}")
+    if by:
+        return said, (f"{what} was killed by the signal {by}; by KILL the system mostly ends what takes too much memory: "
+                      f"end other programs, or give it fewer processors, as by 'taskset -c 0', {again}")
+    older = "" if line == toolchain.WANTED else f", or take the toolchain '{toolchain.WANTED}'"
+    return said, (f"{what} failed with the status {status}; what the toolchain says stands above and whole in {log}: "
+                  f"mend it{older}, {again}")
