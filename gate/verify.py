@@ -9,6 +9,7 @@ import subprocess
 import sys
 import tempfile
 import threading
+import traceback
 import types
 
 import ci
@@ -23,7 +24,7 @@ import usage
 
 ROOT = os.path.dirname(os.path.dirname(os.path.realpath(__file__)))
 # What is run over the programs and the library, in this order.
-TESTS = ("gate", "examples", "explain", "documents", "apexports_script", "sweep_memory", "c_interface")
+TESTS = ("gate", "edits", "examples", "explain", "documents", "apexports_script", "sweep_memory", "c_interface")
 PROGRAMS = ("apexports", "explain")
 
 
@@ -205,7 +206,11 @@ def main(words):
     os.environ["PATH"] = f"{kit}/bin:{os.environ.get('PATH', os.defpath)}"
     with tempfile.TemporaryDirectory(prefix="dekarino-test-") as room:
         made = Verification(ROOT, kit, os.path.realpath(room))
-        made.run(words == ["all"])
+        try:
+            made.run(words == ["all"])
+        except (Exception, SystemExit):
+            traceback.print_exc()
+            made.fail("the verification itself broke off, as is told on standard error")
     print(f"{made.passed} passed, {made.failed} failed")
     return 1 if made.failed else 0
 
