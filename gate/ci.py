@@ -18,18 +18,19 @@ class Gate:
     """One run of `rt ci`: its counts, and how much time of the processors it took."""
 
     def __init__(self, kit, folder, log, usage_of, out):
-        """folder: the repository; log: the file that gets all lines; usage_of: the usage that looks on; out: shows a line."""
+        """folder: the repository; log: the file that gets all lines; usage_of: what looks on; out: shows a line."""
         self.kit, self.folder, self.log, self.usage, self.out = kit, folder, log, usage_of, out
         self.block, self.closing, self.seconds = None, None, 0
 
     def run(self, parts):
         """Returns the numbers of what passed and failed. parts: the names of what is proved."""
         lanes = max(1, len(os.sched_getaffinity(0)))
-        with progress.Progress({it: [] for it in parts}, lanes, stored={}, kind="proofs", prefix="test: ") as self.shown:
+        after = {it: [] for it in parts}
+        with progress.Progress(after, lanes, stored={}, kind="proofs", prefix="test: ") as self.shown:
             self.usage.begun = self.begun
             status = self.follow()
         if self.closing is None:
-            self.out(f"test: FAILED: rt ci ended with the status {status} and without its closing line; all lines are in {self.log}")
+            self.out(f"test: FAILED: rt ci ended with the status {status} and without its closing line: see {self.log}")
             return 0, 1
         passed, failed = map(int, self.closing)
         return passed, max(failed, 1) if status else failed

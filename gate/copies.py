@@ -1,5 +1,5 @@
-"""The copies that are verified: of all that the toolchain's gate reads but the must-fail edits, and of those apart. So a
-source that is edited meanwhile stays out, and what the toolchain makes stays out of the checkout."""
+"""The copies that are verified: of all that the toolchain's gate reads but the must-fail edits, and of those apart. So
+a source that is edited meanwhile stays out, and what the toolchain makes stays out of the checkout."""
 import os
 import shutil
 import subprocess
@@ -7,13 +7,14 @@ import subprocess
 # What stands in a crate and is not for the toolchain's gate here.
 APART = ("must-fail", "out")
 NAMES = ("crates.txt", "HANDLES", "BUILD.bazel", "MODULE.bazel")
-# The shell's words that archive the sources of the checkout $2, as built_from.sh of $1 does, and those that record a program.
+# The shell's words that archive the sources of the folder $2, as built_from.sh of the checkout $1 does, and those that
+# record a program.
 ARCHIVE = '. "$1/built_from.sh" && root=$2 && find_toolchain && archive'
 RECORD = 'root=$1 && . "$1/built_from.sh" && find_toolchain && of_program "$2" && record_build "$3"'
 
 
 def is_read(inside):
-    """Whether the toolchain's gate looks at the file: below crates/ at all, and elsewhere at what may not stand there."""
+    """Whether the toolchain's gate looks at the file: at each below crates/, and elsewhere for what may not be there."""
     parts = inside.split(os.sep)
     if parts[0] == "crates":
         return len(parts) < 3 or parts[2] not in APART
@@ -30,11 +31,13 @@ def copy_sources(root, to):
     # (a folder .git ends its search for the top of a repository)
     os.makedirs(f"{to}/.git")
     for at, folders, files in os.walk(root):
-        inside = lambda name: os.path.relpath(f"{at}/{name}", root)
-        folders[:] = [it for it in folders if it != ".git" and (inside(it).split(os.sep)[0] != "crates" or is_read(inside(it)))]
+        inside = {it: os.path.relpath(f"{at}/{it}", root) for it in [*folders, *files]}
+        is_apart = lambda it: it == ".git" or inside[it].startswith(f"crates{os.sep}") and not is_read(inside[it])
+        folders[:] = [it for it in folders if not is_apart(it)]
         linked = [it for it in folders if os.path.islink(f"{at}/{it}")]
-        for name in [it for it in [*files, *linked] if is_read(inside(it))]:
-            copy_file(f"{at}/{name}", f"{to}/{inside(name)}")
+        for it in [*files, *linked]:
+            if is_read(inside[it]):
+                copy_file(f"{at}/{it}", f"{to}/{inside[it]}")
 
 
 def copy_edits(root, to):

@@ -22,7 +22,9 @@ class Function:
             return None
         declared = re.compile(rf"^(?:pub(?:\([^)]*\))? )?(?:struct|enum) {self.owner}\b", re.M)
         files = [path for path, text in sources.items() if declared.search(text)] if self.owner else [self.path]
-        return "/".join(["proofs", *modules_of(files[0]), *filter(None, [self.owner]), self.name, ""]) if len(files) == 1 else None
+        if len(files) != 1:
+            return None
+        return "/".join(["proofs", *modules_of(files[0]), *filter(None, [self.owner]), self.name, ""])
 
 
 def modules_of(path):

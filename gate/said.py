@@ -1,4 +1,4 @@
-"""What one check of a crate said: the goals that the prover did not prove, by their places, and what could not be read."""
+"""What a check of a crate said: the goals that the prover did not prove, by their places, and what it could not read."""
 import re
 
 PLACED = re.compile(r"(?:note: )?(?:\./)?((?:src|specs|proofs)/\S+?):(\d+):\d+: (.*)")
@@ -6,7 +6,8 @@ PLACED = re.compile(r"(?:note: )?(?:\./)?((?:src|specs|proofs)/\S+?):(\d+):\d+: 
 OPEN_GOAL = re.compile(r"it is not proved that |` found no proof")
 # How it tells that a text can't be read, or names what is not there; what it quotes is taken out before.
 UNREADABLE = re.compile(
-    r"is not in scope|has no field|has no ``|is no name|operand is missing|expected the end|cannot continue|was not admitted"
+    r"is not in scope|has no field|has no ``|is no name|operand is missing|expected the end|cannot continue|"
+    r"was not admitted"
 )
 # The last line of a check whose goals were tried: of a whole crate, or of the functions that --only names.
 JUDGED = re.compile(r"logic=not-proved|only=\d+ proved=\d+$")
@@ -23,10 +24,11 @@ class Line:
         return self.said.startswith("error[")
 
     def is_unreadable(self):
-        """Whether the prover could not read a clause, a definition or a proof, or found in it a name that is not there."""
+        """Whether the prover could not read a clause, a definition or a proof, or found a name that is not there."""
         error = re.match(r"error: (?:`[^`]*`: )?(.*)", self.said)
         has_declaration = self.said.startswith("error: `")
-        return bool(error) and (not has_declaration or bool(UNREADABLE.search(re.sub(r"`[^`]*`", "``", error[1]))))
+        quoted_out = re.sub(r"`[^`]*`", "``", error[1]) if error else ""
+        return bool(error) and (not has_declaration or bool(UNREADABLE.search(quoted_out)))
 
     def is_goal(self):
         """Whether it tells of a goal that the prover tried and did not prove."""
@@ -55,4 +57,5 @@ class Said:
     def wrong_shapes(self):
         """Returns the lines that tell of a text that could not be read; of the proofs only where nothing else is told,
         since an edit that turns a meaning often also takes away a name that a proof has."""
-        return [it for it in self.lines if it.is_front_end() or it.is_unreadable() and not it.path.startswith("proofs/")]
+        is_wrong = lambda it: it.is_front_end() or it.is_unreadable() and not it.path.startswith("proofs/")
+        return [it for it in self.lines if is_wrong(it)]

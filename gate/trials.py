@@ -15,7 +15,8 @@ def refused(line):
 
 
 def by_shape(line):
-    return Verdict(False, f"refused by its shape, so no contract was tried: give it a form that compiles: {line.text[:200]}")
+    why = "refused by its shape, so no contract was tried: give it a form that compiles"
+    return Verdict(False, f"{why}: {line.text[:200]}")
 
 
 def own_lines(edit, lines, sources):
@@ -70,7 +71,11 @@ class Trials:
         return len(self.left) < before
 
     def try_batch(self, batch):
-        told = self.checked(batch, self.names(batch))
+        names = self.names(batch)
+        told = self.checked(batch, names)
+        if names and told.status == 2:
+            # (the prover knows one of the functions by another name)
+            told = self.checked(batch, [])
         if told.is_judged():
             for edit in batch:
                 goals = own_lines(edit, told.goals(), self.sources)

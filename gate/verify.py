@@ -1,7 +1,7 @@
 """The whole verification, which the script 'test' runs.
 
-verify.py        every proof and every test by the toolchain's own gate, over a copy of the sources; then, with the programs
-                 and the library that this made, the examples, the scripts, and C
+verify.py        every proof and every test by the toolchain's own gate, over a copy of the sources; then, with the
+                 programs and the library that this made, the examples, the scripts, and C
 verify.py all    beside that every must-fail edit
 """
 import os
@@ -26,6 +26,8 @@ ROOT = os.path.dirname(os.path.dirname(os.path.realpath(__file__)))
 # What is run over the programs and the library, in this order.
 TESTS = ("gate", "edits", "examples", "explain", "documents", "apexports_script", "sweep_memory", "c_interface")
 PROGRAMS = ("apexports", "explain")
+# What a test counts in the order of tasks, where a crate's edits count as many as they are.
+BEFORE_EDITS = 1000
 
 
 class Verification:
@@ -53,7 +55,7 @@ class Verification:
         """Runs the toolchain's gate. Returns whether all is proved and every test passed."""
         gate = ci.Gate(self.kit, self.copy, f"{self.root}/out/test.log", self.usage, self.say)
         names = [*crates.crates_of(self.copy)]
-        tested = [it for it in names if has_tests(f"{self.copy}/crates/{it}/src")]
+        tested = [it for it in names if has_tests(f"{self.copy}/crates/{it}")]
         self.passed, self.failed = gate.run([*names, *(ci.part_of(it, True) for it in tested)])
         proofs, tests = (self.usage.of_kind(it) / 60 for it in ("proof", "tests"))
         rest = max(gate.seconds / 60 - proofs - tests, 0)
@@ -69,35 +71,37 @@ class Verification:
         self.fail("a source was changed while the gate ran, so its programs are not tried: run this again")
         return False
 
+    def ran(self, part, words, folder):
+        """Runs a command as a part of the verification, and returns its status and what it wrote."""
+        ran = subprocess.Popen(words, cwd=folder, stdin=subprocess.DEVNULL, stdout=subprocess.PIPE,
+                               stderr=subprocess.STDOUT, universal_newlines=True, errors="replace")
+        text = ran.stdout.read()
+        self.parts[part] = usage.waited(ran) / 60
+        return ran.returncode, text
+
     def build_library(self, rt, crate):
         """Builds a static library over the libraries that the gate proved."""
         words = [*crate.words(["--jobs", str(crates.lanes())], keeps=False), "--toolchain", f"{self.kit}/toolchain"]
         words = [rt.rtlib.RATTLE, "build", *words, "--backend", "llvm", "-o", f"out/lib{crate.name}.a"]
-        ran = subprocess.Popen([*rt.rtlib.guarded(), *words], cwd=crate.folder, stdin=subprocess.DEVNULL,
-                               stdout=subprocess.PIPE, stderr=subprocess.STDOUT, universal_newlines=True, errors="replace")
-        text = ran.stdout.read()
-        self.parts[f"library of {crate.name}"] = usage.waited(ran) / 60
-        if ran.returncode:
+        status, text = self.ran(f"library of {crate.name}", [*rt.rtlib.guarded(), *words], crate.folder)
+        if status:
             self.fail(f"the static library of {crate.name} is not built:\n{text[-2000:]}")
         else:
             copies.take_back(self.copy, self.root, crate.name, f"lib{crate.name}.a")
 
     def run_test(self, name):
-        ran = subprocess.Popen([f"{self.root}/tests/{name}"], cwd=self.root, stdin=subprocess.DEVNULL,
-                               stdout=subprocess.PIPE, stderr=subprocess.STDOUT, universal_newlines=True, errors="replace")
-        text = ran.stdout.read()
-        self.parts[f"tests/{name}"] = usage.waited(ran) / 60
+        status, text = self.ran(f"tests/{name}", [f"{self.root}/tests/{name}"], self.root)
         self.say(text.rstrip("\n"))
-        if ran.returncode:
-            self.fail(f"tests/{name} ended with the status {ran.returncode}")
+        if status:
+            self.fail(f"tests/{name} ended with the status {status}")
 
     def try_edits(self, rt, crate, jobs):
         """Tries the must-fail edits of a crate."""
         folder = f"{self.edits}/crates/{crate.name}"
         good, bad = rt.edits_of(types.SimpleNamespace(folder=folder))
         for it in bad:
-            self.fail(f"{crate.name}/must-fail/{os.path.basename(it)} is no edit: its name ends in .edit, or in .md if it is "
-                      "only to be read, and it stands right in must-fail/")
+            self.fail(f"{crate.name}/must-fail/{os.path.basename(it)} is no edit: its name ends in .edit, or in .md if "
+                      "it is only to be read, and it stands right in must-fail/")
         sources, tried = texts_of(crate.folder), []
         for file in good:
             name = f"{crate.name}/{os.path.basename(file)}"
@@ -118,37 +122,44 @@ class Verification:
             self.fail(f"must-fail {edit.name}: {verdict.words}")
 
     def tasks(self, rt, known, with_edits):
-        """Returns the work that is left once all is proved: the tests in turn, and each crate's edits beside them."""
+        """Returns the work that is left once all is proved: the tests in turn, which are begun first, and each crate's
+        edits beside them, first where there are most."""
         found, after = {}, []
         for name in TESTS:
-            found[f"tests/{name}"] = (after, lambda jobs, it=name: self.run_test(it))
+            found[f"tests/{name}"] = crates.Task(after, BEFORE_EDITS, lambda jobs, it=name: self.run_test(it))
             after = [f"tests/{name}"]
         for crate in known if with_edits else []:
-            if os.path.isdir(f"{self.edits}/crates/{crate.name}/must-fail"):
-                found[f"the edits of {crate.name}"] = ([], lambda jobs, it=crate: self.try_edits(rt, it, jobs))
+            folder = f"{self.edits}/crates/{crate.name}/must-fail"
+            if os.path.isdir(folder):
+                count = len(os.listdir(folder))
+                found[f"the edits of {crate.name}"] = crates.Task(
+                    [], count, lambda jobs, it=crate: self.try_edits(rt, it, jobs))
         return found
 
     def do(self, tasks):
         """Does the tasks side by side, and says how far they are."""
         at_once = crates.lanes()
-        after = {name: below for name, (below, _) in tasks.items()}
+        after = {name: task.after for name, task in tasks.items()}
         with progress.Progress(after, at_once, stored={}, doing="trying", kind="parts", prefix="test: ") as shown:
-            def done(name, work, jobs):
+            def done(name, jobs):
                 shown.begin(name)
                 try:
-                    work(jobs)
+                    tasks[name].work(jobs)
                 except (Exception, SystemExit) as error:
                     self.fail(f"{name} could not be tried: {error}")
                 shown.end(name)
                 return True
 
-            works = {name: crates.Task(below, edits_first(name), lambda jobs, it=name: done(it, tasks[it][1], jobs))
-                     for name, (below, _) in tasks.items()}
-            crates.side_by_side(works, at_once)
+            crates.side_by_side({name: crates.Task(task.after, task.seconds, lambda jobs, it=name: done(it, jobs))
+                                 for name, task in tasks.items()}, at_once)
 
     def run(self, with_edits):
         with self.usage:
             rt = toolchain.loaded(self.kit)
+            if rt is None:
+                self.fail(f"{self.kit}/bin/rt is of a form that is not known here: take the toolchain '{toolchain.WANTED}'")
+                return
+            # (its first call sets a signal's handler, which only this thread may)
             rt.rtlib.guarded()
             if self.prove() and self.take_programs():
                 known = rt.rtlib.crates_below(self.copy)
@@ -161,14 +172,8 @@ class Verification:
             self.say(line)
 
 
-def edits_first(name):
-    """Returns how long the work may take, in proportion: the edits of a crate take longest."""
-    return 1000 if name.startswith("the edits") else 100
-
-
 def has_tests(folder):
-    texts = [open(f"{at}/{it}", encoding="utf-8", errors="replace").read() for at, _, files in os.walk(folder) for it in files]
-    return any("#[test]" in it for it in texts)
+    return any("#[test]" in it for it in texts_of(folder).values())
 
 
 def texts_of(folder):
@@ -200,8 +205,8 @@ def main(words):
         os.environ.pop(it, None)
     kit = crates.toolchain()
     if kit is None:
-        print("test: there is no command rt: put the toolchain's bin folder into PATH, or name the toolchain in RATTLE_KIT",
-              file=sys.stderr)
+        print("test: there is no command rt: put the toolchain's bin folder into PATH, or name the toolchain in "
+              "RATTLE_KIT", file=sys.stderr)
         return 3
     os.environ["PATH"] = f"{kit}/bin:{os.environ.get('PATH', os.defpath)}"
     with tempfile.TemporaryDirectory(prefix="dekarino-test-") as room:
