@@ -14,7 +14,7 @@ RECORD = 'root=$1 && . "$1/built_from.sh" && find_toolchain && of_program "$2" &
 
 
 def is_read(inside):
-    """Whether the toolchain's gate looks at the file: at each below crates/, and elsewhere for what may not be there."""
+    """Whether the toolchain's gate looks at the file: at each below crates/, elsewhere for what may not be there."""
     parts = inside.split(os.sep)
     if parts[0] == "crates":
         return len(parts) < 3 or parts[2] not in APART
@@ -34,6 +34,10 @@ def copy_sources(root, to):
         inside = {it: os.path.relpath(f"{at}/{it}", root) for it in [*folders, *files]}
         is_apart = lambda it: it == ".git" or inside[it].startswith(f"crates{os.sep}") and not is_read(inside[it])
         folders[:] = [it for it in folders if not is_apart(it)]
+        for it in folders:
+            # (an empty folder is archived too)
+            if inside[it].startswith("crates") and not os.path.islink(f"{at}/{it}"):
+                os.makedirs(f"{to}/{inside[it]}")
         linked = [it for it in folders if os.path.islink(f"{at}/{it}")]
         for it in [*files, *linked]:
             if is_read(inside[it]):

@@ -1,4 +1,4 @@
-"""What a check of a crate said: the goals that the prover did not prove, by their places, and what it could not read."""
+"""What a check of a crate said: the goals that were not proved, by their places, and what could not be read."""
 import re
 
 PLACED = re.compile(r"(?:note: )?(?:\./)?((?:src|specs|proofs)/\S+?):(\d+):\d+: (.*)")

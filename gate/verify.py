@@ -157,7 +157,7 @@ class Verification:
         with self.usage:
             rt = toolchain.loaded(self.kit)
             if rt is None:
-                self.fail(f"{self.kit}/bin/rt is of a form that is not known here: take the toolchain '{toolchain.WANTED}'")
+                self.fail(f"{self.kit}/bin/rt has a form that is not known here: take '{toolchain.WANTED}'")
                 return
             # (its first call sets a signal's handler, which only this thread may)
             rt.rtlib.guarded()
