@@ -1,0 +1,88 @@
+"""Runs the toolchain's own gate, `rt ci`, and shows what it says: of a crate that is proved the lines of rt alone."""
+import os
+import re
+import subprocess
+
+import progress
+import usage
+
+ENDED = re.compile(r"rt: (\w+)(: its tests are)? (proved|NOT PROVED)\b")
+CLOSING = re.compile(r"(\d+) passed, (\d+) failed")
+
+
+def part_of(crate, is_tests):
+    return f"the tests of {crate}" if is_tests else crate
+
+
+class Gate:
+    """One run of `rt ci`: its counts, and how much time of the processors it took."""
+
+    def __init__(self, kit, folder, log, usage_of, out):
+        """folder: the repository; log: the file that gets all lines; usage_of: what looks on; out: shows a line."""
+        self.kit, self.folder, self.log, self.usage, self.out = kit, folder, log, usage_of, out
+        self.block, self.closing, self.seconds = None, None, 0
+
+    def run(self, parts):
+        """Returns the numbers of what passed and failed. parts: the names of what is proved."""
+        lanes = max(1, len(os.sched_getaffinity(0)))
+        after = {it: [] for it in parts}
+        with progress.Progress(after, lanes, stored={}, kind="proofs", prefix="test: ") as self.shown:
+            self.usage.begun = self.begun
+            status = self.follow()
+        if self.closing is None:
+            self.out(f"test: FAILED: rt ci ended with the status {status} and without its closing line: see {self.log}")
+            return 0, 1
+        passed, failed = map(int, self.closing)
+        return passed, max(failed, 1) if status else failed
+
+    def follow(self):
+        words = [f"{self.kit}/bin/rt", "ci"]
+        with open(self.log, "w", encoding="utf-8") as log, subprocess.Popen(
+            words, cwd=self.folder, stdin=subprocess.DEVNULL, stdout=subprocess.PIPE, stderr=subprocess.STDOUT,
+            universal_newlines=True, errors="replace",
+        ) as ran:
+            try:
+                for line in ran.stdout:
+                    log.write(line)
+                    log.flush()
+                    self.take(line.rstrip("\n"))
+            except BaseException:
+                ran.terminate()
+                raise
+            self.seconds = usage.waited(ran)
+        return ran.returncode
+
+    def begun(self, work):
+        crate, kind = work
+        part = part_of(crate, kind == "tests")
+        if part in self.shown.after and part not in self.shown.done and part not in self.shown.running:
+            self.shown.begin(part)
+
+    def take(self, line):
+        """Shows the line now, keeps it back until it is known how its crate ended, or takes it for the closing line."""
+        closing, ended = CLOSING.fullmatch(line), ENDED.match(line)
+        if closing:
+            self.closing = closing.groups()
+        elif line.startswith("== "):
+            self.block = [line]
+        elif self.block is None:
+            self.show(line)
+        else:
+            self.block.append(line)
+        if ended:
+            for it in self.block or []:
+                if ended[3] != "proved" or it.startswith("rt: "):
+                    self.show(it)
+            self.block = None
+            self.end(part_of(ended[1], bool(ended[2])), "is proved" if ended[3] == "proved" else "is NOT PROVED")
+
+    def end(self, part, how):
+        if part in self.shown.after:
+            if part not in self.shown.running:
+                self.shown.begin(part)
+            self.shown.end(part, how)
+
+    def show(self, line):
+        if self.shown.is_terminal:
+            self.shown.write("\r\033[K")
+        self.out(line)

@@ -1,0 +1,61 @@
+"""What a check of a crate said: the goals that were not proved, by their places, and what could not be read."""
+import re
+
+PLACED = re.compile(r"(?:note: )?(?:\./)?((?:src|specs|proofs)/\S+?):(\d+):\d+: (.*)")
+# How the prover tells of a goal in a source file that it tried and did not prove.
+OPEN_GOAL = re.compile(r"it is not proved that |` found no proof")
+# How it tells that a text can't be read, or names what is not there; what it quotes is taken out before.
+UNREADABLE = re.compile(
+    r"is not in scope|has no field|has no ``|is no name|operand is missing|expected the end|cannot continue|"
+    r"was not admitted"
+)
+# The last line of a check whose goals were tried: of a whole crate, or of the functions that --only names.
+JUDGED = re.compile(r"logic=not-proved|only=\d+ proved=\d+$")
+
+
+class Line:
+    """A line with its place: a file of the crate and a number."""
+
+    def __init__(self, text, path, number, said):
+        self.text, self.path, self.number, self.said = text, path, number, said
+
+    def is_front_end(self):
+        """Whether the text was refused before any proof: it does not parse, a name isn't found, a type doesn't fit."""
+        return self.said.startswith("error[")
+
+    def is_unreadable(self):
+        """Whether the prover could not read a clause, a definition or a proof, or found a name that is not there."""
+        error = re.match(r"error: (?:`[^`]*`: )?(.*)", self.said)
+        has_declaration = self.said.startswith("error: `")
+        quoted_out = re.sub(r"`[^`]*`", "``", error[1]) if error else ""
+        return bool(error) and (not has_declaration or bool(UNREADABLE.search(quoted_out)))
+
+    def is_goal(self):
+        """Whether it tells of a goal that the prover tried and did not prove."""
+        if self.path.startswith("src/"):
+            return bool(OPEN_GOAL.search(self.said))
+        return self.said.startswith("error: ") and not self.is_unreadable()
+
+
+class Said:
+    """All that one check said, and its status."""
+
+    def __init__(self, text, status):
+        self.text, self.status = text, status
+        rows = text.rstrip("\n").split("\n")
+        self.first, self.last = rows[0], rows[-1]
+        placed = [(row, PLACED.match(row)) for row in rows]
+        self.lines = [Line(row, it[1], int(it[2]), it[3]) for row, it in placed if it]
+
+    def is_judged(self):
+        """Whether the goals were tried, and not all proved."""
+        return self.status == 1 and bool(JUDGED.match(self.last))
+
+    def goals(self):
+        return [it for it in self.lines if it.is_goal()]
+
+    def wrong_shapes(self):
+        """Returns the lines that tell of a text that could not be read; of the proofs only where nothing else is told,
+        since an edit that turns a meaning often also takes away a name that a proof has."""
+        is_wrong = lambda it: it.is_front_end() or it.is_unreadable() and not it.path.startswith("proofs/")
+        return [it for it in self.lines if is_wrong(it)]

@@ -1,0 +1,105 @@
+"""Tries the must-fail edits of a crate: many in one check, where each changes another function, and alone what such a
+check does not tell apart. An edit counts as refused only where the prover names a goal that it did not prove."""
+import edits
+
+
+class Verdict:
+    """Whether the prover refuses the crate with an edit for its meaning, and the words that tell it."""
+
+    def __init__(self, is_refused, words):
+        self.is_refused, self.words = is_refused, words
+
+
+def refused(line):
+    return Verdict(True, f"refused: {line.text[:200]}")
+
+
+def by_shape(line):
+    why = "refused by its shape, so no contract was tried: give it a form that compiles"
+    return Verdict(False, f"{why}: {line.text[:200]}")
+
+
+def own_lines(edit, lines, sources):
+    """Returns those of the lines whose places are in the functions that the edit changes, or in their proofs."""
+    folders = tuple(filter(None, (it.proofs(sources) for it in edit.functions)))
+    spans = [(it.path, it.head, it.end) for it in edit.functions]
+    is_own = lambda line: line.path.startswith(folders) or any(
+        line.path == path and head <= line.number <= end for path, head, end in spans
+    )
+    return [it for it in lines if is_own(it)]
+
+
+def judged_alone(told):
+    """Returns the verdict of a check of the whole crate with one edit."""
+    if told.status == 0:
+        return Verdict(False, "NOT REFUSED: the crate is still proved with this edit")
+    wrong = told.wrong_shapes()
+    if wrong:
+        return by_shape(wrong[0])
+    if not told.is_judged():
+        return Verdict(False, f"no verdict: {told.last[:300]}")
+    if told.goals():
+        return refused(told.goals()[0])
+    if told.lines:
+        return by_shape(told.lines[0])
+    return Verdict(False, f"no goal is named that was not proved: {told.last[:300]}")
+
+
+class Trials:
+    """The trials of one crate's edits."""
+
+    def __init__(self, tried, sources, check, tell=lambda edit, verdict: None):
+        """tried: the edits; sources: the texts of the crate's source files by path; check: gets the texts of changed
+        files, and the names of the functions to check, or none for the whole crate; and returns what was said."""
+        self.left, self.sources, self.check, self.tell = list(tried), sources, check, tell
+        self.verdicts, self.checks = {}, 0
+
+    def run(self):
+        """Returns the verdict on each edit by its name."""
+        while self.left and self.round():
+            pass
+        for edit in list(self.left):
+            self.end(edit, judged_alone(self.checked([edit], [])))
+        return self.verdicts
+
+    def round(self):
+        """Tries all that is left, many edits in each check. Returns whether a verdict came of it."""
+        before = len(self.left)
+        for batch in edits.batches(self.left):
+            if len(batch) > 1:
+                self.try_batch(batch)
+        return len(self.left) < before
+
+    def try_batch(self, batch):
+        names = self.names(batch)
+        told = self.checked(batch, names)
+        if names and told.status == 2:
+            # (the prover knows one of the functions by another name)
+            told = self.checked(batch, [])
+        if told.is_judged():
+            for edit in batch:
+                goals = own_lines(edit, told.goals(), self.sources)
+                if goals:
+                    self.end(edit, refused(goals[0]))
+            return
+        # what the front end refuses is told by its line, and the others are tried without it
+        wrong = {edit: own_lines(edit, told.wrong_shapes(), self.sources) for edit in batch}
+        for edit in [it for it in batch if wrong[it]]:
+            self.end(edit, by_shape(wrong[edit][0]))
+        rest = [it for it in batch if not wrong[it]]
+        if len(rest) < len(batch) and len(rest) > 1:
+            self.try_batch(rest)
+
+    def names(self, batch):
+        """Returns the functions' names as the prover has them, or none where one is not known."""
+        folders = [it.proofs(self.sources) for edit in batch for it in edit.functions]
+        return ["::".join(it.split("/")[1:-1]) for it in folders] if all(folders) else []
+
+    def checked(self, batch, names):
+        self.checks += 1
+        return self.check(edits.merged(batch, self.sources), names)
+
+    def end(self, edit, verdict):
+        self.left.remove(edit)
+        self.verdicts[edit.name] = verdict
+        self.tell(edit, verdict)
