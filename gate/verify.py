@@ -4,7 +4,10 @@ verify.py        every proof and every test by the toolchain's own gate, over a 
                  programs and the library that this made, the examples, the scripts, and C
 verify.py all    beside that every must-fail edit
 """
+import contextlib
 import os
+import shutil
+import signal
 import subprocess
 import sys
 import tempfile
@@ -203,6 +206,22 @@ def check_of(rt, crate, jobs, kept):
     return check
 
 
+def stop_by_signal(room):
+    """Has a signal end what this run began, and take its folder away."""
+    def stop(number, _):
+        mine = os.getpgid(0)
+        for process, (_, parent, _) in usage.processes().items():
+            with contextlib.suppress(OSError):
+                # (those of the prover are in a group of their own, which ends when this process has ended)
+                if parent == os.getpid() and os.getpgid(process) == mine:
+                    os.kill(process, signal.SIGTERM)
+        shutil.rmtree(room, ignore_errors=True)
+        os._exit(128 + number)
+
+    for it in (signal.SIGHUP, signal.SIGINT, signal.SIGTERM):
+        signal.signal(it, stop)
+
+
 def main(words):
     if words not in ([], ["all"]):
         print("usage: ./test [all]", file=sys.stderr)
@@ -216,6 +235,7 @@ def main(words):
         return 3
     os.environ["PATH"] = f"{kit}/bin:{os.environ.get('PATH', os.defpath)}"
     with tempfile.TemporaryDirectory(prefix="dekarino-test-") as room:
+        stop_by_signal(room)
         made = Verification(ROOT, kit, os.path.realpath(room))
         try:
             made.run(words == ["all"])
