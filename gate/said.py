@@ -44,7 +44,9 @@ class Said:
         self.text, self.status = text, status
         rows = text.rstrip("\n").split("\n")
         self.first, self.last = rows[0], rows[-1]
-        placed = [(row, PLACED.match(row)) for row in rows]
+        # (what is told of a place can go on in the next row, which is indented)
+        whole = [row + below if below.startswith("  ") else row for row, below in zip(rows, [*rows[1:], ""])]
+        placed = [(row, PLACED.match(row)) for row in whole]
         self.lines = [Line(row, it[1], int(it[2]), it[3]) for row, it in placed if it]
 
     def is_judged(self):
