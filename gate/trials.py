@@ -52,23 +52,24 @@ class Trials:
         """tried: the edits; sources: the texts of the crate's source files by path; check: gets the texts of changed
         files, and the names of the functions to check, or none for the whole crate; and returns what was said."""
         self.left, self.sources, self.check, self.tell = list(tried), sources, check, tell
-        self.verdicts, self.checks = {}, 0
+        self.verdicts, self.checks, self.seen = {}, 0, set()
 
     def run(self):
         """Returns the verdict on each edit by its name."""
-        while self.left and self.round():
-            pass
+        self.round()
+        # once more, since the goals of a function can wait for the proof of one that it calls
+        self.round()
         for edit in list(self.left):
             self.end(edit, judged_alone(self.checked([edit], [])))
         return self.verdicts
 
     def round(self):
-        """Tries all that is left, many edits in each check. Returns whether a verdict came of it."""
-        before = len(self.left)
+        """Tries all that is left and changes only bodies, many in each check, but none twice with the same others."""
         for batch in edits.batches(self.left):
-            if len(batch) > 1:
+            names = tuple(it.name for it in batch)
+            if batch[0].functions and names not in self.seen:
+                self.seen.add(names)
                 self.try_batch(batch)
-        return len(self.left) < before
 
     def try_batch(self, batch):
         names = self.names(batch)
