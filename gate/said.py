@@ -53,6 +53,10 @@ class Said:
         """Whether the goals were tried, and not all proved."""
         return self.status == 1 and bool(JUDGED.match(self.last))
 
+    def callers(self):
+        """Returns the functions, by their names below the crate, that call one which is not proved."""
+        return set(re.findall(r"^fn \w+?::(\S+): .*\bit calls `", self.text, re.M))
+
     def goals(self):
         return [it for it in self.lines if it.is_goal()]
 

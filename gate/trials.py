@@ -40,8 +40,9 @@ def judged_alone(told):
         return Verdict(False, f"no verdict: {told.last[:300]}")
     if told.goals():
         return refused(told.goals()[0])
-    if told.lines:
-        return by_shape(told.lines[0])
+    unreadable = [it for it in told.lines if it.is_unreadable()]
+    if unreadable:
+        return by_shape(unreadable[0])
     return Verdict(False, f"no goal is named that was not proved: {told.last[:300]}")
 
 
@@ -78,10 +79,7 @@ class Trials:
             # (the prover knows one of the functions by another name)
             told = self.checked(batch, [])
         if told.is_judged():
-            for edit in batch:
-                goals = own_lines(edit, told.goals(), self.sources)
-                if goals:
-                    self.end(edit, refused(goals[0]))
+            self.tell_goals(batch, told)
             return
         # what the front end refuses is told by its line, and the others are tried without it
         wrong = {edit: own_lines(edit, told.wrong_shapes(), self.sources) for edit in batch}
@@ -90,6 +88,17 @@ class Trials:
         rest = [it for it in batch if not wrong[it]]
         if len(rest) < len(batch) and len(rest) > 1:
             self.try_batch(rest)
+
+    def tell_goals(self, batch, told):
+        """Ends the trial of each edit that has a goal of its own. Where a function that no edit changes has one too, a
+        caller's goal may be open for what it calls, so that no such edit is counted."""
+        goals = {edit: own_lines(edit, told.goals(), self.sources) for edit in batch}
+        has_stray = any(all(goal not in own for own in goals.values()) for goal in told.goals())
+        callers = told.callers()
+        for edit in [it for it in batch if goals[it]]:
+            names = self.names([edit])
+            if not has_stray or names and not callers & set(names):
+                self.end(edit, refused(goals[edit][0]))
 
     def names(self, batch):
         """Returns the functions' names as the prover has them, or none where one is not known."""
