@@ -2,6 +2,7 @@
 import os
 import re
 import subprocess
+import threading
 
 import progress
 import usage
@@ -20,7 +21,7 @@ class Gate:
     def __init__(self, kit, folder, log, usage_of, out):
         """folder: the repository; log: the file that gets all lines; usage_of: what looks on; out: shows a line."""
         self.kit, self.folder, self.log, self.usage, self.out = kit, folder, log, usage_of, out
-        self.block, self.closing, self.seconds = None, None, 0
+        self.block, self.closing, self.seconds, self.lock = None, None, 0, threading.Lock()
 
     def run(self, parts):
         """Returns the numbers of what passed and failed. parts: the names of what is proved."""
@@ -55,8 +56,9 @@ class Gate:
     def begun(self, work):
         crate, kind = work
         part = part_of(crate, kind == "tests")
-        if part in self.shown.after and part not in self.shown.done and part not in self.shown.running:
-            self.shown.begin(part)
+        with self.lock:
+            if part in self.shown.after and part not in self.shown.done and part not in self.shown.running:
+                self.shown.begin(part)
 
     def take(self, line):
         """Shows the line now, keeps it back until it is known how its crate ended, or takes it for the closing line."""
@@ -77,10 +79,11 @@ class Gate:
             self.end(part_of(ended[1], bool(ended[2])), "is proved" if ended[3] == "proved" else "is NOT PROVED")
 
     def end(self, part, how):
-        if part in self.shown.after:
-            if part not in self.shown.running:
-                self.shown.begin(part)
-            self.shown.end(part, how)
+        with self.lock:
+            if part in self.shown.after:
+                if part not in self.shown.running:
+                    self.shown.begin(part)
+                self.shown.end(part, how)
 
     def show(self, line):
         if self.shown.is_terminal:

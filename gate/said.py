@@ -44,12 +44,18 @@ class Said:
         self.text, self.status = text, status
         rows = text.rstrip("\n").split("\n")
         self.first, self.last = rows[0], rows[-1]
-        placed = [(row, PLACED.match(row)) for row in rows]
+        # (what is told of a place can go on in the next row, which is indented)
+        whole = [row + below if below.startswith("  ") else row for row, below in zip(rows, [*rows[1:], ""])]
+        placed = [(row, PLACED.match(row)) for row in whole]
         self.lines = [Line(row, it[1], int(it[2]), it[3]) for row, it in placed if it]
 
     def is_judged(self):
         """Whether the goals were tried, and not all proved."""
         return self.status == 1 and bool(JUDGED.match(self.last))
+
+    def callers(self):
+        """Returns the functions, by their names below the crate, that call one which is not proved."""
+        return set(re.findall(r"^fn \w+?::(\S+): .*\bit calls `", self.text, re.M))
 
     def goals(self):
         return [it for it in self.lines if it.is_goal()]

@@ -40,8 +40,9 @@ def judged_alone(told):
         return Verdict(False, f"no verdict: {told.last[:300]}")
     if told.goals():
         return refused(told.goals()[0])
-    if told.lines:
-        return by_shape(told.lines[0])
+    unreadable = [it for it in told.lines if it.is_unreadable()]
+    if unreadable:
+        return by_shape(unreadable[0])
     return Verdict(False, f"no goal is named that was not proved: {told.last[:300]}")
 
 
@@ -52,23 +53,24 @@ class Trials:
         """tried: the edits; sources: the texts of the crate's source files by path; check: gets the texts of changed
         files, and the names of the functions to check, or none for the whole crate; and returns what was said."""
         self.left, self.sources, self.check, self.tell = list(tried), sources, check, tell
-        self.verdicts, self.checks = {}, 0
+        self.verdicts, self.checks, self.seen = {}, 0, set()
 
     def run(self):
         """Returns the verdict on each edit by its name."""
-        while self.left and self.round():
-            pass
+        self.round()
+        # once more, since the goals of a function can wait for the proof of one that it calls
+        self.round()
         for edit in list(self.left):
             self.end(edit, judged_alone(self.checked([edit], [])))
         return self.verdicts
 
     def round(self):
-        """Tries all that is left, many edits in each check. Returns whether a verdict came of it."""
-        before = len(self.left)
+        """Tries all that is left and changes only bodies, many in each check, but none twice with the same others."""
         for batch in edits.batches(self.left):
-            if len(batch) > 1:
+            names = tuple(it.name for it in batch)
+            if batch[0].functions and names not in self.seen:
+                self.seen.add(names)
                 self.try_batch(batch)
-        return len(self.left) < before
 
     def try_batch(self, batch):
         names = self.names(batch)
@@ -77,10 +79,7 @@ class Trials:
             # (the prover knows one of the functions by another name)
             told = self.checked(batch, [])
         if told.is_judged():
-            for edit in batch:
-                goals = own_lines(edit, told.goals(), self.sources)
-                if goals:
-                    self.end(edit, refused(goals[0]))
+            self.tell_goals(batch, told)
             return
         # what the front end refuses is told by its line, and the others are tried without it
         wrong = {edit: own_lines(edit, told.wrong_shapes(), self.sources) for edit in batch}
@@ -89,6 +88,17 @@ class Trials:
         rest = [it for it in batch if not wrong[it]]
         if len(rest) < len(batch) and len(rest) > 1:
             self.try_batch(rest)
+
+    def tell_goals(self, batch, told):
+        """Ends the trial of each edit that has a goal of its own. Where a function that no edit changes has one too, a
+        caller's goal may be open for what it calls, so that no such edit is counted."""
+        goals = {edit: own_lines(edit, told.goals(), self.sources) for edit in batch}
+        has_stray = any(all(goal not in own for own in goals.values()) for goal in told.goals())
+        callers = told.callers()
+        for edit in [it for it in batch if goals[it]]:
+            names = self.names([edit])
+            if not has_stray or names and not callers & set(names):
+                self.end(edit, refused(goals[edit][0]))
 
     def names(self, batch):
         """Returns the functions' names as the prover has them, or none where one is not known."""

@@ -43,9 +43,9 @@ def proved_by(words):
 class Usage:
     """The seconds of processors by crate and kind, from when it is entered until it is left."""
 
-    def __init__(self, top=None, begun=lambda work: None):
-        """top: the process below which to look; begun: is told of a crate and a kind once its prover is seen."""
-        self.top, self.begun = top or os.getpid(), begun
+    def __init__(self, crates, begun=lambda work: None):
+        """crates: those to look for; begun: is told of a crate and a kind once its prover is seen."""
+        self.top, self.crates, self.begun = os.getpid(), crates, begun
         self.by_process, self.ended = {}, threading.Event()
         self.thread = threading.Thread(target=self.look_on, daemon=True)
 
@@ -67,7 +67,7 @@ class Usage:
             if not self.is_below(process, found):
                 continue
             work = proved_by(words_of(process))
-            if work:
+            if work and work[0] in self.crates:
                 if work not in self.seconds():
                     self.begun(work)
                 self.by_process[process, start] = (work, seconds)

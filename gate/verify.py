@@ -40,9 +40,10 @@ class Verification:
     def __init__(self, root, kit, room):
         self.root, self.kit, self.room, self.copy = root, kit, room, f"{room}/checkout"
         self.passed = self.failed = 0
-        self.parts, self.usage, self.printing = {}, usage.Usage(), threading.Lock()
+        self.parts, self.counting, self.printing = {}, threading.Lock(), threading.Lock()
         self.edits = f"{room}/edits"
         copies.copy_sources(root, self.copy)
+        self.usage = usage.Usage(crates.crates_of(self.copy))
         copies.copy_edits(root, self.edits)
         copies.archive(root, self.copy, f"{room}/before")
         os.makedirs(f"{root}/out", exist_ok=True)
@@ -52,7 +53,8 @@ class Verification:
             print(line, flush=True)
 
     def fail(self, line):
-        self.failed += 1
+        with self.counting:
+            self.failed += 1
         self.say(f"test: FAILED: {line}")
 
     def prove(self):
@@ -125,7 +127,8 @@ class Verification:
 
     def tell_edit(self, edit, verdict):
         if verdict.is_refused:
-            self.passed += 1
+            with self.counting:
+                self.passed += 1
             self.say(f"must-fail {edit.name}: {verdict.words}")
         else:
             self.fail(f"must-fail {edit.name}: {verdict.words}")
