@@ -16,6 +16,7 @@ pub mod PortsView
 pub mod Refused
 pub mod ReplyTable
 pub mod Rules
+pub mod RunFault
 pub mod Sound
 pub mod WithoutClears
 pub mod Writes

@@ -1,4 +1,5 @@
-//! The ports of a module: its modes, port tables, queues and samples, without a log of the calls.
+//! The ports of a module: its modes, port tables, queues and samples, without a log of the calls. And what is handed
+//! to a run of scripts and why a run gives none, which the texts and the workers above share.
 #![tactic(auto)]
 
 mod channel;
@@ -12,9 +13,13 @@ mod past;
 pub mod ports;
 mod queuing;
 pub mod rules;
+pub mod run_fault;
 mod sampling;
+pub mod script;
 mod service;
 mod state;
 
 pub use crate::history::{Entry, Request};
 pub use crate::ports::Ports;
+pub use crate::run_fault::RunFault;
+pub use crate::script::Script;

@@ -16,9 +16,10 @@ use Rattle.apex_types.specs.declared.moment.Moment.{Moment}
 use Rattle.apex_config.specs.Configuration.{Configuration}
 use Rattle.apex_texts.specs.Script.{script_of}
 use Rattle.apex_texts.specs.declared.fault.Fault.TheVariants as faults
-use Rattle.apex_tasks.specs.declared.refusal.Refusal.{Refusal}
-use Rattle.apex_tasks.specs.declared.refusal.Refusal.TheVariants.{Usage, Argument, Text, File, Output}
-use Rattle.apex_tasks.specs.Scripts.{FileBytes, Arguments, AreScripts, AreArgumentsRefused, AreArgumentsRead, IsFirstRefused, IsScriptFile, IsScriptFor, NamesPartition, is_equals_sign, is_partition, path_in, partition_in, arguments_for, if_first, new_partition_in}
+use Rattle.apex_files.specs.declared.refusal.Refusal.{Refusal}
+use Rattle.apex_files.specs.declared.refusal.Refusal.TheVariants.{Usage, Argument, Text, File, Output}
+use Rattle.apex_files.specs.Reading.{FileBytes}
+use Rattle.apex_tasks.specs.Scripts.{Arguments, AreScripts, AreArgumentsRefused, AreArgumentsRead, IsFirstRefused, IsScriptFile, IsScriptFor, NamesPartition, is_equals_sign, is_partition, path_in, partition_in, arguments_for, if_first, new_partition_in}
 
 -- an argument without an equals sign names no partition
 pub uncut : (config : Configuration) (argument : List ℕ) → IsSplitOnceResult 61 argument None → partition_in config argument ≡ None

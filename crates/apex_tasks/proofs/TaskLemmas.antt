@@ -9,11 +9,12 @@ use Rattle.apex_config.specs.declared.fault.ConfigFault.{ConfigFault}
 use Rattle.apex_texts.specs.Replay.{IsTraceReplay}
 use Rattle.apex_texts.specs.declared.fault.Fault.{Fault}
 use Rattle.apex_texts.specs.declared.fault.Fault.TheVariants as faults
-use Rattle.apex_texts.specs.Run.{IsRun}
+use Rattle.apex_runs.specs.Run.{IsRun}
 use Rattle.apex_texts.proofs.ReplayLemmas.{config_read}
-use Rattle.apex_tasks.specs.declared.refusal.Refusal.{Refusal}
-use Rattle.apex_tasks.specs.declared.refusal.Refusal.TheVariants.{Usage, Argument, Text, File, Output}
-use Rattle.apex_tasks.specs.Scripts.{FileBytes, Arguments, AreScripts, AreArgumentsRefused, new_partition_in}
+use Rattle.apex_files.specs.declared.refusal.Refusal.{Refusal}
+use Rattle.apex_files.specs.declared.refusal.Refusal.TheVariants.{Usage, Argument, Text, File, Output}
+use Rattle.apex_files.specs.Reading.{FileBytes}
+use Rattle.apex_tasks.specs.Scripts.{Arguments, AreScripts, AreArgumentsRefused, new_partition_in}
 use Rattle.apex_tasks.specs.Task.{IsFileReplay, IsFileRun}
 
 -- a fault of the replay or of the run is the refusal

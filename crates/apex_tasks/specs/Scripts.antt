@@ -8,8 +8,9 @@ use Rattle.apex_types.specs.declared.moment.Moment.{Moment}
 use Rattle.apex_config.specs.Configuration.{Configuration, partition_name_of, partition_named}
 use Rattle.apex_texts.specs.Script.{IsScriptRead, script_of}
 use Rattle.apex_texts.specs.declared.fault.Fault.TheVariants as faults
-use Rattle.apex_tasks.specs.declared.refusal.Refusal.{Refusal}
-use Rattle.apex_tasks.specs.declared.refusal.Refusal.TheVariants.{Argument, Text, File}
+use Rattle.apex_files.specs.Reading.{FileBytes}
+use Rattle.apex_files.specs.declared.refusal.Refusal.{Refusal}
+use Rattle.apex_files.specs.declared.refusal.Refusal.TheVariants.{Argument, Text, File}
 
 -- ---- one argument
 
@@ -34,10 +35,6 @@ partition_in config argument =
 
 abbrev pub Arguments : Type 0
 Arguments = List (Bor (List ℕ))
-
--- the bytes of the file at a path, where they are known
-abbrev pub FileBytes : Type 0
-FileBytes = List ℕ → Option (List ℕ)
 
 abbrev pub is_partition : ℕ → Option ℕ → Bool
 is_partition p None = false

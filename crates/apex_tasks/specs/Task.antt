@@ -8,26 +8,12 @@ use Rattle.apex_config.specs.Configuration.{Configuration}
 use Rattle.apex_config.specs.Meaning.{config_of}
 use Rattle.apex_texts.specs.Check.{check_line}
 use Rattle.apex_texts.specs.Replay.{IsReplay}
-use Rattle.apex_texts.specs.Run.{IsRunReport}
+use Rattle.apex_runs.specs.Run.{IsRunReport}
 use Rattle.apex_texts.specs.declared.fault.Fault.TheVariants as faults
-use Rattle.apex_tasks.specs.declared.refusal.Refusal.{Refusal}
-use Rattle.apex_tasks.specs.declared.refusal.Refusal.TheVariants.{Text, File}
-use Rattle.apex_tasks.specs.Scripts.{FileBytes, Arguments, AreScripts, AreArgumentsRefused}
-
--- the bytes of the file at a path, whole; a file that can't be read is told by its path, or memory is wanting
-abbrev pub IsFileRead : FileBytes → List ℕ → Result (Vec ℕ) Refusal → Type 0
-IsFileRead files path (Ok read) = IfSome (files path) (λ bytes. read.items ≡ bytes)
-IsFileRead files path (Err (File told)) = told.now ≡ path
-IsFileRead files path (Err (Text faults.Memory)) = Unit {0}
-IsFileRead files path (Err refusal) = ⊥
-
--- the configuration that the bytes are, or their fault
-abbrev pub IsConfigRead : Result Configuration Refusal → List ℕ → Type 0
-IsConfigRead (Ok configuration) config = config_of config ≡ Ok configuration
-IsConfigRead (Err (Text (faults.Config fault))) config = config_of config ≡ Err fault
-IsConfigRead (Err (Text faults.Memory)) config = Unit {0}
-IsConfigRead (Err (File path)) config = Unit {0}
-IsConfigRead (Err refusal) config = ⊥
+use Rattle.apex_files.specs.declared.refusal.Refusal.{Refusal}
+use Rattle.apex_files.specs.declared.refusal.Refusal.TheVariants.{Text, File}
+use Rattle.apex_files.specs.Reading.{FileBytes}
+use Rattle.apex_tasks.specs.Scripts.{Arguments, AreScripts, AreArgumentsRefused}
 
 -- the line of the configuration that the bytes are, or the fault of the bytes
 abbrev pub IsCheck : Result (String Global) Refusal → List ℕ → Type 0

@@ -3,10 +3,8 @@ ghost use Rattle.std.specs.Prelude.{◌≡◌, ◌<◌, [], length, replicate, I
 ghost use Rattle.std.specs.Option.{option_map};
 ghost use Rattle.apex_tasks.specs.Scripts.{AreArgumentsRead, IsScriptFile, partition_in, path_in};
 
-use crate::files::Opener;
-use crate::reading::read_file;
-use crate::refusal::Refusal;
 use apex_config::Config;
+use apex_files::{Opener, Refusal, read_file};
 use apex_texts::{Fault, Script, TraceFault, read_script};
 use std::alloc::{AllocError, Global};
 

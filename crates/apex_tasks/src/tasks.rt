@@ -2,13 +2,11 @@
 ghost use Rattle.std.specs.Prelude.{IfSome};
 ghost use Rattle.apex_tasks.specs.Task.{IsCheck, IsFileReplay, IsFileRun};
 
-use crate::files::Opener;
 use crate::named_scripts::scripts_named;
-use crate::outputs::{print, refuse};
-use crate::reading::{read_config, read_file};
-use crate::refusal::Refusal;
 use apex_command_line::{Task, task_of};
-use apex_texts::{check_line, replay_trace, run_text};
+use apex_files::{Opener, Refusal, print, read_config, read_file, refuse};
+use apex_runs::run_text;
+use apex_texts::{check_line, replay_trace};
 use apex_workers::OpenGate;
 use std::alloc::Global;
 use std::convert::AsStr;

@@ -1,4 +1,4 @@
-//! The tests of `apex_tasks`, apart from it: a crate with tests is proved twice.
+//! The tests of `apex_tasks`, `apex_files` and `apex_runs`, apart from them: a crate with tests is proved twice.
 #![tactic(auto)]
 
 #[cfg(test)]

@@ -14,7 +14,6 @@ use Rattle.apex_ports.specs.declared.history.Entry.{Entry}
 use Rattle.apex_ports.specs.History.{History, entries_of}
 use Rattle.apex_ports.specs.Channels.{accepted_on, received_on, cleared_on, message_accepted, message_received}
 use Rattle.apex_ports.specs.Counts.{count_of}
-use Rattle.apex_ports.specs.Lawful.{IsLawful}
 use Rattle.apex_texts.specs.Report.{entry_line, line_of, entry_lines, partition_line, partition_lines, messages_text, channel_text, channel_lines}
 
 -- a text that grew by the line that comes next
@@ -25,27 +24,10 @@ grows old new line rest all total grown cut so_far = rw (grown, append_assoc, �
 pub complete : (text rest total : List ℕ) → rest ≡ [] → text ++ rest ≡ total → text ≡ total
 complete text rest total none so_far = sym (append-nil text) ∙ ap (λ (more : List ℕ). text ++ more) (sym none) ∙ so_far
 
-drop_at : {X : Type 0} (xs : List X) (i : ℕ) (x : X) → slice_get xs i ≡ Some x → drop i xs ≡ x ∷ drop (i + 1) xs
+pub drop_at : {X : Type 0} (xs : List X) (i : ℕ) (x : X) → slice_get xs i ≡ Some x → drop i xs ≡ x ∷ drop (i + 1) xs
 drop_at xs i x is = rw add-one (drop-cons xs i x (slice_get_within xs i x is) ∙ ap (λ y. y ∷ drop (suc i) xs) (get_or_from_slice_get xs i x x is))
 
 -- ---- the log
-
-found_at : (log : List Entry) (i : ℕ) (entry : Entry) → i < length log → entry ≡ get_or log i entry → slice_get log i ≡ Some entry
-found_at log i entry inside is = slice_get-get_or log i entry inside ∙ ap Some (sym is)
-
--- the partition of an entry of a lawful log is the configuration's
-pub entry_known : (config : Configuration) (log history : List Entry) (i : ℕ) (entry : Entry) → IsLawful config history → log ≡ history → i < length log → entry ≡ get_or log i entry → entry.partition < length config.partitions
-entry_known config log history i entry lawful same inside is =
-    (lawful i entry (ap (λ (entries : List Entry). slice_get entries i) (sym same) ∙ found_at log i entry inside is)).0
-
-pub entry_cut : (config : Configuration) (log : History) (i : ℕ) (entry : Entry) (name : List ℕ) → i < length log → entry ≡ get_or log i entry → partition_name_of config entry.partition ≡ Some name
-    → entry_lines config (i + 1) (drop i log) ≡ entry_line (i + 1) name entry.at entry.call entry.reply ++ entry_lines config (i + 1 + 1) (drop (i + 1) log)
-unfolding entry_lines
-entry_cut config log i entry name inside is named = rw (drop_at log i entry (found_at log i entry inside is), named) refl
-
-pub entry_end : (config : Configuration) (log : History) (i : ℕ) → length log ≤ i → entry_lines config (i + 1) (drop i log) ≡ []
-unfolding entry_lines
-entry_end config log i past = rw (drop_of_length-le log past) refl
 
 -- a log that is one entry longer
 entry_last : (config : Configuration) (first : ℕ) (log : History) (entry : Entry) (number : ℕ) → number ≡ first + length log → entry_lines config first (log ++ entry ∷ []) ≡ entry_lines config first log ++ line_of config number entry

@@ -3,14 +3,14 @@ use Rattle.std.specs.Prelude.{ℕ, List, [], ◌++◌, codes, decimal, Option, S
 use Rattle.apex_config.specs.Fault.{pass_of}
 use Rattle.apex_config.specs.declared.fault.ConfigFault.{ConfigFault}
 use Rattle.apex_config.specs.declared.fault.ConfigFault.TheVariants as config_faults
+use Rattle.apex_ports.specs.declared.run_fault.RunFault.{RunFault}
+use Rattle.apex_ports.specs.declared.run_fault.RunFault.TheVariants as run_faults
 use Rattle.apex_texts.specs.declared.line_fault.LineFault.{LineFault}
 use Rattle.apex_texts.specs.declared.fault.TraceFault.{TraceFault}
 use Rattle.apex_texts.specs.declared.fault.TraceFault.TheVariants as trace_faults
 use Rattle.apex_texts.specs.declared.fault.Fault.{Fault}
 use Rattle.apex_texts.specs.declared.fault.Fault.TheVariants as faults
 use Rattle.apex_texts.specs.LineFault.{fault_numbered, words_of}
-use Rattle.apex_workers.specs.declared.fault.RunFault.{RunFault}
-use Rattle.apex_workers.specs.declared.fault.RunFault.TheVariants as run_faults
 
 -- want of memory, wherever it came
 abbrev pub memory_line : List ℕ

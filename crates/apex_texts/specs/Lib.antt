@@ -4,11 +4,9 @@ pub mod FaultLine
 pub mod Limits
 pub mod LineFault
 pub mod Lines
-pub mod Observers
 pub mod Replay
 pub mod Report
 pub mod Script
 pub mod Service
 pub mod Text
 pub mod Trace
-pub mod Run

@@ -8,8 +8,8 @@ ghost use Rattle.apex_texts.specs.FaultLine.{config_words, trace_words, fault_li
 
 use crate::line_fault::LineFault;
 use apex_config::ConfigFault;
+use apex_ports::RunFault;
 use apex_types::{Name, OutOfMemory};
-use apex_workers::RunFault;
 use std::alloc::{AllocError, AllocFailed};
 use std::error::Error;
 use std::fmt;

@@ -1,4 +1,5 @@
-//! The texts of the simulator: traces and scripts are read, boards are reported, and a replay or a run does both.
+//! The texts of the simulator: traces and scripts are read, the lines of reports and of faults are written, and a replay
+//! does both.
 #![tactic(auto)]
 
 mod arguments;
@@ -6,10 +7,8 @@ mod check;
 pub mod fault;
 pub mod line_fault;
 mod lines;
-mod observers;
 pub mod replay;
 pub mod report_text;
-pub mod run;
 pub mod script;
 mod service;
 mod text;
@@ -19,8 +18,7 @@ pub use crate::check::check_line;
 pub use crate::fault::{Fault, TraceFault};
 pub use crate::line_fault::LineFault;
 pub use crate::replay::{replay_text, replay_trace};
-pub use crate::report_text::report;
-pub use crate::run::run_text;
+pub use crate::report_text::{push_entry, push_totals};
 pub use crate::script::read_script;
 pub use crate::trace::read_trace;
-pub use apex_workers::Script;
+pub use apex_ports::Script;

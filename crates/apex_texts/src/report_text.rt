@@ -1,39 +1,21 @@
-//! The report of a board: its log, its partitions and its channels, a line each.
-ghost use Rattle.std.specs.Prelude.{◌≡◌, ◌<◌, ◌^◌, ◌∷◌, ◌++◌, [], length, decimal, string_bytes, IfOk, OnOk};
+//! The lines of a report: one for each call, each partition and each channel.
+ghost use Rattle.std.specs.Prelude.{◌≡◌, ◌<◌, ◌^◌, ◌∷◌, ◌++◌, [], length, decimal, string_bytes, OnOk};
 ghost use Rattle.std.specs.Option.{option_copied};
 ghost use Rattle.apex_types.specs.Message.{hex_text_of};
 ghost use Rattle.apex_ports.specs.Channels.{accepted_on, received_on, cleared_on, waiting_on};
 ghost use Rattle.apex_ports.specs.History.{entries_of};
-ghost use Rattle.apex_texts.specs.Report.{queuing_status_text, sampling_status_text, reply_text, entry_line, entry_lines, partition_line, partition_lines, cleared_text, queue_text, sample_text, channel_text, channel_lines, messages_text, totals_of, report_of};
+ghost use Rattle.apex_texts.specs.Report.{queuing_status_text, sampling_status_text, reply_text, entry_line, partition_line, partition_lines, cleared_text, queue_text, sample_text, channel_text, channel_lines, messages_text, totals_of};
 
 use crate::service::Service;
-use apex_board::Board;
 use apex_config::{Channel, ChannelKind};
 use apex_ports::Ports;
-use apex_types::{
-    Call, Direction, HEX_LIMIT, Message, Moment, OutOfMemory, Reply, Sample, Validity,
-};
+use apex_types::{Call, Direction, HEX_LIMIT, Message, Moment, Reply, Sample, Validity};
 use itoa::Buffer;
 use std::alloc::{AllocError, Global};
 
-/// The bytes that are reserved for each line of the log.
-const LINE_BYTES: usize = 64;
-
-/// The report of a board.
-#[tactic(auto, unfolding(crate::specs::Report::report_of))]
-pub fn report(alloc: Global, board: &Board) -> Result<String, OutOfMemory>
-    ensures { IfOk result (λ text. string_bytes text ≡ report_of board.now.config board.now.log) }
-{
-    let bytes = board.log().len().saturating_mul(LINE_BYTES);
-    let mut text = String::with_capacity(alloc, bytes)?;
-    push_log(&mut text, board)?;
-    push_totals(&mut text, board.ports())?;
-    Ok(text)
-}
-
 /// The lines after those of the calls: partitions, then channels.
 #[tactic(auto, unfolding(crate::specs::Report::totals_of))]
-pub(crate) fn push_totals(text: &mut String, ports: &Ports) -> Result<(), AllocError>
+pub fn push_totals(text: &mut String, ports: &Ports) -> Result<(), AllocError>
     requires { length ports.now.history < 2 ^ 64 }
     ensures { OnOk result (string_bytes text.new ≡
         string_bytes text.old ++ totals_of ports.now.config ports.now.history) }
@@ -79,25 +61,9 @@ fn push_message(text: &mut String, message: &Message) -> Result<(), AllocError>
     push_word(text, message.hex_in(&mut digits))
 }
 
-/// A line for each entry of the log.
-#[tactic(auto, unfolding(crate::specs::Report::entry_lines))]
-fn push_log(text: &mut String, board: &Board) -> Result<(), AllocError>
-    ensures { OnOk result (string_bytes text.new
-        ≡ string_bytes text.old ++ entry_lines board.now.config 1 board.now.log) }
-{
-    let log = board.log();
-    let mut number: u64 = 0;
-    for entry in log {
-        number += 1;
-        let name = board.config().partition_name(entry.partition).text();
-        push_entry(text, number, name, entry.at, &entry.call, &entry.reply)?;
-    }
-    Ok(())
-}
-
 /// `NUMBER MOMENT PARTITION CALLWORD REPLY`.
 #[tactic(auto, unfolding(crate::specs::Report::entry_line))]
-pub(crate) fn push_entry(
+pub fn push_entry(
     text: &mut String,
     number: u64,
     name: &str,

@@ -7,8 +7,8 @@ use crate::arguments::{moment_of, read_call, service_at, word_at};
 use crate::fault::TraceFault;
 use crate::line_fault::LineFault;
 use crate::lines::{LineForm, read_lines};
+use apex_ports::Script;
 use apex_types::{Call, Moment};
-use apex_workers::Script;
 use std::alloc::Global;
 
 /// The calls of a script's lines, in order, or its first faulty line.

@@ -6,7 +6,6 @@ mod interference;
 mod lines;
 mod long_trace;
 mod queuing;
-mod runs;
 mod sampling;
 mod scripts;
 mod texts;

@@ -6,7 +6,7 @@ use Rattle.std.proofs.lemmas.Option.{slice_get_within}
 use Rattle.apex_types.specs.declared.call.Call.{Call}
 use Rattle.apex_types.specs.declared.moment.Moment.{Moment}
 use Rattle.apex_types.specs.declared.reply.Reply.{Reply}
-use Rattle.apex_workers.specs.declared.fault.RunFault.{RunFault}
+use Rattle.apex_ports.specs.declared.run_fault.RunFault.{RunFault}
 use Rattle.apex_workers.specs.Places.{AreReady, IsEnoughFor, AddsReplies}
 use Rattle.apex_workers.proofs.Lists.{slice_get_end, slice_get_before}
 

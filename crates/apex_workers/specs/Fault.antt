@@ -1,18 +1,10 @@
--- Faults of a run.
-use Rattle.std.specs.Prelude.{ℕ}
+-- Faults of a run, from what was refused.
 use Rattle.apex_observers.specs.declared.publisher.ObserverFault.{ObserverFault}
 use Rattle.apex_observers.specs.declared.publisher.ObserverFault.TheVariants as observer_fault
-use Rattle.apex_workers.specs.declared.fault.RunFault.{RunFault}
-use Rattle.apex_workers.specs.declared.fault.RunFault.TheVariants as run_fault
+use Rattle.apex_ports.specs.declared.run_fault.RunFault.{RunFault}
+use Rattle.apex_ports.specs.declared.run_fault.RunFault.TheVariants as run_fault
 use Rattle.apex_workers.specs.declared.shared.AskFault.{AskFault}
 use Rattle.apex_workers.specs.declared.shared.AskFault.TheVariants as ask_fault
-
-abbrev pub number_of : RunFault → ℕ
-number_of run_fault.OutOfMemory = 1
-number_of (run_fault.Held partition n) = 2
-number_of run_fault.WorkerNotStarted = 3
-number_of run_fault.Stranger = 4
-number_of run_fault.NoObserver = 5
 
 -- the fault of a run in which a worker was refused so
 abbrev pub fault_of : AskFault → RunFault

@@ -2,8 +2,8 @@
 use Rattle.std.specs.Prelude.{ℕ, ◌≡◌, ◌<◌, ◌≤◌, List, length, slice_get, Some}
 use Rattle.apex_types.specs.declared.call.Call.{Call}
 use Rattle.apex_types.specs.declared.moment.Moment.{Moment}
-use Rattle.apex_workers.specs.declared.fault.RunFault.{RunFault}
-use Rattle.apex_workers.specs.declared.fault.RunFault.TheVariants.{Held}
+use Rattle.apex_ports.specs.declared.run_fault.RunFault.{RunFault}
+use Rattle.apex_ports.specs.declared.run_fault.RunFault.TheVariants.{Held}
 
 -- the partition's script has the call, counted from 1, and the gate may refuse it
 pub record IsHeldCall (may_refuse : ℕ → ℕ → Type 0) (scripts : List (List (Moment × Call))) (partition n : ℕ) : Type 0 where

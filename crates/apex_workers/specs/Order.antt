@@ -1,7 +1,7 @@
 -- Which of several workers' faults a run answers.
 use Rattle.std.specs.Prelude.{Option, Some, None, Result, Ok, Err}
-use Rattle.apex_workers.specs.declared.fault.RunFault.{RunFault}
-use Rattle.apex_workers.specs.declared.fault.RunFault.TheVariants.{WorkerNotStarted}
+use Rattle.apex_ports.specs.declared.run_fault.RunFault.{RunFault}
+use Rattle.apex_ports.specs.declared.run_fault.RunFault.TheVariants.{WorkerNotStarted}
 
 -- of what the lower partitions came to and what the next one came to: that a worker wasn't started goes before every other
 -- fault, and then the lower partitions' fault goes first

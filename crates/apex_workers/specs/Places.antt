@@ -3,7 +3,7 @@ use Rattle.std.specs.Prelude.{ℕ, ◌≡◌, ◌≤◌, ◌+◌, List, [], ◌�
 use Rattle.apex_types.specs.declared.call.Call.{Call}
 use Rattle.apex_types.specs.declared.moment.Moment.{Moment}
 use Rattle.apex_types.specs.declared.reply.Reply.{Reply}
-use Rattle.apex_workers.specs.declared.fault.RunFault.{RunFault}
+use Rattle.apex_ports.specs.declared.run_fault.RunFault.{RunFault}
 
 -- so many places are enough for the partition's script
 abbrev pub IsEnoughFor : List (List (Moment × Call)) → ℕ → ℕ → Type 0

@@ -4,9 +4,9 @@ ghost use Rattle.std.specs.Bool.{OnTrue, OnFalse};
 ghost use Rattle.apex_workers.specs.Collected.{IsNext, AreCounted, AreComplete, IsCollected, IsCollectedFor};
 
 use crate::replies::Replies;
-use crate::script::Script;
 use apex_board::{Board, Entry};
 use apex_config::Config;
+use apex_ports::Script;
 use apex_types::{Call, Moment, Reply};
 use std::alloc::Allocator;
 

@@ -1,64 +1,10 @@
-//! Why a run gives no board.
+//! The fault of a run in which a worker, or the making of the observers, was refused.
 ghost use Rattle.std.specs.Prelude.{◌≡◌};
-ghost use Rattle.apex_workers.specs.Fault.{number_of, fault_of, fault_without};
-ghost use Rattle.apex_workers.specs.declared.fault.RunFault.TheVariants as fault;
+ghost use Rattle.apex_workers.specs.Fault.{fault_of, fault_without};
 
 use crate::shared::AskFault;
 use apex_observers::ObserverFault;
-use apex_types::OutOfMemory;
-use std::alloc::AllocError;
-use thiserror::Error;
-
-/// Why a run gives no board.
-#[derive(Clone, Copy, Debug, PartialEq, Eq, Error)]
-pub enum RunFault {
-    /// An allocation was refused.
-    #[error("out of memory")]
-    OutOfMemory,
-    /// The gate refused the `n`-th call of the partition, counted from 1.
-    #[error("partition {partition} held at call {n}")]
-    Held { partition: usize, n: usize },
-    /// No thread could be made for a worker.
-    #[error("worker not started")]
-    WorkerNotStarted,
-    /// What the workers left isn't what was handed out to them.
-    #[error("collected results do not match")]
-    Stranger,
-    /// The board's observers couldn't be made.
-    #[error("no observer")]
-    NoObserver,
-}
-
-impl RunFault {
-    /// The number of the fault, 1 to 5.
-    pub fn number(self) -> u32
-        ensures { result ≡ number_of self }
-    {
-        match self {
-            RunFault::OutOfMemory => 1,
-            RunFault::Held { .. } => 2,
-            RunFault::WorkerNotStarted => 3,
-            RunFault::Stranger => 4,
-            RunFault::NoObserver => 5,
-        }
-    }
-}
-
-impl From<OutOfMemory> for RunFault {
-    ghost from_gives = { λ _ given. given ≡ fault.OutOfMemory };
-
-    fn from(_refused: OutOfMemory) -> RunFault {
-        RunFault::OutOfMemory
-    }
-}
-
-impl From<AllocError> for RunFault {
-    ghost from_gives = { λ _ given. given ≡ fault.OutOfMemory };
-
-    fn from(_refused: AllocError) -> RunFault {
-        RunFault::OutOfMemory
-    }
-}
+use apex_ports::RunFault;
 
 /// A board without the worker's partition isn't the one that was handed out.
 impl From<AskFault> for RunFault {
@@ -72,13 +18,12 @@ impl From<AskFault> for RunFault {
     }
 }
 
-impl From<ObserverFault> for RunFault {
-    ghost from_gives = { λ refused given. given ≡ fault_without refused };
-
-    fn from(refused: ObserverFault) -> RunFault {
-        match refused {
-            ObserverFault::OutOfMemory => RunFault::OutOfMemory,
-            ObserverFault::NoPlace => RunFault::NoObserver,
-        }
+/// The fault of a run whose observers couldn't be made.
+pub(crate) fn fault_without(refused: ObserverFault) -> RunFault
+    ensures { result ≡ fault_without refused }
+{
+    match refused {
+        ObserverFault::OutOfMemory => RunFault::OutOfMemory,
+        ObserverFault::NoPlace => RunFault::NoObserver,
     }
 }

@@ -2,22 +2,20 @@
 #![tactic(auto)]
 
 mod comparison;
-pub mod fault;
+mod fault;
 pub mod gate;
 pub mod locked;
 mod observed;
 pub mod replies;
 pub mod run;
-pub mod script;
 pub mod shared;
 mod worker;
 mod workers;
 
 pub use crate::comparison::is_collected;
-pub use crate::fault::RunFault;
 pub use crate::gate::{Gate, Held, OpenGate};
 pub use crate::locked::LockedBoard;
 pub use crate::replies::Replies;
 pub use crate::run::{Finished, run_over, run_scripts};
-pub use crate::script::Script;
 pub use crate::shared::{AskFault, SharedBoard};
+pub use apex_ports::{RunFault, Script};

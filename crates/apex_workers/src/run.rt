@@ -9,16 +9,16 @@ ghost use Rattle.apex_workers.specs.Held.{NamesHeldCall};
 ghost use Rattle.apex_workers.specs.Places.{AreReady};
 
 use crate::comparison::is_collected_for;
-use crate::fault::RunFault;
+use crate::fault::fault_without;
 use crate::gate::Gate;
 use crate::observed::{LockedObservedBoard, ObservedBoard};
 use crate::replies::Replies;
-use crate::script::Script;
 use crate::shared::SharedBoard;
 use crate::workers::run_workers;
 use apex_board::Board;
 use apex_config::Config;
 use apex_observers::Observer;
+use apex_ports::{RunFault, Script};
 use apex_types::Reply;
 use std::alloc::{AllocError, Allocator, Global};
 use std::sync::Wait;
@@ -69,7 +69,8 @@ pub fn run_scripts<R: Threads + Wait + Sync, A: Allocator + Copy + Send + Sync, 
     ensures held { IfErr result (NamesHeldCall (G.may_refuse gate.now) scripts.now) }
 {
     let counts = vec![in alloc; 0usize; scripts.len()]?;
-    let shared = LockedObservedBoard::new(ObservedBoard::new(rt, alloc, config.copy()?)?);
+    let observed = ObservedBoard::new(rt, alloc, config.copy()?).map_err(fault_without)?;
+    let shared = LockedObservedBoard::new(observed);
     let answered = run_over(rt, alloc, &shared, gate, scripts);
     let observed = shared.into_observed();
     match answered {

@@ -3,11 +3,10 @@ ghost use Rattle.std.specs.Prelude.{◌≡◌, ◌<◌, [], length, vec_capacity
 ghost use Rattle.apex_workers.specs.Held.{NamesHeldCall};
 ghost use Rattle.apex_workers.specs.Places.{IsEnoughFor, AnswersAll};
 
-use crate::fault::RunFault;
 use crate::gate::Gate;
 use crate::replies::Replies;
-use crate::script::Script;
 use crate::shared::SharedBoard;
+use apex_ports::{RunFault, Script};
 use apex_types::Reply;
 use std::alloc::Allocator;
 use std::sync::Wait;

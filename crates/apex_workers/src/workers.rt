@@ -6,12 +6,11 @@ ghost use Rattle.apex_workers.specs.Held.{NamesHeldCall};
 ghost use Rattle.apex_workers.specs.Order.{first_fault};
 ghost use Rattle.apex_workers.specs.Places.{AreReady, IsEnoughFor, AddsReplies};
 
-use crate::fault::RunFault;
 use crate::gate::Gate;
 use crate::replies::Replies;
-use crate::script::Script;
 use crate::shared::SharedBoard;
 use crate::worker::run_script;
+use apex_ports::{RunFault, Script};
 use apex_types::Reply;
 use std::alloc::Allocator;
 use std::sync::Wait;

@@ -7,7 +7,7 @@ mod words;
 
 use crate::task::explain;
 use apex_command_line::words_given;
-use apex_tasks::SystemFiles;
+use apex_files::SystemFiles;
 use std::process::ExitCode;
 
 fn main(rt: HostRuntime) -> ExitCode {

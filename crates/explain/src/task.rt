@@ -4,7 +4,7 @@ use apex_command_line::WordsFault;
 use apex_config::Config;
 use apex_config_faults::places_of_fault;
 use apex_explanations::{explain_trace, port_table};
-use apex_tasks::{Opener, Refusal, print, read_file};
+use apex_files::{Opener, Refusal, print, read_file};
 use apex_texts::{Fault, TraceFault};
 use std::alloc::Global;
 use std::io::Write;

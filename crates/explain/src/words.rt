@@ -1,5 +1,5 @@
 //! The words of the command line.
-use apex_tasks::Refusal;
+use apex_files::Refusal;
 use std::convert::AsStr;
 use std::fmt;
 

@@ -6,7 +6,7 @@ use crate::tests::refused_memory::{
     ALLOCATION_LIMIT, config_of, full_queue, shows_same, shows_same_after,
 };
 use crate::tests::texts::{BASE, DSP, FMS};
-use apex_board::{Board, Request};
+use apex_board::{Board, Request, Stopped};
 use refusing::Switch;
 use std::alloc::{AllocGlobal, Allocator};
 use std::process::Abort;
@@ -149,4 +149,12 @@ fn list_stops_beyond_its_room(rt: HostRuntime) -> Result<(), Fail> {
     let stopped = stops_beyond_room(&rt, &switch, &mut board, &rows);
     board.close(&rt);
     stopped
+}
+
+#[test]
+fn a_stopped_list_has_the_words_of_refused_memory(rt: HostRuntime) -> Result<(), Fail> {
+    let stopped = Stopped { done: 3 };
+    let printed = format!(in rt.alloc(); "{stopped}")?;
+    assert_eq!(rt; printed.as_str(), "out of memory");
+    Ok(())
 }

@@ -1,9 +1,8 @@
 //! The printed words of every fault.
-use apex_board::Stopped;
 use apex_config::ConfigFault;
+use apex_ports::RunFault;
 use apex_texts::{Fault, LineFault, TraceFault};
 use apex_types::{Name, OutOfMemory};
-use apex_workers::RunFault;
 use std::test::Fail;
 
 /// The numbers of a line's faults, the faults and their words.
@@ -103,9 +102,6 @@ fn want_of_memory_has_one_line(rt: HostRuntime) -> Result<(), Fail> {
         let printed = format!(in rt.alloc(); "{fault}")?;
         assert_eq!(rt; printed.as_str(), "out of memory");
     }
-    let stopped = Stopped { done: 3 };
-    let printed = format!(in rt.alloc(); "{stopped}")?;
-    assert_eq!(rt; printed.as_str(), "out of memory");
     let refused = OutOfMemory;
     let printed = format!(in rt.alloc(); "{refused}")?;
     assert_eq!(rt; printed.as_str(), "out of memory");

@@ -1,0 +1,4 @@
+pub mod Files
+pub mod Limits
+pub mod Reading
+pub mod Refusal

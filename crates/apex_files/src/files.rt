@@ -1,0 +1,106 @@
+//! Reading a file whole, up to a limit.
+ghost use Rattle.std.specs.Prelude.{◌≡◌, ◌≤◌, List, ℕ, Option, None, IfOk, IfSome, OnOk, length};
+ghost use Rattle.std.specs.Io.KnownBytes.{IsAtEnd};
+ghost use Rattle.std.specs.IoError.{error_kind};
+ghost use Rattle.apex_files.specs.Files.{file_fault};
+
+use std::alloc::Global;
+use std::fs::File;
+use std::io;
+use std::io::{ErrorKind, Read};
+use std::rt::Files;
+
+/// The most bytes of a file.
+pub const FILE_LIMIT: usize = 16_777_216;
+
+/// The most reads of a file; a file of the greatest length that gives a byte a read takes as many.
+pub const READ_LIMIT: usize = 16_777_217;
+
+/// The bytes that are asked for in one read.
+const PIECE_BYTES: usize = 65_536;
+
+/// Opens a path as a reader.
+pub trait Opener {
+    type Reader: Read + Drop;
+
+    // The bytes of what lies at a path, where they are known.
+    ghost bytes_at: { Self → List ℕ → Option (List ℕ) } = { λ _ _. None };
+
+    /// The reader of what lies at a path.
+    fn open(&self, path: &str) -> io::Result<Self::Reader>
+        ensures { IfOk result
+            (λ reader. IfSome (bytes_at self.now path.now)
+            (λ bytes. Self.Reader.remaining reader ≡ Some bytes)) };
+}
+
+/// The files of the system.
+#[derive(Clone, Copy, Drop)]
+pub struct SystemFiles<'a, R> {
+    pub rt: &'a R,
+}
+
+impl<R: Files> Opener for SystemFiles<'_, R> {
+    type Reader = R::File;
+
+    fn open(&self, path: &str) -> io::Result<R::File> {
+        File::open(self.rt, path)
+    }
+}
+
+/// Why a file was not read.
+#[derive(Clone, Copy, Debug, PartialEq, Eq)]
+pub enum FileFault {
+    /// It can't be opened, a read of it failed, or its bytes or reads exceed the limits.
+    Unreadable,
+    /// A growth of memory was refused.
+    OutOfMemory,
+}
+
+impl From<io::Error> for FileFault {
+    ghost from_gives = { λ error given. given ≡ file_fault (error_kind error) };
+
+    fn from(error: io::Error) -> FileFault {
+        match error.kind() {
+            ErrorKind::OutOfMemory => FileFault::OutOfMemory,
+            _ => FileFault::Unreadable,
+        }
+    }
+}
+
+/// The bytes of the file at a path.
+pub fn read_path<O: Opener>(alloc: Global, opener: &O, path: &str) -> Result<Vec<u8>, FileFault>
+    ensures whole { IfOk result
+        (λ read. IfSome (O.bytes_at opener.now path.now) (λ bytes. read.items ≡ bytes)) }
+    ensures within { IfOk result (λ read. length read.items ≤ FILE_LIMIT) }
+{
+    let mut reader = opener.open(path)?;
+    read_all(alloc, &mut reader)
+}
+
+/// All bytes of a reader up to its end, where they are few enough and the end comes soon enough.
+pub fn read_all<R: Read>(alloc: Global, reader: &mut R) -> Result<Vec<u8>, FileFault>
+    ensures whole { IfOk result
+        (λ read. IfSome (R.remaining reader.old) (λ bytes. read.items ≡ bytes)) }
+    ensures end { OnOk result (IsAtEnd (R.remaining reader.new)) }
+    ensures within { IfOk result (λ read. length read.items ≤ FILE_LIMIT) }
+{
+    let mut bytes = Vec::new(alloc);
+    let mut piece = [0; PIECE_BYTES];
+    for _ in 0..READ_LIMIT {
+        let count = match reader.read(&mut piece) {
+            Ok(count) => count,
+            Err(error) if error.kind() == ErrorKind::Interrupted => continue,
+            Err(error) => return Err(FileFault::from(error)),
+        };
+        if count == 0 {
+            return Ok(bytes);
+        }
+        if bytes.len() + count > FILE_LIMIT {
+            return Err(FileFault::Unreadable);
+        }
+        if bytes.extend_from_slice(&piece[..count]).is_err() {
+            return Err(FileFault::OutOfMemory);
+        }
+    }
+    Err(FileFault::Unreadable)
+}

@@ -1,0 +1,13 @@
+//! What the programs do with files and outputs: a file is read whole, a text is written whole, and a refusal is told by
+//! its line and its status.
+#![tactic(auto)]
+
+pub mod files;
+mod outputs;
+mod reading;
+pub mod refusal;
+
+pub use crate::files::{Opener, SystemFiles};
+pub use crate::outputs::{print, refuse};
+pub use crate::reading::{read_config, read_file};
+pub use crate::refusal::Refusal;

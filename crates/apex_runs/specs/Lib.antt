@@ -1,0 +1,2 @@
+pub mod Observers
+pub mod Run

@@ -1,0 +1,39 @@
+-- What a run of scripts gives: the report of a lawful history in which each partition made the calls of its
+-- script, or why there is none.
+use Rattle.std.specs.Prelude.{◌≡◌, ◌⊎◌, ℕ, List, Result, Ok, Err, String, string_bytes, Some}
+use Rattle.std.specs.declared.alloc.Global.{Global}
+use Rattle.apex_types.specs.declared.call.Call.{Call}
+use Rattle.apex_types.specs.declared.moment.Moment.{Moment}
+use Rattle.apex_config.specs.Configuration.{Configuration, partition_name_of}
+use Rattle.apex_ports.specs.History.{History}
+use Rattle.apex_ports.specs.Lawful.{IsLawful}
+use Rattle.apex_workers.specs.Collected.{HasScripts}
+use Rattle.apex_workers.specs.Held.{IsHeldCall}
+use Rattle.apex_ports.specs.declared.run_fault.RunFault.TheVariants as run_faults
+use Rattle.apex_texts.specs.declared.fault.Fault.{Fault}
+use Rattle.apex_texts.specs.declared.fault.Fault.TheVariants as faults
+use Rattle.apex_runs.specs.Observers.{IsReadFault}
+use Rattle.apex_texts.specs.Report.{report_of}
+
+-- the text reports a lawful history, in which each partition made the calls of its script, each once and in order
+abbrev pub IsRunReport : Configuration → List (List (Moment × Call)) → List ℕ → Type 0
+IsRunReport config scripts text = (history : History) × IsLawful config history × HasScripts history scripts × (text ≡ report_of config history)
+
+-- a worker was held: its partition's script has the call, and the gate may refuse it there
+abbrev pub IsNamedHeld : (ℕ → ℕ → Type 0) → Configuration → List (List (Moment × Call)) → List ℕ → ℕ → Type 0
+IsNamedHeld may_refuse config scripts name n = (p : ℕ) × (partition_name_of config p ≡ Some name) × IsHeldCall may_refuse scripts p n
+
+-- why a finished run has no report
+abbrev pub IsReportFault : Fault → Type 0
+IsReportFault fault = IsReadFault fault ⊎ (fault ≡ faults.Memory)
+
+-- what a run answers, where the gate may refuse at those calls
+abbrev pub IsRun : (ℕ → ℕ → Type 0) → Configuration → List (List (Moment × Call)) → Result (String Global) Fault → Type 0
+IsRun may_refuse config scripts (Ok text) = IsRunReport config scripts (string_bytes text)
+IsRun may_refuse config scripts (Err (faults.Held name n)) = IsNamedHeld may_refuse config scripts name n
+IsRun may_refuse config scripts (Err (faults.Run run_faults.WorkerNotStarted)) = Unit {0}
+IsRun may_refuse config scripts (Err (faults.Run run_faults.Stranger)) = Unit {0}
+IsRun may_refuse config scripts (Err (faults.Run run_faults.NoObserver)) = Unit {0}
+IsRun may_refuse config scripts (Err faults.Gone) = Unit {0}
+IsRun may_refuse config scripts (Err faults.Memory) = Unit {0}
+IsRun may_refuse config scripts (Err fault) = ⊥
