@@ -77,7 +77,7 @@ class Build:
         if crate == self.name:
             self.let_go()
             return [f"{self.kit}/bin/rt", "run", "--", *self.words]
-        behind = BEHIND if jobs == 1 and crates.processors() > 1 else []
+        behind = BEHIND if jobs < crates.most_jobs() else []
         return [*behind, sys.executable, "-B", f"{HERE}/toolchain.py", self.kit, "lib", "--jobs", str(jobs)]
 
     def run(self, crate, jobs):

@@ -3,6 +3,7 @@ import concurrent.futures
 import os
 import re
 import shutil
+import time
 
 # What a proof takes at most, but for a few. The toolchain itself takes fewer jobs where memory is short.
 MEMORY_EACH = 3_000_000_000
@@ -78,6 +79,11 @@ def free_memory():
     return min(found)
 
 
+def most_jobs():
+    """Returns how many jobs one proof may use."""
+    return max(1, min(processors(), MOST_JOBS))
+
+
 def lanes():
     """Returns how many proofs may run at once."""
     return max(1, min(processors(), free_memory() // MEMORY_EACH))
@@ -107,19 +113,21 @@ def behind(tasks):
 def side_by_side(tasks, at_once=None):
     """Does the tasks, given by their names, as many at once as lanes() says or as at_once gives; each when all that it
     comes after went well, and first those with the longest chain behind them. Of those that run, the one with the
-    longest chain may use all processors, and each other one job. Returns by name whether each went well; those that
-    were not begun are left out."""
-    at_once = at_once or lanes()
-    most = max(1, min(processors(), MOST_JOBS))
-    length = behind(tasks)
-    left, running, done = sorted(tasks, key=lambda it: -length[it]), {}, {}
+    longest chain left may use most_jobs(), and each other one fewer: one, and more where lanes are idle. Returns by
+    name whether each went well; those that were not begun are left out."""
+    at_once, most, length = at_once or lanes(), most_jobs(), behind(tasks)
+    left, running, done, began = sorted(tasks, key=lambda it: -length[it]), {}, {}, {}
     with concurrent.futures.ThreadPoolExecutor(at_once) as pool:
         while left or running:
-            for name in [it for it in left if all(done.get(below) for below in tasks[it].after)]:
-                if len(running) < at_once:
+            ready = [it for it in left if all(done.get(below) for below in tasks[it].after)]
+            for at, name in enumerate(ready):
+                idle = at_once - len(running)
+                if idle > 0:
                     left.remove(name)
-                    is_first = all(length[name] > length[it] for it in running.values())
-                    running[pool.submit(tasks[name].work, most if is_first else 1)] = name
+                    began[name] = now = time.monotonic()
+                    is_first = all(length[name] > length[it] - (now - began[it]) for it in running.values())
+                    jobs = most if is_first else max(1, min(most - 1, idle // (len(ready) - at)))
+                    running[pool.submit(tasks[name].work, jobs)] = name
             if not running:
                 break
             for it in concurrent.futures.wait(running, return_when=concurrent.futures.FIRST_COMPLETED).done:
