@@ -93,7 +93,8 @@ fn read_count(
     count: &mut u64,
 ) -> u32
     ensures answer { result ≡ channel_answer handle.old.held.ports channel }
-    ensures count { count.new ≡ unwrap_or (count_in which handle.old.held.ports channel) count.old }
+    ensures count { count.new ≡
+        unwrap_or (count_in which handle.old.held.ports channel) count.old }
     ensures ports { handle.new.held.ports ≡ handle.old.held.ports }
 {
     let Some(ports) = handle.take(alloc) else {

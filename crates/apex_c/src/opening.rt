@@ -28,7 +28,8 @@ pub const CLOSED: u32 = 0;
 pub extern "C" fn apex_open(alloc: Global, handle: &mut Handle, text: &[u8]) -> u32
     ensures already { handle.old.held.ports ≢ None → result ≡ ALREADY_OPEN }
     ensures refused { result ≢ OPENED → handle.new.held.ports ≡ handle.old.held.ports }
-    ensures opened { result ≡ OPENED → handle.new.held.ports ≡ ports_at_start (config_of text.now) }
+    ensures opened { result ≡ OPENED →
+        handle.new.held.ports ≡ ports_at_start (config_of text.now) }
     ensures number { handle.old.held.ports ≡ None → result ≢ OUT_OF_MEMORY →
         result ≡ opening_number (config_of text.now) }
 {

@@ -30,7 +30,8 @@ fn add_bad_name<'a>(
     owner: Owner<'a>,
     name: &'a str,
 ) -> Result<(), AllocError>
-    ensures { OnOk result (Adds (one_unless (is_name name.now)) places.old.items places.new.items) }
+    ensures { OnOk result
+        (Adds (one_unless (is_name name.now)) places.old.items places.new.items) }
 {
     if Name::read(name).is_ok() {
         return Ok(());

@@ -193,7 +193,8 @@ fn read_send(words: &[u8], call: &mut Call) -> Result<(), LineFault>
 
 #[tactic(auto, unfolding(crate::specs::Arguments::call_with, crate::specs::Arguments::call_at))]
 fn read_receive(words: &[u8], call: &mut Call) -> Result<(), LineFault>
-    ensures { Gives (λ _. call.new) result (call_with Service.ReceiveQueuing (words_of words.now)) }
+    ensures { Gives (λ _. call.new) result
+        (call_with Service.ReceiveQueuing (words_of words.now)) }
 {
     let number = id_in(words)?;
     match call {
