@@ -5,6 +5,9 @@ work=$(mktemp -d) || exit 3
 trap 'chmod -R u+w "$work"; rm -rf "$work"' EXIT
 chmod 755 "$work"
 failures=0
+# Python is begun often here, so it is begun without what a machine adds to it.
+python=$(python3 -c 'import sys; print(sys.executable)')
+PATH=$work/python:$PATH
 
 fail() {
     failures=$((failures + 1))
@@ -17,7 +20,11 @@ make_checkout() {
     rm -rf "${work:?}"/*
     kit=$work/kit checkout="$work/a checkout"
     crates=$checkout/crates crate=$checkout/crates/apexports
-    mkdir -p "$kit/bin" "$crate/specs" "$crate/proofs" "$work/elsewhere" "$checkout/gate"
+    mkdir -p "$work/python" "$kit/bin" "$crate/specs" "$crate/proofs" "$work/elsewhere" "$checkout/gate"
+    # (a reader of no rights may not run the first)
+    printf '#!/bin/sh\nfor it in "%s" /usr/bin/python3; do [ ! -x "$it" ] || exec "$it" -S "$@"; done\n' "$python" \
+        > "$work/python/python3"
+    chmod +x "$work/python/python3"
     cp "$root/apexports" "$root/explain" "$root/built_from.sh" "$checkout"
     cp "$root"/gate/*.py "$checkout/gate"
     printf '%s\n' 'apexports:' 'explain:' > "$checkout/crates.txt"
