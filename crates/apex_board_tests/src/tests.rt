@@ -1,11 +1,14 @@
-//! Refused memory, many calls, a module of the greatest counts, a long queue, and observers. The worked examples of
-//! all services are replays, and stand with the texts.
+//! Refused memory, boards and ports of modules at the limits, long histories and lists, and observers. The worked
+//! examples of all services are replays, and stand with the texts.
 mod clears;
 mod examples;
-mod full_module;
-mod many_calls;
+mod last_calls;
+mod limits;
+mod long_lists;
+mod module;
 mod observers;
+mod ports;
 mod refused_lists;
 mod refused_memory;
-mod ring;
+mod rounds;
 mod texts;
