@@ -76,7 +76,7 @@ class Gate:
                 if ended[3] != "proved" or it.startswith("rt: "):
                     self.show(it)
             self.block = None
-            self.end(part_of(ended[1], bool(ended[2])), "is proved" if ended[3] == "proved" else "is NOT PROVED")
+            self.end(part_of(ended[1], bool(ended[2])), f"{'are' if ended[2] else 'is'} {ended[3]}")
 
     def end(self, part, how):
         with self.lock:
