@@ -3,28 +3,32 @@ import os
 import re
 
 HEAD = re.compile(r'^( *)(?:pub(?:\([^)]*\))? )?(?:const )?(?:unsafe )?(?:extern "C" )?fn (\w+)')
-OWNER = re.compile(r"^ *(?:pub(?:\([^)]*\))? )?(?:unsafe )?(impl|trait|mod)\b(.*)")
+OWNER = re.compile(r"^ *(?:pub(?:\([^)]*\))? )?(?:unsafe )?(?:impl|trait|mod)\b")
+# The head of a block of methods, and that of one for a trait without arguments.
+METHODS = re.compile(r"^ *(?:unsafe )?impl(?:<.*?>)? (\w+)")
+OF_TRAIT = re.compile(r"^ *(?:unsafe )?impl(?:<.*?>)? (\w+) for (\w+)")
 
 
 class Function:
     """A function of a source file, in the layout of rt fmt: its head is one line with its name, and its body ends at
     the first closing brace that stands as deep as the head. Lines count from 1."""
 
-    def __init__(self, path, head, body, end, owner, name):
-        """body: the line of the opening brace; owner: the type whose method it is, "" for no method, or None for one of
-        a trait."""
-        self.path, self.head, self.body, self.end, self.owner, self.name = path, head, body, end, owner, name
+    def __init__(self, path, top, head, body, end, owner, name):
+        """top: the first line of its attributes; body: that of the opening brace; owner: as owner_of() gives it."""
+        self.path, self.top, self.head, self.body, self.end = path, top, head, body, end
+        self.owner, self.name = owner, name
 
     def proofs(self, sources):
-        """Returns the folder of its proof files, which stands by where its type is declared; or None for a method of a
-        trait, whose folder is named otherwise, and where the type has not one place."""
+        """Returns the folder of its proof files, which stands by where its type is declared; or None where its owner is
+        not known, or its type has not one place."""
         if self.owner is None:
             return None
-        declared = re.compile(rf"^(?:pub(?:\([^)]*\))? )?(?:struct|enum) {self.owner}\b", re.M)
-        files = [path for path, text in sources.items() if declared.search(text)] if self.owner else [self.path]
+        of_type, block = self.owner
+        declared = re.compile(rf"^(?:pub(?:\([^)]*\))? )?(?:struct|enum) {of_type}\b", re.M)
+        files = [path for path, text in sources.items() if declared.search(text)] if of_type else [self.path]
         if len(files) != 1:
             return None
-        return "/".join(["proofs", *modules_of(files[0]), *filter(None, [self.owner]), self.name, ""])
+        return "/".join(["proofs", *modules_of(files[0]), *filter(None, [block]), self.name, ""])
 
 
 def modules_of(path):
@@ -38,17 +42,25 @@ def indent_of(line):
 
 
 def owner_of(lines, at):
-    """Returns the type of the `impl` block round the line, "" where there is none, or None in a block of a trait or in
-    a module within the file."""
+    """Returns the type of the `impl` block round the line, and the block's name in the folders of proofs, both "" where
+    there is none; or None in a trait, in a module within the file, and for a trait with arguments, whose blocks are
+    named otherwise."""
     depth = indent_of(lines[at])
     for line in reversed(lines[:at]):
         found = OWNER.match(line)
         if found and indent_of(line) < depth:
-            if found[1] != "impl" or " for " in line:
-                return None
-            of_type = re.match(r"(?:<.*?>+ )?\s*(\w+)", found[2])
-            return of_type[1] if of_type else None
-    return "" if depth == 0 else None
+            of_trait, methods = OF_TRAIT.match(line), METHODS.match(line)
+            if of_trait:
+                return of_trait[2], of_trait[2] + of_trait[1]
+            return (methods[1], methods[1]) if methods and " for " not in line else None
+    return ("", "") if depth == 0 else None
+
+
+def top_of(lines, at):
+    """Returns the place of the first line of the attributes above the head at this place."""
+    while at and lines[at - 1].strip() and not re.search(r"^ *//|[{};]$", lines[at - 1]):
+        at -= 1
+    return at
 
 
 def body_of(lines, at, depth):
@@ -77,7 +89,8 @@ def functions_of(path, text):
             continue
         body = body_of(lines, at, len(head[1]))
         if body:
-            found.append(Function(path, at + 1, body[0] + 1, body[1] + 1, owner_of(lines, at), head[2]))
+            top, owner = top_of(lines, at), owner_of(lines, at)
+            found.append(Function(path, top + 1, at + 1, body[0] + 1, body[1] + 1, owner, head[2]))
     return found
 
 

@@ -22,9 +22,9 @@ def by_shape(line):
 def own_lines(edit, lines, sources):
     """Returns those of the lines whose places are in the functions that the edit changes, or in their proofs."""
     folders = tuple(filter(None, (it.proofs(sources) for it in edit.functions)))
-    spans = [(it.path, it.head, it.end) for it in edit.functions]
+    spans = [(it.path, it.top, it.end) for it in edit.functions]
     is_own = lambda line: line.path.startswith(folders) or any(
-        line.path == path and head <= line.number <= end for path, head, end in spans
+        line.path == path and top <= line.number <= end for path, top, end in spans
     )
     return [it for it in lines if is_own(it)]
 
