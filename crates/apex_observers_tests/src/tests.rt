@@ -4,7 +4,7 @@ ghost use Rattle.std.specs.Prelude.{◌≡◌};
 mod channels;
 mod threads;
 
-use apex_observers::{NoPlace, Publisher, Sampled};
+use apex_observers::{NoPlace, Observer, Publisher, Sampled};
 use apex_types::Validity::{Invalid, Valid};
 use apex_types::{Message, Moment, OutOfMemory, Validity};
 use refusing::Switch;
@@ -15,6 +15,9 @@ use std::test::Fail;
 
 /// More allocations than a publisher asks for.
 const ALLOCATION_LIMIT: u64 = 40;
+
+/// The writes of the longest history, at the moments from 0 on.
+const WRITES: u64 = 100_000;
 
 fn message(rt: &impl Abort, byte: u8) -> Message {
     let Ok(message) = Message::from_bytes(&[byte]) else {
@@ -120,20 +123,55 @@ fn places_are_given_back(rt: HostRuntime) -> Result<(), Fail> {
     Ok(())
 }
 
+// The message of a write has the bytes of its moment.
+fn write_at<A: Allocator, R: Wait + Abort>(rt: &R, publisher: &mut Publisher<A>, at: u64)
+    ensures { publisher.new.channel ≡ publisher.old.channel }
+{
+    let Ok(message) = Message::from_bytes(&at.to_be_bytes()) else {
+        panic!(rt; "eight bytes are a message");
+    };
+    let published = publisher.publish(rt, &message, Moment(at));
+    assert_eq!(rt; published, Ok(()));
+}
+
+// What was written at the moment is shown.
+fn shows_write<A: Allocator>(
+    rt: &impl Abort,
+    observer: &mut Observer<A>,
+    at: u64,
+    now: u64,
+    validity: Validity,
+)
+    ensures { observer.new.channel ≡ observer.old.channel }
+{
+    let shown = observer.read(Moment(now), 0);
+    let Ok(message) = Message::from_bytes(&at.to_be_bytes()) else {
+        panic!(rt; "eight bytes are a message");
+    };
+    let at = Moment(at);
+    let wanted = Sampled::Sample {
+        message,
+        at,
+        validity,
+    };
+    assert!(rt; shown == wanted);
+}
+
+// One observer reads after each write, and the other after the last alone.
 fn writes_without_memory<A: Allocator, R: Wait + Abort>(
     rt: &R,
     publisher: &mut Publisher<A>,
 ) -> Result<(), NoPlace> {
+    let mut late = publisher.observer()?;
     let mut observer = publisher.observer()?;
-    for turn in 0..100u8 {
-        write(rt, publisher, turn, u64::from(turn));
+    for turn in 0..WRITES {
+        write_at(rt, publisher, turn);
         observer.learn(publisher.receipt());
-        let now = Moment(u64::from(turn));
-        assert_eq!(rt;
-            observer.read(now, 0),
-            sample(rt, turn, u64::from(turn), Valid)
-        );
+        shows_write(rt, &mut observer, turn, turn, Valid);
     }
+    let last = WRITES - 1;
+    shows_write(rt, &mut late, last, last, Valid);
+    shows_write(rt, &mut observer, last, u64::MAX, Invalid);
     Ok(())
 }
 
@@ -143,7 +181,7 @@ fn memory_is_taken_when_a_publisher_is_made(rt: HostRuntime) -> Result<(), Fail>
     let switch = Switch::new(rt.alloc());
     for pass in 0..ALLOCATION_LIMIT {
         switch.refuse_after(pass, 1);
-        let made = Publisher::new(&rt, &switch, 1);
+        let made = Publisher::new(&rt, &switch, 2);
         if switch.refused() == 0 {
             let mut publisher = made?;
             switch.refuse_all();

@@ -1,12 +1,12 @@
 //! Boards of modules at the limits, with histories of more than 200,000 calls in which every channel is used.
-use crate::tests::examples::{Row, answer, answers, ask, counts, entries};
+use crate::tests::examples::{Row, answer, answers, ask, entries};
 use crate::tests::last_calls::last_rows;
 use crate::tests::module::{CHANNELS, DEPTH, Module, REFRESH, creations, module_text};
 use crate::tests::rounds::{ROUNDS, SENDING, message_of, round_rows};
 use apex_board::Board;
 use apex_config::Config;
 use apex_observers::{Observer, Sampled};
-use apex_types::{Moment, Sample, Validity};
+use apex_types::{Message, Moment, Taken, Validity};
 use refusing::Switch;
 use std::alloc::{AllocGlobal, Allocator, Global};
 use std::process::Abort;
@@ -16,7 +16,46 @@ use std::test::Fail;
 // The first round in which no more is sent has the messages from this one on in the queues.
 const LEFT: u32 = SENDING - DEPTH;
 
-/// A queuing channel accepted the message of each round. All were received in order, or the last 512 cleared.
+fn is_message_of(
+    rt: &impl Abort,
+    alloc: Global,
+    channel: u32,
+    round: u32,
+    found: &Message,
+) -> Result<(), Fail> {
+    let wanted = message_of(alloc, channel, round)?;
+    assert!(rt; *found == wanted, "channel {channel}, round {round}");
+    Ok(())
+}
+
+// These are the messages of the rounds in which messages are sent.
+fn are_accepted(
+    rt: &impl Abort,
+    alloc: Global,
+    channel: u32,
+    accepted: &[Message],
+) -> Result<(), Fail> {
+    let mut round = 0u32;
+    for message in accepted {
+        is_message_of(rt, alloc, channel, round, message)?;
+        round = round.saturating_add(1);
+    }
+    assert_eq!(rt; round, SENDING);
+    Ok(())
+}
+
+// All of them were received in order; from an odd channel the last 512 were cleared.
+fn are_taken(rt: &impl Abort, alloc: Global, channel: u32, taken: &[Taken]) -> Result<(), Fail> {
+    let mut round = 0u32;
+    for one in taken {
+        is_message_of(rt, alloc, channel, round, &one.message)?;
+        assert_eq!(rt; one.cleared, channel % 2 == 1 && round >= LEFT);
+        round = round.saturating_add(1);
+    }
+    assert_eq!(rt; round, SENDING);
+    Ok(())
+}
+
 fn journal_is_whole<A: Allocator>(
     rt: &impl Abort,
     alloc: Global,
@@ -25,15 +64,9 @@ fn journal_is_whole<A: Allocator>(
 ) -> Result<(), Fail> {
     let c = channel as usize;
     assert!(rt; c < board.config().channels());
-    let whole = SENDING as usize;
-    assert_eq!(rt; counts(rt, board, c), [whole, whole, 0]);
-    let journal = board.accepted(c).iter().zip(board.taken(c));
-    for (round, (accepted, taken)) in (0..SENDING).zip(journal) {
-        let message = message_of(alloc, channel, round)?;
-        assert!(rt; *accepted == message && taken.message == message);
-        assert_eq!(rt; taken.cleared, channel % 2 == 1 && round >= LEFT);
-    }
-    Ok(())
+    assert_eq!(rt; board.waiting_count(c), 0);
+    are_accepted(rt, alloc, channel, board.accepted(c))?;
+    are_taken(rt, alloc, channel, board.taken(c))
 }
 
 // A sampling channel holds the message of the last round.
@@ -46,13 +79,11 @@ fn last_sample_is_held<A: Allocator>(
 ) -> Result<(), Fail> {
     let c = channel as usize;
     assert!(rt; c < board.config().channels());
-    assert_eq!(rt; counts(rt, board, c), [0, 0, 0]);
-    let sample = Sample {
-        message: message_of(alloc, channel, ROUNDS - 1)?,
-        at: Moment(module.at),
+    let Some(sample) = board.last_sample(c) else {
+        panic!(rt; "channel {channel} holds no sample");
     };
-    assert!(rt; board.last_sample(c) == Some(&sample));
-    Ok(())
+    assert_eq!(rt; sample.at, Moment(module.at));
+    is_message_of(rt, alloc, channel, ROUNDS - 1, &sample.message)
 }
 
 /// What the board of the module has recorded of the whole history.

@@ -1,4 +1,4 @@
-//! Modules at the limits: 32 partitions, 64 channels, names of 30 characters, messages of 1,024 bytes, and queues of 512.
+//! Modules at the limits: 32 partitions, 64 channels, names of 30 characters, messages of 1,024 bytes.
 ghost use Rattle.std.specs.Prelude.{◌<◌, ◌≤◌};
 
 use crate::tests::examples::{NO_ERROR, Row, create_queuing, create_sampling, mode};
