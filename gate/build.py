@@ -20,7 +20,6 @@ import toolchain
 
 HERE = os.path.dirname(os.path.realpath(__file__))
 ROOT = os.path.dirname(HERE)
-PROGRAMS = ("apexports", "explain")
 # For how long a command may take to end once it is told to.
 SECONDS_TO_END = 10
 # What is not on the longest chain gets the processors that the chain leaves.
@@ -186,7 +185,7 @@ def record():
         shutil.copytree(f"{ROOT}/crates", f"{copy}/crates", ignore=shutil.ignore_patterns("out"))
         with open(f"{copy}/config.toml", "w", encoding="utf-8") as config:
             config.write('partition = [{ name = "A" }]\n')
-        for name in PROGRAMS:
+        for name in crates.programs(ROOT):
             words = [f"{copy}/config.toml"]
             is_built, took = build(copy, name, words if name == "explain" else ["check", *words])
             if not is_built:

@@ -32,6 +32,11 @@ def crates_of(root):
     return {name: [it for it in libraries if it in said] for name, libraries in said.items()}
 
 
+def programs(root):
+    """Returns the names of the programs, the crates with a main."""
+    return [it for it in crates_of(root) if os.path.exists(os.path.join(root, "crates", it, "src", "main.rt"))]
+
+
 def below(crates, name):
     """Returns the crates that the crate stands on, also through others, lowest first."""
     found = []

@@ -29,7 +29,6 @@ ROOT = os.path.dirname(os.path.dirname(os.path.realpath(__file__)))
 # What is run over the programs and the library, in this order.
 TESTS = ("gate", "edits", "examples", "explain", "documents", "apexports_script", "sweep_memory", "c_interface",
          "package")
-PROGRAMS = ("apexports", "explain")
 # What a test counts in the order of tasks, where a crate's edits count as many as they are.
 BEFORE_EDITS = 1000
 
@@ -70,9 +69,10 @@ class Verification:
 
     def take_programs(self):
         """Puts the programs into the checkout. Returns whether they are those of its sources."""
-        for name in PROGRAMS:
+        names = crates.programs(self.copy)
+        for name in names:
             copies.take_back(self.copy, self.root, name, name)
-        return all(self.record("program", name) for name in PROGRAMS)
+        return all(self.record("program", name) for name in names)
 
     def record(self, kind, name):
         """Records what was built. Returns whether it is that of the checkout's sources."""
