@@ -191,9 +191,9 @@ def record():
             if not is_built:
                 return 1
             seconds.update(took)
-    with open(progress.TABLE, "w", encoding="utf-8") as table:
-        table.write("# The seconds that each crate took in a first build, by `python3 gate/build.py --record`.\n")
-        table.writelines(f"{name} {seconds[name]:.0f}\n" for name in crates.crates_of(ROOT) if name in seconds)
+    heading = "The seconds that each crate took in a first build, by `python3 gate/build.py --record`."
+    known = {name: seconds[name] for name in crates.crates_of(ROOT) if name in seconds}
+    progress.write_durations(progress.TABLE, heading, known)
     return 0
 
 

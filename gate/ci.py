@@ -1,10 +1,8 @@
 """Runs the toolchain's own gate, `rt ci`, and shows what it says: of a crate that is proved the lines of rt alone."""
-import os
 import re
 import subprocess
 import threading
 
-import progress
 import usage
 
 ENDED = re.compile(r"rt: (\w+)(: its tests are)? (proved|NOT PROVED)\b")
@@ -18,18 +16,16 @@ def part_of(crate, is_tests):
 class Gate:
     """One run of `rt ci`: its counts, and how much time of the processors it took."""
 
-    def __init__(self, kit, folder, log, usage_of, out):
-        """folder: the repository; log: the file that gets all lines; usage_of: what looks on; out: shows a line."""
-        self.kit, self.folder, self.log, self.usage, self.out = kit, folder, log, usage_of, out
+    def __init__(self, kit, folder, log, usage_of, out, shown):
+        """folder: the repository; log: the file that gets all lines; usage_of: what looks on; out: shows a line; shown:
+        the progress, with a part for each crate and for the tests of each."""
+        self.kit, self.folder, self.log, self.usage, self.out, self.shown = kit, folder, log, usage_of, out, shown
         self.block, self.closing, self.seconds, self.lock = None, None, 0, threading.Lock()
 
-    def run(self, parts):
-        """Returns the numbers of what passed and failed. parts: the names of what is proved."""
-        lanes = max(1, len(os.sched_getaffinity(0)))
-        after = {it: [] for it in parts}
-        with progress.Progress(after, lanes, stored={}, kind="proofs", prefix="test: ") as self.shown:
-            self.usage.begun = self.begun
-            status = self.follow()
+    def run(self):
+        """Returns the numbers of what passed and failed."""
+        self.usage.begun = self.begun
+        status = self.follow()
         if self.closing is None:
             self.out(f"test: FAILED: rt ci ended with the status {status} and without its closing line: see {self.log}")
             return 0, 1

@@ -15,10 +15,17 @@ def durations(file=TABLE):
     """Returns the seconds that each part took where the table was made."""
     try:
         with open(file, encoding="utf-8") as lines:
-            words = [line.partition("#")[0].split() for line in lines]
+            rows = [line.partition("#")[0].strip().rpartition(" ") for line in lines]
     except OSError:
         return {}
-    return {name: float(seconds) for name, seconds in filter(None, words)}
+    return {name: float(seconds) for name, _, seconds in rows if name}
+
+
+def write_durations(file, heading, seconds):
+    """Writes a table that durations() reads."""
+    with open(file, "w", encoding="utf-8") as it:
+        it.write(f"# {heading}\n")
+        it.writelines(f"{name} {took:.0f}\n" for name, took in seconds.items())
 
 
 def words_of(seconds):

@@ -25,7 +25,10 @@ import toolchain
 import trials
 import usage
 
-ROOT = os.path.dirname(os.path.dirname(os.path.realpath(__file__)))
+HERE = os.path.dirname(os.path.realpath(__file__))
+ROOT = os.path.dirname(HERE)
+# What each part took in the run of which this is a copy of out/durations.txt.
+TABLE = os.path.join(HERE, "test_durations.txt")
 # What is run over the programs and the library, in this order.
 TESTS = ("gate", "edits", "examples", "explain", "documents", "apexports_script", "sweep_memory", "c_interface",
          "package")
@@ -56,12 +59,15 @@ class Verification:
             self.failed += 1
         self.say(f"test: FAILED: {line}")
 
-    def prove(self):
-        """Runs the toolchain's gate. Returns whether all is proved and every test passed."""
-        gate = ci.Gate(self.kit, self.copy, f"{self.root}/out/test.log", self.usage, self.say)
+    def proofs(self):
+        """Returns the parts of the toolchain's gate: each crate, and its tests where it has some."""
         names = [*crates.crates_of(self.copy)]
-        tested = [it for it in names if has_tests(f"{self.copy}/crates/{it}")]
-        self.passed, self.failed = gate.run([*names, *(ci.part_of(it, True) for it in tested)])
+        return [*names, *(ci.part_of(it, True) for it in names if has_tests(f"{self.copy}/crates/{it}"))]
+
+    def prove(self, shown):
+        """Runs the toolchain's gate. Returns whether all is proved and every test passed."""
+        gate = ci.Gate(self.kit, self.copy, f"{self.root}/out/test.log", self.usage, self.say, shown)
+        self.passed, self.failed = gate.run()
         proofs, tests = (self.usage.of_kind(it) / 60 for it in ("proof", "tests"))
         rest = max(gate.seconds / 60 - proofs - tests, 0)
         self.parts.update({"proofs": proofs, "tests of crates": tests, "other work of rt ci": rest})
@@ -148,22 +154,20 @@ class Verification:
                     [], count, lambda jobs, it=crate: self.try_edits(rt, it, jobs))
         return found
 
-    def do(self, tasks):
+    def do(self, tasks, shown):
         """Does the tasks side by side, and says how far they are."""
-        at_once = crates.lanes()
-        after = {name: task.after for name, task in tasks.items()}
-        with progress.Progress(after, at_once, stored={}, doing="trying", kind="parts", prefix="test: ") as shown:
-            def done(name, jobs):
-                shown.begin(name)
-                try:
-                    tasks[name].work(jobs)
-                except (Exception, SystemExit) as error:
-                    self.fail(f"{name} could not be tried: {error}")
-                shown.end(name)
-                return True
+        def done(name, jobs):
+            shown.begin(name)
+            try:
+                tasks[name].work(jobs)
+            except (Exception, SystemExit) as error:
+                self.fail(f"{name} could not be tried: {error}")
+            shown.end(name)
+            return True
 
-            crates.side_by_side({name: crates.Task(task.after, task.seconds, lambda jobs, it=name: done(it, jobs))
-                                 for name, task in tasks.items()}, at_once)
+        shown.doing = "trying"
+        crates.side_by_side({name: crates.Task(task.after, task.seconds, lambda jobs, it=name: done(it, jobs))
+                             for name, task in tasks.items()}, shown.at_once)
 
     def run(self, with_edits):
         with self.usage:
@@ -173,11 +177,17 @@ class Verification:
                 return
             # (its first call sets a signal's handler, which only this thread may)
             rt.rtlib.guarded()
-            if self.prove() and self.take_programs():
-                known = rt.rtlib.crates_below(self.copy)
-                for crate in [it for it in known if it.is_static]:
-                    self.build_library(rt, crate)
-                self.do(self.tasks(rt, known, with_edits))
+            known, proofs = rt.rtlib.crates_below(self.copy), self.proofs()
+            tasks = self.tasks(rt, known, with_edits)
+            after = {**{it: [] for it in proofs}, **{it: [*proofs, *tasks[it].after] for it in tasks}}
+            stored = progress.durations(TABLE)
+            with progress.Progress(after, crates.lanes(), (), stored, kind="parts", prefix="test: ") as shown:
+                if self.prove(shown) and self.take_programs():
+                    for crate in [it for it in known if it.is_static]:
+                        self.build_library(rt, crate)
+                    self.do(tasks, shown)
+            heading = f"The seconds that each part took in a run of ./test{' all' if with_edits else ''}."
+            progress.write_durations(f"{self.root}/out/durations.txt", heading, shown.took)
             if with_edits:
                 self.parts["must-fail edits"] = self.usage.of_kind("edits") / 60
         for line in usage.table(self.usage, self.parts):
