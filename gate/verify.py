@@ -28,7 +28,7 @@ import usage
 ROOT = os.path.dirname(os.path.dirname(os.path.realpath(__file__)))
 # What is run over the programs and the library, in this order.
 TESTS = ("gate", "edits", "examples", "explain", "documents", "apexports_script", "sweep_memory", "c_interface",
-         "package")
+         "python", "package")
 # What a test counts in the order of tasks, where a crate's edits count as many as they are.
 BEFORE_EDITS = 1000
 
