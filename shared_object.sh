@@ -1,4 +1,5 @@
-# Makes the shared object of the C interface, for the scripts 'package' and 'python/build', which set root and toolchain.
+# Makes the shared object of the C interface, for the scripts 'package' and 'python/build', which set root
+# and toolchain.
 
 # set_version: the version, which is the first one of the changes, and the name of the shared object.
 set_version() {

@@ -53,6 +53,7 @@ class Module:
         self._buffer = ctypes.create_string_buffer(_library.MESSAGE_LIMIT)
         self._count = ctypes.c_uint64()
         self._number, self._other = ctypes.c_uint32(), ctypes.c_uint32()
+        self._number_place = ctypes.byref(self._number)
         self._configuration = read_configuration(text)
         self._check_counts(self._configuration)
         self._accepted: List[Deque[bytes]] = [deque(maxlen=it.depth) for it in self._configuration.channels]
@@ -138,7 +139,7 @@ class Module:
     def _sample(self, channel: int) -> Optional[WrittenSample]:
         """What a sampling channel holds. The lock is held."""
         answer = self._functions.function("last_sample")(
-            self._lent, channel, self._buffer, _library.MESSAGE_LIMIT, ctypes.byref(self._number),
+            self._lent, channel, self._buffer, _library.MESSAGE_LIMIT, self._number_place,
             ctypes.byref(self._count))
         if answer == _library.NOT_OPEN:
             raise NoCallError("the module is closed")

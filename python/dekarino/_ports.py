@@ -34,7 +34,7 @@ class _Caller:
         module = self._module
         function = module._functions.function(asked.service.lower())
         with lock:
-            answer = function(module._lent, self._place, module._moment, *arguments, ctypes.byref(module._number))
+            answer = function(module._lent, self._place, module._moment, *arguments, module._number_place)
             value = module._number.value if answer == 0 else None
             return IdReply(module._note(asked, answer, value), value, asked)
 
@@ -122,13 +122,14 @@ class QueuingPort(_Port):
         super().__init__(module, place, partition, id)
         self._send = self._asked(self.name, "SEND_QUEUING_MESSAGE", "send")
         self._receive = self._asked(self.name, "RECEIVE_QUEUING_MESSAGE", "receive")
+        self._send_function = module._functions.function("send_queuing_message")
+        self._receive_function = module._functions.function("receive_queuing_message")
 
     def send(self, message: bytes) -> Reply[None]:
         """SEND_QUEUING_MESSAGE."""
         module, sent = self._module, _message(message)
-        function = module._functions.function("send_queuing_message")
         with lock:
-            answer = function(module._lent, self._place, module._moment, self.id, sent, len(sent))
+            answer = self._send_function(module._lent, self._place, module._moment, self.id, sent, len(sent))
             code = module._note(self._send, answer, None)
             if answer == 0 and self._channel is not None:
                 module._accepted[self._channel].append(sent)
@@ -137,10 +138,9 @@ class QueuingPort(_Port):
     def receive(self) -> ReceiveReply:
         """RECEIVE_QUEUING_MESSAGE."""
         module = self._module
-        function = module._functions.function("receive_queuing_message")
         with lock:
-            answer = function(module._lent, self._place, module._moment, self.id, module._buffer,
-                              _library.MESSAGE_LIMIT, ctypes.byref(module._number))
+            answer = self._receive_function(module._lent, self._place, module._moment, self.id, module._buffer,
+                                            _library.MESSAGE_LIMIT, module._number_place)
             message = module._buffer.raw[: module._number.value] if answer == 0 else None
             return ReceiveReply(module._note(self._receive, answer, message), message, self._receive)
 
@@ -175,7 +175,7 @@ class SamplingPort(_Port):
         function = module._functions.function("read_sampling_message")
         with lock:
             answer = function(module._lent, self._place, module._moment, self.id, module._buffer,
-                              _library.MESSAGE_LIMIT, ctypes.byref(module._number), ctypes.byref(module._other))
+                              _library.MESSAGE_LIMIT, module._number_place, ctypes.byref(module._other))
             value = None if answer else Sample(module._buffer.raw[: module._number.value],
                                                Validity(module._other.value))
             return ReadReply(module._note(asked, answer, value), value, asked)
