@@ -1,0 +1,16 @@
+"""The ports of an ARINC 653 module for benches in Python, over the shared object of Dekarino: docs/PYTHON.md."""
+from ._codes import Code, Direction, Discipline, Mode, Validity
+from ._errors import ApexError, ConfigError, LibraryError, NoCallError, ProgramError, TraceError
+from ._module import Channel, Module, WrittenSample
+from ._ports import Partition, QueuingPort, SamplingPort
+from ._program import Report, ReportedCall, ReportedPartition, ReportedQueuing, ReportedSampling, replay
+from ._replies import (IdReply, QueuingStatus, QueuingStatusReply, ReadReply, ReceiveReply, Reply, Sample,
+                       SamplingStatus, SamplingStatusReply)
+
+__all__ = [
+    "ApexError", "Channel", "Code", "ConfigError", "Direction", "Discipline", "IdReply", "LibraryError", "Mode",
+    "Module", "NoCallError", "Partition", "ProgramError", "QueuingPort", "QueuingStatus", "QueuingStatusReply",
+    "ReadReply", "ReceiveReply", "Reply", "Report", "ReportedCall", "ReportedPartition", "ReportedQueuing",
+    "ReportedSampling", "Sample", "SamplingPort", "SamplingStatus", "SamplingStatusReply", "TraceError", "Validity",
+    "WrittenSample", "replay",
+]

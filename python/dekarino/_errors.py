@@ -1,0 +1,60 @@
+"""What is raised."""
+from typing import Optional
+
+from ._codes import Code
+
+# The words of a configuration's faults, from number 1.
+FAULTS = ("not TOML", "shape", "name", "name twice", "number out of range", "unknown channel",
+          "kind of port and channel differ", "not exactly one source", "destinations", "count out of limits")
+
+
+class ApexError(Exception):
+    """A service answered another code than NO_ERROR."""
+
+    def __init__(self, code: Code, partition: str, port: Optional[str], service: str) -> None:
+        super().__init__(code, partition, port, service)
+        self.code = code
+        self.partition = partition
+        self.port = port
+        self.service = service
+
+    def __str__(self) -> str:
+        port = "" if self.port is None else f", port {self.port}"
+        return f"partition {self.partition}{port}: {self.service} answered {self.code.name}"
+
+
+class NoCallError(ValueError):
+    """What was asked is no call of the standard: nothing was called, and nothing changed."""
+
+
+class ConfigError(ValueError):
+    """The configuration was refused, by a fault with its number."""
+
+    def __init__(self, number: int, words: str) -> None:
+        super().__init__(number, words)
+        self.number = number
+        self.words = words
+
+    def __str__(self) -> str:
+        return f"config fault {self.number}: {self.words}"
+
+
+class TraceError(ValueError):
+    """A trace was refused, by a fault with its number, at a line."""
+
+    def __init__(self, line: int, number: int, words: str) -> None:
+        super().__init__(line, number, words)
+        self.line = line
+        self.number = number
+        self.words = words
+
+    def __str__(self) -> str:
+        return f"trace line {self.line} fault {self.number}: {self.words}"
+
+
+class LibraryError(OSError):
+    """The shared object or the program is not there, or isn't what it is taken for."""
+
+
+class ProgramError(OSError):
+    """The program could not do what it was asked."""

@@ -1,0 +1,120 @@
+"""The shared object: where it is, and the functions of c/apex_ports.h that it shows."""
+import ctypes
+import functools
+import operator
+import os
+import pathlib
+import threading
+from typing import Any, Callable, Dict, Tuple
+
+from ._errors import LibraryError, NoCallError
+
+FOLDER = pathlib.Path(__file__).resolve().parent
+# The root of a checkout or of an unpacked package.
+ROOT = FOLDER.parent.parent
+MESSAGE_LIMIT = 1024
+MOMENT_LIMIT = 2**63 - 1
+NUMBER_LIMIT = 2**32 - 1
+
+# What a function answers beside the return codes and NOT_MADE.
+NOT_OPEN, NO_PARTITION, TOO_LONG, NO_NAME, NO_CHANNEL, NO_SAMPLE = 8, 9, 10, 11, 13, 14
+OUT_OF_MEMORY = 11
+
+# One for all modules, so that a process that forks can hold it: then no call is half done in the child.
+lock = threading.Lock()
+if hasattr(os, "register_at_fork"):
+    os.register_at_fork(before=lock.acquire, after_in_parent=lock.release, after_in_child=lock.release)
+
+_handle = ctypes.c_void_p
+_u32, _u64, _length, _text = ctypes.c_uint32, ctypes.c_uint64, ctypes.c_size_t, ctypes.c_char_p
+_place = ctypes.c_void_p
+_caller = (_handle, _u32, _u64)
+
+
+class Handle(ctypes.Structure):
+    """The ports of a module, or none."""
+
+    _fields_ = [("is_open", ctypes.c_bool), ("ports", ctypes.c_void_p)]
+
+
+class QueuingFields(ctypes.Structure):
+    """The status of a queuing port."""
+
+    _fields_ = [("waiting", _u32), ("depth", _u32), ("size", _u32), ("direction", _u32)]
+
+
+class SamplingFields(ctypes.Structure):
+    """The status of a sampling port."""
+
+    _fields_ = [("refresh", _u64), ("size", _u32), ("direction", _u32), ("last_validity", _u32)]
+
+
+# The parameters of each function.
+PARAMETERS: Dict[str, Tuple[Any, ...]] = {
+    "open": (_handle, _text, _length),
+    "close": (_handle,),
+    "create_sampling_port": (*_caller, _text, _length, _u32, _u32, _u64, _place),
+    "write_sampling_message": (*_caller, _u32, _text, _length),
+    "read_sampling_message": (*_caller, _u32, _place, _length, _place, _place),
+    "get_sampling_port_id": (*_caller, _text, _length, _place),
+    "get_sampling_port_status": (*_caller, _u32, _place),
+    "create_queuing_port": (*_caller, _text, _length, _u32, _u32, _u32, _u32, _place),
+    "send_queuing_message": (*_caller, _u32, _text, _length),
+    "receive_queuing_message": (*_caller, _u32, _place, _length, _place),
+    "get_queuing_port_id": (*_caller, _text, _length, _place),
+    "get_queuing_port_status": (*_caller, _u32, _place),
+    "clear_queuing_port": (*_caller, _u32),
+    "set_partition_mode": (*_caller, _u32),
+    "partition_mode": (_handle, _u32, _place),
+    "call_count": (_handle, _u32, _place),
+    "accepted_count": (_handle, _u32, _place),
+    "received_count": (_handle, _u32, _place),
+    "cleared_count": (_handle, _u32, _place),
+    "waiting_count": (_handle, _u32, _place),
+    "last_sample": (_handle, _u32, _place, _length, _place, _place),
+}
+
+
+def find_library() -> pathlib.Path:
+    """The path of the shared object: the one that DEKARINO_LIBRARY names, or else the one in this folder, in an
+    unpacked package, or in the checkout."""
+    named = os.environ.get("DEKARINO_LIBRARY")
+    if named:
+        return pathlib.Path(named)
+    places = [FOLDER / "libdekarino.so", ROOT / "c/libdekarino.so", ROOT / "python/out/libdekarino.so"]
+    for place in places:
+        if place.exists():
+            return place
+    raise LibraryError(f"there is no libdekarino.so at {', '.join(map(str, places))}: make it by python/build in a "
+                       "checkout, or name it in DEKARINO_LIBRARY")
+
+
+class Library:
+    """The functions of the shared object, each by its name without `apex_`. A call of one lets other threads run."""
+
+    def __init__(self, path: pathlib.Path) -> None:
+        try:
+            loaded = ctypes.CDLL(str(path.absolute()))
+            self._functions = {name: getattr(loaded, f"apex_{name}") for name in PARAMETERS}
+        except (OSError, AttributeError) as error:
+            raise LibraryError(f"{path} is no shared object of the C interface: {error}") from error
+        for name, function in self._functions.items():
+            function.argtypes, function.restype = PARAMETERS[name], _u32
+
+    def function(self, name: str) -> Callable[..., int]:
+        """The function of the name."""
+        return self._functions[name]
+
+
+@functools.lru_cache(maxsize=None)
+def library() -> Library:
+    """The library, which is loaded where it is first asked for."""
+    return Library(find_library())
+
+
+def number(value: int, limit: int, what: str) -> int:
+    """The number, where it is one from 0 to the limit."""
+    found = operator.index(value)
+    if not 0 <= found <= limit:
+        raise NoCallError(f"{what} is {found}; it must be 0 to {limit}")
+    return found

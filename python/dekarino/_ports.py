@@ -1,0 +1,192 @@
+"""A partition and its ports: the twelve services. Each is served behind the lock of the modules."""
+import ctypes
+from typing import TYPE_CHECKING, Any, Optional, Tuple
+
+from . import _library
+from ._codes import Code, Direction, Mode, Validity
+from ._library import MOMENT_LIMIT, NUMBER_LIMIT, lock, number
+from ._replies import (AnyValue, Asked, IdReply, QueuingStatus, QueuingStatusReply, ReadReply, ReceiveReply, Reply,
+                       Sample, SamplingStatus, SamplingStatusReply)
+
+if TYPE_CHECKING:
+    from ._module import Module
+
+
+class _Caller:
+    """Who calls: a partition, by itself or through a port."""
+
+    def __init__(self, module: "Module", place: int, partition: str) -> None:
+        self._module, self._place = module, place
+        self._who = partition
+
+    def _asked(self, port: Optional[str], service: str, call: str) -> Asked:
+        return Asked(self._who, port, service, call)
+
+    def _serve(self, asked: Asked, *arguments: Any) -> Code:
+        """Makes a call that gives a code alone."""
+        module = self._module
+        function = module._functions.function(asked.service.lower())
+        with lock:
+            return module._note(asked, function(module._lent, self._place, module._moment, *arguments), None)
+
+    def _serve_for_id(self, asked: Asked, *arguments: Any) -> IdReply:
+        """Makes a call that gives a port's identifier."""
+        module = self._module
+        function = module._functions.function(asked.service.lower())
+        with lock:
+            answer = function(module._lent, self._place, module._moment, *arguments, module._number_place)
+            value = module._number.value if answer == 0 else None
+            return IdReply(module._note(asked, answer, value), value, asked)
+
+
+def _named(name: str) -> Tuple[bytes, int]:
+    """A name and its length, as C takes them; what is not ASCII is no name there."""
+    word = name.encode("ascii", "replace")
+    return word, len(word)
+
+
+class Partition(_Caller):
+    """A partition of a module."""
+
+    def __init__(self, module: "Module", place: int, name: str) -> None:
+        super().__init__(module, place, name)
+        self.name = name
+
+    @property
+    def mode(self) -> Mode:
+        """The partition's mode."""
+        with lock:
+            return Mode(self._module._read("partition_mode", self._place, self._module._number))
+
+    @property
+    def calls(self) -> int:
+        """How many calls the partition made, those that were not made in IDLE included."""
+        with lock:
+            return self._module._read("call_count", self._place, self._module._count)
+
+    def create_queuing_port(self, name: str, *, size: int, depth: int, direction: int,
+                            discipline: int = 0) -> "QueuingPort":
+        """CREATE_QUEUING_PORT. The port, or ApexError is raised."""
+        numbers = [number(it, NUMBER_LIMIT, what) for it, what in
+                   ((size, "size"), (depth, "depth"), (direction, "direction"), (discipline, "discipline"))]
+        asked = self._asked(name, "CREATE_QUEUING_PORT", "create-queuing")
+        return self.queuing_port(self._serve_for_id(asked, *_named(name), *numbers).check())
+
+    def create_sampling_port(self, name: str, *, size: int, direction: int, refresh: int) -> "SamplingPort":
+        """CREATE_SAMPLING_PORT, the refresh period in nanoseconds. The port, or ApexError is raised."""
+        numbers = [number(size, NUMBER_LIMIT, "size"), number(direction, NUMBER_LIMIT, "direction"),
+                   number(refresh, MOMENT_LIMIT, "refresh")]
+        asked = self._asked(name, "CREATE_SAMPLING_PORT", "create-sampling")
+        return self.sampling_port(self._serve_for_id(asked, *_named(name), *numbers).check())
+
+    def get_queuing_port_id(self, name: str) -> IdReply:
+        """GET_QUEUING_PORT_ID."""
+        return self._serve_for_id(self._asked(name, "GET_QUEUING_PORT_ID", "queuing-id"), *_named(name))
+
+    def get_sampling_port_id(self, name: str) -> IdReply:
+        """GET_SAMPLING_PORT_ID."""
+        return self._serve_for_id(self._asked(name, "GET_SAMPLING_PORT_ID", "sampling-id"), *_named(name))
+
+    def set_mode(self, mode: int) -> Reply[None]:
+        """SET_PARTITION_MODE."""
+        asked = self._asked(None, "SET_PARTITION_MODE", "mode")
+        return Reply(self._serve(asked, number(mode, NUMBER_LIMIT, "mode")), None, asked)
+
+    def queuing_port(self, id: int) -> "QueuingPort":
+        """The queuing port of an identifier, whether there is one or not. No service is called."""
+        return QueuingPort(self._module, self._place, self.name, id)
+
+    def sampling_port(self, id: int) -> "SamplingPort":
+        """The sampling port of an identifier, whether there is one or not. No service is called."""
+        return SamplingPort(self._module, self._place, self.name, id)
+
+
+class _Port(_Caller):
+    def __init__(self, module: "Module", place: int, partition: str, id: int) -> None:
+        super().__init__(module, place, partition)
+        self.id = number(id, NUMBER_LIMIT, "an identifier")
+        ports = module._configuration.partitions[place].ports
+        is_configured = 1 <= self.id <= len(ports)
+        self.name = ports[self.id - 1].name if is_configured else f"number {self.id}"
+        self._channel = ports[self.id - 1].channel if is_configured else None
+
+
+def _message(message: bytes) -> bytes:
+    return message if type(message) is bytes else bytes(memoryview(message))
+
+
+class QueuingPort(_Port):
+    """A queuing port of a partition. Every time-out is zero."""
+
+    def __init__(self, module: "Module", place: int, partition: str, id: int) -> None:
+        super().__init__(module, place, partition, id)
+        self._send = self._asked(self.name, "SEND_QUEUING_MESSAGE", "send")
+        self._receive = self._asked(self.name, "RECEIVE_QUEUING_MESSAGE", "receive")
+        self._send_function = module._functions.function("send_queuing_message")
+        self._receive_function = module._functions.function("receive_queuing_message")
+
+    def send(self, message: bytes) -> Reply[None]:
+        """SEND_QUEUING_MESSAGE."""
+        module, sent = self._module, _message(message)
+        with lock:
+            answer = self._send_function(module._lent, self._place, module._moment, self.id, sent, len(sent))
+            code = module._note(self._send, answer, None)
+            if answer == 0 and self._channel is not None:
+                module._accepted[self._channel].append(sent)
+        return Reply(code, None, self._send)
+
+    def receive(self) -> ReceiveReply:
+        """RECEIVE_QUEUING_MESSAGE."""
+        module = self._module
+        with lock:
+            answer = self._receive_function(module._lent, self._place, module._moment, self.id, module._buffer,
+                                            _library.MESSAGE_LIMIT, module._number_place)
+            message = module._buffer.raw[: module._number.value] if answer == 0 else None
+            return ReceiveReply(module._note(self._receive, answer, message), message, self._receive)
+
+    def clear(self) -> Reply[None]:
+        """CLEAR_QUEUING_PORT."""
+        asked = self._asked(self.name, "CLEAR_QUEUING_PORT", "clear")
+        return Reply(self._serve(asked, self.id), None, asked)
+
+    def status(self) -> QueuingStatusReply:
+        """GET_QUEUING_PORT_STATUS."""
+        module, it = self._module, _library.QueuingFields()
+        asked = self._asked(self.name, "GET_QUEUING_PORT_STATUS", "queuing-status")
+        function = module._functions.function("get_queuing_port_status")
+        with lock:
+            answer = function(module._lent, self._place, module._moment, self.id, ctypes.byref(it))
+            value = None if answer else QueuingStatus(it.waiting, it.depth, it.size, Direction(it.direction))
+            return QueuingStatusReply(module._note(asked, answer, value), value, asked)
+
+
+class SamplingPort(_Port):
+    """A sampling port of a partition."""
+
+    def write(self, message: bytes) -> Reply[None]:
+        """WRITE_SAMPLING_MESSAGE."""
+        asked, sent = self._asked(self.name, "WRITE_SAMPLING_MESSAGE", "write"), _message(message)
+        return Reply(self._serve(asked, self.id, sent, len(sent)), None, asked)
+
+    def read(self) -> ReadReply:
+        """READ_SAMPLING_MESSAGE."""
+        module = self._module
+        asked = self._asked(self.name, "READ_SAMPLING_MESSAGE", "read")
+        function = module._functions.function("read_sampling_message")
+        with lock:
+            answer = function(module._lent, self._place, module._moment, self.id, module._buffer,
+                              _library.MESSAGE_LIMIT, module._number_place, ctypes.byref(module._other))
+            value = None if answer else Sample(module._buffer.raw[: module._number.value],
+                                               Validity(module._other.value))
+            return ReadReply(module._note(asked, answer, value), value, asked)
+
+    def status(self) -> SamplingStatusReply:
+        """GET_SAMPLING_PORT_STATUS."""
+        module, it = self._module, _library.SamplingFields()
+        asked = self._asked(self.name, "GET_SAMPLING_PORT_STATUS", "sampling-status")
+        function = module._functions.function("get_sampling_port_status")
+        with lock:
+            answer = function(module._lent, self._place, module._moment, self.id, ctypes.byref(it))
+            value = None if answer else SamplingStatus(it.refresh, it.size, Direction(it.direction),
+                                                       Validity(it.last_validity))
+            return SamplingStatusReply(module._note(asked, answer, value), value, asked)

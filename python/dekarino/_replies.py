@@ -1,0 +1,171 @@
+"""What a service answers: a code, and the values that come with it."""
+from typing import Generic, NamedTuple, Optional, TypeVar, Union, cast
+
+from ._codes import Code, Direction, Validity
+from ._errors import ApexError
+
+
+class Sample(NamedTuple):
+    """What a read gives."""
+
+    message: bytes
+    validity: Validity
+
+
+class QueuingStatus(NamedTuple):
+    """What the status of a queuing port gives."""
+
+    waiting: int
+    depth: int
+    size: int
+    direction: Direction
+
+
+class SamplingStatus(NamedTuple):
+    """What the status of a sampling port gives; the refresh period in nanoseconds."""
+
+    refresh: int
+    size: int
+    direction: Direction
+    last_validity: Validity
+
+
+# What comes with NO_ERROR: nothing, an identifier, a received message, or one of those above.
+AnyValue = Union[None, int, bytes, Sample, QueuingStatus, SamplingStatus]
+Value = TypeVar("Value")
+
+
+class Asked(NamedTuple):
+    """Who asked what: names, and the word that a trace has for the service."""
+
+    partition: str
+    port: Optional[str]
+    service: str
+    call: str
+
+
+def message_word(message: bytes) -> str:
+    """A message as a trace and a report have it."""
+    return message.hex() or "-"
+
+
+def reply_words(code: Code, value: AnyValue) -> str:
+    """A reply as the program's report has it."""
+    if code is Code.NOT_MADE:
+        return "not made"
+    if value is None:
+        return code.name
+    if isinstance(value, int):
+        return f"{code.name} id {value}"
+    if isinstance(value, bytes):
+        return f"{code.name} message {message_word(value)}"
+    if isinstance(value, Sample):
+        return f"{code.name} message {message_word(value.message)} {value.validity.name}"
+    if isinstance(value, QueuingStatus):
+        return (f"{code.name} waiting {value.waiting} depth {value.depth} size {value.size} "
+                f"{value.direction.name} processes 0")
+    return (f"{code.name} refresh {value.refresh} size {value.size} {value.direction.name} "
+            f"last {value.last_validity.name}")
+
+
+class Reply(Generic[Value]):
+    """A service's reply. `str` gives it in the words of the program's report."""
+
+    __slots__ = ("code", "value", "_asked")
+    code: Code
+    value: Optional[Value]
+
+    def __init__(self, code: Code, value: Optional[Value], asked: Asked) -> None:
+        self.code = code
+        self.value = value
+        self._asked = asked
+
+    def check(self) -> Value:
+        """The value where the code is NO_ERROR; otherwise ApexError is raised."""
+        if self.code is not Code.NO_ERROR:
+            raise ApexError(self.code, self._asked.partition, self._asked.port, self._asked.service)
+        return cast(Value, self.value)
+
+    def __str__(self) -> str:
+        return reply_words(self.code, cast(AnyValue, self.value))
+
+    def __repr__(self) -> str:
+        return f"<{self._asked.service}: {self}>"
+
+
+class IdReply(Reply[int]):
+    """The reply that has a port's identifier."""
+
+    __slots__ = ()
+
+    @property
+    def id(self) -> Optional[int]:
+        return self.value
+
+
+class ReceiveReply(Reply[bytes]):
+    """The reply to a receive."""
+
+    __slots__ = ()
+
+    @property
+    def message(self) -> Optional[bytes]:
+        return self.value
+
+
+class ReadReply(Reply[Sample]):
+    """The reply to a read."""
+
+    __slots__ = ()
+
+    @property
+    def message(self) -> Optional[bytes]:
+        return None if self.value is None else self.value.message
+
+    @property
+    def validity(self) -> Optional[Validity]:
+        return None if self.value is None else self.value.validity
+
+
+class QueuingStatusReply(Reply[QueuingStatus]):
+    """The reply that has the status of a queuing port."""
+
+    __slots__ = ()
+
+    @property
+    def waiting(self) -> Optional[int]:
+        return None if self.value is None else self.value.waiting
+
+    @property
+    def depth(self) -> Optional[int]:
+        return None if self.value is None else self.value.depth
+
+    @property
+    def size(self) -> Optional[int]:
+        return None if self.value is None else self.value.size
+
+    @property
+    def direction(self) -> Optional[Direction]:
+        return None if self.value is None else self.value.direction
+
+
+class SamplingStatusReply(Reply[SamplingStatus]):
+    """The reply that has the status of a sampling port."""
+
+    __slots__ = ()
+
+    @property
+    def refresh(self) -> Optional[int]:
+        return None if self.value is None else self.value.refresh
+
+    @property
+    def size(self) -> Optional[int]:
+        return None if self.value is None else self.value.size
+
+    @property
+    def direction(self) -> Optional[Direction]:
+        return None if self.value is None else self.value.direction
+
+    @property
+    def last_validity(self) -> Optional[Validity]:
+        return None if self.value is None else self.value.last_validity
