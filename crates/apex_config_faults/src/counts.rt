@@ -1,6 +1,6 @@
 //! The places with too few or too many partitions, ports or channels.
-ghost use Rattle.std.specs.Prelude.{sum_by, OnOk};
-ghost use Rattle.apex_config_faults.specs.Places.{Adds, bad_count, too_many_ports, bad_counts};
+ghost use Rattle.std.specs.Prelude.{OnOk};
+ghost use Rattle.apex_config_faults.specs.Places.{Adds, part_of, found_from, bad_count, too_many_ports, bad_counts};
 
 use crate::config_text::{ConfigText, PartitionText};
 use crate::finding::Finding;
@@ -17,7 +17,9 @@ fn add_count<'a>(
     least: usize,
     most: usize,
 ) -> Result<(), AllocError>
-    ensures { OnOk result (Adds (bad_count least most count) places.old.items places.new.items) }
+    ensures { OnOk result (Adds
+        (bad_count (part_of owner.entry) least most count)
+        places.old.items places.new.items) }
 {
     if least <= count && count <= most {
         return Ok(());
@@ -36,7 +38,7 @@ fn add_too_many_ports<'a>(
     partitions: &[PartitionText<'a>],
 ) -> Result<(), AllocError>
     ensures { OnOk result
-        (Adds (sum_by too_many_ports partitions.now) places.old.items places.new.items) }
+        (Adds (found_from too_many_ports 1 partitions.now) places.old.items places.new.items) }
 {
     for (place, partition) in partitions.iter().enumerate() {
         let owner = Owner::Partition(labelled(place + 1, partition.name));

@@ -1,6 +1,6 @@
 //! The places of a configuration that hold a fault.
-ghost use Rattle.std.specs.Prelude.{OnOk};
-ghost use Rattle.apex_config_faults.specs.Places.{Adds};
+ghost use Rattle.std.specs.Prelude.{[], ◌∷◌, OnOk};
+ghost use Rattle.apex_config_faults.specs.Places.{Adds, part_of};
 
 use crate::finding::Finding;
 use crate::printed::Named;
@@ -66,7 +66,7 @@ pub(crate) fn add<'a>(
     owner: Owner<'a>,
     finding: Finding<'a>,
 ) -> Result<(), AllocError>
-    ensures { OnOk result (Adds 1 places.old.items places.new.items) }
+    ensures { OnOk result (Adds (part_of owner.entry ∷ []) places.old.items places.new.items) }
 {
     places.push(Place { owner, finding })?;
     Ok(())

@@ -1,7 +1,6 @@
 //! The places whose name or number is wrong, and those whose name stood before.
-ghost use Rattle.std.specs.Prelude.{◌≡◌, sum_by, OnOk};
-ghost use Rattle.apex_config_faults.specs.Places.{Adds, one_unless, bad_port_names, bad_partition_names, bad_channel_name, bad_names, bad_number, bad_refreshes, bad_partition_refreshes, bad_channel_numbers, bad_numbers};
-ghost use Rattle.apex_config.specs.Passes.{is_name};
+ghost use Rattle.std.specs.Prelude.{◌≡◌, OnOk};
+ghost use Rattle.apex_config_faults.specs.Places.{Adds, part_of, found_from, bad_name, bad_port_name, bad_partition_names, bad_channel_name, bad_names, bad_number, bad_refresh, bad_partition_refreshes, bad_channel_numbers, bad_numbers};
 ghost use Rattle.apex_config.specs.Meaning.{is_from_one_to};
 
 use crate::config_text::{ChannelText, ConfigText, PartitionText, PortText};
@@ -13,7 +12,9 @@ use std::alloc::{AllocError, Global};
 use std::collections::BTreeMap;
 
 /// The label of a number and a name.
-pub(crate) fn labelled(number: usize, name: &str) -> Label<'_> {
+pub(crate) fn labelled(number: usize, name: &str) -> Label<'_>
+    ensures { result.number ≡ number }
+{
     Label {
         number,
         name: Some(name),
@@ -31,7 +32,7 @@ fn add_bad_name<'a>(
     name: &'a str,
 ) -> Result<(), AllocError>
     ensures { OnOk result
-        (Adds (one_unless (is_name name.now)) places.old.items places.new.items) }
+        (Adds (bad_name (part_of owner.entry) name.now) places.old.items places.new.items) }
 {
     if Name::read(name).is_ok() {
         return Ok(());
@@ -49,7 +50,9 @@ fn add_bad_port_names<'a>(
     partition: Label<'a>,
     ports: &[PortText<'a>],
 ) -> Result<(), AllocError>
-    ensures { OnOk result (Adds (bad_port_names ports.now) places.old.items places.new.items) }
+    ensures { OnOk result (Adds
+        (found_from (bad_port_name partition.entry.number) 1 ports.now)
+        places.old.items places.new.items) }
 {
     for (place, port) in ports.iter().enumerate() {
         let owner = Owner::Port {
@@ -66,7 +69,7 @@ fn add_bad_partition_names<'a>(
     partitions: &[PartitionText<'a>],
 ) -> Result<(), AllocError>
     ensures { OnOk result
-        (Adds (sum_by bad_partition_names partitions.now) places.old.items places.new.items) }
+        (Adds (found_from bad_partition_names 1 partitions.now) places.old.items places.new.items) }
 {
     for (place, partition) in partitions.iter().enumerate() {
         let label = labelled(place + 1, partition.name);
@@ -81,7 +84,7 @@ fn add_bad_channel_names<'a>(
     channels: &[ChannelText<'a>],
 ) -> Result<(), AllocError>
     ensures { OnOk result
-        (Adds (sum_by bad_channel_name channels.now) places.old.items places.new.items) }
+        (Adds (found_from bad_channel_name 1 channels.now) places.old.items places.new.items) }
 {
     for (place, channel) in channels.iter().enumerate() {
         let label = labelled(place + 1, channel.name);
@@ -114,7 +117,9 @@ fn add_out_of_range<'a>(
     number: Option<i64>,
     most: u64,
 ) -> Result<(), AllocError>
-    ensures { OnOk result (Adds (bad_number most number) places.old.items places.new.items) }
+    ensures { OnOk result (Adds
+        (bad_number (part_of owner.entry) most number)
+        places.old.items places.new.items) }
 {
     let Some(number) = number else {
         return Ok(());
@@ -135,7 +140,9 @@ fn add_bad_refreshes<'a>(
     partition: Label<'a>,
     ports: &[PortText<'a>],
 ) -> Result<(), AllocError>
-    ensures { OnOk result (Adds (bad_refreshes ports.now) places.old.items places.new.items) }
+    ensures { OnOk result (Adds
+        (found_from (bad_refresh partition.entry.number) 1 ports.now)
+        places.old.items places.new.items) }
 {
     for (place, port) in ports.iter().enumerate() {
         let owner = Owner::Port {
@@ -152,7 +159,8 @@ fn add_bad_partition_refreshes<'a>(
     partitions: &[PartitionText<'a>],
 ) -> Result<(), AllocError>
     ensures { OnOk result
-        (Adds (sum_by bad_partition_refreshes partitions.now) places.old.items places.new.items) }
+        (Adds (found_from bad_partition_refreshes 1 partitions.now)
+            places.old.items places.new.items) }
 {
     for (place, partition) in partitions.iter().enumerate() {
         let label = labelled(place + 1, partition.name);
@@ -166,7 +174,7 @@ fn add_bad_channel_numbers<'a>(
     channels: &[ChannelText<'a>],
 ) -> Result<(), AllocError>
     ensures { OnOk result
-        (Adds (sum_by bad_channel_numbers channels.now) places.old.items places.new.items) }
+        (Adds (found_from bad_channel_numbers 1 channels.now) places.old.items places.new.items) }
 {
     for (place, channel) in channels.iter().enumerate() {
         let owner = Owner::Channel(labelled(place + 1, channel.name));
