@@ -160,7 +160,7 @@ fn add_bad_partition_refreshes<'a>(
 ) -> Result<(), AllocError>
     ensures { OnOk result
         (Adds (found_from bad_partition_refreshes 1 partitions.now)
-            places.old.items places.new.items) }
+        places.old.items places.new.items) }
 {
     for (place, partition) in partitions.iter().enumerate() {
         let label = labelled(place + 1, partition.name);
