@@ -10,7 +10,7 @@ enum { TURN_LIMIT = 10000, STACK_BESIDE = 0x100000 };
 
 struct bench_host bench_host;
 _Thread_local struct bench_process *bench_self;
-static bool has_begun;
+static bool has_begun, has_failed;
 
 static pthread_mutex_t lock = PTHREAD_MUTEX_INITIALIZER;
 static pthread_cond_t bench_has_turn = PTHREAD_COND_INITIALIZER;
@@ -243,7 +243,7 @@ static bool overlap(const struct bench_partition *one, const struct bench_partit
 bool bench_add_partition(uint32_t partition, const struct bench_partition *how) {
     OPERATING_MODE_TYPE mode;
     if (bench_self != NULL || has_begun) {
-        return refuse("bench_add_partition", "frames have begun");
+        return refuse("bench_add_partition", bench_self != NULL ? "called by a process" : "frames have begun");
     }
     if (partition >= BENCH_PARTITIONS || !bench_find_mode(partition, &mode)) {
         return refuse("bench_add_partition", "the module isn't open, or lacks the partition");
@@ -290,13 +290,17 @@ static bool is_frame(SYSTEM_TIME_TYPE length) {
 }
 
 bool bench_run_frame(SYSTEM_TIME_TYPE length) {
-    if (bench_self != NULL || !is_frame(length)) {
+    if (bench_self != NULL || has_failed) {
+        return refuse("bench_run_frame", bench_self != NULL ? "called by a process" : "an earlier frame has failed");
+    }
+    if (!is_frame(length)) {
         return refuse("bench_run_frame", "no partition was added, or the length is no multiple of each period");
     }
     const SYSTEM_TIME_TYPE end = bench_host.now + length;
     has_begun = true;
     for (uint32_t p = next_window(end); p < BENCH_PARTITIONS; p = next_window(end)) {
         if (!run_window(p)) {
+            has_failed = true;
             return false;
         }
     }
@@ -313,6 +317,6 @@ void bench_end_processes(void) {
         end_processes(&bench_host.partition[p]);
     }
     memset(&bench_host, 0, sizeof bench_host);
-    has_begun = false;
+    has_begun = has_failed = false;
     bench_set_moment(0);
 }

@@ -131,7 +131,8 @@ bool bench_add_partition(uint32_t partition, const struct bench_partition *how);
 
 /* Runs all windows of the next `length` nanoseconds, which has to be a multiple of each partition's period. Afterwards
  * the moment is that much later; the first frame begins at 0. Answers false and says why on standard error where the
- * length is none, no partition was added, the module is closed, or a thread cannot be had. */
+ * length is none or no partition was added, and also where the module is closed or a thread cannot be had: after that
+ * no frame is run until bench_end_processes. */
 bool bench_run_frame(SYSTEM_TIME_TYPE length);
 
 /* Ends all processes wherever they wait, and forgets the partitions: the next frame is the first again. To be called
