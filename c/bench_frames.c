@@ -153,7 +153,7 @@ static bool follow_mode(uint32_t number) {
     if (mode == NORMAL && !partition->is_normal) {
         for (PROCESS_ID_TYPE id = 1; id <= partition->processes; id++) {
             struct bench_process *process = &partition->process[id];
-            if (process->is_started && process->ready == BENCH_NEVER) {
+            if (process->is_started) {
                 bench_release(process, bench_first_release(process));
             }
         }
@@ -205,9 +205,12 @@ static bool run_window(uint32_t number) {
     struct bench_host_partition *partition = &bench_host.partition[number];
     const SYSTEM_TIME_TYPE end = partition->next + partition->how.duration;
     set_moment(partition->next);
+    if (!follow_mode(number)) {
+        return false;
+    }
     partition->next += partition->how.period;
     bench_host.turns = 0;
-    if (!follow_mode(number) || (!partition->has_main_run && !run_main(number))) {
+    if (!partition->has_main_run && !run_main(number)) {
         return false;
     }
     struct bench_process *process;

@@ -124,6 +124,43 @@ static void order_of_windows(void) {
     expect(bench_close() == 0, "closing");
 }
 
+/* A frame has the windows that begin before its end. NORMAL is set by the bench here, after the main process. */
+
+static void each_period(void) {
+    RETURN_CODE_TYPE code;
+    for (;;) {
+        leave('e');
+        PERIODIC_WAIT(&code);
+    }
+}
+
+static void once(void) {
+    leave('o');
+    STOP_SELF();
+}
+
+static void initial_main(void) {
+    leave('m');
+    create("EACH", each_period, PERIOD, true);
+    create("ONCE", once, INFINITE_TIME_VALUE, true);
+}
+
+static void ends_of_frames(void) {
+    expect(bench_open(text, text_length) == 0, "opening");
+    is_added(true, 1, (struct bench_partition){initial_main, PERIOD, 0, WINDOW}, "a window at the start");
+    is_run(true, PERIOD, "the first frame");
+    is_run(true, PERIOD, "a frame before NORMAL");
+    has_left("m@0 ");
+    bench_set_partition(1);
+    set_mode(NORMAL);
+    is_run(true, PERIOD, "a frame in NORMAL");
+    has_left("e@200 o@200 ");
+    is_run(true, PERIOD, "the last frame");
+    has_left("e@300 ");
+    bench_end_processes();
+    expect(bench_close() == 0, "closing");
+}
+
 /* Restarts, IDLE and closing, by a process. Another one waits meanwhile. */
 
 static int starts;
@@ -226,6 +263,7 @@ int main(int count, char **words) {
     expect(bench_close() == 0, "closing");
     refusals();
     order_of_windows();
+    ends_of_frames();
     restarts();
     closings();
     printf("%lu answers\n", seen);

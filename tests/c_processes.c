@@ -100,9 +100,14 @@ static void starting_main(void) {
     CREATE_PROCESS(&a, &id, &code);
     START(id, &code);
     answers(code, INVALID_CONFIG, "START with a deadline beyond all time");
+    memcpy(a.NAME, "EDGE", 5);
+    a.TIME_CAPACITY = INT64_MAX - 10;
+    CREATE_PROCESS(&a, &id, &code);
+    START(id, &code);
+    answers(code, NO_ERROR, "START with a deadline at the end of all time");
     START(0, &code);
     answers(code, INVALID_PARAM, "START of process 0");
-    START(4, &code);
+    START(5, &code);
     answers(code, INVALID_PARAM, "START of a process that isn't there");
     START(1, NULL);
     START(2, &code);
@@ -196,12 +201,16 @@ static void late(void) {
     leave('l');
     PERIODIC_WAIT(&code);
     leave('l');
+    TIMED_WAIT(6, &code);
+    leave('l');
     STOP_SELF();
 }
 
+static int turned;
+
 static void turning(void) {
     RETURN_CODE_TYPE code;
-    for (;;) {
+    for (;; turned++) {
         TIMED_WAIT(0, &code);
     }
 }
@@ -287,8 +296,9 @@ int main(int count, char **words) {
     run_frames(waiting_main, 4);
     has_left("m@10 a@10 a@10 a@15 a@29 a@110 q@110 p@110 r@110 p@210 a@310 q@310 p@310 r@310 ");
     run_frames(late_main, 3);
-    has_left("l@115 l@116 l@117 l@210 ");
+    has_left("l@115 l@116 l@117 l@210 l@216 ");
     run_frames(turning_main, 2);
+    expect(turned == 2 * 10000 - 1, "the delays of 0 in two windows, the last of which goes on");
     run_frames(telling_main, 1);
     printf("%lu answers\n", seen);
     return 0;
