@@ -183,7 +183,7 @@ static struct bench_process *first_ready(struct bench_host_partition *partition,
 
 static void tell_deadline(struct bench_process *process) {
     const SYSTEM_TIME_TYPE capacity = process->attributes.TIME_CAPACITY;
-    if (capacity != INFINITE_TIME_VALUE && bench_host.now > process->release + capacity && !process->is_late) {
+    if (capacity != INFINITE_TIME_VALUE && bench_host.now - process->release > capacity && !process->is_late) {
         process->is_late = true;
         bench_tell(process, "TIMED_WAIT", "TIME_CAPACITY has passed, and there is no health monitoring: it goes on",
                    NULL, 0);
@@ -283,7 +283,7 @@ static uint32_t next_window(SYSTEM_TIME_TYPE before) {
 }
 
 static bool is_frame(SYSTEM_TIME_TYPE length) {
-    bool is_multiple = length > 0 && length <= (BENCH_NEVER - bench_host.now) / 2, is_any = false;
+    bool is_multiple = length > 0 && length <= (INT64_MAX - bench_host.now) / 2, is_any = false;
     for (uint32_t p = 0; p < BENCH_PARTITIONS; p++) {
         const struct bench_partition *how = &bench_host.partition[p].how;
         is_any |= how->entry != NULL;

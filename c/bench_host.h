@@ -9,7 +9,6 @@
 #include <pthread.h>
 
 enum { BENCH_PARTITIONS = 32, BENCH_MAIN = 0 };
-#define BENCH_NEVER INT64_MAX
 
 struct bench_process {
     uint32_t partition;
@@ -19,7 +18,7 @@ struct bench_process {
     bool has_thread;
     bool is_late;             /* that it passed its deadline was told */
     SYSTEM_TIME_TYPE release; /* its last release point */
-    SYSTEM_TIME_TYPE ready;   /* since when it is ready; BENCH_NEVER until the partition is in NORMAL */
+    SYSTEM_TIME_TYPE ready;   /* since when it is ready to run, where the partition is in NORMAL */
     uint32_t turn;            /* among processes that are ready since the same moment */
     pthread_t thread;
     pthread_cond_t has_turn;
@@ -55,7 +54,8 @@ void bench_tell(const struct bench_process *process, const char *service, const 
 /* Makes a process ready at a moment that is a release point. */
 void bench_release(struct bench_process *process, SYSTEM_TIME_TYPE moment);
 
-/* The moment at which a process is released first: a periodic one with the partition's next window. */
+/* The moment at which a process that is started now, or was before NORMAL is set now, is released first: a periodic one
+ * with the partition's next window. */
 SYSTEM_TIME_TYPE bench_first_release(const struct bench_process *process);
 
 /* The calling process gives the turn to the bench, until it has it again or has to end; or for good. */

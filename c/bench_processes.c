@@ -96,7 +96,7 @@ void START(PROCESS_ID_TYPE PROCESS_ID, RETURN_CODE_TYPE *RETURN_CODE) {
         *RETURN_CODE = INVALID_CONFIG;
     } else {
         process->is_started = true;
-        bench_release(process, mode == NORMAL ? bench_first_release(process) : BENCH_NEVER);
+        bench_release(process, bench_first_release(process));
     }
 }
 
