@@ -1,0 +1,9 @@
+/* REPORT_APPLICATION_MESSAGE and RAISE_APPLICATION_ERROR, by the standard's file name.
+ *
+ * To be included as "arinc653/error.h" with -I on the folder above: docs/C.md. */
+#ifndef ARINC653_ERROR_H
+#define ARINC653_ERROR_H
+
+#include "../bench_processes.h"
+
+#endif

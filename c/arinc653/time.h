@@ -1,0 +1,9 @@
+/* TIMED_WAIT, PERIODIC_WAIT and GET_TIME, by the standard's file name.
+ *
+ * To be included as "arinc653/time.h" with -I on the folder above: docs/C.md. */
+#ifndef ARINC653_TIME_H
+#define ARINC653_TIME_H
+
+#include "../bench_processes.h"
+
+#endif
