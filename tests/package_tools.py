@@ -59,7 +59,7 @@ def finds_versions(package, version, config, environment):
 
 
 def faults(package, version, compiler, bare):
-    """All that went wrong. The package has the first.c of docs/C.md; bare is an environment with a search path alone."""
+    """All that went wrong. The package has the first.c of docs/C.md; bare is an environment of a search path alone."""
     page, config = page_and_config(package)
     (package / "CMakeLists.txt").write_text(config)
     environment, found = {**bare, "CC": compiler}, []
