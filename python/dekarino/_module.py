@@ -143,7 +143,11 @@ class Module:
             ctypes.byref(self._count))
         if answer == _library.NOT_OPEN:
             raise NoCallError("the module is closed")
-        return None if answer else WrittenSample(self._buffer.raw[: self._number.value], self._count.value)
+        return None if answer else WrittenSample(self._message(), self._count.value)
+
+    def _message(self) -> bytes:
+        """The message that the last call put into the buffer. The lock is held."""
+        return ctypes.string_at(self._buffer, self._number.value)
 
     def report(self) -> str:
         """The report that the program `apexports` prints of the calls so far."""

@@ -141,7 +141,7 @@ class QueuingPort(_Port):
         with lock:
             answer = self._receive_function(module._lent, self._place, module._moment, self.id, module._buffer,
                                             _library.MESSAGE_LIMIT, module._number_place)
-            message = module._buffer.raw[: module._number.value] if answer == 0 else None
+            message = module._message() if answer == 0 else None
             return ReceiveReply(module._note(self._receive, answer, message), message, self._receive)
 
     def clear(self) -> Reply[None]:
@@ -176,8 +176,7 @@ class SamplingPort(_Port):
         with lock:
             answer = function(module._lent, self._place, module._moment, self.id, module._buffer,
                               _library.MESSAGE_LIMIT, module._number_place, ctypes.byref(module._other))
-            value = None if answer else Sample(module._buffer.raw[: module._number.value],
-                                               Validity(module._other.value))
+            value = None if answer else Sample(module._message(), Validity(module._other.value))
             return ReadReply(module._note(asked, answer, value), value, asked)
 
     def status(self) -> SamplingStatusReply:

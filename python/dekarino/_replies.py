@@ -33,6 +33,7 @@ class SamplingStatus(NamedTuple):
 # What comes with NO_ERROR: nothing, an identifier, a received message, or one of those above.
 AnyValue = Union[None, int, bytes, Sample, QueuingStatus, SamplingStatus]
 Value = TypeVar("Value")
+Status = TypeVar("Status", QueuingStatus, SamplingStatus)
 
 
 class Asked(NamedTuple):
@@ -127,7 +128,21 @@ class ReadReply(Reply[Sample]):
         return None if self.value is None else self.value.validity
 
 
-class QueuingStatusReply(Reply[QueuingStatus]):
+class StatusReply(Reply[Status]):
+    """What the replies with a port's status have in common."""
+
+    __slots__ = ()
+
+    @property
+    def size(self) -> Optional[int]:
+        return None if self.value is None else self.value.size
+
+    @property
+    def direction(self) -> Optional[Direction]:
+        return None if self.value is None else self.value.direction
+
+
+class QueuingStatusReply(StatusReply[QueuingStatus]):
     """The reply that has the status of a queuing port."""
 
     __slots__ = ()
@@ -140,16 +155,8 @@ class QueuingStatusReply(Reply[QueuingStatus]):
     def depth(self) -> Optional[int]:
         return None if self.value is None else self.value.depth
 
-    @property
-    def size(self) -> Optional[int]:
-        return None if self.value is None else self.value.size
 
-    @property
-    def direction(self) -> Optional[Direction]:
-        return None if self.value is None else self.value.direction
-
-
-class SamplingStatusReply(Reply[SamplingStatus]):
+class SamplingStatusReply(StatusReply[SamplingStatus]):
     """The reply that has the status of a sampling port."""
 
     __slots__ = ()
@@ -157,14 +164,6 @@ class SamplingStatusReply(Reply[SamplingStatus]):
     @property
     def refresh(self) -> Optional[int]:
         return None if self.value is None else self.value.refresh
-
-    @property
-    def size(self) -> Optional[int]:
-        return None if self.value is None else self.value.size
-
-    @property
-    def direction(self) -> Optional[Direction]:
-        return None if self.value is None else self.value.direction
 
     @property
     def last_validity(self) -> Optional[Validity]:
