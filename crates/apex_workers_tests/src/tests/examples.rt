@@ -230,19 +230,29 @@ fn channels_hold<A: Allocator>(rt: &impl Abort, board: &Board<A>, wanted: &[Left
     for (c, left) in wanted.iter().enumerate() {
         match left {
             Left::Queue(accepted, received, waiting) => {
-                assert_eq!(rt; board.accepted(c).len(), *accepted);
-                assert_eq!(rt; board.taken(c).len(), *received);
-                assert_eq!(rt; board.waiting_count(c), *waiting);
+                queue_holds(rt, board, c, [*accepted, *received, *waiting]);
             }
-            Left::Sample(message, at) => {
-                let Some(sample) = board.last_sample(c) else {
-                    panic!(rt; "no sample");
-                };
-                assert_eq!(rt; sample.message.bytes(), *message);
-                assert_eq!(rt; sample.at, Moment(*at));
-            }
+            Left::Sample(message, at) => sample_is(rt, board, c, message, *at),
         }
     }
+}
+
+fn queue_holds<A: Allocator>(rt: &impl Abort, board: &Board<A>, c: usize, wanted: [usize; 3]) {
+    assert!(rt; c < board.config().channels());
+    let counts = [
+        board.accepted(c).len(),
+        board.taken(c).len(),
+        board.waiting_count(c),
+    ];
+    assert_eq!(rt; counts, wanted);
+}
+
+fn sample_is<A: Allocator>(rt: &impl Abort, board: &Board<A>, c: usize, message: &[u8], at: u64) {
+    assert!(rt; c < board.config().channels());
+    let Some(sample) = board.last_sample(c) else {
+        panic!(rt; "no sample");
+    };
+    assert!(rt; sample.message.bytes() == message && sample.at == Moment(at));
 }
 
 /// The replies to each partition's worker are those of its entries.

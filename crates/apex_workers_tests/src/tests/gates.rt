@@ -10,7 +10,7 @@ use std::thread;
 const TURNS: u32 = 10_000_000;
 
 /// Looks for the flag, and gives way to other threads each turn.
-fn look_for(flag: &AtomicBool) -> Result<(), Held> {
+pub(crate) fn look_for(flag: &AtomicBool) -> Result<(), Held> {
     for _ in 0..TURNS {
         if flag.load(Ordering::SeqCst) {
             return Ok(());
@@ -20,7 +20,7 @@ fn look_for(flag: &AtomicBool) -> Result<(), Held> {
     Err(Held)
 }
 
-fn raise(flag: Option<&AtomicBool>) {
+pub(crate) fn raise(flag: Option<&AtomicBool>) {
     if let Some(flag) = flag {
         flag.store(true, Ordering::SeqCst);
     }

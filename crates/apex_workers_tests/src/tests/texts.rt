@@ -102,73 +102,33 @@ pub(crate) fn without_ports(alloc: Global, partitions: usize) -> Result<String, 
     Ok(text)
 }
 
-/// The number of partitions in a ring.
-pub(crate) const RING: usize = 8;
-
-/// Eight partitions, each with a queuing channel to the next, of depth 4.
-pub(crate) const RING_TEXT: &str = "[[partition]]
-name = \"P0\"
-port = [{ name = \"OUT\", kind = \"queuing\", direction = \"source\", channel = \"C0\" }, { name = \"IN\", kind = \"queuing\", direction = \"destination\", channel = \"C7\" }]
-[[partition]]
-name = \"P1\"
-port = [{ name = \"OUT\", kind = \"queuing\", direction = \"source\", channel = \"C1\" }, { name = \"IN\", kind = \"queuing\", direction = \"destination\", channel = \"C0\" }]
-[[partition]]
-name = \"P2\"
-port = [{ name = \"OUT\", kind = \"queuing\", direction = \"source\", channel = \"C2\" }, { name = \"IN\", kind = \"queuing\", direction = \"destination\", channel = \"C1\" }]
-[[partition]]
-name = \"P3\"
-port = [{ name = \"OUT\", kind = \"queuing\", direction = \"source\", channel = \"C3\" }, { name = \"IN\", kind = \"queuing\", direction = \"destination\", channel = \"C2\" }]
-[[partition]]
-name = \"P4\"
-port = [{ name = \"OUT\", kind = \"queuing\", direction = \"source\", channel = \"C4\" }, { name = \"IN\", kind = \"queuing\", direction = \"destination\", channel = \"C3\" }]
-[[partition]]
-name = \"P5\"
-port = [{ name = \"OUT\", kind = \"queuing\", direction = \"source\", channel = \"C5\" }, { name = \"IN\", kind = \"queuing\", direction = \"destination\", channel = \"C4\" }]
-[[partition]]
-name = \"P6\"
-port = [{ name = \"OUT\", kind = \"queuing\", direction = \"source\", channel = \"C6\" }, { name = \"IN\", kind = \"queuing\", direction = \"destination\", channel = \"C5\" }]
-[[partition]]
-name = \"P7\"
-port = [{ name = \"OUT\", kind = \"queuing\", direction = \"source\", channel = \"C7\" }, { name = \"IN\", kind = \"queuing\", direction = \"destination\", channel = \"C6\" }]
-
+/// So many partitions, each with a queuing channel to the next, of depth 4.
+pub(crate) fn ring_text(alloc: Global, partitions: usize) -> Result<String, AllocError> {
+    let mut text = String::new(alloc);
+    let mut before = partitions.saturating_sub(1);
+    for number in 0..partitions {
+        let partition = format!(in alloc;
+            "[[partition]]
+name = \"P{number}\"
+[[partition.port]]
+name = \"OUT\"
+kind = \"queuing\"
+direction = \"source\"
+channel = \"C{number}\"
+[[partition.port]]
+name = \"IN\"
+kind = \"queuing\"
+direction = \"destination\"
+channel = \"C{before}\"
 [[channel]]
-name = \"C0\"
+name = \"C{number}\"
 kind = \"queuing\"
 size = 4
 depth = 4
-[[channel]]
-name = \"C1\"
-kind = \"queuing\"
-size = 4
-depth = 4
-[[channel]]
-name = \"C2\"
-kind = \"queuing\"
-size = 4
-depth = 4
-[[channel]]
-name = \"C3\"
-kind = \"queuing\"
-size = 4
-depth = 4
-[[channel]]
-name = \"C4\"
-kind = \"queuing\"
-size = 4
-depth = 4
-[[channel]]
-name = \"C5\"
-kind = \"queuing\"
-size = 4
-depth = 4
-[[channel]]
-name = \"C6\"
-kind = \"queuing\"
-size = 4
-depth = 4
-[[channel]]
-name = \"C7\"
-kind = \"queuing\"
-size = 4
-depth = 4
-";
+"
+        )?;
+        text.push_str(partition.as_str())?;
+        before = number;
+    }
+    Ok(text)
+}
