@@ -22,6 +22,9 @@ impl Model for Held {
     ghost also_owns = { λ held. held_owns held.alloc held.at held.ports };
 }
 
+// What is held may go to another thread, as the box of it may.
+unsafe impl Send for Held {}
+
 impl Held {
     /// Holds the ports of the box.
     pub(crate) fn of_box(ports: Box<Ports>) -> Held
