@@ -190,21 +190,24 @@ static void ask_all(void) {
     }
 }
 
-static void print_name(uint32_t answer, const uint8_t *bytes, uint32_t length) {
-    expect(answer == 0, "a name");
-    printf("%.*s", (int)length, (const char *)bytes);
+/* Prints the name that a reader gives, and gives its length. */
+static uint32_t print_name(ask *ask, const struct asked *a) {
+    struct places to;
+    expect(ask(a, &to) == 0, "a name");
+    printf("%.*s", (int)to.number, (const char *)a->buffer);
+    return to.number;
 }
 
 static const char *kind_word(bool is_queuing) { return is_queuing ? "queuing" : "sampling"; }
 
 static void print_ports(struct apex_handle *handle, uint32_t partition) {
     uint8_t name[APEX_NAME_LIMIT];
-    uint32_t length, id;
-    for (id = 1; id <= ports_of(partition); id++) {
+    for (uint32_t id = 1; id <= ports_of(partition); id++) {
         struct apex_configured_port port;
         uint32_t found = 0;
         printf("port %u ", id);
-        print_name(apex_port_name(handle, partition, id, name, sizeof name, &length), name, length);
+        const uint32_t length = print_name(port_name, &(struct asked){handle, partition, 0, id, 0, NULL, 0, sizeof name,
+                                                                      name});
         expect(apex_find_port(handle, partition, name, length, &found) == 0 && found == id, "a port by its name");
         expect(apex_port_configuration(handle, partition, id, &port) == 0, "a port");
         printf(" %s %s channel %u refresh %llu\n", kind_word(port.is_queuing),
@@ -214,11 +217,12 @@ static void print_ports(struct apex_handle *handle, uint32_t partition) {
 
 static void print_all(struct apex_handle *handle) {
     uint8_t name[APEX_NAME_LIMIT];
-    uint32_t length, found;
+    uint32_t found = 0;
     printf("%u partitions, %u channels\n", partitions, channels);
     for (uint32_t p = 0; p < partitions; p++) {
         printf("partition %u ", p);
-        print_name(apex_partition_name(handle, p, name, sizeof name, &length), name, length);
+        const uint32_t length = print_name(partition_name, &(struct asked){handle, p, 0, 0, 0, NULL, 0, sizeof name,
+                                                                           name});
         expect(apex_find_partition(handle, name, length, &found) == 0 && found == p, "a partition by its name");
         printf(", %u ports\n", ports_of(p));
         print_ports(handle, p);
@@ -226,7 +230,8 @@ static void print_all(struct apex_handle *handle) {
     for (uint32_t c = 0; c < channels; c++) {
         struct apex_configured_channel channel;
         printf("channel %u ", c);
-        print_name(apex_channel_name(handle, c, name, sizeof name, &length), name, length);
+        const uint32_t length = print_name(channel_name, &(struct asked){handle, 0, c, 0, 0, NULL, 0, sizeof name,
+                                                                         name});
         expect(apex_find_channel(handle, name, length, &found) == 0 && found == c, "a channel by its name");
         expect(apex_channel_configuration(handle, c, &channel) == 0, "a channel");
         printf(" %s size %u depth %u\n", kind_word(channel.is_queuing), channel.size, channel.depth);
@@ -249,7 +254,7 @@ static void check_waiting(struct apex_handle *handle, const size_t *lengths, siz
 
 /* Messages of three lengths, each byte of which is the length's last, wait in their order until they are received. */
 static void send_and_receive(struct apex_handle *handle) {
-    static const size_t lengths[] = {1024, 0, 3};
+    static const size_t lengths[] = {1024, 1, 3};
     uint8_t bytes[APEX_MESSAGE_LIMIT];
     uint32_t out, in, length;
     expect(apex_create_queuing_port(handle, 0, 0, (const uint8_t *)"OUT", 3, 1024, 3, 0, 0, &out) == 0, "the source");

@@ -1,4 +1,4 @@
--- What the readers find of the configuration: its sizes, names by number and numbers by name, and what it says of a port and of a channel.
+-- What the readers find of the configuration: its sizes, its ports and channels, names by number and numbers by name.
 use Rattle.std.specs.Prelude.{ℕ, List, length, ok_or, option_map, Result, Ok, Err}
 use Rattle.apex_types.specs.Direction.{number_of}
 use Rattle.apex_types.specs.Name.{name_of}
@@ -37,10 +37,12 @@ channel_in show held c = in_ports held (λ ports. ok_or (option_map show (channe
 
 -- a port and a channel as C is shown them
 abbrev pub shown_port : Port → ConfiguredPort
-shown_port port = record { refresh = refresh_of_kind port.kind; channel = port.channel; direction = number_of port.direction; is_queuing = is_queuing_port port.kind }
+shown_port port =
+    record { refresh = refresh_of_kind port.kind; channel = port.channel; direction = number_of port.direction; is_queuing = is_queuing_port port.kind }
 
 abbrev pub shown_channel : Channel → ConfiguredChannel
-shown_channel channel = record { size = channel.size; depth = depth_of_kind channel.kind; is_queuing = is_queuing_channel channel.kind }
+shown_channel channel =
+    record { size = channel.size; depth = depth_of_kind channel.kind; is_queuing = is_queuing_channel channel.kind }
 
 -- ---- names by number, for a buffer of so many bytes
 

@@ -1,7 +1,8 @@
 //! What the configuration says: how many partitions, ports and channels there are, and of a port and of a channel.
 ghost use Rattle.std.specs.Prelude.{◌≡◌};
 ghost use Rattle.std.specs.Result.{result_unwrap_or};
-ghost use Rattle.apex_c.specs.Configured.{channel_in, channels_in, partitions_in, port_in, ports_in, shown_channel, shown_port};
+ghost use Rattle.apex_c.specs.Configured.{channel_in, channels_in, partitions_in, port_in, ports_in};
+ghost use Rattle.apex_c.specs.Configured.{shown_channel, shown_port};
 ghost use Rattle.apex_c.specs.Found.{answer_of};
 
 use crate::answer::{NO_CHANNEL, NO_PARTITION, NO_PORT, NOT_OPEN, READ};

@@ -1,7 +1,8 @@
 //! The names of partitions, ports and channels by number, and their numbers by name.
 ghost use Rattle.std.specs.Prelude.{◌≡◌, length};
 ghost use Rattle.std.specs.Result.{result_ok, result_unwrap_or};
-ghost use Rattle.apex_c.specs.Configured.{channel_by, channel_name_in, id_by, partition_by, partition_name_in, port_name_in};
+ghost use Rattle.apex_c.specs.Configured.{channel_by, id_by, partition_by};
+ghost use Rattle.apex_c.specs.Configured.{channel_name_in, partition_name_in, port_name_in};
 ghost use Rattle.apex_c.specs.Found.{answer_of};
 ghost use Rattle.apex_c.specs.Places.{buffer_after, length_after};
 
@@ -23,9 +24,10 @@ pub extern "C" fn apex_partition_name(
     buffer: &mut [u8],
     name_length: &mut u32,
 ) -> u32
-    ensures answer { let name = partition_name_in (length buffer.old) handle.old.held.ports partition in
-        result ≡ answer_of name }
-    ensures buffer { let name = partition_name_in (length buffer.old) handle.old.held.ports partition in
+    ensures answer { let bytes = length buffer.old in
+        result ≡ answer_of (partition_name_in bytes handle.old.held.ports partition) }
+    ensures buffer { let bytes = length buffer.old in
+        let name = partition_name_in bytes handle.old.held.ports partition in
         buffer.new ≡ buffer_after (result_ok name) buffer.old }
     ensures name_length { let bytes = length buffer.old in
         let name = partition_name_in bytes handle.old.held.ports partition in
@@ -60,9 +62,10 @@ pub extern "C" fn apex_port_name(
     buffer: &mut [u8],
     name_length: &mut u32,
 ) -> u32
-    ensures answer { let name = port_name_in (length buffer.old) handle.old.held.ports partition id in
-        result ≡ answer_of name }
-    ensures buffer { let name = port_name_in (length buffer.old) handle.old.held.ports partition id in
+    ensures answer { let bytes = length buffer.old in
+        result ≡ answer_of (port_name_in bytes handle.old.held.ports partition id) }
+    ensures buffer { let bytes = length buffer.old in
+        let name = port_name_in bytes handle.old.held.ports partition id in
         buffer.new ≡ buffer_after (result_ok name) buffer.old }
     ensures name_length { let bytes = length buffer.old in
         let name = port_name_in bytes handle.old.held.ports partition id in
@@ -98,9 +101,10 @@ pub extern "C" fn apex_channel_name(
     buffer: &mut [u8],
     name_length: &mut u32,
 ) -> u32
-    ensures answer { let name = channel_name_in (length buffer.old) handle.old.held.ports channel in
-        result ≡ answer_of name }
-    ensures buffer { let name = channel_name_in (length buffer.old) handle.old.held.ports channel in
+    ensures answer { let bytes = length buffer.old in
+        result ≡ answer_of (channel_name_in bytes handle.old.held.ports channel) }
+    ensures buffer { let bytes = length buffer.old in
+        let name = channel_name_in bytes handle.old.held.ports channel in
         buffer.new ≡ buffer_after (result_ok name) buffer.old }
     ensures name_length { let bytes = length buffer.old in
         let name = channel_name_in bytes handle.old.held.ports channel in

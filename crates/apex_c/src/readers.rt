@@ -3,7 +3,8 @@ ghost use Rattle.std.specs.Prelude.{◌≡◌, length};
 ghost use Rattle.std.specs.Result.{result_ok, result_unwrap_or};
 ghost use Rattle.apex_c.specs.Found.{answer_of};
 ghost use Rattle.apex_c.specs.Places.{buffer_after, length_after};
-ghost use Rattle.apex_c.specs.Readers.{calls_in, message_of, mode_in, moment_after, sample_in, waiting_in};
+ghost use Rattle.apex_c.specs.Readers.{calls_in, mode_in};
+ghost use Rattle.apex_c.specs.Readers.{message_of, moment_after, sample_in, waiting_in};
 
 use crate::answer::{
     NO_CHANNEL, NO_MESSAGE, NO_PARTITION, NO_SAMPLE, NOT_OPEN, READ, SHORT_BUFFER,
@@ -79,8 +80,8 @@ pub extern "C" fn apex_last_sample(
     message_length: &mut u32,
     at: &mut u64,
 ) -> u32
-    ensures answer { let sample = sample_in (length buffer.old) handle.old.held.ports channel in
-        result ≡ answer_of sample }
+    ensures answer { let bytes = length buffer.old in
+        result ≡ answer_of (sample_in bytes handle.old.held.ports channel) }
     ensures buffer { let sample = sample_in (length buffer.old) handle.old.held.ports channel in
         buffer.new ≡ buffer_after (message_of sample) buffer.old }
     ensures message_length { let bytes = length buffer.old in
@@ -121,9 +122,10 @@ pub extern "C" fn apex_waiting_message(
     buffer: &mut [u8],
     message_length: &mut u32,
 ) -> u32
-    ensures answer { let message = waiting_in (length buffer.old) handle.old.held.ports channel index in
-        result ≡ answer_of message }
-    ensures buffer { let message = waiting_in (length buffer.old) handle.old.held.ports channel index in
+    ensures answer { let bytes = length buffer.old in
+        result ≡ answer_of (waiting_in bytes handle.old.held.ports channel index) }
+    ensures buffer { let bytes = length buffer.old in
+        let message = waiting_in bytes handle.old.held.ports channel index in
         buffer.new ≡ buffer_after (result_ok message) buffer.old }
     ensures message_length { let bytes = length buffer.old in
         let message = waiting_in bytes handle.old.held.ports channel index in
