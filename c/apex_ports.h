@@ -25,8 +25,8 @@
 extern "C" {
 #endif
 
-/* The most bytes that a message can have. */
-enum { APEX_MESSAGE_LIMIT = 1024 };
+/* The most bytes that a message can have, and a name. */
+enum { APEX_MESSAGE_LIMIT = 1024, APEX_NAME_LIMIT = 30 };
 
 /* The ports of a module, or none. */
 struct apex_handle {
@@ -41,9 +41,12 @@ enum {
     APEX_NO_PARTITION = 9,  /* the module has no partition of the number; nothing changed */
     APEX_TOO_LONG = 10,     /* the message has more than APEX_MESSAGE_LIMIT bytes; nothing changed */
     APEX_NO_NAME = 11,      /* the text isn't 1 to 30 letters, digits or _; nothing changed */
-    APEX_SHORT_BUFFER = 12, /* the buffer has fewer than APEX_MESSAGE_LIMIT bytes; nothing changed */
+    APEX_SHORT_BUFFER = 12, /* the buffer has fewer bytes than the longest message or name; nothing changed */
     APEX_NO_CHANNEL = 13,   /* a reader's answer: the module has no channel of the number */
-    APEX_NO_SAMPLE = 14     /* apex_last_sample's answer: a queuing channel, or one that was never written */
+    APEX_NO_SAMPLE = 14,    /* apex_last_sample's answer: a queuing channel, or one that was never written */
+    APEX_NO_PORT = 15,      /* a reader's answer: the partition has no port of the identifier */
+    APEX_UNKNOWN_NAME = 16, /* a reader's answer: nothing has the name */
+    APEX_NO_MESSAGE = 17    /* apex_waiting_message's answer: no message of the index waits */
 };
 
 /* What apex_open answers beside 0, and 1 to 10 for a fault of the configuration (docs/FORMATS.md). */
@@ -133,9 +136,11 @@ uint32_t apex_clear_queuing_port(struct apex_handle *handle, uint32_t partition,
 /* SET_PARTITION_MODE. Assumed: no more than above. */
 uint32_t apex_set_partition_mode(struct apex_handle *handle, uint32_t partition, uint64_t at, uint32_t mode);
 
-/* The readers, which change nothing. Each answers 0, APEX_NOT_OPEN, and APEX_NO_PARTITION or APEX_NO_CHANNEL; where it
- * isn't 0, the place stays as it was. Partitions and channels are numbered from 0 in the order of the configuration.
- * A count stays at the greatest uint64_t. Assumed: no more than above, but of apex_last_sample. */
+/* The readers, which change nothing. Each answers 0 or APEX_NOT_OPEN, APEX_NO_PARTITION where it takes a partition and
+ * APEX_NO_CHANNEL where it takes a channel; where it isn't 0, each place stays as it was. Partitions and channels are
+ * numbered from 0 in the order of the configuration, and the identifiers of a partition's ports from 1. A count of
+ * calls or messages stays at the greatest uint64_t. Assumed: no more than above, and beyond that `buffer` points to
+ * `buffer_length` bytes and `name` to `name_length`. */
 
 /* The number of a partition's mode. */
 uint32_t apex_partition_mode(struct apex_handle *handle, uint32_t partition, uint32_t *mode);
@@ -151,9 +156,61 @@ uint32_t apex_cleared_count(struct apex_handle *handle, uint32_t channel, uint64
 uint32_t apex_waiting_count(struct apex_handle *handle, uint32_t channel, uint64_t *count);
 
 /* The message that a sampling channel holds, with its length and the moment of its writing in nanoseconds. Answers
- * APEX_SHORT_BUFFER or APEX_NO_SAMPLE too. Assumed: `buffer` points to `buffer_length` bytes. */
+ * APEX_SHORT_BUFFER or APEX_NO_SAMPLE too. */
 uint32_t apex_last_sample(struct apex_handle *handle, uint32_t channel, uint8_t *buffer, size_t buffer_length,
                           uint32_t *message_length, uint64_t *at);
+
+/* The message of an index among those that wait on a channel, of which 0 is the oldest, with its length. Answers
+ * APEX_SHORT_BUFFER or APEX_NO_MESSAGE too. */
+uint32_t apex_waiting_message(struct apex_handle *handle, uint32_t channel, uint64_t index, uint8_t *buffer,
+                              size_t buffer_length, uint32_t *message_length);
+
+/* How many partitions and channels the module has, and how many ports a partition. */
+uint32_t apex_partition_count(struct apex_handle *handle, uint32_t *count);
+uint32_t apex_channel_count(struct apex_handle *handle, uint32_t *count);
+uint32_t apex_port_count(struct apex_handle *handle, uint32_t partition, uint32_t *count);
+
+/* The refresh period in nanoseconds, 0 of a queuing port; the channel's number; the direction's number; whether it is a
+ * queuing or a sampling port. */
+struct apex_configured_port {
+    uint64_t refresh;
+    uint32_t channel;
+    uint32_t direction;
+    bool is_queuing;
+};
+
+/* What the configuration says of a partition's port, whether it was created or not. Answers APEX_NO_PORT too. */
+uint32_t apex_port_configuration(struct apex_handle *handle, uint32_t partition, uint32_t id,
+                                 struct apex_configured_port *shown);
+
+/* The greatest length of a message in bytes; the depth in messages, 0 of a sampling channel; whether it is a queuing or
+ * a sampling channel. */
+struct apex_configured_channel {
+    uint32_t size;
+    uint32_t depth;
+    bool is_queuing;
+};
+
+/* What the configuration says of a channel. */
+uint32_t apex_channel_configuration(struct apex_handle *handle, uint32_t channel,
+                                    struct apex_configured_channel *shown);
+
+/* The names of a partition, of a partition's port and of a channel: the first bytes of the buffer, which needs
+ * APEX_NAME_LIMIT, and the length; no zero follows. Answers APEX_SHORT_BUFFER too, and for a port APEX_NO_PORT. */
+uint32_t apex_partition_name(struct apex_handle *handle, uint32_t partition, uint8_t *buffer, size_t buffer_length,
+                             uint32_t *name_length);
+uint32_t apex_port_name(struct apex_handle *handle, uint32_t partition, uint32_t id, uint8_t *buffer,
+                        size_t buffer_length, uint32_t *name_length);
+uint32_t apex_channel_name(struct apex_handle *handle, uint32_t channel, uint8_t *buffer, size_t buffer_length,
+                           uint32_t *name_length);
+
+/* The number of the partition and of the channel of a name, and the identifier of a partition's port of a name, whether
+ * it was created or not. Answers APEX_NO_NAME or APEX_UNKNOWN_NAME too. */
+uint32_t apex_find_partition(struct apex_handle *handle, const uint8_t *name, size_t name_length,
+                             uint32_t *partition);
+uint32_t apex_find_port(struct apex_handle *handle, uint32_t partition, const uint8_t *name, size_t name_length,
+                        uint32_t *id);
+uint32_t apex_find_channel(struct apex_handle *handle, const uint8_t *name, size_t name_length, uint32_t *channel);
 
 #ifdef __cplusplus
 }

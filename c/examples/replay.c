@@ -3,22 +3,16 @@
 #define _POSIX_C_SOURCE 200809L
 
 #include "../apex_ports.h"
-#include "module.h"
 #include "words.h"
 
 #include <stdio.h>
 #include <stdlib.h>
 #include <string.h>
 
-enum { DEPTH_LIMIT = 512, FILE_LIMIT = 16777216, WORD_LIMIT = 8 };
+enum { FILE_LIMIT = 16777216, WORD_LIMIT = 8 };
 
-static struct module module;
 static struct apex_handle handle;
 static FILE *report;
-
-/* The messages that a channel accepted last: the waiting ones are among them. */
-static struct message accepted[CHANNEL_LIMIT][DEPTH_LIMIT];
-static uint64_t accepted_count[CHANNEL_LIMIT];
 
 /* The call in hand. */
 static uint32_t partition;
@@ -141,12 +135,8 @@ static bool send_message(char **words) {
     if (!read_numbers(words, 1, &id) || !read_message(words[1], &message)) {
         return false;
     }
-    uint32_t answer = apex_send_queuing_message(&handle, partition, at, id, message.bytes, message.length);
-    if (answer == 0) {
-        uint32_t channel = module.partition[partition].channels[id - 1];
-        accepted[channel][accepted_count[channel]++ % DEPTH_LIMIT] = message;
-    }
-    return print_answer(answer);
+    return print_answer(
+        apex_send_queuing_message(&handle, partition, at, id, message.bytes, message.length));
 }
 
 static bool receive_message(char **words) {
@@ -215,12 +205,7 @@ static size_t cut(char *line, char **words) {
 }
 
 static bool find_partition(const char *word) {
-    for (partition = 0; partition < module.partitions; partition++) {
-        if (strcmp(module.partition[partition].name, word) == 0) {
-            return true;
-        }
-    }
-    return false;
+    return apex_find_partition(&handle, bytes_of(word), strlen(word), &partition) == 0;
 }
 
 static const struct call *find_call(const char *word) {
@@ -278,39 +263,44 @@ static uint64_t serve_lines(char *text, size_t length) {
     return 0;
 }
 
-static void print_partition(uint32_t p) {
-    static const char *const words[] = {"IDLE", "COLD_START", "WARM_START", "NORMAL"};
-    uint32_t mode = 0;
-    uint64_t count = 0;
-    apex_partition_mode(&handle, p, &mode);
-    apex_call_count(&handle, p, &count);
-    fprintf(report, "partition %s mode %s calls %llu\n", module.partition[p].name, words[mode],
-            (unsigned long long)count);
+static void print_name(const char *kind, const uint8_t *name, uint32_t length) {
+    fprintf(report, "%s %.*s", kind, (int)length, (const char *)name);
 }
 
-static void print_queuing_channel(uint32_t c) {
+static void print_partition(uint32_t p) {
+    static const char *const words[] = {"IDLE", "COLD_START", "WARM_START", "NORMAL"};
+    uint8_t name[APEX_NAME_LIMIT];
+    uint32_t length = 0, mode = 0;
+    uint64_t count = 0;
+    apex_partition_name(&handle, p, name, sizeof name, &length);
+    apex_partition_mode(&handle, p, &mode);
+    apex_call_count(&handle, p, &count);
+    print_name("partition", name, length);
+    fprintf(report, " mode %s calls %llu\n", words[mode], (unsigned long long)count);
+}
+
+static void print_queue(uint32_t c) {
+    struct message message;
     uint64_t sent = 0, received = 0, cleared = 0, waiting = 0;
     apex_accepted_count(&handle, c, &sent);
     apex_received_count(&handle, c, &received);
     apex_cleared_count(&handle, c, &cleared);
     apex_waiting_count(&handle, c, &waiting);
-    fprintf(report, "queuing %s accepted %llu received %llu", module.channel[c].name, (unsigned long long)sent,
-            (unsigned long long)received);
+    fprintf(report, " accepted %llu received %llu", (unsigned long long)sent, (unsigned long long)received);
     if (cleared > 0) {
         fprintf(report, " cleared %llu", (unsigned long long)cleared);
     }
     fprintf(report, " waiting %llu", (unsigned long long)waiting);
-    for (uint64_t i = sent - waiting; i < sent; i++) {
-        const struct message *message = &accepted[c][i % DEPTH_LIMIT];
-        print_message(message->bytes, message->length);
+    for (uint64_t i = 0; apex_waiting_message(&handle, c, i, message.bytes, sizeof message.bytes, &message.length) == 0;
+         i++) {
+        print_message(message.bytes, message.length);
     }
     fputc('\n', report);
 }
 
-static void print_sampling_channel(uint32_t c) {
+static void print_sample(uint32_t c) {
     struct message message;
     uint64_t written = 0;
-    fprintf(report, "sampling %s", module.channel[c].name);
     if (apex_last_sample(&handle, c, message.bytes, sizeof message.bytes, &message.length, &written) == 0) {
         print_message(message.bytes, message.length);
         fprintf(report, " at %llu\n", (unsigned long long)written);
@@ -319,16 +309,29 @@ static void print_sampling_channel(uint32_t c) {
     }
 }
 
+static void print_channel(uint32_t c) {
+    struct apex_configured_channel channel = {0, 0, false};
+    uint8_t name[APEX_NAME_LIMIT];
+    uint32_t length = 0;
+    apex_channel_name(&handle, c, name, sizeof name, &length);
+    apex_channel_configuration(&handle, c, &channel);
+    print_name(channel.is_queuing ? "queuing" : "sampling", name, length);
+    if (channel.is_queuing) {
+        print_queue(c);
+    } else {
+        print_sample(c);
+    }
+}
+
 static void print_totals(void) {
-    for (uint32_t p = 0; p < module.partitions; p++) {
+    uint32_t partitions = 0, channels = 0;
+    apex_partition_count(&handle, &partitions);
+    apex_channel_count(&handle, &channels);
+    for (uint32_t p = 0; p < partitions; p++) {
         print_partition(p);
     }
-    for (uint32_t c = 0; c < module.channels; c++) {
-        if (module.channel[c].is_queuing) {
-            print_queuing_channel(c);
-        } else {
-            print_sampling_channel(c);
-        }
+    for (uint32_t c = 0; c < channels; c++) {
+        print_channel(c);
     }
 }
 
@@ -347,7 +350,7 @@ static bool read_file(const char *path, char *text, size_t *length) {
 /* Opens the ports and serves the trace; whether both texts are right. */
 static bool replay(const char *config, size_t config_length, char *trace, size_t trace_length) {
     uint32_t fault = apex_open(&handle, (const uint8_t *)config, config_length);
-    if (fault != 0 || !read_module(config, config_length, &module)) {
+    if (fault != 0) {
         fprintf(stderr, "config fault %u\n", fault);
         return false;
     }

@@ -2,15 +2,15 @@
 from ._codes import Code, Direction, Discipline, Mode, Validity
 from ._errors import ApexError, ConfigError, LibraryError, NoCallError, ProgramError, TraceError
 from ._module import Channel, Module, WrittenSample
-from ._ports import Partition, QueuingPort, SamplingPort
+from ._ports import ConfiguredPort, Partition, QueuingPort, SamplingPort
 from ._program import Report, ReportedCall, ReportedPartition, ReportedQueuing, ReportedSampling, replay
 from ._replies import (IdReply, QueuingStatus, QueuingStatusReply, ReadReply, ReceiveReply, Reply, Sample,
                        SamplingStatus, SamplingStatusReply)
 
 __all__ = [
-    "ApexError", "Channel", "Code", "ConfigError", "Direction", "Discipline", "IdReply", "LibraryError", "Mode",
-    "Module", "NoCallError", "Partition", "ProgramError", "QueuingPort", "QueuingStatus", "QueuingStatusReply",
-    "ReadReply", "ReceiveReply", "Reply", "Report", "ReportedCall", "ReportedPartition", "ReportedQueuing",
-    "ReportedSampling", "Sample", "SamplingPort", "SamplingStatus", "SamplingStatusReply", "TraceError", "Validity",
-    "WrittenSample", "replay",
+    "ApexError", "Channel", "Code", "ConfigError", "ConfiguredPort", "Direction", "Discipline", "IdReply",
+    "LibraryError", "Mode", "Module", "NoCallError", "Partition", "ProgramError", "QueuingPort", "QueuingStatus",
+    "QueuingStatusReply", "ReadReply", "ReceiveReply", "Reply", "Report", "ReportedCall", "ReportedPartition",
+    "ReportedQueuing", "ReportedSampling", "Sample", "SamplingPort", "SamplingStatus", "SamplingStatusReply",
+    "TraceError", "Validity", "WrittenSample", "replay",
 ]

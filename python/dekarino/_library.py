@@ -17,7 +17,7 @@ MOMENT_LIMIT = 2**63 - 1
 NUMBER_LIMIT = 2**32 - 1
 
 # What a function answers beside the return codes and NOT_MADE.
-NOT_OPEN, NO_PARTITION, TOO_LONG, NO_NAME, NO_CHANNEL, NO_SAMPLE = 8, 9, 10, 11, 13, 14
+NOT_OPEN, NO_PARTITION, TOO_LONG, NO_NAME = 8, 9, 10, 11
 OUT_OF_MEMORY = 11
 
 # One for all modules, so that a process that forks can hold it: then no call is half done in the child.
@@ -49,6 +49,18 @@ class SamplingFields(ctypes.Structure):
     _fields_ = [("refresh", _u64), ("size", _u32), ("direction", _u32), ("last_validity", _u32)]
 
 
+class PortFields(ctypes.Structure):
+    """What the configuration says of a port."""
+
+    _fields_ = [("refresh", _u64), ("channel", _u32), ("direction", _u32), ("is_queuing", ctypes.c_bool)]
+
+
+class ChannelFields(ctypes.Structure):
+    """What the configuration says of a channel."""
+
+    _fields_ = [("size", _u32), ("depth", _u32), ("is_queuing", ctypes.c_bool)]
+
+
 # The parameters of each function.
 PARAMETERS: Dict[str, Tuple[Any, ...]] = {
     "open": (_handle, _text, _length),
@@ -72,6 +84,18 @@ PARAMETERS: Dict[str, Tuple[Any, ...]] = {
     "cleared_count": (_handle, _u32, _place),
     "waiting_count": (_handle, _u32, _place),
     "last_sample": (_handle, _u32, _place, _length, _place, _place),
+    "waiting_message": (_handle, _u32, _u64, _place, _length, _place),
+    "partition_count": (_handle, _place),
+    "channel_count": (_handle, _place),
+    "port_count": (_handle, _u32, _place),
+    "port_configuration": (_handle, _u32, _u32, _place),
+    "channel_configuration": (_handle, _u32, _place),
+    "partition_name": (_handle, _u32, _place, _length, _place),
+    "port_name": (_handle, _u32, _u32, _place, _length, _place),
+    "channel_name": (_handle, _u32, _place, _length, _place),
+    "find_partition": (_handle, _text, _length, _place),
+    "find_port": (_handle, _u32, _text, _length, _place),
+    "find_channel": (_handle, _text, _length, _place),
 }
 
 

@@ -2,16 +2,14 @@
 import ctypes
 import os
 import weakref
-from collections import deque
 from types import TracebackType
-from typing import Any, Deque, List, NamedTuple, NoReturn, Optional, Tuple, Type, Union
+from typing import Any, List, NamedTuple, NoReturn, Optional, Tuple, Type, Union
 
 from . import _library
-from ._codes import Code, Mode
-from ._configuration import Configuration, read_configuration
+from ._codes import Code, Direction, Mode
 from ._errors import FAULTS, ConfigError, NoCallError
 from ._library import MOMENT_LIMIT, lock, number
-from ._ports import Partition
+from ._ports import ConfiguredPort, Partition, named
 from ._replies import AnyValue, Asked, message_word, reply_words
 
 CODES = tuple(Code)
@@ -54,22 +52,11 @@ class Module:
         self._count = ctypes.c_uint64()
         self._number, self._other = ctypes.c_uint32(), ctypes.c_uint32()
         self._number_place = ctypes.byref(self._number)
-        self._configuration = read_configuration(text)
-        self._check_counts(self._configuration)
-        self._accepted: List[Deque[bytes]] = [deque(maxlen=it.depth) for it in self._configuration.channels]
 
     @classmethod
     def open(cls, config: Text) -> "Module":
         """Opens the module of a configuration: the path of its file, or its text as bytes."""
         return cls(bytes_of_text(config))
-
-    def _check_counts(self, read: Configuration) -> None:
-        """Sees that the library has as many partitions and channels as were read."""
-        for name, count in (("call_count", len(read.partitions)), ("accepted_count", len(read.channels))):
-            ask = self._functions.function(name)
-            answers = [ask(self._lent, it, ctypes.byref(self._count)) == 0 for it in (*range(count), count)]
-            if answers != [True] * count + [False]:
-                raise RuntimeError("the configuration is read otherwise here than by the library")
 
     def close(self) -> None:
         """Closes the module. Of one that is closed, nothing is done."""
@@ -100,21 +87,36 @@ class Module:
         self._need_open()
         self._moment = number(moment, MOMENT_LIMIT, "the moment")
 
+    @property
+    def partitions(self) -> Tuple[str, ...]:
+        """The names of the partitions, in the order of the configuration."""
+        return self._names("partition")
+
+    @property
+    def channels(self) -> Tuple[str, ...]:
+        """The names of the channels, in the order of the configuration."""
+        return self._names("channel")
+
     def partition(self, name: str) -> Partition:
         """The partition of the name."""
-        self._need_open()
-        names = [it.name for it in self._configuration.partitions]
-        if name not in names:
-            raise NoCallError(f"there is no partition {name}; the partitions are {', '.join(names)}")
-        return Partition(self, names.index(name), name)
+        return Partition(self, self._find("partition", name), name)
 
     def channel(self, name: str) -> "Channel":
         """The channel of the name."""
-        self._need_open()
-        names = [it.name for it in self._configuration.channels]
-        if name not in names:
-            raise NoCallError(f"there is no channel {name}; the channels are {', '.join(names) or 'none'}")
-        return Channel(self, names.index(name), name)
+        return Channel(self, self._find("channel", name), name)
+
+    def _names(self, kind: str) -> Tuple[str, ...]:
+        """The names of all partitions, or of all channels."""
+        with lock:
+            return tuple(self._name(f"{kind}_name", it) for it in range(self._read(f"{kind}_count", self._number)))
+
+    def _find(self, kind: str, name: str) -> int:
+        """The number of the partition or of the channel of the name."""
+        with lock:
+            if self._ask(f"find_{kind}", *named(name), self._number_place) == 0:
+                return self._number.value
+        names = ", ".join(self._names(kind)) or "none"
+        raise NoCallError(f"there is no {kind} {name}; the {kind}s are {names}")
 
     def _note(self, asked: Asked, answer: int, value: AnyValue) -> Code:
         """Keeps a call that was served. The lock is held."""
@@ -130,19 +132,49 @@ class Module:
                  _library.NO_NAME: "a name has 1 to 30 ASCII letters, digits and `_`"}
         raise NoCallError(words[answer])
 
-    def _read(self, name: str, place: int, into: Any) -> int:
-        """Reads a number of a partition or a channel. The lock is held."""
-        if self._functions.function(name)(self._lent, place, ctypes.byref(into)) != 0:
+    def _ask(self, reader: str, *arguments: Any) -> int:
+        """What a reader answers. The lock is held."""
+        answer = self._functions.function(reader)(self._lent, *arguments)
+        if answer == _library.NOT_OPEN:
             raise NoCallError("the module is closed")
+        return answer
+
+    def _read(self, reader: str, into: Any, *asked: int) -> int:
+        """A number of what the module has. The lock is held."""
+        self._ask(reader, *asked, ctypes.byref(into))
         return int(into.value)
+
+    def _bytes(self, reader: str, *asked: int) -> bytes:
+        """A name or a message of what the module has; no bytes of what it hasn't. The lock is held."""
+        answer = self._ask(reader, *asked, self._buffer, _library.MESSAGE_LIMIT, self._number_place)
+        return b"" if answer else self._message()
+
+    def _name(self, reader: str, *asked: int) -> str:
+        """A name, which is empty of what the module hasn't. The lock is held."""
+        return self._bytes(reader, *asked).decode("ascii")
+
+    def _port(self, partition: int, id: int) -> ConfiguredPort:
+        """What the configuration says of a port that is there. The lock is held."""
+        it = _library.PortFields()
+        self._ask("port_configuration", partition, id, ctypes.byref(it))
+        return ConfiguredPort(id, self._name("port_name", partition, id), it.is_queuing, Direction(it.direction),
+                              self._name("channel_name", it.channel), it.refresh)
+
+    def _channel(self, channel: int) -> _library.ChannelFields:
+        """What the configuration says of a channel. The lock is held."""
+        it = _library.ChannelFields()
+        self._ask("channel_configuration", channel, ctypes.byref(it))
+        return it
+
+    def _waiting(self, channel: int) -> Tuple[bytes, ...]:
+        """The messages that wait on a channel, the oldest first. The lock is held."""
+        count = self._read("waiting_count", self._count, channel)
+        return tuple(self._bytes("waiting_message", channel, it) for it in range(count))
 
     def _sample(self, channel: int) -> Optional[WrittenSample]:
         """What a sampling channel holds. The lock is held."""
-        answer = self._functions.function("last_sample")(
-            self._lent, channel, self._buffer, _library.MESSAGE_LIMIT, self._number_place,
-            ctypes.byref(self._count))
-        if answer == _library.NOT_OPEN:
-            raise NoCallError("the module is closed")
+        answer = self._ask("last_sample", channel, self._buffer, _library.MESSAGE_LIMIT, self._number_place,
+                           ctypes.byref(self._count))
         return None if answer else WrittenSample(self._message(), self._count.value)
 
     def _message(self) -> bytes:
@@ -153,39 +185,44 @@ class Module:
         """The report that the program `apexports` prints of the calls so far."""
         with lock:
             self._need_open()
-            lines = [f"{place} {at} {asked.partition} {asked.call} {reply_words(code, value)}"
-                     for place, (at, asked, code, value) in enumerate(self._calls, 1)]
-            for place, partition in enumerate(self._configuration.partitions):
-                mode = Mode(self._read("partition_mode", place, self._number)).name
-                calls = self._read("call_count", place, self._count)
-                lines.append(f"partition {partition.name} mode {mode} calls {calls}")
-            lines += [self._channel_line(place) for place in range(len(self._accepted))]
+            lines = [f"{line} {at} {asked.partition} {asked.call} {reply_words(code, value)}"
+                     for line, (at, asked, code, value) in enumerate(self._calls, 1)]
+            lines += map(self._partition_line, range(self._read("partition_count", self._number)))
+            lines += map(self._channel_line, range(self._read("channel_count", self._number)))
         return "".join(f"{line}\n" for line in lines)
 
-    def _channel_line(self, place: int) -> str:
-        channel = self._configuration.channels[place]
-        if channel.depth == 0:
-            sample = self._sample(place)
+    def _partition_line(self, partition: int) -> str:
+        mode = Mode(self._read("partition_mode", self._number, partition)).name
+        calls = self._read("call_count", self._count, partition)
+        return f"partition {self._name('partition_name', partition)} mode {mode} calls {calls}"
+
+    def _channel_line(self, channel: int) -> str:
+        name = self._name("channel_name", channel)
+        if not self._channel(channel).is_queuing:
+            sample = self._sample(channel)
             held = "empty" if sample is None else f"{message_word(sample.message)} at {sample.at}"
-            return f"sampling {channel.name} {held}"
-        accepted, received, cleared, waiting = (
-            self._read(f"{it}_count", place, self._count) for it in ("accepted", "received", "cleared", "waiting"))
-        kept = list(self._accepted[place])
-        words = [f"queuing {channel.name} accepted {accepted} received {received}",
-                 *([f"cleared {cleared}"] if cleared else []), f"waiting {waiting}",
-                 *map(message_word, kept[len(kept) - waiting :])]
+            return f"sampling {name} {held}"
+        accepted, received, cleared = (
+            self._read(f"{it}_count", self._count, channel) for it in ("accepted", "received", "cleared"))
+        waiting = self._waiting(channel)
+        words = [f"queuing {name} accepted {accepted} received {received}",
+                 *([f"cleared {cleared}"] if cleared else []), f"waiting {len(waiting)}", *map(message_word, waiting)]
         return " ".join(words)
 
 
 class Channel:
-    """What a channel has passed on. The counts of a sampling channel are 0."""
+    """A channel: its size in bytes, its depth in messages, which is 0 of a sampling channel, and what it has passed on.
+    The counts of a sampling channel are 0."""
 
-    def __init__(self, module: Module, place: int, name: str) -> None:
-        self._module, self._place, self.name = module, place, name
+    def __init__(self, module: Module, index: int, name: str) -> None:
+        self._module, self._index, self.name = module, index, name
+        with lock:
+            it = module._channel(index)
+        self.is_queuing, self.size, self.depth = bool(it.is_queuing), int(it.size), int(it.depth)
 
     def _count(self, name: str) -> int:
         with lock:
-            return self._module._read(name, self._place, self._module._count)
+            return self._module._read(name, self._module._count, self._index)
 
     @property
     def accepted(self) -> int:
@@ -208,7 +245,13 @@ class Channel:
         return self._count("waiting_count")
 
     @property
+    def messages(self) -> Tuple[bytes, ...]:
+        """The messages that wait, the oldest first."""
+        with lock:
+            return self._module._waiting(self._index)
+
+    @property
     def sample(self) -> Optional[WrittenSample]:
         """What a sampling channel holds; None before its first write, and of a queuing channel."""
         with lock:
-            return self._module._sample(self._place)
+            return self._module._sample(self._index)

@@ -1,9 +1,10 @@
 """A partition and its ports: the twelve services. Each is served behind the lock of the modules."""
 import ctypes
-from typing import TYPE_CHECKING, Any, Optional, Tuple
+from typing import TYPE_CHECKING, Any, NamedTuple, Optional, Tuple
 
 from . import _library
 from ._codes import Code, Direction, Mode, Validity
+from ._errors import NoCallError
 from ._library import MOMENT_LIMIT, NUMBER_LIMIT, lock, number
 from ._replies import (AnyValue, Asked, IdReply, QueuingStatus, QueuingStatusReply, ReadReply, ReceiveReply, Reply,
                        Sample, SamplingStatus, SamplingStatusReply)
@@ -12,11 +13,22 @@ if TYPE_CHECKING:
     from ._module import Module
 
 
+class ConfiguredPort(NamedTuple):
+    """What the configuration says of a port. The refresh period, in nanoseconds, is 0 of a queuing port."""
+
+    id: int
+    name: str
+    is_queuing: bool
+    direction: Direction
+    channel: str
+    refresh: int
+
+
 class _Caller:
     """Who calls: a partition, by itself or through a port."""
 
-    def __init__(self, module: "Module", place: int, partition: str) -> None:
-        self._module, self._place = module, place
+    def __init__(self, module: "Module", index: int, partition: str) -> None:
+        self._module, self._index = module, index
         self._who = partition
 
     def _asked(self, port: Optional[str], service: str, call: str) -> Asked:
@@ -27,19 +39,19 @@ class _Caller:
         module = self._module
         function = module._functions.function(asked.service.lower())
         with lock:
-            return module._note(asked, function(module._lent, self._place, module._moment, *arguments), None)
+            return module._note(asked, function(module._lent, self._index, module._moment, *arguments), None)
 
     def _serve_for_id(self, asked: Asked, *arguments: Any) -> IdReply:
         """Makes a call that gives a port's identifier."""
         module = self._module
         function = module._functions.function(asked.service.lower())
         with lock:
-            answer = function(module._lent, self._place, module._moment, *arguments, module._number_place)
+            answer = function(module._lent, self._index, module._moment, *arguments, module._number_place)
             value = module._number.value if answer == 0 else None
             return IdReply(module._note(asked, answer, value), value, asked)
 
 
-def _named(name: str) -> Tuple[bytes, int]:
+def named(name: str) -> Tuple[bytes, int]:
     """A name and its length, as C takes them; what is not ASCII is no name there."""
     word = name.encode("ascii", "replace")
     return word, len(word)
@@ -48,21 +60,38 @@ def _named(name: str) -> Tuple[bytes, int]:
 class Partition(_Caller):
     """A partition of a module."""
 
-    def __init__(self, module: "Module", place: int, name: str) -> None:
-        super().__init__(module, place, name)
+    def __init__(self, module: "Module", index: int, name: str) -> None:
+        super().__init__(module, index, name)
         self.name = name
 
     @property
     def mode(self) -> Mode:
         """The partition's mode."""
         with lock:
-            return Mode(self._module._read("partition_mode", self._place, self._module._number))
+            return Mode(self._module._read("partition_mode", self._module._number, self._index))
 
     @property
     def calls(self) -> int:
         """How many calls the partition made, those that were not made in IDLE included."""
         with lock:
-            return self._module._read("call_count", self._place, self._module._count)
+            return self._module._read("call_count", self._module._count, self._index)
+
+    @property
+    def ports(self) -> Tuple[ConfiguredPort, ...]:
+        """What the configuration says of the partition's ports, in the order of their identifiers."""
+        module = self._module
+        with lock:
+            count = module._read("port_count", module._number, self._index)
+            return tuple(module._port(self._index, id) for id in range(1, count + 1))
+
+    def port(self, name: str) -> ConfiguredPort:
+        """What the configuration says of the port of the name."""
+        module = self._module
+        with lock:
+            if module._ask("find_port", self._index, *named(name), module._number_place) == 0:
+                return module._port(self._index, module._number.value)
+        names = ", ".join(it.name for it in self.ports) or "none"
+        raise NoCallError(f"partition {self.name} has no port {name}; its ports are {names}")
 
     def create_queuing_port(self, name: str, *, size: int, depth: int, direction: int,
                             discipline: int = 0) -> "QueuingPort":
@@ -70,22 +99,22 @@ class Partition(_Caller):
         numbers = [number(it, NUMBER_LIMIT, what) for it, what in
                    ((size, "size"), (depth, "depth"), (direction, "direction"), (discipline, "discipline"))]
         asked = self._asked(name, "CREATE_QUEUING_PORT", "create-queuing")
-        return self.queuing_port(self._serve_for_id(asked, *_named(name), *numbers).check())
+        return self.queuing_port(self._serve_for_id(asked, *named(name), *numbers).check())
 
     def create_sampling_port(self, name: str, *, size: int, direction: int, refresh: int) -> "SamplingPort":
         """CREATE_SAMPLING_PORT, the refresh period in nanoseconds. The port, or ApexError is raised."""
         numbers = [number(size, NUMBER_LIMIT, "size"), number(direction, NUMBER_LIMIT, "direction"),
                    number(refresh, MOMENT_LIMIT, "refresh")]
         asked = self._asked(name, "CREATE_SAMPLING_PORT", "create-sampling")
-        return self.sampling_port(self._serve_for_id(asked, *_named(name), *numbers).check())
+        return self.sampling_port(self._serve_for_id(asked, *named(name), *numbers).check())
 
     def get_queuing_port_id(self, name: str) -> IdReply:
         """GET_QUEUING_PORT_ID."""
-        return self._serve_for_id(self._asked(name, "GET_QUEUING_PORT_ID", "queuing-id"), *_named(name))
+        return self._serve_for_id(self._asked(name, "GET_QUEUING_PORT_ID", "queuing-id"), *named(name))
 
     def get_sampling_port_id(self, name: str) -> IdReply:
         """GET_SAMPLING_PORT_ID."""
-        return self._serve_for_id(self._asked(name, "GET_SAMPLING_PORT_ID", "sampling-id"), *_named(name))
+        return self._serve_for_id(self._asked(name, "GET_SAMPLING_PORT_ID", "sampling-id"), *named(name))
 
     def set_mode(self, mode: int) -> Reply[None]:
         """SET_PARTITION_MODE."""
@@ -94,21 +123,19 @@ class Partition(_Caller):
 
     def queuing_port(self, id: int) -> "QueuingPort":
         """The queuing port of an identifier, whether there is one or not. No service is called."""
-        return QueuingPort(self._module, self._place, self.name, id)
+        return QueuingPort(self._module, self._index, self.name, id)
 
     def sampling_port(self, id: int) -> "SamplingPort":
         """The sampling port of an identifier, whether there is one or not. No service is called."""
-        return SamplingPort(self._module, self._place, self.name, id)
+        return SamplingPort(self._module, self._index, self.name, id)
 
 
 class _Port(_Caller):
-    def __init__(self, module: "Module", place: int, partition: str, id: int) -> None:
-        super().__init__(module, place, partition)
+    def __init__(self, module: "Module", index: int, partition: str, id: int) -> None:
+        super().__init__(module, index, partition)
         self.id = number(id, NUMBER_LIMIT, "an identifier")
-        ports = module._configuration.partitions[place].ports
-        is_configured = 1 <= self.id <= len(ports)
-        self.name = ports[self.id - 1].name if is_configured else f"number {self.id}"
-        self._channel = ports[self.id - 1].channel if is_configured else None
+        with lock:
+            self.name = module._name("port_name", index, self.id) or f"number {self.id}"
 
 
 def _message(message: bytes) -> bytes:
@@ -118,8 +145,8 @@ def _message(message: bytes) -> bytes:
 class QueuingPort(_Port):
     """A queuing port of a partition. Every time-out is zero."""
 
-    def __init__(self, module: "Module", place: int, partition: str, id: int) -> None:
-        super().__init__(module, place, partition, id)
+    def __init__(self, module: "Module", index: int, partition: str, id: int) -> None:
+        super().__init__(module, index, partition, id)
         self._send = self._asked(self.name, "SEND_QUEUING_MESSAGE", "send")
         self._receive = self._asked(self.name, "RECEIVE_QUEUING_MESSAGE", "receive")
         self._send_function = module._functions.function("send_queuing_message")
@@ -129,17 +156,14 @@ class QueuingPort(_Port):
         """SEND_QUEUING_MESSAGE."""
         module, sent = self._module, _message(message)
         with lock:
-            answer = self._send_function(module._lent, self._place, module._moment, self.id, sent, len(sent))
-            code = module._note(self._send, answer, None)
-            if answer == 0 and self._channel is not None:
-                module._accepted[self._channel].append(sent)
-        return Reply(code, None, self._send)
+            answer = self._send_function(module._lent, self._index, module._moment, self.id, sent, len(sent))
+            return Reply(module._note(self._send, answer, None), None, self._send)
 
     def receive(self) -> ReceiveReply:
         """RECEIVE_QUEUING_MESSAGE."""
         module = self._module
         with lock:
-            answer = self._receive_function(module._lent, self._place, module._moment, self.id, module._buffer,
+            answer = self._receive_function(module._lent, self._index, module._moment, self.id, module._buffer,
                                             _library.MESSAGE_LIMIT, module._number_place)
             message = module._message() if answer == 0 else None
             return ReceiveReply(module._note(self._receive, answer, message), message, self._receive)
@@ -155,7 +179,7 @@ class QueuingPort(_Port):
         asked = self._asked(self.name, "GET_QUEUING_PORT_STATUS", "queuing-status")
         function = module._functions.function("get_queuing_port_status")
         with lock:
-            answer = function(module._lent, self._place, module._moment, self.id, ctypes.byref(it))
+            answer = function(module._lent, self._index, module._moment, self.id, ctypes.byref(it))
             value = None if answer else QueuingStatus(it.waiting, it.depth, it.size, Direction(it.direction))
             return QueuingStatusReply(module._note(asked, answer, value), value, asked)
 
@@ -174,7 +198,7 @@ class SamplingPort(_Port):
         asked = self._asked(self.name, "READ_SAMPLING_MESSAGE", "read")
         function = module._functions.function("read_sampling_message")
         with lock:
-            answer = function(module._lent, self._place, module._moment, self.id, module._buffer,
+            answer = function(module._lent, self._index, module._moment, self.id, module._buffer,
                               _library.MESSAGE_LIMIT, module._number_place, ctypes.byref(module._other))
             value = None if answer else Sample(module._message(), Validity(module._other.value))
             return ReadReply(module._note(asked, answer, value), value, asked)
@@ -185,7 +209,7 @@ class SamplingPort(_Port):
         asked = self._asked(self.name, "GET_SAMPLING_PORT_STATUS", "sampling-status")
         function = module._functions.function("get_sampling_port_status")
         with lock:
-            answer = function(module._lent, self._place, module._moment, self.id, ctypes.byref(it))
+            answer = function(module._lent, self._index, module._moment, self.id, ctypes.byref(it))
             value = None if answer else SamplingStatus(it.refresh, it.size, Direction(it.direction),
                                                        Validity(it.last_validity))
             return SamplingStatusReply(module._note(asked, answer, value), value, asked)

@@ -1,4 +1,4 @@
-"""The package 'dekarino': the services, what is refused, threads, a fork, and how a configuration is read."""
+"""The package 'dekarino': the services, what is refused, what a configuration says, threads and a fork."""
 import copy
 import gc
 import os
@@ -53,8 +53,10 @@ class Services(unittest.TestCase):
         empty = nav.receive()
         self.assertEqual((empty.code, empty.message), (Code.NOT_AVAILABLE, None))
         out.send(b"\x0d").check()
-        self.assertIs(nav.clear().code, Code.NO_ERROR)
         nav_channel = self.module.channel("NAV")
+        self.assertEqual(nav_channel.messages, (b"\x0d",))
+        self.assertIs(nav.clear().code, Code.NO_ERROR)
+        self.assertEqual(nav_channel.messages, ())
         self.assertEqual([nav_channel.accepted, nav_channel.received, nav_channel.cleared, nav_channel.waiting],
                          [3, 2, 1, 0])
 
@@ -97,7 +99,9 @@ class Services(unittest.TestCase):
     def test_what_is_no_call(self):
         out, _ = self.queuing()
         before = self.module.report()
-        for wrong in (lambda: self.module.partition("NONE"), lambda: self.module.channel("NONE"),
+        for wrong in (lambda: self.module.partition("NONE"), lambda: self.module.channel("NAV_OUT"),
+                      lambda: self.module.partition("F.M"), lambda: self.module.channel(""),
+                      lambda: self.fms.port("NAV_IN"), lambda: self.fms.port("\u00e4"),
                       lambda: self.fms.get_queuing_port_id("NAV.OUT"), lambda: self.fms.get_sampling_port_id("\u00e4"),
                       lambda: self.fms.create_queuing_port("", size=4, depth=2, direction=0),
                       lambda: self.fms.create_queuing_port("NAV_OUT", size=-1, depth=2, direction=0),
@@ -116,8 +120,64 @@ class Services(unittest.TestCase):
         self.module.close()
         for wrong in (lambda: out.send(b"1"), nav.receive, nav.status, nav.clear, self.module.report,
                       lambda: self.fms.mode, lambda: channel.accepted, lambda: channel.sample,
-                      lambda: self.module.at(1), lambda: self.module.partition("FMS")):
-            self.assertRaises(NoCallError, wrong)
+                      lambda: self.module.at(1), lambda: self.module.partition("FMS"), lambda: channel.messages,
+                      lambda: self.module.partitions, lambda: self.module.channels, lambda: self.fms.ports,
+                      lambda: self.fms.port("NAV_OUT"), lambda: self.fms.queuing_port(1)):
+            with self.assertRaisesRegex(NoCallError, "^the module is closed$"):
+                wrong()
+
+
+class Configured(unittest.TestCase):
+    """What the configuration of tests/c_readers.c says, as it is worked out beside it."""
+
+    def setUp(self):
+        self.module = Module.open(ROOT / "tests/c_readers.toml")
+        self.addCleanup(self.module.close)
+
+    def lines(self):
+        module = self.module
+        kind = {False: "sampling", True: "queuing"}
+        yield f"{len(module.partitions)} partitions, {len(module.channels)} channels"
+        for number, name in enumerate(module.partitions):
+            ports = module.partition(name).ports
+            yield f"partition {number} {name}, {len(ports)} ports"
+            for port in ports:
+                yield (f"port {port.id} {port.name} {kind[port.is_queuing]} {port.direction.name} "
+                       f"channel {module.channels.index(port.channel)} refresh {port.refresh}")
+        for number, name in enumerate(module.channels):
+            channel = module.channel(name)
+            yield f"channel {number} {name} {kind[channel.is_queuing]} size {channel.size} depth {channel.depth}"
+
+    def test_what_is_configured(self):
+        self.assertEqual(list(self.lines()), (ROOT / "tests/c_readers.txt").read_text().splitlines())
+
+    def test_ports_by_name(self):
+        for partition in map(self.module.partition, self.module.partitions):
+            for port in partition.ports:
+                self.assertEqual(partition.port(port.name), port)
+                self.assertEqual(partition.queuing_port(port.id).name, port.name)
+        last = self.module.partition("A").queuing_port(3)
+        self.assertEqual((last.name, last.status().code), ("number 3", Code.INVALID_PARAM))
+
+    def test_what_is_not_there(self):
+        for asked, said in ((lambda: self.module.partition("B"), "there is no partition B; the partitions are A, AB, "),
+                            (lambda: self.module.channel("NA"), "there is no channel NA; the channels are S, NAV_2"),
+                            (lambda: self.module.partition("AB").port("OUT"),
+                             "partition AB has no port OUT; its ports are none")):
+            with self.assertRaisesRegex(NoCallError, f"^{said}"):
+                asked()
+
+    def test_waiting_messages(self):
+        a, last = map(self.module.partition, self.module.partitions[::2])
+        out = a.create_queuing_port("OUT", size=1024, depth=3, direction=0)
+        nav = last.create_queuing_port("QRSTUVWXYZ_qrstuvwxyz_98765432", size=1024, depth=3, direction=1)
+        channel, sent = self.module.channel("NAV"), [b"\x01" * 1024, b"\x02", bytes(3)]
+        for count, message in enumerate(sent, 1):
+            out.send(message).check()
+            self.assertEqual(channel.messages, tuple(sent[:count]))
+        nav.receive().check()
+        self.assertEqual((channel.messages, channel.waiting), (tuple(sent[1:]), 2))
+        self.assertEqual(self.module.channel("S").messages, ())
 
 
 class Texts(unittest.TestCase):

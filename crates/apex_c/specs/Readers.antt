@@ -1,6 +1,6 @@
--- What the readers answer. A reader adds nothing to the history.
-use Rattle.std.specs.Prelude.{ℕ, nat_lt, if◌then◌else◌, List, length, Option, None, Some}
-use Rattle.std.specs.Option.{option_map}
+-- What the readers find of the history. A reader adds nothing to it.
+use Rattle.std.specs.Prelude.{ℕ, List, length, slice_get, ok_or, option_map, Option, Ok, Err}
+use Rattle.std.specs.Result.{result_ok}
 use Rattle.apex_types.specs.Mode.{number_of}
 use Rattle.apex_types.specs.declared.message.TheConstants.{MESSAGE_LIMIT}
 use Rattle.apex_types.specs.declared.sample.Sample.{Sample}
@@ -9,36 +9,23 @@ use Rattle.apex_ports.specs.Counts.{count_of}
 use Rattle.apex_ports.specs.History.{entries_of}
 use Rattle.apex_ports.specs.Modes.{mode_of}
 use Rattle.apex_ports.specs.PortsView.{PortsView}
+use Rattle.apex_c.specs.Found.{Found, for_buffer, in_channel, in_partition}
 use Rattle.apex_c.specs.Held.{PortsHeld}
-use Rattle.apex_c.specs.declared.answer.TheConstants.{NOT_OPEN, NO_CHANNEL, NO_PARTITION, NO_SAMPLE, READ, SHORT_BUFFER}
+use Rattle.apex_c.specs.declared.answer.TheConstants.{NO_MESSAGE, NO_SAMPLE}
 use Rattle.apex_c.specs.declared.counts.ChannelCount.{ChannelCount}
 use Rattle.apex_c.specs.declared.counts.ChannelCount.TheVariants.{Accepted, Received, Cleared, Waiting}
 
 -- ---- partitions
 
--- what reading of a partition answers
-abbrev pub partition_answer : PortsHeld → ℕ → ℕ
-partition_answer None p = NOT_OPEN
-partition_answer (Some ports) p = if nat_lt p (length ports.config.partitions) then READ else NO_PARTITION
+-- the number of a partition's mode
+abbrev pub mode_in : PortsHeld → ℕ → Found ℕ
+mode_in held p = in_partition held p (λ ports. Ok (number_of (mode_of p ports.history)))
 
--- the number of the partition's mode; none where there is no such partition
-abbrev pub mode_in : PortsHeld → ℕ → Option ℕ
-mode_in None p = None
-mode_in (Some ports) p =
-    if nat_lt p (length ports.config.partitions) then Some (number_of (mode_of p ports.history)) else None
-
--- how many calls the partition made; none where there is no such partition
-abbrev pub calls_in : PortsHeld → ℕ → Option ℕ
-calls_in None p = None
-calls_in (Some ports) p =
-    if nat_lt p (length ports.config.partitions) then Some (count_of (entries_of p ports.history)) else None
+-- how many calls a partition made
+abbrev pub calls_in : PortsHeld → ℕ → Found ℕ
+calls_in held p = in_partition held p (λ ports. Ok (count_of (entries_of p ports.history)))
 
 -- ---- channels
-
--- what reading of a channel answers
-abbrev pub channel_answer : PortsHeld → ℕ → ℕ
-channel_answer None c = NOT_OPEN
-channel_answer (Some ports) c = if nat_lt c (length ports.config.channels) then READ else NO_CHANNEL
 
 abbrev pub count_on : ChannelCount → PortsView → ℕ → ℕ
 count_on Accepted ports c = count_of (accepted_on ports.config c ports.history)
@@ -46,39 +33,25 @@ count_on Received ports c = count_of (received_on ports.config c ports.history)
 count_on Cleared ports c = count_of (cleared_on ports.config c ports.history)
 count_on Waiting ports c = length (waiting_on ports.config c ports.history)
 
--- the count of the channel; none where there is no such channel
-abbrev pub count_in : ChannelCount → PortsHeld → ℕ → Option ℕ
-count_in which None c = None
-count_in which (Some ports) c = if nat_lt c (length ports.config.channels) then Some (count_on which ports c) else None
+-- a count of a channel
+abbrev pub count_in : ChannelCount → PortsHeld → ℕ → Found ℕ
+count_in which held c = in_channel held c (λ ports. Ok (count_on which ports c))
 
--- ---- samples, read into a buffer of so many bytes
+-- ---- messages, for a buffer of so many bytes
 
-abbrev pub found_answer : Option Sample → ℕ
-found_answer None = NO_SAMPLE
-found_answer (Some sample) = READ
+-- the message of an index among those that wait on a channel
+abbrev pub waiting_in : ℕ → PortsHeld → ℕ → ℕ → Found (List ℕ)
+waiting_in bytes held c index = for_buffer MESSAGE_LIMIT bytes
+    (in_channel held c (λ ports. ok_or (slice_get (waiting_on ports.config c ports.history) index) NO_MESSAGE))
 
-abbrev pub held_answer : PortsHeld → ℕ → ℕ
-held_answer None c = NOT_OPEN
-held_answer (Some ports) c =
-    if nat_lt c (length ports.config.channels) then found_answer (last_write_on ports.config c ports.history)
-    else NO_CHANNEL
+-- a channel's last sample
+abbrev pub sample_in : ℕ → PortsHeld → ℕ → Found Sample
+sample_in bytes held c = for_buffer MESSAGE_LIMIT bytes
+    (in_channel held c (λ ports. ok_or (last_write_on ports.config c ports.history) NO_SAMPLE))
 
--- what reading of a channel's last sample answers
-abbrev pub sample_answer : ℕ → PortsHeld → ℕ → ℕ
-sample_answer bytes ports c = if nat_lt bytes MESSAGE_LIMIT then SHORT_BUFFER else held_answer ports c
+abbrev pub message_of : Found Sample → Option (List ℕ)
+message_of found = option_map (λ sample. sample.message) (result_ok found)
 
-abbrev pub held_sample : PortsHeld → ℕ → Option Sample
-held_sample None c = None
-held_sample (Some ports) c =
-    if nat_lt c (length ports.config.channels) then last_write_on ports.config c ports.history else None
-
--- the channel's last sample; none where the buffer is too short, or there is no such channel or no sample
-abbrev pub sample_in : ℕ → PortsHeld → ℕ → Option Sample
-sample_in bytes ports c = if nat_lt bytes MESSAGE_LIMIT then None else held_sample ports c
-
-abbrev pub message_of : Option Sample → Option (List ℕ)
-message_of sample = option_map (λ one. one.message) sample
-
-abbrev pub moment_after : Option Sample → ℕ → ℕ
-moment_after None given = given
-moment_after (Some sample) given = sample.at.0
+abbrev pub moment_after : Found Sample → ℕ → ℕ
+moment_after (Ok sample) given = sample.at.0
+moment_after (Err number) given = given

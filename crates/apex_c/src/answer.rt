@@ -15,7 +15,7 @@ pub const TOO_LONG: u32 = 10;
 /// The text is no name.
 pub const NO_NAME: u32 = 11;
 
-/// The buffer has fewer bytes than a message can have.
+/// The buffer has fewer bytes than what it is for can have: a message, or a name.
 pub const SHORT_BUFFER: u32 = 12;
 
 /// The module has no channel of the number.
@@ -23,6 +23,15 @@ pub const NO_CHANNEL: u32 = 13;
 
 /// The channel holds no sample.
 pub const NO_SAMPLE: u32 = 14;
+
+/// The partition has no port of the identifier.
+pub const NO_PORT: u32 = 15;
+
+/// Nothing has the name.
+pub const UNKNOWN_NAME: u32 = 16;
+
+/// No message of the index waits on the channel.
+pub const NO_MESSAGE: u32 = 17;
 
 /// A reader has read.
 pub const READ: u32 = 0;

@@ -1,16 +1,13 @@
-//! Buffers that C lends for a message.
-ghost use Rattle.std.specs.Prelude.{◌≡◌, ◌≤◌, ◌++◌, drop, length};
-ghost use Rattle.apex_types.specs.declared.message.TheConstants.{MESSAGE_LIMIT};
+//! Buffers that C lends for a message or a name.
+ghost use Rattle.std.specs.Prelude.{◌≡◌, ◌<◌, ◌≤◌, ◌++◌, ◌^◌, drop, length};
 
-use apex_types::Message;
-
-/// Copies the message to the first bytes of the buffer, and answers its length.
-pub(crate) fn copy_message(message: &Message, buffer: &mut [u8]) -> u32
-    requires { MESSAGE_LIMIT ≤ length buffer.old }
-    ensures bytes { buffer.new ≡ message.now ++ drop (length message.now) buffer.old }
-    ensures length { result ≡ length message.now }
+/// Copies the bytes to the first ones of the buffer, and answers how many they are.
+pub(crate) fn copy_bytes(bytes: &[u8], buffer: &mut [u8]) -> u32
+    requires short { length bytes.now < 2 ^ 32 }
+    requires within { length bytes.now ≤ length buffer.old }
+    ensures bytes { buffer.new ≡ bytes.now ++ drop (length bytes.now) buffer.old }
+    ensures length { result ≡ length bytes.now }
 {
-    let bytes = message.bytes();
     buffer[..bytes.len()].copy_from_slice(bytes);
     bytes.len() as u32
 }

@@ -1,6 +1,8 @@
 //! The counts of channels.
-ghost use Rattle.std.specs.Prelude.{◌≡◌, ◌<◌, length, unwrap_or};
-ghost use Rattle.apex_c.specs.Readers.{channel_answer, count_in, count_on};
+ghost use Rattle.std.specs.Prelude.{◌≡◌, ◌<◌, length};
+ghost use Rattle.std.specs.Result.{result_unwrap_or};
+ghost use Rattle.apex_c.specs.Found.{answer_of};
+ghost use Rattle.apex_c.specs.Readers.{count_in, count_on};
 ghost use Rattle.apex_c.specs.declared.counts.ChannelCount.TheVariants as which;
 
 use crate::answer::{NO_CHANNEL, NOT_OPEN, READ};
@@ -26,9 +28,9 @@ pub extern "C" fn apex_accepted_count(
     channel: u32,
     count: &mut u64,
 ) -> u32
-    ensures answer { result ≡ channel_answer handle.old.held.ports channel }
+    ensures answer { result ≡ answer_of (count_in which.Accepted handle.old.held.ports channel) }
     ensures count { count.new
-        ≡ unwrap_or (count_in which.Accepted handle.old.held.ports channel) count.old }
+        ≡ result_unwrap_or (count_in which.Accepted handle.old.held.ports channel) count.old }
     ensures ports { handle.new.held.ports ≡ handle.old.held.ports }
 {
     read_count(alloc, handle, channel, ChannelCount::Accepted, count)
@@ -43,9 +45,9 @@ pub extern "C" fn apex_received_count(
     channel: u32,
     count: &mut u64,
 ) -> u32
-    ensures answer { result ≡ channel_answer handle.old.held.ports channel }
+    ensures answer { result ≡ answer_of (count_in which.Received handle.old.held.ports channel) }
     ensures count { count.new
-        ≡ unwrap_or (count_in which.Received handle.old.held.ports channel) count.old }
+        ≡ result_unwrap_or (count_in which.Received handle.old.held.ports channel) count.old }
     ensures ports { handle.new.held.ports ≡ handle.old.held.ports }
 {
     read_count(alloc, handle, channel, ChannelCount::Received, count)
@@ -60,9 +62,9 @@ pub extern "C" fn apex_cleared_count(
     channel: u32,
     count: &mut u64,
 ) -> u32
-    ensures answer { result ≡ channel_answer handle.old.held.ports channel }
+    ensures answer { result ≡ answer_of (count_in which.Cleared handle.old.held.ports channel) }
     ensures count { count.new
-        ≡ unwrap_or (count_in which.Cleared handle.old.held.ports channel) count.old }
+        ≡ result_unwrap_or (count_in which.Cleared handle.old.held.ports channel) count.old }
     ensures ports { handle.new.held.ports ≡ handle.old.held.ports }
 {
     read_count(alloc, handle, channel, ChannelCount::Cleared, count)
@@ -77,9 +79,9 @@ pub extern "C" fn apex_waiting_count(
     channel: u32,
     count: &mut u64,
 ) -> u32
-    ensures answer { result ≡ channel_answer handle.old.held.ports channel }
+    ensures answer { result ≡ answer_of (count_in which.Waiting handle.old.held.ports channel) }
     ensures count { count.new
-        ≡ unwrap_or (count_in which.Waiting handle.old.held.ports channel) count.old }
+        ≡ result_unwrap_or (count_in which.Waiting handle.old.held.ports channel) count.old }
     ensures ports { handle.new.held.ports ≡ handle.old.held.ports }
 {
     read_count(alloc, handle, channel, ChannelCount::Waiting, count)
@@ -92,9 +94,9 @@ fn read_count(
     which: ChannelCount,
     count: &mut u64,
 ) -> u32
-    ensures answer { result ≡ channel_answer handle.old.held.ports channel }
+    ensures answer { result ≡ answer_of (count_in which handle.old.held.ports channel) }
     ensures count { count.new ≡
-        unwrap_or (count_in which handle.old.held.ports channel) count.old }
+        result_unwrap_or (count_in which handle.old.held.ports channel) count.old }
     ensures ports { handle.new.held.ports ≡ handle.old.held.ports }
 {
     let Some(ports) = handle.take(alloc) else {

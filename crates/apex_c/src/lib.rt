@@ -3,10 +3,12 @@
 
 pub mod answer;
 mod buffer;
+pub mod configured;
 pub mod counts;
 pub mod handle;
 pub mod held;
 pub mod modes;
+pub mod names;
 pub mod opening;
 pub mod queuing;
 pub mod readers;

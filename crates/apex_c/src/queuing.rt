@@ -6,7 +6,7 @@ ghost use Rattle.apex_c.specs.Calls.{answer_in, ports_after, moment_of, reply_in
 ghost use Rattle.apex_c.specs.Places.{buffer_after, id_after, length_after, message_in, queuing_status_after};
 
 use crate::answer::{NO_NAME, SHORT_BUFFER, TOO_LONG};
-use crate::buffer::copy_message;
+use crate::buffer::copy_bytes;
 use crate::handle::Handle;
 use apex_types::{Call, MESSAGE_LIMIT, Message, Moment, Name, Reply};
 use std::alloc::Global;
@@ -115,7 +115,7 @@ pub extern "C" fn apex_receive_queuing_message(
         &mut reply,
     );
     if let Reply::Received(message) = &reply {
-        *message_length = copy_message(message, buffer);
+        *message_length = copy_bytes(message.bytes(), buffer);
     }
     answer
 }

@@ -1,11 +1,15 @@
-//! What the ports show to C of partitions and of samples. A reader adds nothing to the history.
-ghost use Rattle.std.specs.Prelude.{◌≡◌, length, unwrap_or};
+//! What the ports show to C of partitions and of messages. A reader adds nothing to the history.
+ghost use Rattle.std.specs.Prelude.{◌≡◌, length};
+ghost use Rattle.std.specs.Result.{result_ok, result_unwrap_or};
+ghost use Rattle.apex_c.specs.Found.{answer_of};
 ghost use Rattle.apex_c.specs.Places.{buffer_after, length_after};
-ghost use Rattle.apex_c.specs.Readers.{calls_in, mode_in, partition_answer};
-ghost use Rattle.apex_c.specs.Readers.{message_of, moment_after, sample_answer, sample_in};
+ghost use Rattle.apex_c.specs.Readers.{calls_in, mode_in};
+ghost use Rattle.apex_c.specs.Readers.{message_of, moment_after, sample_in, waiting_in};
 
-use crate::answer::{NO_CHANNEL, NO_PARTITION, NO_SAMPLE, NOT_OPEN, READ, SHORT_BUFFER};
-use crate::buffer::copy_message;
+use crate::answer::{
+    NO_CHANNEL, NO_MESSAGE, NO_PARTITION, NO_SAMPLE, NOT_OPEN, READ, SHORT_BUFFER,
+};
+use crate::buffer::copy_bytes;
 use crate::handle::Handle;
 use apex_types::MESSAGE_LIMIT;
 use std::alloc::Global;
@@ -19,8 +23,9 @@ pub extern "C" fn apex_partition_mode(
     partition: u32,
     mode: &mut u32,
 ) -> u32
-    ensures answer { result ≡ partition_answer handle.old.held.ports partition }
-    ensures mode { mode.new ≡ unwrap_or (mode_in handle.old.held.ports partition) mode.old }
+    ensures answer { result ≡ answer_of (mode_in handle.old.held.ports partition) }
+    ensures mode { mode.new
+        ≡ result_unwrap_or (mode_in handle.old.held.ports partition) mode.old }
     ensures ports { handle.new.held.ports ≡ handle.old.held.ports }
 {
     let Some(ports) = handle.take(alloc) else {
@@ -45,8 +50,9 @@ pub extern "C" fn apex_call_count(
     partition: u32,
     count: &mut u64,
 ) -> u32
-    ensures answer { result ≡ partition_answer handle.old.held.ports partition }
-    ensures count { count.new ≡ unwrap_or (calls_in handle.old.held.ports partition) count.old }
+    ensures answer { result ≡ answer_of (calls_in handle.old.held.ports partition) }
+    ensures count { count.new
+        ≡ result_unwrap_or (calls_in handle.old.held.ports partition) count.old }
     ensures ports { handle.new.held.ports ≡ handle.old.held.ports }
 {
     let Some(ports) = handle.take(alloc) else {
@@ -74,7 +80,8 @@ pub extern "C" fn apex_last_sample(
     message_length: &mut u32,
     at: &mut u64,
 ) -> u32
-    ensures answer { result ≡ sample_answer (length buffer.old) handle.old.held.ports channel }
+    ensures answer { let bytes = length buffer.old in
+        result ≡ answer_of (sample_in bytes handle.old.held.ports channel) }
     ensures buffer { let sample = sample_in (length buffer.old) handle.old.held.ports channel in
         buffer.new ≡ buffer_after (message_of sample) buffer.old }
     ensures message_length { let bytes = length buffer.old in
@@ -93,11 +100,51 @@ pub extern "C" fn apex_last_sample(
     let answer = if (channel as usize) >= ports.config().channels() {
         NO_CHANNEL
     } else if let Some(sample) = ports.last_sample(channel as usize) {
-        *message_length = copy_message(&sample.message, buffer);
+        *message_length = copy_bytes(sample.message.bytes(), buffer);
         *at = sample.at.0;
         READ
     } else {
         NO_SAMPLE
+    };
+    *handle = Handle::of(ports);
+    answer
+}
+
+/// The message of an index among those that wait on a channel, of which 0 is the oldest. Where the answer is `READ`,
+/// it is in the buffer's first bytes, and its length in its place. Answers `READ`, `SHORT_BUFFER`, `NOT_OPEN`,
+/// `NO_CHANNEL` or `NO_MESSAGE`.
+#[unsafe(no_mangle)]
+pub extern "C" fn apex_waiting_message(
+    alloc: Global,
+    handle: &mut Handle,
+    channel: u32,
+    index: u64,
+    buffer: &mut [u8],
+    message_length: &mut u32,
+) -> u32
+    ensures answer { let bytes = length buffer.old in
+        result ≡ answer_of (waiting_in bytes handle.old.held.ports channel index) }
+    ensures buffer { let bytes = length buffer.old in
+        let message = waiting_in bytes handle.old.held.ports channel index in
+        buffer.new ≡ buffer_after (result_ok message) buffer.old }
+    ensures message_length { let bytes = length buffer.old in
+        let message = waiting_in bytes handle.old.held.ports channel index in
+        message_length.new ≡ length_after (result_ok message) message_length.old }
+    ensures ports { handle.new.held.ports ≡ handle.old.held.ports }
+{
+    if buffer.len() < MESSAGE_LIMIT {
+        return SHORT_BUFFER;
+    }
+    let Some(ports) = handle.take(alloc) else {
+        return NOT_OPEN;
+    };
+    let answer = if (channel as usize) >= ports.config().channels() {
+        NO_CHANNEL
+    } else if let Some(message) = ports.waiting(channel as usize, index as usize) {
+        *message_length = copy_bytes(message.bytes(), buffer);
+        READ
+    } else {
+        NO_MESSAGE
     };
     *handle = Handle::of(ports);
     answer

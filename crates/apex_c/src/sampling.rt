@@ -7,7 +7,7 @@ ghost use Rattle.apex_c.specs.Places.{buffer_after, id_after, length_after, mess
 ghost use Rattle.apex_c.specs.Places.{sampling_status_after, validity_after};
 
 use crate::answer::{NO_NAME, SHORT_BUFFER, TOO_LONG};
-use crate::buffer::copy_message;
+use crate::buffer::copy_bytes;
 use crate::handle::Handle;
 use apex_types::{Call, MESSAGE_LIMIT, Message, Moment, Name, Reply};
 use std::alloc::Global;
@@ -122,7 +122,7 @@ pub extern "C" fn apex_read_sampling_message(
         validity: shown,
     } = &reply
     {
-        *message_length = copy_message(message, buffer);
+        *message_length = copy_bytes(message.bytes(), buffer);
         *validity = shown.number();
     }
     answer

@@ -42,6 +42,10 @@ port_of config p id = port_at (ports_of config p) id
 abbrev pub channel_of : Configuration → ℕ → Option Channel
 channel_of config c = slice_get config.channels c
 
+-- the number of the channel of a name
+abbrev pub channel_named : Configuration → List ℕ → Option ℕ
+channel_named config name = position (λ channel. bytes_eq channel.name name) config.channels
+
 -- the name of a partition
 abbrev pub partition_name_of : Configuration → ℕ → Option (List ℕ)
 partition_name_of config p = option_map (λ partition. partition.name) (slice_get config.partitions p)

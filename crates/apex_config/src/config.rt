@@ -42,7 +42,7 @@ impl Model for Config {
 
 impl Config {
     ghost use Rattle.apex_config.specs.Meaning.{IsConfigRead, config_of};
-    ghost use Rattle.apex_config.specs.Configuration.{IsConfiguration, port_of, ports_of, channel_of, partition_name_of, partition_named, id_named};
+    ghost use Rattle.apex_config.specs.Configuration.{IsConfiguration, port_of, ports_of, channel_of, channel_named, partition_name_of, partition_named, id_named};
 
     /// The configuration of these lists.
     pub(crate) fn new(partitions: Vec<Partition>, channels: Vec<Channel>) -> Config
@@ -172,6 +172,16 @@ impl Config {
         ensures valid { IsConfiguration self.now }
     {
         &self.channels[c]
+    }
+
+    /// The number of the channel of a name, if there is one.
+    pub fn channel_named(&self, name: &Name) -> Option<usize>
+        ensures found { result ≡ channel_named self.now name.now }
+        ensures valid { IsConfiguration self.now }
+    {
+        self.channels
+            .iter()
+            .position(|channel| &channel.name == name)
     }
 }
 

@@ -1,5 +1,5 @@
 //! The names of partitions, ports and channels.
-ghost use Rattle.std.specs.Prelude.{◌≡◌, Ok};
+ghost use Rattle.std.specs.Prelude.{◌≡◌, ◌≤◌, length, Ok};
 ghost use Rattle.std.specs.List.{list_all};
 ghost use Rattle.apex_types.specs.Name.{name_of, is_name_byte};
 
@@ -78,6 +78,14 @@ impl Name {
     {
         // SAFETY: the bytes of a name are ASCII.
         unsafe { str::from_utf8_unchecked(self.bytes.as_slice()) }
+    }
+
+    /// The bytes of the name.
+    pub fn bytes(&self) -> &[u8]
+        ensures bytes { result.now ≡ self.now }
+        ensures short { length result.now ≤ NAME_LIMIT }
+    {
+        self.bytes.as_slice()
     }
 
     /// An equal name.

@@ -1,0 +1,158 @@
+//! What the configuration says: how many partitions, ports and channels there are, and of a port and of a channel.
+ghost use Rattle.std.specs.Prelude.{◌≡◌};
+ghost use Rattle.std.specs.Result.{result_unwrap_or};
+ghost use Rattle.apex_c.specs.Configured.{channel_in, channels_in, partitions_in, port_in, ports_in};
+ghost use Rattle.apex_c.specs.Configured.{shown_channel, shown_port};
+ghost use Rattle.apex_c.specs.Found.{answer_of};
+
+use crate::answer::{NO_CHANNEL, NO_PARTITION, NO_PORT, NOT_OPEN, READ};
+use crate::handle::Handle;
+use std::alloc::Global;
+
+/// How many partitions the module has, in its place where the answer is `READ`. Answers `READ` or `NOT_OPEN`.
+#[unsafe(no_mangle)]
+pub extern "C" fn apex_partition_count(alloc: Global, handle: &mut Handle, count: &mut u32) -> u32
+    ensures answer { result ≡ answer_of (partitions_in handle.old.held.ports) }
+    ensures count { count.new ≡ result_unwrap_or (partitions_in handle.old.held.ports) count.old }
+    ensures ports { handle.new.held.ports ≡ handle.old.held.ports }
+{
+    let Some(ports) = handle.take(alloc) else {
+        return NOT_OPEN;
+    };
+    *count = ports.config().partitions() as u32;
+    *handle = Handle::of(ports);
+    READ
+}
+
+/// How many channels the module has, in its place where the answer is `READ`. Answers `READ` or `NOT_OPEN`.
+#[unsafe(no_mangle)]
+pub extern "C" fn apex_channel_count(alloc: Global, handle: &mut Handle, count: &mut u32) -> u32
+    ensures answer { result ≡ answer_of (channels_in handle.old.held.ports) }
+    ensures count { count.new ≡ result_unwrap_or (channels_in handle.old.held.ports) count.old }
+    ensures ports { handle.new.held.ports ≡ handle.old.held.ports }
+{
+    let Some(ports) = handle.take(alloc) else {
+        return NOT_OPEN;
+    };
+    *count = ports.config().channels() as u32;
+    *handle = Handle::of(ports);
+    READ
+}
+
+/// How many ports a partition has, which is its greatest identifier, in its place where the answer is `READ`.
+/// Answers `READ`, `NOT_OPEN` or `NO_PARTITION`.
+#[unsafe(no_mangle)]
+pub extern "C" fn apex_port_count(
+    alloc: Global,
+    handle: &mut Handle,
+    partition: u32,
+    count: &mut u32,
+) -> u32
+    ensures answer { result ≡ answer_of (ports_in handle.old.held.ports partition) }
+    ensures count { count.new
+        ≡ result_unwrap_or (ports_in handle.old.held.ports partition) count.old }
+    ensures ports { handle.new.held.ports ≡ handle.old.held.ports }
+{
+    let Some(ports) = handle.take(alloc) else {
+        return NOT_OPEN;
+    };
+    let config = ports.config();
+    let answer = if (partition as usize) < config.partitions() {
+        *count = config.ports(partition as usize) as u32;
+        READ
+    } else {
+        NO_PARTITION
+    };
+    *handle = Handle::of(ports);
+    answer
+}
+
+/// A port: its refresh period in nanoseconds, 0 of a queuing port; its channel's number; its direction's number; whether
+/// it is a queuing or a sampling port.
+#[repr(C)]
+#[derive(Clone, Copy, Drop)]
+pub struct ConfiguredPort {
+    pub refresh: u64,
+    pub channel: u32,
+    pub direction: u32,
+    pub is_queuing: bool,
+}
+
+/// What the configuration says of a partition's port of an identifier, in its place where the answer is `READ`. Answers
+/// `READ`, `NOT_OPEN`, `NO_PARTITION` or `NO_PORT`.
+#[unsafe(no_mangle)]
+pub extern "C" fn apex_port_configuration(
+    alloc: Global,
+    handle: &mut Handle,
+    partition: u32,
+    id: u32,
+    shown: &mut ConfiguredPort,
+) -> u32
+    ensures answer { result ≡ answer_of (port_in shown_port handle.old.held.ports partition id) }
+    ensures shown { shown.new
+        ≡ result_unwrap_or (port_in shown_port handle.old.held.ports partition id) shown.old }
+    ensures ports { handle.new.held.ports ≡ handle.old.held.ports }
+{
+    let Some(ports) = handle.take(alloc) else {
+        return NOT_OPEN;
+    };
+    let config = ports.config();
+    let answer = if (partition as usize) >= config.partitions() {
+        NO_PARTITION
+    } else if let Some(port) = config.port(partition as usize, id) {
+        *shown = ConfiguredPort {
+            refresh: port.kind.refresh(),
+            channel: port.channel as u32,
+            direction: port.direction.number(),
+            is_queuing: port.kind.is_queuing(),
+        };
+        READ
+    } else {
+        NO_PORT
+    };
+    *handle = Handle::of(ports);
+    answer
+}
+
+/// A channel: its size in bytes; its depth in messages, 0 of a sampling channel; whether it is a queuing or a sampling
+/// channel.
+#[repr(C)]
+#[derive(Clone, Copy, Drop)]
+pub struct ConfiguredChannel {
+    pub size: u32,
+    pub depth: u32,
+    pub is_queuing: bool,
+}
+
+/// What the configuration says of a channel, in its place where the answer is `READ`. Answers `READ`, `NOT_OPEN` or
+/// `NO_CHANNEL`.
+#[unsafe(no_mangle)]
+pub extern "C" fn apex_channel_configuration(
+    alloc: Global,
+    handle: &mut Handle,
+    channel: u32,
+    shown: &mut ConfiguredChannel,
+) -> u32
+    ensures answer { result ≡ answer_of (channel_in shown_channel handle.old.held.ports channel) }
+    ensures shown { shown.new
+        ≡ result_unwrap_or (channel_in shown_channel handle.old.held.ports channel) shown.old }
+    ensures ports { handle.new.held.ports ≡ handle.old.held.ports }
+{
+    let Some(ports) = handle.take(alloc) else {
+        return NOT_OPEN;
+    };
+    let config = ports.config();
+    let answer = if (channel as usize) < config.channels() {
+        let configured = config.channel(channel as usize);
+        *shown = ConfiguredChannel {
+            size: configured.size,
+            depth: configured.kind.depth(),
+            is_queuing: configured.kind.is_queuing(),
+        };
+        READ
+    } else {
+        NO_CHANNEL
+    };
+    *handle = Handle::of(ports);
+    answer
+}
