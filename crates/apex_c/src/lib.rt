@@ -13,3 +13,6 @@ pub mod opening;
 pub mod queuing;
 pub mod readers;
 pub mod sampling;
+
+#[cfg(test)]
+mod tests;

@@ -2,6 +2,7 @@ pub mod Appends
 pub mod ChannelSteps
 pub mod Conserved
 pub mod Counts
+pub mod Crossing
 pub mod Histories
 pub mod Idle
 pub mod Interference

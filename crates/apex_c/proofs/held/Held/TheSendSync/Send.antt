@@ -9,20 +9,20 @@ use denote.Struct.Owning.{shape, fields, to}
 use denote.Param.Send.{IsSend, AllSend, owning_send, struct_send, sendable}
 use Rattle.std.specs.Prelude.{None, Some}
 use Rattle.std.specs.Global.{Global}
-use Rattle.std.proofs.Crossing.{crosses, frees, send as heap_send, sync as heap_sync}
+use Rattle.std.proofs.Crossing.{crosses, frees, send as heap_send}
 use Rattle.std_heap.specs.contracts.Global as Heap
 use Rattle.std_heap.specs.contracts.GlobalAllocator.TheImpl.{ghosts}
 use Rattle.std_alloc.proofs.SendSync.{lies, quiet}
 use Rattle.apex_ports.specs.contracts.ports.Ports as Ports
 use Rattle.apex_c.specs.Held.{PortsHeld, held_owns}
 use Rattle.apex_c.specs.contracts.held.Held.{the_row, the_type}
-use Rattle.apex_c.proofs.Crossing.{Ports-send}
+use Rattle.apex_ports.proofs.Crossing.{Ports-send}
 
 abbrev R : RattleType
 R = Ports.the_row Heap.the_row ghosts
 
 R-send : IsSend R
-R-send = Ports-send Heap.the_row ghosts heap_send heap_sync frees
+R-send = Ports-send Heap.the_row ghosts heap_send frees
 
 keyless : (alloc : Global) (at : Ptr) (ports : PortsHeld) → Keyless (held_owns alloc at ports)
 keyless alloc at None = tt

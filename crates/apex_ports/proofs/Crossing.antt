@@ -1,6 +1,6 @@
 -- The ports may go to another thread where their allocator may.
 use denote.RattleType.{RattleType}
-use denote.Param.Send.{IsSend, IsSync, sendable, view_send}
+use denote.Param.Send.{IsSend, sendable, view_send}
 use denote.Param.SendFields.{declared_send, as_row_send}
 use Rattle.std.specs.declared.alloc.Allocator.{Ghosts}
 use Rattle.std.proofs.Crossing.{crosses}
@@ -20,7 +20,7 @@ use Rattle.apex_ports.specs.contracts.state.State as State
 Past-send : IsSend Past.the_row
 Past-send = past.send-Past (search crosses) (search crosses) (search crosses) (search crosses) (search crosses)
 
-module _ (A : RattleType) (g : Ghosts A.Denot) (s : IsSend A) (y : IsSync A) (f : FreesAnywhere A.Denot g) where
+module _ (A : RattleType) (g : Ghosts A.Denot) (s : IsSend A) (f : FreesAnywhere A.Denot g) where
   Partition-send : IsSend (Partition.the_row A g)
   Partition-send = partition.the_send A g s f
 
