@@ -78,7 +78,7 @@ static bool is_opening_refused(const uint8_t *text, size_t length, unsigned long
     return was_refused;
 }
 
-/* Calls on open ports, which ask for no memory. */
+/* Calls and readers on open ports, which ask for no memory. */
 static void call_without_memory(const uint8_t *text, size_t length) {
     static uint8_t bytes[APEX_MESSAGE_LIMIT];
     struct apex_handle handle;
@@ -95,13 +95,16 @@ static void call_without_memory(const uint8_t *text, size_t length) {
         apex_send_queuing_message(&handle, 0, i, 1, bytes, 4);
         apex_receive_queuing_message(&handle, 1, i, 1, bytes, sizeof bytes, &count);
         apex_read_sampling_message(&handle, 1, i, 2, bytes, sizeof bytes, &count, &validity);
+        apex_waiting_message(&handle, 0, 0, bytes, sizeof bytes, &count);
+        apex_port_name(&handle, 0, 1, bytes, sizeof bytes, &count);
+        apex_find_channel(&handle, bytes, count, &id);
         apex_get_queuing_port_status(&handle, 1, i, 1, &status);
         apex_clear_queuing_port(&handle, 1, i, 1);
         apex_set_partition_mode(&handle, i % 2, i, 1 + i % 3);
     }
     uint64_t calls = 0;
     expect(apex_call_count(&handle, 0, &calls) == 0 && calls == CALLS * 2 + CALLS / 2, "each call was served");
-    expect(asked == 0 && held == held_before, "a call asks for no memory");
+    expect(asked == 0 && held == held_before, "neither a call nor a reader asks for memory");
     expect(apex_close(&handle) == 0 && held == 0, "closing afterwards");
 }
 
