@@ -1,2 +1,4 @@
+pub mod NoteLemmas
 pub mod RemarkLemmas
 pub mod TableLemmas
+pub mod TellingLemmas

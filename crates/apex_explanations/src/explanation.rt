@@ -1,15 +1,25 @@
-//! The explanation of a trace.
-ghost use Rattle.std.specs.Prelude.{◌≡◌, Some, None, IfOk};
-ghost use Rattle.apex_texts.specs.Trace.{HavePartitions, trace_of};
-ghost use Rattle.apex_explanations.specs.Explanation.{IsFaultOf};
+//! The explanation of a trace: each line beside its reply, and then the remarks.
+ghost use Rattle.std.specs.Prelude.{◌≡◌, ◌<◌, ◌∷◌, ◌++◌, [], true, List, Some, length, position, string_bytes, IfOk, OnOk};
+ghost use Rattle.std.specs.List.{list_all, before_first};
+ghost use Rattle.apex_ports.specs.Sound.{IsSound};
+ghost use Rattle.apex_texts.specs.FaultLine.{trace_words};
+ghost use Rattle.apex_texts.specs.Lines.{is_ascii};
+ghost use Rattle.apex_texts.specs.Replay.{entry_after};
+ghost use Rattle.apex_texts.specs.Report.{reply_text};
+ghost use Rattle.apex_texts.specs.Text.{is_line_feed};
+ghost use Rattle.apex_texts.specs.Trace.{trace_of};
+ghost use Rattle.apex_explanations.specs.Explanation.{IsFaultOf, line_with, ending, explanation_of};
+ghost use Rattle.apex_explanations.specs.Notes.{AreNoted};
+ghost use Rattle.apex_explanations.specs.Remarks.{LineEntry, remark_lines};
 
-use crate::history::entries_of;
-use crate::remarks::push_remarks;
-use crate::trace_lines::{first_line, replied_lines, split_before};
+use crate::notes::Notes;
+use crate::remark::Remark;
+use crate::remarks::remarks_of;
 use apex_config::Config;
 use apex_ports::{Ports, Request};
-use apex_texts::{Fault, TraceFault, read_trace, replay_trace};
-use std::alloc::Global;
+use apex_texts::trace::{ANY_REQUEST, read_trace_line};
+use apex_texts::{Fault, TraceFault, next_line, push_reply};
+use std::alloc::{AllocError, Global};
 use std::str;
 
 /// The explained text of a trace.
@@ -22,66 +32,66 @@ pub struct Explanation {
 }
 
 /// Explains a trace: each line beside its reply, and then the remarks; or up to the first faulty line, with its fault.
+/// Each line is read, served, noted and written before the next one.
 pub fn explain_trace(alloc: Global, config: Config, trace: &[u8]) -> Result<Explanation, Fault>
-    ensures { IfOk result (λ told. IsFaultOf (trace_of config trace.now) told.fault) }
+    ensures text { IfOk result (λ told. told.text.items ≡ explanation_of config trace.now) }
+    ensures fault { IfOk result (λ told. IsFaultOf (trace_of config trace.now) told.fault) }
 {
-    match read_trace(alloc, &config, trace) {
-        Ok(requests) => explain_calls(alloc, config, requests, trace),
-        Err(TraceFault::Line { line, fault }) => {
-            let fault = TraceFault::Line { line, fault };
-            explain_fault(alloc, config, trace, line, fault)
-        }
-        Err(TraceFault::OutOfMemory) => Err(Fault::Memory),
-    }
+    let mut ports = Ports::new(alloc, config)?;
+    Ok(explain_on(alloc, &mut ports, trace)?)
 }
 
-/// The explanation of a trace without a fault.
-fn explain_calls(
-    alloc: Global,
-    config: Config,
-    requests: Vec<Request>,
-    trace: &[u8],
-) -> Result<Explanation, Fault>
-    requires { HavePartitions config requests.items }
-    ensures { IfOk result (λ told. told.fault ≡ None) }
+/// Explains a trace whose calls new ports serve.
+fn explain_on(alloc: Global, ports: &mut Ports, trace: &[u8]) -> Result<Explanation, AllocError>
+    requires fresh { ports.old.history ≡ [] }
+    requires sound { IsSound ports.old.config ports.old.history }
+    ensures text { let config = ports.old.config in
+        IfOk result (λ told. told.text.items ≡ explanation_of config trace.now) }
+    ensures fault { let config = ports.old.config in
+        IfOk result (λ told. IsFaultOf (trace_of config trace.now) told.fault) }
 {
-    let mut text = replied(alloc, config.copy()?, trace)?;
-    push_ending(alloc, &mut text, config, requests.as_slice(), trace)?;
+    // Most lines with their replies are at most twice as long as the lines.
+    let mut text = String::with_capacity(alloc, trace.len().saturating_mul(2))?;
+    let mut notes = Notes::new(alloc);
+    let mut request = ANY_REQUEST;
+    let mut rest = trace;
+    let mut number: usize = 0;
+    while let Some((line, after)) = next_line(rest) {
+        number += 1;
+        match read_trace_line(ports.config(), line, &mut request) {
+            Ok(true) => push_call(&mut text, ports, &mut notes, number, line, &request)?,
+            Ok(false) => push_line(&mut text, line, "\n")?,
+            Err(fault) => {
+                let fault = TraceFault::Line {
+                    line: number,
+                    fault: fault.number(),
+                };
+                return explanation_to(alloc, text, first_line(rest), fault);
+            }
+        }
+        rest = after;
+    }
+    let calls = notes.calls;
+    push_ending(&mut text, calls, remarks_of(ports, notes)?.as_slice())?;
     Ok(Explanation {
         text: text.into_bytes(),
         fault: None,
     })
 }
 
-/// What is worth a look when the calls of a trace have been made.
-fn push_ending(
+/// The explanation up to a faulty line, which has these bytes.
+fn explanation_to(
     alloc: Global,
-    text: &mut String,
-    config: Config,
-    requests: &[Request],
-    trace: &[u8],
-) -> Result<(), Fault>
-    requires { HavePartitions config requests.now }
-{
-    let mut ports = Ports::new(alloc, config)?;
-    let entries = entries_of(alloc, &mut ports, requests)?;
-    let trace = str::from_utf8(trace).unwrap_or("");
-    Ok(push_remarks(alloc, text, &ports, trace, entries.as_slice())?)
-}
-
-/// The explanation of a trace up to its first faulty line, and what is wrong with that.
-fn explain_fault(
-    alloc: Global,
-    config: Config,
-    trace: &[u8],
-    line: usize,
+    text: String,
+    line: &[u8],
     fault: TraceFault,
-) -> Result<Explanation, Fault>
-    ensures { IfOk result (λ told. told.fault ≡ Some fault) }
+) -> Result<Explanation, AllocError>
+    ensures text { IfOk result (λ told. told.text.items
+        ≡ string_bytes text ++ line_with line.now (trace_words fault)) }
+    ensures fault { IfOk result (λ told. told.fault ≡ Some fault) }
 {
-    let (before, rest) = split_before(trace, line);
-    let mut text = replied(alloc, config, before)?.into_bytes();
-    text.extend_from_slice(first_line(rest))?;
+    let mut text = text.into_bytes();
+    text.extend_from_slice(line)?;
     let words = format!(in alloc; " -> {fault}\n")?;
     text.extend_from_slice(words.as_bytes())?;
     Ok(Explanation {
@@ -90,10 +100,79 @@ fn explain_fault(
     })
 }
 
-/// Each line of a trace without a fault beside its reply.
-fn replied(alloc: Global, config: Config, trace: &[u8]) -> Result<String, Fault> {
-    let report = replay_trace(alloc, config, trace)?;
-    // A trace without a fault is ASCII.
-    let trace = str::from_utf8(trace).unwrap_or("");
-    Ok(replied_lines(alloc, trace, report.as_str())?)
+/// The bytes up to the first line feed.
+fn first_line(text: &[u8]) -> &[u8]
+    ensures { result.now ≡ before_first is_line_feed text.now }
+{
+    match line_feed_in(text) {
+        Some(end) => &text[..end],
+        None => text,
+    }
+}
+
+fn line_feed_in(text: &[u8]) -> Option<usize>
+    ensures { result ≡ position is_line_feed text.now }
+{
+    text.iter().position(|byte| *byte == b'\n')
+}
+
+/// A line as it stands, and what comes after it.
+fn push_line(text: &mut String, line: &[u8], after: &str) -> Result<(), AllocError>
+    requires { list_all is_ascii line.now ≡ true }
+    ensures { OnOk result (string_bytes text.new ≡ string_bytes text.old ++ line.now ++ after.now) }
+{
+    text.push_str(str::from_utf8(line).unwrap())?;
+    text.push_str(after)
+}
+
+/// Serves the request of a line, notes it, and writes the line beside the reply.
+fn push_call(
+    text: &mut String,
+    ports: &mut Ports,
+    notes: &mut Notes,
+    number: usize,
+    line: &[u8],
+    request: &Request,
+) -> Result<(), AllocError>
+    requires known { request.now.partition < length ports.old.config.partitions }
+    requires room { notes.old.calls < number }
+    requires ascii { list_all is_ascii line.now ≡ true }
+    ensures config { ports.new.config ≡ ports.old.config }
+    ensures sound { IsSound ports.new.config ports.new.history }
+    ensures history { let entry = entry_after ports.old.config ports.old.history request.now in
+        ports.new.history ≡ ports.old.history ++ entry ∷ [] }
+    ensures written { let entry = entry_after ports.old.config ports.old.history request.now in
+        OnOk result (string_bytes text.new
+        ≡ string_bytes text.old ++ line_with line.now (reply_text entry.reply)) }
+    ensures noted { let entry = entry_after ports.old.config ports.old.history request.now in
+        let one : LineEntry = record { line = number; entry = entry } in
+        OnOk result ((log : List LineEntry) → AreNoted ports.old.config log notes.old →
+        AreNoted ports.old.config (log ++ one ∷ []) notes.new) }
+{
+    let reply = ports.call(request.partition, request.at, &request.call);
+    notes.note(ports.config(), number, request, &reply)?;
+    push_line(text, line, " -> ")?;
+    push_reply(text, &reply)?;
+    text.push('\n')
+}
+
+/// How many calls there were, and the remarks.
+#[tactic(auto, unfolding(crate::specs::Explanation::ending))]
+fn push_ending(text: &mut String, calls: usize, remarks: &[Remark]) -> Result<(), AllocError>
+    ensures { OnOk result (string_bytes text.new
+        ≡ string_bytes text.old ++ ending calls remarks.now) }
+{
+    writeln!(text, "\nafter {calls} calls")?;
+    push_remarks(text, remarks)
+}
+
+/// A line for each remark.
+fn push_remarks(text: &mut String, remarks: &[Remark]) -> Result<(), AllocError>
+    ensures { OnOk result (string_bytes text.new
+        ≡ string_bytes text.old ++ remark_lines remarks.now) }
+{
+    for remark in remarks {
+        writeln!(text, "  {remark}")?;
+    }
+    Ok(())
 }

@@ -3,10 +3,11 @@
 #![tactic(auto)]
 
 pub mod explanation;
-pub mod history;
-pub mod remarks;
+mod notes;
+mod port_notes;
+mod remark;
+mod remarks;
 pub mod table;
-pub mod trace_lines;
 
 pub use crate::explanation::{Explanation, explain_trace};
 pub use crate::table::port_table;

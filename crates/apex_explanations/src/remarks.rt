@@ -1,149 +1,140 @@
-//! What is worth a look when a trace has ended, a line each.
-ghost use Rattle.std.specs.Prelude.{◌≡◌, ◌++◌, string_bytes, OnOk};
-ghost use Rattle.std.specs.List.{list_any};
-ghost use Rattle.apex_ports.specs.Ports.{creates};
-ghost use Rattle.apex_explanations.specs.Remarks.{shows_sample, waiting_line, waiting_lines};
+//! The remarks on a trace that has ended.
+ghost use Rattle.std.specs.Prelude.{◌≡◌, ◌<◌, ◌++◌, length, slice_get, Some, IfOk, OnOk};
+ghost use Rattle.apex_config.specs.Configuration.{port_of, ports_of};
+ghost use Rattle.apex_texts.specs.Report.{name_of_partition};
+ghost use Rattle.apex_explanations.specs.Notes.{ArePortsNoted};
+ghost use Rattle.apex_explanations.specs.Remarks.{is_unread, port_remark, port_remarks, partition_remarks, waiting_remark, channel_remarks};
 
-use crate::trace_lines::call_lines;
-use apex_config::Config;
-use apex_ports::{Entry, Ports};
-use apex_types::{Call, Direction, Moment, Reply};
-use std::alloc::{AllocError, Global};
+use crate::notes::Notes;
+use crate::port_notes::PortNotes;
+use crate::remark::Remark;
+use apex_config::Port;
+use apex_ports::Ports;
+use apex_types::{Direction, Name};
+use std::alloc::AllocError;
 
-/// `line N: moment M is before L`, for each moment that is less than the one of the call before it.
-pub fn push_moments(
-    text: &mut String,
-    lines: &[usize],
-    entries: &[Entry],
-) -> Result<(), AllocError> {
-    let mut last: u64 = 0;
-    for (line, entry) in lines.iter().zip(entries) {
-        let Moment(at) = entry.at;
-        if at < last {
-            writeln!(text, "  line {line}: moment {at} is before {last}")?;
-        }
-        last = at;
-    }
-    Ok(())
-}
-
-/// `line N: not made, since PARTITION is in IDLE`, for each call that was not made.
-pub fn push_idle(
-    text: &mut String,
-    config: &Config,
-    lines: &[usize],
-    entries: &[Entry],
-) -> Result<(), AllocError> {
-    for (line, entry) in lines.iter().zip(entries) {
-        if entry.reply == Reply::NotMade && entry.partition < config.partitions() {
-            let name = config.partition_name(entry.partition).text();
-            writeln!(text, "  line {line}: not made, since {name} is in IDLE")?;
-        }
-    }
-    Ok(())
-}
-
-/// The remarks on each port: one that was never created, and one that read no sample though there is one.
-pub fn push_ports(text: &mut String, ports: &Ports, entries: &[Entry]) -> Result<(), AllocError> {
-    let config = ports.config();
-    for p in 0..config.partitions() {
-        let partition = config.partition_name(p).text();
-        for place in 0..config.ports(p) {
-            let id = place as u32 + 1;
-            let Some(port) = config.port(p, id) else {
-                continue;
-            };
-            let name = port.name.text();
-            if !is_ever_created(p, id, entries) {
-                writeln!(text, "  port {partition}.{name}: never created")?;
-            } else if port.direction == Direction::Destination
-                && ports.last_sample(port.channel).is_some()
-                && !is_ever_read(p, id, entries)
-            {
-                writeln!(text, "  port {partition}.{name}: no sample was read")?;
-            }
-        }
-    }
-    Ok(())
-}
-
-/// Whether a call of partition `p` created its port of the identifier.
-fn is_ever_created(p: usize, id: u32, entries: &[Entry]) -> bool
-    ensures { result ≡ list_any (creates p id) entries.now }
-{
-    entries.iter().any(|entry| creates(p, id, entry))
-}
-
-/// Whether a call of partition `p` read a sample at its port of the identifier.
-fn is_ever_read(p: usize, id: u32, entries: &[Entry]) -> bool
-    ensures { result ≡ list_any (shows_sample p id) entries.now }
-{
-    entries.iter().any(|entry| shows_sample(p, id, entry))
-}
-
-/// Whether an entry created the port of the identifier of partition `p`.
-fn creates(p: usize, id: u32, entry: &Entry) -> bool
-    ensures { result ≡ creates p id entry.now }
-{
-    let creating = matches!(
-        entry.call,
-        Call::CreateSampling { .. } | Call::CreateQueuing { .. }
-    );
-    let identifier = match entry.reply {
-        Reply::Id(number) => number == id,
-        _ => false,
-    };
-    creating && identifier && entry.partition == p
-}
-
-/// Whether an entry read a sample at the port of the identifier of partition `p`.
-fn shows_sample(p: usize, id: u32, entry: &Entry) -> bool
-    ensures { result ≡ shows_sample p id entry.now }
-{
-    let reading = match entry.call {
-        Call::ReadSampling { id: number } => number == id,
-        _ => false,
-    };
-    reading && entry.partition == p && matches!(entry.reply, Reply::Read { .. })
-}
-
-/// A line for each channel on which messages wait.
-fn push_waiting(text: &mut String, ports: &Ports) -> Result<(), AllocError>
+/// All remarks, where these notes are of the calls that the ports have served.
+pub(crate) fn remarks_of(ports: &Ports, notes: Notes) -> Result<Vec<Remark>, AllocError>
+    requires noted { ArePortsNoted ports.now.history notes.ports }
     ensures { let config = ports.now.config in
-        let lines = waiting_lines config ports.now.history 0 config.channels in
-        OnOk result (string_bytes text.new ≡ string_bytes text.old ++ lines) }
+        let history = ports.now.history in
+        let noted = notes.earlier.items ++ notes.not_made.items in
+        let on_ports = partition_remarks config history 0 config.partitions in
+        let on_channels = channel_remarks config history 0 config.channels in
+        IfOk result (λ remarks. remarks.items ≡ noted ++ on_ports ++ on_channels) }
+{
+    let mut notes = notes;
+    let mut remarks = notes.earlier;
+    remarks.append(&mut notes.not_made)?;
+    push_partitions(&mut remarks, ports, &notes.ports)?;
+    push_channels(&mut remarks, ports)?;
+    Ok(remarks)
+}
+
+/// The remarks on the ports of all partitions.
+fn push_partitions(
+    remarks: &mut Vec<Remark>,
+    ports: &Ports,
+    notes: &PortNotes,
+) -> Result<(), AllocError>
+    requires noted { ArePortsNoted ports.now.history notes.now }
+    ensures { let config = ports.now.config in
+        OnOk result (remarks.new.items ≡ remarks.old.items
+        ++ partition_remarks config ports.now.history 0 config.partitions) }
+{
+    for p in 0..ports.config().partitions() {
+        push_ports(remarks, ports, notes, p)?;
+    }
+    Ok(())
+}
+
+/// The remarks on the ports of partition `p`.
+fn push_ports(
+    remarks: &mut Vec<Remark>,
+    ports: &Ports,
+    notes: &PortNotes,
+    p: usize,
+) -> Result<(), AllocError>
+    requires noted { ArePortsNoted ports.now.history notes.now }
+    requires partition { p < length ports.now.config.partitions }
+    ensures { let config = ports.now.config in
+        let name = name_of_partition config p in
+        OnOk result (remarks.new.items ≡ remarks.old.items
+        ++ port_remarks config ports.now.history p name 1 (ports_of config p)) }
+{
+    let config = ports.config();
+    for index in 0..config.ports(p) {
+        let id = index as u32 + 1;
+        let port = config.port(p, id).unwrap();
+        push_port(remarks, ports, notes, p, id, port)?;
+    }
+    Ok(())
+}
+
+/// The remark on a port.
+fn push_port(
+    remarks: &mut Vec<Remark>,
+    ports: &Ports,
+    notes: &PortNotes,
+    p: usize,
+    id: u32,
+    port: &Port,
+) -> Result<(), AllocError>
+    requires noted { ArePortsNoted ports.now.history notes.now }
+    requires partition { p < length ports.now.config.partitions }
+    requires channel { port.now.channel < length ports.now.config.channels }
+    ensures { let config = ports.now.config in
+        let name = name_of_partition config p in
+        OnOk result (remarks.new.items ≡ remarks.old.items
+        ++ port_remark config ports.now.history p name id port.now) }
+{
+    let partition = ports.config().partition_name(p);
+    if !notes.is_created(p, id) {
+        remarks.push(Remark::PortNotCreated {
+            partition: partition.copy(),
+            port: port.name.copy(),
+        })?;
+    } else if is_unread(ports, notes, p, id, port) {
+        remarks.push(Remark::NoSampleRead {
+            partition: partition.copy(),
+            port: port.name.copy(),
+        })?;
+    }
+    Ok(())
+}
+
+/// Whether no sample was read at a destination port, though one was written into its channel.
+fn is_unread(ports: &Ports, notes: &PortNotes, p: usize, id: u32, port: &Port) -> bool
+    requires noted { ArePortsNoted ports.now.history notes.now }
+    requires channel { port.now.channel < length ports.now.config.channels }
+    ensures { result ≡ is_unread ports.now.config ports.now.history p id port.now }
+{
+    port.direction == Direction::Destination
+        && ports.last_sample(port.channel).is_some()
+        && !notes.is_read(p, id)
+}
+
+/// The remarks on channels on which messages wait.
+fn push_channels(remarks: &mut Vec<Remark>, ports: &Ports) -> Result<(), AllocError>
+    ensures { let config = ports.now.config in
+        OnOk result (remarks.new.items ≡ remarks.old.items
+        ++ channel_remarks config ports.now.history 0 config.channels) }
 {
     for c in 0..ports.config().channels() {
-        let name = ports.config().channel(c).name.text();
-        push_count(text, name, ports.waiting_count(c))?;
+        let name = &ports.config().channel(c).name;
+        push_waiting(remarks, name, ports.waiting_count(c))?;
     }
     Ok(())
 }
 
-/// `channel NAME: messages waiting N`, where some wait.
-#[tactic(auto, unfolding(crate::specs::Remarks::waiting_line))]
-fn push_count(text: &mut String, name: &str, count: usize) -> Result<(), AllocError>
-    ensures { OnOk result (string_bytes text.new
-        ≡ string_bytes text.old ++ waiting_line name.now count) }
+/// The remark on a channel on which so many messages wait.
+fn push_waiting(remarks: &mut Vec<Remark>, name: &Name, count: usize) -> Result<(), AllocError>
+    ensures { OnOk result (remarks.new.items
+        ≡ remarks.old.items ++ waiting_remark name.now count) }
 {
-    if count == 0 {
-        return Ok(());
+    if count != 0 {
+        let channel = name.copy();
+        remarks.push(Remark::MessagesWaiting { channel, count })?;
     }
-    writeln!(text, "  channel {name}: messages waiting {count}")
-}
-
-/// All remarks, beneath a line with the number of calls.
-pub fn push_remarks(
-    alloc: Global,
-    text: &mut String,
-    ports: &Ports,
-    trace: &str,
-    entries: &[Entry],
-) -> Result<(), AllocError> {
-    let lines = call_lines(alloc, trace)?;
-    writeln!(text, "\nafter {} calls", entries.len())?;
-    push_moments(text, lines.as_slice(), entries)?;
-    push_idle(text, ports.config(), lines.as_slice(), entries)?;
-    push_ports(text, ports, entries)?;
-    push_waiting(text, ports)
+    Ok(())
 }

@@ -17,12 +17,12 @@ use Rattle.apex_ports.specs.Counts.{count_of}
 use Rattle.apex_texts.specs.Report.{entry_line, line_of, entry_lines, partition_line, partition_lines, messages_text, channel_text, channel_lines}
 
 -- a text that grew by the line that comes next
-pub grows : (old new line rest all total : List ℕ) → new ≡ old ++ line → all ≡ line ++ rest → old ++ all ≡ total → new ++ rest ≡ total
+pub grows : {X : Type 0} (old new line rest all total : List X) → new ≡ old ++ line → all ≡ line ++ rest → old ++ all ≡ total → new ++ rest ≡ total
 grows old new line rest all total grown cut so_far = rw (grown, append_assoc, ← cut) so_far
 
 -- a text to which nothing more comes
-pub complete : (text rest total : List ℕ) → rest ≡ [] → text ++ rest ≡ total → text ≡ total
-complete text rest total none so_far = sym (append-nil text) ∙ ap (λ (more : List ℕ). text ++ more) (sym none) ∙ so_far
+pub complete : {X : Type 0} (text rest total : List X) → rest ≡ [] → text ++ rest ≡ total → text ≡ total
+complete {X} text rest total none so_far = sym (append-nil text) ∙ ap (λ (more : List X). text ++ more) (sym none) ∙ so_far
 
 pub drop_at : {X : Type 0} (xs : List X) (i : ℕ) (x : X) → slice_get xs i ≡ Some x → drop i xs ≡ x ∷ drop (i + 1) xs
 drop_at xs i x is = rw add-one (drop-cons xs i x (slice_get_within xs i x is) ∙ ap (λ y. y ∷ drop (suc i) xs) (get_or_from_slice_get xs i x x is))

@@ -71,3 +71,13 @@ not_all_ascii (x ∷ xs) (suc i) high =
 pub ascii_test : (xs : List ℕ) (b : Bool) → MatchBool b (IsAscii xs) (IsNotAscii xs) → b ≡ list_all is_ascii xs
 ascii_test xs true each = sym (all_ascii xs each)
 ascii_test xs false some = sym (not_all_ascii xs some.0 some.1)
+
+pub test_ascii : (xs : List ℕ) → list_all is_ascii xs ≡ true → IsAscii xs
+test_ascii xs all i = by_test (nat_lt (get_or xs i 0) 128) refl
+  where
+    by_test : (b : Bool) → nat_lt (get_or xs i 0) 128 ≡ b → get_or xs i 0 < 128
+    by_test true is = grind (arith, nat_tests)
+    by_test false is =
+        let high : 128 ≤ get_or xs i 0 = grind (arith, nat_tests) in
+        let some = not_all_ascii xs i high in
+        absurd cc

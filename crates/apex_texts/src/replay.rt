@@ -6,10 +6,9 @@ ghost use Rattle.apex_texts.specs.Report.{line_of, entry_lines};
 ghost use Rattle.apex_texts.specs.Trace.{IsTraceRead, trace_of};
 
 use crate::fault::{Fault, TraceFault};
-use crate::lines::line_words;
 use crate::report_text::{push_entry, push_totals};
 use crate::text::next_line;
-use crate::trace::{ANY_REQUEST, read_request};
+use crate::trace::{ANY_REQUEST, read_trace_line};
 use apex_config::Config;
 use apex_ports::{Ports, Request};
 use apex_types::Reply;
@@ -66,20 +65,12 @@ fn push_calls(text: &mut String, ports: &mut Ports, trace: &[u8]) -> Result<(), 
     let mut number: u64 = 0;
     while let Some((line, after)) = next_line(rest) {
         line_number += 1;
-        match line_words(line) {
-            Ok(Some((first, words))) => match read_request(
-                ports.config(),
-                first,
-                words,
-                &mut request,
-            ) {
-                Ok(()) => {
-                    number += 1;
-                    push_call(text, ports, number, &request, &mut reply)?;
-                }
-                Err(fault) => return Err(TraceFault::at(line_number, fault)),
-            },
-            Ok(None) => {}
+        match read_trace_line(ports.config(), line, &mut request) {
+            Ok(true) => {
+                number += 1;
+                push_call(text, ports, number, &request, &mut reply)?;
+            }
+            Ok(false) => {}
             Err(fault) => return Err(TraceFault::at(line_number, fault)),
         }
         rest = after;

@@ -87,8 +87,9 @@ pub fn push_entry(
     push_ascii(text, '\n')
 }
 
+/// The reply in words, as in the line of its call.
 #[tactic(auto, unfolding(crate::specs::Report::reply_text))]
-fn push_reply(text: &mut String, reply: &Reply) -> Result<(), AllocError>
+pub fn push_reply(text: &mut String, reply: &Reply) -> Result<(), AllocError>
     ensures { OnOk result (string_bytes text.new ≡ string_bytes text.old ++ reply_text reply.now) }
 {
     match reply {

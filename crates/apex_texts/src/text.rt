@@ -1,5 +1,6 @@
 //! Lines, words and numbers of a text, which is read as bytes.
 ghost use Rattle.std.specs.Prelude.{◌≡◌, ◌<◌, [], ◌∷◌, length, not, position, IfSome, MatchOption};
+ghost use Rattle.std.specs.List.{after_first};
 ghost use Rattle.std.specs.Str.Lines.{lines, strip_carriage_return};
 ghost use Rattle.apex_texts.specs.Text.{is_line_feed, is_blank, words_of, number_up_to};
 
@@ -10,6 +11,7 @@ use memchr::{memchr, memchr2};
 pub fn next_line(text: &[u8]) -> Option<(&[u8], &[u8])>
     ensures line { MatchOption result (lines text.now ≡ [])
         (λ x. lines text.now ≡ x.0.now ∷ lines x.1.now) }
+    ensures after { IfSome result (λ x. x.1.now ≡ after_first is_line_feed text.now) }
     ensures shorter { MatchOption result (length text.now ≡ 0)
         (λ x. length x.1.now < length text.now) }
 {

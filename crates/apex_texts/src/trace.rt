@@ -1,13 +1,14 @@
 //! Reading a trace: the requests of its lines, or its first faulty line.
-ghost use Rattle.std.specs.Prelude.{◌≡◌, ◌<◌, length, IfOk, OnOk};
+ghost use Rattle.std.specs.Prelude.{◌≡◌, ◌<◌, if◌then◌else◌, length, Some, None, IsTrue, IfOk, OnOk};
 ghost use Rattle.apex_texts.specs.Arguments.{Gives};
+ghost use Rattle.apex_texts.specs.Lines.{item_of_line};
 ghost use Rattle.apex_texts.specs.Text.{words_of};
 ghost use Rattle.apex_texts.specs.Trace.{IsTraceRead, HavePartitions, partition_of, request_at, trace_of};
 
 use crate::arguments::{moment_of, read_call, service_at, word_at};
 use crate::fault::TraceFault;
 use crate::line_fault::LineFault;
-use crate::lines::{LineForm, read_lines};
+use crate::lines::{LineForm, line_words, read_lines};
 use apex_config::Config;
 use apex_ports::Request;
 use apex_types::{Call, Moment};
@@ -37,8 +38,8 @@ impl LineForm for TraceLine<'_> {
     }
 }
 
-/// A request to read others into.
-pub(crate) const ANY_REQUEST: Request = Request {
+/// A request into whose place others are read.
+pub const ANY_REQUEST: Request = Request {
     partition: 0,
     at: Moment(0),
     call: Call::SetMode { mode: 0 },
@@ -56,7 +57,7 @@ fn request_at(config: &Config, moment: &[u8], words: &[u8]) -> Result<Request, L
 /// Reads the request of a moment and the words after it into its place. After a fault any request
 /// may stand there.
 #[tactic(auto, unfolding(crate::specs::Trace::request_at, crate::specs::Arguments::call_of))]
-pub(crate) fn read_request(
+fn read_request(
     config: &Config,
     moment: &[u8],
     words: &[u8],
@@ -71,6 +72,28 @@ pub(crate) fn read_request(
     request.at = moment_of(moment)?;
     request.partition = partition_of(config, partition)?;
     read_call(service_at(call)?, words, &mut request.call)
+}
+
+/// Reads the request of a line into its place, and answers whether the line has one: a line without
+/// words and a comment have none. After a fault any request may stand there.
+#[tactic(auto, unfolding(crate::specs::Lines::item_of_line))]
+pub fn read_trace_line(
+    config: &Config,
+    line: &[u8],
+    request: &mut Request,
+) -> Result<bool, LineFault>
+    ensures exact { Gives (λ has_call. if has_call then Some request.new else None) result
+        (item_of_line (request_at config.now) line.now) }
+    ensures known { IfOk result
+        (λ has_call. IsTrue has_call → request.new.partition < length config.now.partitions) }
+{
+    match line_words(line)? {
+        None => Ok(false),
+        Some((first, words)) => {
+            read_request(config, first, words, request)?;
+            Ok(true)
+        }
+    }
 }
 
 fn partition_of(config: &Config, word: &[u8]) -> Result<usize, LineFault>

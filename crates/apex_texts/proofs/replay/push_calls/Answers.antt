@@ -2,12 +2,11 @@ use Rattle.std.proofs.Common.{◌≡◌, ◌+◌, ◌++◌, ◌∷◌, [], lengt
 use Rattle.std.specs.Str.Lines.{lines}
 use Rattle.apex_config.specs.Configuration.{Configuration}
 use Rattle.apex_ports.specs.History.{requests_of}
-use Rattle.apex_texts.specs.Lines.{line_words}
+use Rattle.apex_texts.specs.Lines.{item_of_line}
 use Rattle.apex_texts.specs.Replay.{entry_after}
 use Rattle.apex_texts.specs.Report.{line_of}
-use Rattle.apex_texts.specs.Text.{words_of}
 use Rattle.apex_texts.specs.Trace.{request_at, trace_of}
-use Rattle.apex_texts.proofs.LineLemmas.{goes_on, skips, refuses, ends, item-nothing, item-refused, item-read, item-faulty}
+use Rattle.apex_texts.proofs.LineLemmas.{goes_on, skips, refuses, ends}
 use Rattle.apex_texts.proofs.ReplayLemmas.{fresh_front, requests_of-push}
 use Rattle.apex_texts.proofs.ReportLemmas.{entry_pushed, no_entry}
 use Rattle.apex_texts.proofs.replay.push_calls.Goals as goal
@@ -23,34 +22,23 @@ loop-line-init c = record {
   bound = omega arith;
 }
 
-pub returns-in-Err-read_request-clause-refused : goal.returns-in-Err-read_request-clause-refused
-returns-in-Err-read_request-clause-refused c =
-    let config = c.args.ports.now.config in
-    let same = c.config.ensures.config ∙ c.loop-line.invariant.config in
-    let found : line_words c.in-Some.line.now ≡ Ok (Some (c.in-Ok-Some.first.now, words_of c.in-Ok-Some.words.now)) = rw c.in-Ok-Some.field-0-is at c.in-Ok-Some.ensures in
-    let asked : request_at config c.in-Ok-Some.first.now (words_of c.in-Ok-Some.words.now) ≡ Err c.in-Err-read_request.fault =
-    ap (λ (given : Configuration). request_at given c.in-Ok-Some.first.now (words_of c.in-Ok-Some.words.now)) (sym same) ∙ c.in-Err-read_request.ensures.exact in
-    let is = item-faulty (request_at config) c.in-Some.line.now c.in-Ok-Some.first.now (words_of c.in-Ok-Some.words.now) c.in-Err-read_request.fault found asked in
-    rw c.at.ensures (refuses (request_at config) (requests_of c.loop-line.ports.history) (c.loop-line.line_number + 1) (lines c.loop-line.rest.now) c.in-Some.line.now (lines c.in-Some.after.now) c.in-Err-read_request.fault
-    (trace_of config c.args.trace.now) c.in-Some.ensures.line is c.loop-line.invariant.read)
-
 pub returns-in-Err-clause-refused : goal.returns-in-Err-clause-refused
 returns-in-Err-clause-refused c =
     let config = c.args.ports.now.config in
-    let is = item-refused (request_at config) c.in-Some.line.now c.in-Err.fault c.in-Err.ensures in
-    rw c.at-in-Err.ensures (refuses (request_at config) (requests_of c.loop-line.ports.history) (c.loop-line.line_number + 1) (lines c.loop-line.rest.now) c.in-Some.line.now (lines c.in-Some.after.now) c.in-Err.fault
+    let same = c.config.ensures.config ∙ c.loop-line.invariant.config in
+    let is : item_of_line (request_at config) c.in-Some.line.now ≡ Err c.in-Err.fault =
+    ap (λ (given : Configuration). item_of_line (request_at given) c.in-Some.line.now) (sym same) ∙ c.in-Err.ensures.exact in
+    rw c.at.ensures (refuses (request_at config) (requests_of c.loop-line.ports.history) (c.loop-line.line_number + 1) (lines c.loop-line.rest.now) c.in-Some.line.now (lines c.in-Some.after.now) c.in-Err.fault
     (trace_of config c.args.trace.now) c.in-Some.ensures.line is c.loop-line.invariant.read)
 
-pub loop-line-preserved-in_ok-push_call-in-Ok : goal.loop-line-preserved-in_ok-push_call-in-Ok
-loop-line-preserved-in_ok-push_call-in-Ok c =
+pub loop-line-preserved-in_ok-push_call-in-Ok-true : goal.loop-line-preserved-in_ok-push_call-in-Ok-true
+loop-line-preserved-in_ok-push_call-in-Ok-true c =
     let config = c.args.ports.now.config in
     let history = c.loop-line.ports.history in
     let same = c.config.ensures.config ∙ c.loop-line.invariant.config in
-    let found : line_words c.in-Some.line.now ≡ Ok (Some (c.in-Ok-Some.first.now, words_of c.in-Ok-Some.words.now)) = rw c.in-Ok-Some.field-0-is at c.in-Ok-Some.ensures in
-    let asked : request_at config c.in-Ok-Some.first.now (words_of c.in-Ok-Some.words.now) ≡ Ok c.read_request.new.request =
-    ap (λ (given : Configuration). request_at given c.in-Ok-Some.first.now (words_of c.in-Ok-Some.words.now)) (sym same) ∙ c.in-Ok.ensures.exact in
-    let read = item-read (request_at config) c.in-Some.line.now c.in-Ok-Some.first.now (words_of c.in-Ok-Some.words.now) c.read_request.new.request found asked in
-    let entry = entry_after c.loop-line.ports.config history c.read_request.new.request in
+    let read : item_of_line (request_at config) c.in-Some.line.now ≡ Ok (Some c.read_trace_line.new.request) =
+    ap (λ (given : Configuration). item_of_line (request_at given) c.in-Some.line.now) (sym same) ∙ rw c.in-Ok-true.field-0-test at c.in-Ok-true.ensures.exact in
+    let entry = entry_after c.loop-line.ports.config history c.read_trace_line.new.request in
     let longer : length c.push_call.new.ports.history ≡ length history + 1 = ap length c.push_call.ensures.history ∙ length-append history (entry ∷ []) in
     let before = c.loop-line.invariant.number in
     let bound = c.loop-line.invariant.bound in
@@ -58,13 +46,13 @@ loop-line-preserved-in_ok-push_call-in-Ok c =
     record {
       read =
           rw (c.push_call.ensures.history, requests_of-push)
-          (goes_on (request_at config) (requests_of history) (c.loop-line.line_number + 1) (lines c.loop-line.rest.now) c.in-Some.line.now (lines c.in-Some.after.now) c.read_request.new.request
+          (goes_on (request_at config) (requests_of history) (c.loop-line.line_number + 1) (lines c.loop-line.rest.now) c.in-Some.line.now (lines c.in-Some.after.now) c.read_trace_line.new.request
           (trace_of config c.args.trace.now) c.in-Some.ensures.line read c.loop-line.invariant.read);
       config = c.push_call.ensures.config ∙ c.loop-line.invariant.config;
       sound = c.push_call.ensures.sound;
       written =
           entry_pushed config history c.push_call.new.ports.history entry (c.loop-line.number + 1) (string_bytes c.args.text.now) (string_bytes c.loop-line.text) (string_bytes c.push_call.new.text) (omega arith) c.push_call.ensures.history c.loop-line.invariant.written
-          (c.in_ok-push_call-in-Ok.ensures.written ∙ (λ i. string_bytes c.loop-line.text ++ line_of (c.loop-line.invariant.config i) (c.loop-line.number + 1) entry));
+          (c.in_ok-push_call-in-Ok-true.ensures.written ∙ (λ i. string_bytes c.loop-line.text ++ line_of (c.loop-line.invariant.config i) (c.loop-line.number + 1) entry));
       number = omega arith;
       fewer = omega arith;
       bound = omega (arith, c.in-Some.ensures.shorter);
@@ -73,8 +61,9 @@ loop-line-preserved-in_ok-push_call-in-Ok c =
 pub loop-line-preserved : goal.loop-line-preserved
 loop-line-preserved c =
     let config = c.args.ports.now.config in
-    let found : line_words c.in-Some.line.now ≡ Ok None = rw c.in-Ok-None.field-0-is at c.in-Ok-None.ensures in
-    let read = item-nothing (request_at config) c.in-Some.line.now found in
+    let same = c.config.ensures.config ∙ c.loop-line.invariant.config in
+    let read : item_of_line (request_at config) c.in-Some.line.now ≡ Ok None =
+    ap (λ (given : Configuration). item_of_line (request_at given) c.in-Some.line.now) (sym same) ∙ rw c.in-Ok-false.field-0-test at c.in-Ok-false.ensures.exact in
     let fewer = c.loop-line.invariant.fewer in
     record {
       read = skips (request_at config) (requests_of c.loop-line.ports.history) (c.loop-line.line_number + 1) (lines c.loop-line.rest.now) c.in-Some.line.now (lines c.in-Some.after.now)
