@@ -7,3 +7,5 @@ pub mod KnownLemmas
 pub mod ReportLemmas
 pub mod ReplayLemmas
 pub mod CheckLemmas
+pub mod PlaceLemmas
+pub mod FaultyLinesLemmas

@@ -1,8 +1,10 @@
 -- The services that a trace can ask for, by their call words.
-use Rattle.std.specs.Prelude.{ℕ, List, [], ◌∷◌, codes, find, Option}
+use Rattle.std.specs.Prelude.{ℕ, List, [], ◌∷◌, length, codes, find, Option}
 use Rattle.std.specs.Str.{bytes_eq}
 use Rattle.apex_types.specs.declared.call.Call.{Call}
 use Rattle.apex_types.specs.declared.call.Call.TheVariants as calls
+use Rattle.apex_texts.specs.declared.expected.Expected.{Expected}
+use Rattle.apex_texts.specs.declared.expected.Expected.TheVariants.{Name, Size, Depth, Direction, Discipline, Refresh, Identifier, Message, Mode}
 use Rattle.apex_texts.specs.declared.service.Service.{Service}
 use Rattle.apex_texts.specs.declared.service.Service.TheVariants.{CreateSampling, WriteSampling, ReadSampling, SamplingId, SamplingStatus, CreateQueuing, SendQueuing, ReceiveQueuing, QueuingId, QueuingStatus, ClearQueuing, SetMode}
 
@@ -44,10 +46,21 @@ service_of (calls.QueuingStatus id) = QueuingStatus
 service_of (calls.ClearQueuing id) = ClearQueuing
 service_of (calls.SetMode mode) = SetMode
 
+-- what each argument of a service has to be
+abbrev pub parameters_of : Service → List Expected
+parameters_of CreateSampling = Name ∷ Size ∷ Direction ∷ Refresh ∷ []
+parameters_of WriteSampling = Identifier ∷ Message ∷ []
+parameters_of ReadSampling = Identifier ∷ []
+parameters_of SamplingId = Name ∷ []
+parameters_of SamplingStatus = Identifier ∷ []
+parameters_of CreateQueuing = Name ∷ Size ∷ Depth ∷ Direction ∷ Discipline ∷ []
+parameters_of SendQueuing = Identifier ∷ Message ∷ []
+parameters_of ReceiveQueuing = Identifier ∷ []
+parameters_of QueuingId = Name ∷ []
+parameters_of QueuingStatus = Identifier ∷ []
+parameters_of ClearQueuing = Identifier ∷ []
+parameters_of SetMode = Mode ∷ []
+
 -- how many arguments a service takes
 abbrev pub arguments_of : Service → ℕ
-arguments_of CreateSampling = 4
-arguments_of CreateQueuing = 5
-arguments_of WriteSampling = 2
-arguments_of SendQueuing = 2
-arguments_of _ = 1
+arguments_of service = length (parameters_of service)

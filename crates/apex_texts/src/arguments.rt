@@ -97,7 +97,7 @@ fn name_of(word: &[u8]) -> Result<Name, LineFault>
 }
 
 // Reads the message that a word is into its place.
-fn read_message(word: &[u8], message: &mut Message) -> Result<(), LineFault>
+pub(crate) fn read_message(word: &[u8], message: &mut Message) -> Result<(), LineFault>
     ensures { Gives (λ _. message.new) result
         (or_fault LineFault.Message (message_in word.now)) }
 {

@@ -52,7 +52,7 @@ pub fn read_lines<F: LineForm>(
 
 /// The item of a line; none where the line has no words or is a comment.
 #[tactic(auto, unfolding(crate::specs::Lines::item_of_line))]
-fn item_of_line<F: LineForm>(form: &F, line: &[u8]) -> Result<Option<F::Item>, LineFault>
+pub(crate) fn item_of_line<F: LineForm>(form: &F, line: &[u8]) -> Result<Option<F::Item>, LineFault>
     ensures { result ≡ item_of_line (F.item_at form.now) line.now }
 {
     match line_words(line)? {

@@ -1,7 +1,8 @@
 //! The services that a trace can ask for, by their call words.
 ghost use Rattle.std.specs.Prelude.{◌≡◌};
-ghost use Rattle.apex_texts.specs.Service.{word_of, service_named, service_of};
+ghost use Rattle.apex_texts.specs.Service.{word_of, service_named, service_of, parameters_of};
 
+use crate::expected::Expected;
 use apex_types::Call;
 
 /// A service of the standard, as a trace names it.
@@ -97,6 +98,37 @@ impl Service {
             Service::QueuingStatus => "queuing-status",
             Service::ClearQueuing => "clear",
             Service::SetMode => "mode",
+        }
+    }
+
+    /// What each argument of the service has to be.
+    pub fn parameters(self) -> &'static [Expected]
+        ensures { result.now ≡ parameters_of self }
+    {
+        match self {
+            Service::CreateSampling => &[
+                Expected::Name,
+                Expected::Size,
+                Expected::Direction,
+                Expected::Refresh,
+            ],
+            Service::CreateQueuing => &[
+                Expected::Name,
+                Expected::Size,
+                Expected::Depth,
+                Expected::Direction,
+                Expected::Discipline,
+            ],
+            Service::WriteSampling | Service::SendQueuing => {
+                &[Expected::Identifier, Expected::Message]
+            }
+            Service::SamplingId | Service::QueuingId => &[Expected::Name],
+            Service::SetMode => &[Expected::Mode],
+            Service::ReadSampling
+            | Service::SamplingStatus
+            | Service::ReceiveQueuing
+            | Service::QueuingStatus
+            | Service::ClearQueuing => &[Expected::Identifier],
         }
     }
 }

@@ -45,13 +45,13 @@ fn is_blank(byte: u8) -> bool
     byte == b' ' || byte == b'\t'
 }
 
-fn blank_in(line: &[u8]) -> Option<usize>
+pub(crate) fn blank_in(line: &[u8]) -> Option<usize>
     ensures { result ≡ position is_blank line.now }
 {
     memchr2(b' ', b'\t', line)
 }
 
-fn word_in(line: &[u8]) -> Option<usize>
+pub(crate) fn word_in(line: &[u8]) -> Option<usize>
     ensures { result ≡ position (λ byte. not (is_blank byte)) line.now }
 {
     line.iter().position(|byte| !is_blank(*byte))

@@ -24,8 +24,8 @@ pub fn read_trace(alloc: Global, config: &Config, text: &[u8]) -> Result<Vec<Req
 
 /// `MOMENT PARTITION CALL ARGUMENTS`.
 #[derive(Drop)]
-struct TraceLine<'a> {
-    config: &'a Config,
+pub(crate) struct TraceLine<'a> {
+    pub(crate) config: &'a Config,
 }
 
 impl LineForm for TraceLine<'_> {
