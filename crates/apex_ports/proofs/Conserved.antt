@@ -9,21 +9,24 @@ use Rattle.apex_types.specs.declared.call.Call.TheVariants.{SendQueuing, Receive
 use Rattle.apex_types.specs.declared.moment.Moment.{Moment}
 use Rattle.apex_types.specs.declared.taken.Taken.{Taken}
 use Rattle.apex_types.specs.declared.reply.Reply.{Reply}
-use Rattle.apex_types.specs.declared.reply.Reply.TheVariants.{NotMade, Code}
-use Rattle.apex_types.specs.declared.return_code.ReturnCode.TheVariants.{NoError, NotAvailable, InvalidParam, InvalidConfig, InvalidMode}
 use Rattle.apex_config.specs.Configuration.{Configuration, IsConfiguration, port_of, channel_of, is_queuing_port, is_queuing_channel, depth_of_kind}
 use Rattle.apex_config.specs.declared.channel.Channel.{Channel}
 use Rattle.apex_config.specs.declared.channel.ChannelKind.{ChannelKind}
 use Rattle.apex_config.specs.declared.channel.ChannelKind.TheVariants.{Queuing, Sampling}
 use Rattle.apex_config.specs.declared.port.Port.{Port}
 use Rattle.apex_ports.specs.declared.history.Entry.{Entry}
+use Rattle.apex_ports.specs.declared.rows.Refusal.TheVariants.{EmptyMessage, MessageTooLong, NotSource, NotDestination, QueueFull}
+use Rattle.apex_ports.specs.declared.rows.Row.{Row}
+use Rattle.apex_ports.specs.declared.rows.Row.TheVariants as row
+use Rattle.apex_ports.specs.declared.rows.Row.TheVariants.{Refused, Sent}
 use Rattle.apex_ports.specs.History.{History, entry_of}
 use Rattle.apex_ports.specs.Modes.{mode_of, is_idle, is_code_no_error}
-use Rattle.apex_ports.specs.Ports.{is_created, queuing_only, sampling_only, queuing_port, sampling_port, is_queuing, is_queue, is_source, is_source_of, is_destination_of}
+use Rattle.apex_ports.specs.Ports.{is_created, queuing_only, sampling_only, is_queuing, is_queue, is_source, is_source_of, is_destination_of}
 use Rattle.apex_ports.specs.Channels.{accepted_on, taken_on, cleared_on, waiting_on, messages_of, message_in, message_sent, message_accepted, message_received, clears, as_cleared, sample_at}
 use Rattle.apex_ports.specs.LawfulLaws.{along_lawful}
-use Rattle.apex_ports.specs.ReplyTable.{depth_of, depth_in, send_reply, oldest_reply, receive_reply, write_reply, reply_to}
+use Rattle.apex_ports.specs.ReplyTable.{depth_of, depth_in, send_row, oldest_row, receive_row, write_row, oldest_reply, reply_of, reply_to}
 use Rattle.apex_ports.specs.Rules.{IsConserved, AlwaysConserved}
+use Rattle.apex_ports.specs.Seen.{Seen, seen, waiting_of, queuing_port, sampling_port}
 use Rattle.apex_ports.specs.Sound.{IsSound}
 use Rattle.apex_ports.proofs.Histories.{accepted-sent, taken-received, taken-cleared, waiting-sent, waiting-received, waiting-cleared, received_conserved, cleared_conserved}
 use Rattle.apex_ports.proofs.Stays.{LeavesChannel, leaves_channel, accepted_stays, taken_stays, waiting_stays, sample_stays, none_or_none, and_true, and_false}
@@ -63,21 +66,22 @@ channel_of_destination (Some port) q c is destination =
     let here : port.channel ≡ c = grind (arith, nat_tests) in
     subst (λ (x : Port). x.channel ≡ c) same here
 
-served : (b : Bool) (reply : Reply) → is_code_no_error (if b then NotMade else reply) ≡ true → is_code_no_error reply ≡ true
-served true reply ok = absurd (cc)
-served false reply ok = ok
+module _ (config : Configuration) (s : Seen) (p : ℕ) where
+  served : (idle : Bool) (given : Row) → is_code_no_error (reply_of config s p (if idle then row.Idle else given)) ≡ true → is_code_no_error (reply_of config s p given) ≡ true
+  served true given ok = absurd (cc)
+  served false given ok = ok
 
-received_served : (b : Bool) (reply : Reply) (m : List ℕ) → message_in (if b then NotMade else reply) ≡ Some m → message_in reply ≡ Some m
-received_served true reply m ok = absurd (cc)
-received_served false reply m ok = ok
+  received_served : (idle : Bool) (given : Row) (m : List ℕ) → message_in (reply_of config s p (if idle then row.Idle else given)) ≡ Some m → message_in (reply_of config s p given) ≡ Some m
+  received_served true given m ok = absurd (cc)
+  received_served false given m ok = ok
 
-module _ (config : Configuration) (h : History) where
   -- an accepted send found a port with a free place
-  accepting : (port : Option Port) (m : List ℕ) → is_code_no_error (send_reply config h port m) ≡ true → (q : Port) × (port ≡ Some q) × ((length (waiting_on config q.channel h) == depth_of config q.channel) ≡ false)
-  accepting None m ok = absurd (cc)
-  accepting (Some q) m ok = (q, refl, by_tests _ _ _ _ ok)
+  accepting : (id : ℕ) (port : Option Port) (m : List ℕ) → is_code_no_error (reply_of config s p (send_row config s id port m)) ≡ true
+      → (q : Port) × (port ≡ Some q) × ((length (s.waiting id) == depth_of config q.channel) ≡ false)
+  accepting id None m ok = absurd (cc)
+  accepting id (Some q) m ok = (q, refl, by_tests _ _ _ _ ok)
     where
-      by_tests : (empty long destination full : Bool) → is_code_no_error (if empty then Code InvalidParam else if long then Code InvalidConfig else if destination then Code InvalidMode else if full then Code NotAvailable else Code NoError) ≡ true → full ≡ false
+      by_tests : (empty long destination full : Bool) → is_code_no_error (reply_of config s p (if empty then Refused EmptyMessage else if long then Refused MessageTooLong else if destination then Refused NotSource else if full then Refused QueueFull else Sent)) ≡ true → full ≡ false
       by_tests true long destination full h = absurd (cc)
       by_tests false true destination full h = absurd (cc)
       by_tests false false true full h = absurd (cc)
@@ -85,38 +89,48 @@ module _ (config : Configuration) (h : History) where
       by_tests false false false false h = refl
 
   -- a receive that shows a message shows the oldest
-  receiving : (port : Option Port) (m : List ℕ) → message_in (receive_reply config h port) ≡ Some m → (q : Port) × (port ≡ Some q) × (slice_get (waiting_on config q.channel h) 0 ≡ Some m)
-  receiving None m ok = absurd (cc)
-  receiving (Some q) m ok = (q, refl, by_test (is_source q.direction) (waiting_on config q.channel h) ok)
+  receiving : (id : ℕ) (port : Option Port) (m : List ℕ) → message_in (reply_of config s p (receive_row s id port)) ≡ Some m → (q : Port) × (port ≡ Some q) × (slice_get (s.waiting id) 0 ≡ Some m)
+  receiving id None m ok = absurd (cc)
+  receiving id (Some q) m ok = (q, refl, by_test (is_source q.direction) (s.waiting id) ok)
     where
-      by_test : (source : Bool) (waiting : List (List ℕ)) → message_in (if source then Code InvalidMode else oldest_reply waiting) ≡ Some m → slice_get waiting 0 ≡ Some m
+      oldest : (waiting : List (List ℕ)) → message_in (oldest_reply waiting) ≡ Some m → slice_get waiting 0 ≡ Some m
+      oldest [] h = absurd (cc)
+      oldest (x ∷ rest) h = h
+
+      by_test : (source : Bool) (waiting : List (List ℕ)) → message_in (reply_of config s p (if source then Refused NotDestination else oldest_row id waiting)) ≡ Some m → slice_get (s.waiting id) 0 ≡ Some m
       by_test true waiting h = absurd (cc)
       by_test false [] h = absurd (cc)
-      by_test false (x ∷ rest) h = h
+      by_test false (x ∷ rest) h = oldest (s.waiting id) h
 
   -- an accepted write found a sampling port
-  writing : (port : Option Port) (m : List ℕ) → is_code_no_error (write_reply config port m) ≡ true → (q : Port) × (port ≡ Some q)
+  writing : (port : Option Port) (m : List ℕ) → is_code_no_error (reply_of config s p (write_row config port m)) ≡ true → (q : Port) × (port ≡ Some q)
   writing None m ok = absurd (cc)
   writing (Some q) m ok = (q, refl)
 
-  send_free : (p : ℕ) (at : Moment) (id : ℕ) (m : List ℕ) (reply : Reply) (c : ℕ) → reply ≡ reply_to config h p at (SendQueuing id m) → is_code_no_error reply ≡ true → is_source_of c (port_of config p id) ≡ true
+module _ (config : Configuration) (h : History) (p : ℕ) (at : Moment) (id : ℕ) (m : List ℕ) (reply : Reply) (c : ℕ) where
+  abbrev here : Seen
+  here = seen config h p
+
+  send_free : reply ≡ reply_to config h p at (SendQueuing id m) → is_code_no_error reply ≡ true → is_source_of c (port_of config p id) ≡ true
       → (length (waiting_on config c h) == depth_of config c) ≡ false
-  send_free p at id m reply c is ok source =
-      let found = accepting (queuing_port config h p id) m (served (is_idle (mode_of p h)) (send_reply config h (queuing_port config h p id) m) (ap is_code_no_error (sym is) ∙ ok)) in
+  send_free is ok source =
+      let found = accepting config here p id (queuing_port config here p id) m (served config here p (is_idle (mode_of p h)) _ (ap is_code_no_error (sym is) ∙ ok)) in
       let configured = queuing_configured (is_created p id h) (port_of config p id) found.0 found.1 in
-      subst (λ (d : ℕ). (length (waiting_on config d h) == depth_of config d) ≡ false) (channel_of_source (port_of config p id) found.0 c configured source) found.2
+      let free = subst (λ (o : Option Port). (length (waiting_of config h o) == depth_of config found.0.channel) ≡ false) configured found.2 in
+      subst (λ (d : ℕ). (length (waiting_on config d h) == depth_of config d) ≡ false) (channel_of_source (port_of config p id) found.0 c configured source) free
 
-  receive_oldest : (p : ℕ) (at : Moment) (id : ℕ) (m : List ℕ) (reply : Reply) (c : ℕ) → reply ≡ reply_to config h p at (ReceiveQueuing id) → message_in reply ≡ Some m → is_destination_of c (port_of config p id) ≡ true
+  receive_oldest : reply ≡ reply_to config h p at (ReceiveQueuing id) → message_in reply ≡ Some m → is_destination_of c (port_of config p id) ≡ true
       → slice_get (waiting_on config c h) 0 ≡ Some m
-  receive_oldest p at id m reply c is shown destination =
-      let found = receiving (queuing_port config h p id) m (received_served (is_idle (mode_of p h)) (receive_reply config h (queuing_port config h p id)) m (ap message_in (sym is) ∙ shown)) in
+  receive_oldest is shown destination =
+      let found = receiving config here p id (queuing_port config here p id) m (received_served config here p (is_idle (mode_of p h)) _ m (ap message_in (sym is) ∙ shown)) in
       let configured = queuing_configured (is_created p id h) (port_of config p id) found.0 found.1 in
-      subst (λ (d : ℕ). slice_get (waiting_on config d h) 0 ≡ Some m) (channel_of_destination (port_of config p id) found.0 c configured destination) found.2
+      let oldest = subst (λ (o : Option Port). slice_get (waiting_of config h o) 0 ≡ Some m) configured found.2 in
+      subst (λ (d : ℕ). slice_get (waiting_on config d h) 0 ≡ Some m) (channel_of_destination (port_of config p id) found.0 c configured destination) oldest
 
-  write_sampling : (p : ℕ) (at : Moment) (id : ℕ) (m : List ℕ) (reply : Reply) (c : ℕ) → IsConfiguration config → reply ≡ reply_to config h p at (WriteSampling id m) → is_code_no_error reply ≡ true → is_source_of c (port_of config p id) ≡ true
+  write_sampling : IsConfiguration config → reply ≡ reply_to config h p at (WriteSampling id m) → is_code_no_error reply ≡ true → is_source_of c (port_of config p id) ≡ true
       → is_queuing config c ≡ false
-  write_sampling p at id m reply c valid is ok source =
-      let found = writing (sampling_port config h p id) m (served (is_idle (mode_of p h)) (write_reply config (sampling_port config h p id) m) (ap is_code_no_error (sym is) ∙ ok)) in
+  write_sampling valid is ok source =
+      let found = writing config here p (sampling_port config here p id) m (served config here p (is_idle (mode_of p h)) _ (ap is_code_no_error (sym is) ∙ ok)) in
       let configured = sampling_configured (is_created p id h) (port_of config p id) found.0 found.1 in
       let link = valid.linked p id found.0 configured.0 in
       let kind : is_queuing config found.0.channel ≡ false = ap is_queue link.1 ∙ sym link.2 ∙ configured.1 in

@@ -8,16 +8,17 @@ use Rattle.apex_types.specs.declared.direction.Direction.{Direction}
 use Rattle.apex_types.specs.declared.direction.Direction.TheVariants.{Source, Destination}
 use Rattle.apex_types.specs.declared.moment.Moment.{Moment}
 use Rattle.apex_types.specs.declared.reply.Reply.{Reply}
-use Rattle.apex_types.specs.declared.reply.Reply.TheVariants.{NotMade}
 use Rattle.apex_config.specs.Configuration.{Configuration, IsConfiguration, port_of}
 use Rattle.apex_config.specs.declared.port.Port.{Port}
 use Rattle.apex_ports.specs.declared.history.Entry.{Entry}
+use Rattle.apex_ports.specs.declared.rows.Row.TheVariants as row
 use Rattle.apex_ports.specs.History.{History, entry_of}
 use Rattle.apex_ports.specs.Idle.{StaysIdle, HasSource}
 use Rattle.apex_ports.specs.Modes.{mode_of, mode_set, mode_asked, is_idle, is_code_no_error}
 use Rattle.apex_ports.specs.Ports.{is_source, is_source_of}
 use Rattle.apex_ports.specs.Channels.{message_accepted, message_sent, message_written, sample_at, sample_written}
-use Rattle.apex_ports.specs.ReplyTable.{reply_to, service_reply}
+use Rattle.apex_ports.specs.ReplyTable.{reply_to, reply_of, service_row}
+use Rattle.apex_ports.specs.Seen.{seen}
 use Rattle.apex_ports.proofs.Appends.{mode_of-append}
 use Rattle.apex_ports.proofs.Stays.{accepted_stays, sample_stays, none_or_none, and_false, and_true}
 
@@ -68,7 +69,7 @@ idle_stays config h q at call reply valid is = record {
     refused : (p : ℕ) → is_idle (mode_of p h) ≡ true → q ≡ p → is_code_no_error reply ≡ false
     refused p idle here =
         let mine : is_idle (mode_of q h) ≡ true = ap (λ n. is_idle (mode_of n h)) here ∙ idle in
-        ap is_code_no_error (is ∙ (λ i. if mine i then NotMade else service_reply config h q at call))
+        ap is_code_no_error (is ∙ (λ i. reply_of config (seen config h q) q (if mine i then row.Idle else service_row config (seen config h q) q at call)))
 
     sets_none : (p : ℕ) → is_idle (mode_of p h) ≡ true → mode_set p e ≡ None
     sets_none p idle = by_test (q == p) refl

@@ -16,13 +16,17 @@ use Rattle.apex_config.specs.declared.port.Port.{Port}
 use Rattle.apex_ports.specs.declared.history.Entry.{Entry}
 use Rattle.apex_types.specs.declared.sample.Sample.{Sample}
 use Rattle.apex_types.specs.declared.taken.Taken.{Taken}
+use Rattle.apex_ports.specs.declared.rows.Refusal.TheVariants.{NotCreated}
+use Rattle.apex_ports.specs.declared.rows.Row.{Row}
+use Rattle.apex_ports.specs.declared.rows.Row.TheVariants as row
 use Rattle.apex_ports.specs.declared.partition.PartitionState.{PartitionState}
 use Rattle.apex_ports.specs.declared.channel.ChannelState.{ChannelState}
 use Rattle.apex_ports.specs.History.{History, entry_of}
 use Rattle.apex_ports.specs.Modes.{mode_of, mode_set, mode_asked, is_restart, is_code_no_error, is_no_error}
 use Rattle.apex_ports.specs.Ports.{is_created, creates, is_create, is_id, NamedPort}
 use Rattle.apex_ports.specs.Channels.{accepted_on, received_on, taken_on, cleared_on, waiting_on, writes_on, last_write_on, message_accepted, message_sent, message_received, message_in, is_receive, clears, is_clear, taken_by, as_received, as_cleared, sample_written, sample_at, message_written, last_validity_of, validity_read, validity_in, is_read}
-use Rattle.apex_ports.specs.ReplyTable.{queuing_status_reply, sampling_status_reply, id_reply}
+use Rattle.apex_ports.specs.ReplyTable.{queuing_status_reply, sampling_status_reply, status_row, id_row, reply_of}
+use Rattle.apex_ports.specs.Seen.{Seen}
 use Rattle.apex_ports.specs.Counts.{count_of}
 use Rattle.apex_ports.specs.Kept.{EachAt, IsPartitionKept, IsChannelKept, AreKept}
 use Rattle.apex_ports.proofs.Appends.{mode_of-append, is_created-append, last_validity_of-append, accepted_on-append, received_on-append, taken_on-append, writes_on-append}
@@ -262,21 +266,27 @@ quiet_keeps config h partitions channels p at call reply kept quiet =
 
 -- ---- answers that change nothing
 
-pub queuing_status_is_quiet : (config : Configuration) (h : History) (call : Call) (port : Option Port) → IsQuiet call (queuing_status_reply config h port)
-queuing_status_is_quiet config h call None = refused_is_quiet call InvalidParam refl
-queuing_status_is_quiet config h call (Some port) = record { accepted = refl; created = λ id. and_false (is_create call); received = refl; read = refl }
+module _ (config : Configuration) (s : Seen) (p : ℕ) (call : Call) where
+  pub queuing_status_is_quiet : (id : ℕ) (port : Option Port) → IsQuiet call (queuing_status_reply config s id port)
+  queuing_status_is_quiet id None = refused_is_quiet call InvalidParam refl
+  queuing_status_is_quiet id (Some port) = record { accepted = refl; created = λ id. and_false (is_create call); received = refl; read = refl }
 
-pub sampling_status_is_quiet : (config : Configuration) (h : History) (p id : ℕ) (call : Call) (port : Option Port) → IsQuiet call (sampling_status_reply config h p id port)
-sampling_status_is_quiet config h p id call None = refused_is_quiet call InvalidParam refl
-sampling_status_is_quiet config h p id call (Some port) = record { accepted = refl; created = λ id. and_false (is_create call); received = refl; read = refl }
+  pub sampling_status_is_quiet : (id : ℕ) (port : Option Port) → IsQuiet call (sampling_status_reply config s id port)
+  sampling_status_is_quiet id None = refused_is_quiet call InvalidParam refl
+  sampling_status_is_quiet id (Some port) = record { accepted = refl; created = λ id. and_false (is_create call); received = refl; read = refl }
 
-pub id_is_quiet : (h : History) (p : ℕ) (call : Call) (named : Option NamedPort) → is_create call ≡ false → IsQuiet call (id_reply h p named)
-id_is_quiet h p call None no_create = refused_is_quiet call InvalidConfig refl
-id_is_quiet h p call (Some named) no_create = by_created (is_created p named.id h)
-  where
-    by_created : (b : Bool) → IsQuiet call (if b then Id named.id else Code InvalidConfig)
-    by_created true = record { accepted = refl; created = λ id i. no_create i && (named.id == id); received = refl; read = refl }
-    by_created false = refused_is_quiet call InvalidConfig refl
+  -- where a row is quiet, so is its status
+  pub status_is_quiet : (status : Row) (port : Option Port) → IsQuiet call (reply_of config s p status) → IsQuiet call (reply_of config s p (status_row status port))
+  status_is_quiet status None quiet = refused_is_quiet call InvalidParam refl
+  status_is_quiet status (Some port) quiet = quiet
+
+  pub id_is_quiet : (named : Option NamedPort) → is_create call ≡ false → IsQuiet call (reply_of config s p (id_row s named))
+  id_is_quiet None no_create = refused_is_quiet call InvalidConfig refl
+  id_is_quiet (Some named) no_create = by_created (s.created named.id)
+    where
+      by_created : (b : Bool) → IsQuiet call (reply_of config s p (if b then row.Identified named.id else row.Refused NotCreated))
+      by_created true = record { accepted = refl; created = λ id i. no_create i && (named.id == id); received = refl; read = refl }
+      by_created false = refused_is_quiet call InvalidConfig refl
 
 pub not_made_is_quiet : (call : Call) → IsQuiet call NotMade
 not_made_is_quiet call = record { accepted = refl; created = λ id. and_false (is_create call); received = refl; read = refl }

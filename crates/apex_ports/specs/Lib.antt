@@ -15,8 +15,10 @@ pub mod Ports
 pub mod PortsView
 pub mod Refused
 pub mod ReplyTable
+pub mod Rows
 pub mod Rules
 pub mod RunFault
+pub mod Seen
 pub mod Sound
 pub mod WithoutClears
 pub mod Writes

@@ -31,10 +31,7 @@ abbrev pub is_created : ℕ → ℕ → History → Bool
 is_created partition id history =
     fold (λ created entry. creates partition id entry || (created && not (restarts partition entry))) false history
 
--- the port of the identifier, where it is created
-abbrev pub created_port : Configuration → History → ℕ → ℕ → Option Port
-created_port config history partition id = if is_created partition id history then port_of config partition id else None
-
+-- the port, where it is of this kind
 abbrev pub queuing_only : Option Port → Option Port
 queuing_only None = None
 queuing_only (Some port) = if is_queuing_port port.kind then Some port else None
@@ -42,13 +39,6 @@ queuing_only (Some port) = if is_queuing_port port.kind then Some port else None
 abbrev pub sampling_only : Option Port → Option Port
 sampling_only None = None
 sampling_only (Some port) = if is_queuing_port port.kind then None else Some port
-
--- the port of the identifier, where it is created and of this kind
-abbrev pub queuing_port : Configuration → History → ℕ → ℕ → Option Port
-queuing_port config history partition id = queuing_only (created_port config history partition id)
-
-abbrev pub sampling_port : Configuration → History → ℕ → ℕ → Option Port
-sampling_port config history partition id = sampling_only (created_port config history partition id)
 
 -- a port with its identifier
 pub record NamedPort : Type 0 where

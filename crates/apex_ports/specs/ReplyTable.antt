@@ -1,26 +1,30 @@
--- The reply table: what each service answers after a history. The first check that applies gives the reply.
-use Rattle.std.specs.Prelude.{ℕ, ◌==◌, nat_lt, not, if◌then◌else◌, List, [], ◌∷◌, length, Option, Some, None}
+-- The reply table: of each service its rows. The first check that applies gives the row, and the row gives the reply.
+use Rattle.std.specs.Prelude.{ℕ, ◌==◌, ◌≡◌, nat_lt, not, if◌then◌else◌, List, [], ◌∷◌, length, Option, Some, None}
 use Rattle.apex_types.specs.Direction.{number_of}
 use Rattle.apex_types.specs.Mode.{mode_numbered}
+use Rattle.apex_types.specs.Sample.{validity_at}
 use Rattle.apex_types.specs.declared.call.Call.{Call}
 use Rattle.apex_types.specs.declared.call.Call.TheVariants as call
 use Rattle.apex_types.specs.declared.mode.Mode.{Mode}
 use Rattle.apex_types.specs.declared.mode.Mode.TheVariants.{Normal, WarmStart}
 use Rattle.apex_types.specs.declared.moment.Moment.{Moment}
 use Rattle.apex_types.specs.declared.reply.Reply.{Reply}
-use Rattle.apex_types.specs.declared.reply.Reply.TheVariants.{NotMade, Code, Id, Received, Read, QueuingStatus, SamplingStatus}
-use Rattle.apex_types.specs.declared.return_code.ReturnCode.TheVariants.{NoError, NoAction, NotAvailable, InvalidParam, InvalidConfig, InvalidMode}
+use Rattle.apex_types.specs.declared.reply.Reply.TheVariants as reply
+use Rattle.apex_types.specs.declared.return_code.ReturnCode.TheVariants.{NoError, NoAction, NotAvailable, InvalidParam}
+use Rattle.apex_types.specs.declared.sample.Sample.{Sample}
 use Rattle.apex_types.specs.declared.validity.Validity.{Validity}
-use Rattle.apex_types.specs.declared.validity.Validity.TheVariants.{Invalid}
-use Rattle.apex_config.specs.Configuration.{Configuration, channel_of, depth_of_kind, refresh_of_kind}
+use Rattle.apex_config.specs.Configuration.{Configuration, port_of, channel_of, depth_of_kind, refresh_of_kind}
 use Rattle.apex_config.specs.declared.channel.Channel.{Channel}
 use Rattle.apex_config.specs.declared.port.Port.{Port}
-use Rattle.apex_types.specs.declared.sample.Sample.{Sample}
-use Rattle.apex_types.specs.Sample.{validity_at}
+use Rattle.apex_ports.specs.declared.rows.Row.{Row}
+use Rattle.apex_ports.specs.declared.rows.Row.TheVariants as row
+use Rattle.apex_ports.specs.declared.rows.Row.TheVariants.{Refused, Created, Identified, Sent, OldestReceived, Cleared, Written, LastRead, ModeSet}
+use Rattle.apex_ports.specs.declared.rows.Refusal.TheVariants.{NotConfigured, AlreadyCreated, SizeDiffers, DepthDiffers, DirectionDiffers, RefreshDiffers, UnknownDiscipline, CreatedInNormal, NotCreated, NoSuchPort, EmptyMessage, MessageTooLong, NotSource, NotDestination, QueueFull, QueueEmpty, NeverWritten, UnknownMode, AlreadyNormal, WarmStartInColdStart}
 use Rattle.apex_ports.specs.History.{History}
-use Rattle.apex_ports.specs.Modes.{mode_of, is_idle, is_normal, is_cold_start}
-use Rattle.apex_ports.specs.Ports.{is_created, is_source, NamedPort, queuing_named, sampling_named, queuing_port, sampling_port}
-use Rattle.apex_ports.specs.Channels.{waiting_on, last_write_on, last_validity_of}
+use Rattle.apex_ports.specs.Modes.{is_idle, is_normal, is_cold_start}
+use Rattle.apex_ports.specs.Ports.{is_source, NamedPort, queuing_named, sampling_named}
+use Rattle.apex_ports.specs.Rows.{code_of}
+use Rattle.apex_ports.specs.Seen.{Seen, seen, queuing_port, sampling_port}
 
 -- ---- what a port has from its channel and from the configuration
 
@@ -43,134 +47,156 @@ depth_of config channel = depth_in (channel_of config channel)
 -- ---- creation, and identifiers by name
 
 -- CREATE_QUEUING_PORT, of the configured queuing port of the name
-abbrev pub create_queuing_reply : Configuration → History → ℕ → Option NamedPort → ℕ → ℕ → ℕ → ℕ → Reply
-create_queuing_reply config history partition None size depth direction discipline = Code InvalidConfig
-create_queuing_reply config history partition (Some named) size depth direction discipline =
-    if is_created partition named.id history then Code NoAction
-    else if not (size == size_of config named.port) then Code InvalidConfig
-    else if not (depth == depth_of config named.port.channel) then Code InvalidConfig
-    else if not (direction == number_of named.port.direction) then Code InvalidConfig
-    else if nat_lt 1 discipline then Code InvalidConfig
-    else if is_normal (mode_of partition history) then Code InvalidMode
-    else Id named.id
+abbrev pub create_queuing_row : Configuration → Seen → Option NamedPort → ℕ → ℕ → ℕ → ℕ → Row
+create_queuing_row config seen None size depth direction discipline = Refused NotConfigured
+create_queuing_row config seen (Some named) size depth direction discipline =
+    if seen.created named.id then Refused AlreadyCreated
+    else if not (size == size_of config named.port) then Refused SizeDiffers
+    else if not (depth == depth_of config named.port.channel) then Refused DepthDiffers
+    else if not (direction == number_of named.port.direction) then Refused DirectionDiffers
+    else if nat_lt 1 discipline then Refused UnknownDiscipline
+    else if is_normal seen.mode then Refused CreatedInNormal
+    else Created named.id
 
 -- CREATE_SAMPLING_PORT, of the configured sampling port of the name
-abbrev pub create_sampling_reply : Configuration → History → ℕ → Option NamedPort → ℕ → ℕ → ℕ → Reply
-create_sampling_reply config history partition None size direction refresh = Code InvalidConfig
-create_sampling_reply config history partition (Some named) size direction refresh =
-    if is_created partition named.id history then Code NoAction
-    else if not (size == size_of config named.port) then Code InvalidConfig
-    else if not (direction == number_of named.port.direction) then Code InvalidConfig
-    else if not (refresh == refresh_of_kind named.port.kind) then Code InvalidConfig
-    else if is_normal (mode_of partition history) then Code InvalidMode
-    else Id named.id
+abbrev pub create_sampling_row : Configuration → Seen → Option NamedPort → ℕ → ℕ → ℕ → Row
+create_sampling_row config seen None size direction refresh = Refused NotConfigured
+create_sampling_row config seen (Some named) size direction refresh =
+    if seen.created named.id then Refused AlreadyCreated
+    else if not (size == size_of config named.port) then Refused SizeDiffers
+    else if not (direction == number_of named.port.direction) then Refused DirectionDiffers
+    else if not (refresh == refresh_of_kind named.port.kind) then Refused RefreshDiffers
+    else if is_normal seen.mode then Refused CreatedInNormal
+    else Created named.id
 
 -- GET_QUEUING_PORT_ID and GET_SAMPLING_PORT_ID, of the configured port of the kind and the name
-abbrev pub id_reply : History → ℕ → Option NamedPort → Reply
-id_reply history partition None = Code InvalidConfig
-id_reply history partition (Some named) = if is_created partition named.id history then Id named.id else Code InvalidConfig
+abbrev pub id_row : Seen → Option NamedPort → Row
+id_row seen None = Refused NotCreated
+id_row seen (Some named) = if seen.created named.id then Identified named.id else Refused NotCreated
 
--- ---- queuing ports, created and of this kind
+-- ---- queuing ports, by an identifier with the port that is created and of this kind
 
 -- SEND_QUEUING_MESSAGE
-abbrev pub send_reply : Configuration → History → Option Port → List ℕ → Reply
-send_reply config history None message = Code InvalidParam
-send_reply config history (Some port) message =
-    if length message == 0 then Code InvalidParam
-    else if nat_lt (size_of config port) (length message) then Code InvalidConfig
-    else if not (is_source port.direction) then Code InvalidMode
-    else if length (waiting_on config port.channel history) == depth_of config port.channel then Code NotAvailable
-    else Code NoError
+abbrev pub send_row : Configuration → Seen → ℕ → Option Port → List ℕ → Row
+send_row config seen id None message = Refused NoSuchPort
+send_row config seen id (Some port) message =
+    if length message == 0 then Refused EmptyMessage
+    else if nat_lt (size_of config port) (length message) then Refused MessageTooLong
+    else if not (is_source port.direction) then Refused NotSource
+    else if length (seen.waiting id) == depth_of config port.channel then Refused QueueFull
+    else Sent
 
-abbrev pub oldest_reply : List (List ℕ) → Reply
-oldest_reply [] = Code NotAvailable
-oldest_reply (message ∷ rest) = Received message
+abbrev pub oldest_row : ℕ → List (List ℕ) → Row
+oldest_row id [] = Refused QueueEmpty
+oldest_row id (message ∷ rest) = OldestReceived id
 
 -- RECEIVE_QUEUING_MESSAGE
-abbrev pub receive_reply : Configuration → History → Option Port → Reply
-receive_reply config history None = Code InvalidParam
-receive_reply config history (Some port) =
-    if is_source port.direction then Code InvalidMode
-    else oldest_reply (waiting_on config port.channel history)
+abbrev pub receive_row : Seen → ℕ → Option Port → Row
+receive_row seen id None = Refused NoSuchPort
+receive_row seen id (Some port) = if is_source port.direction then Refused NotDestination else oldest_row id (seen.waiting id)
 
 -- CLEAR_QUEUING_PORT, also where none waits
-abbrev pub clear_reply : Option Port → Reply
-clear_reply None = Code InvalidParam
-clear_reply (Some port) = if is_source port.direction then Code InvalidMode else Code NoError
+abbrev pub clear_row : Option Port → Row
+clear_row None = Refused NoSuchPort
+clear_row (Some port) = if is_source port.direction then Refused NotDestination else Cleared
 
--- GET_QUEUING_PORT_STATUS
-abbrev pub queuing_status_reply : Configuration → History → Option Port → Reply
-queuing_status_reply config history None = Code InvalidParam
-queuing_status_reply config history (Some port) =
-    QueuingStatus (length (waiting_on config port.channel history)) (depth_of config port.channel) (size_of config port) port.direction
-
--- ---- sampling ports, created and of this kind
+-- ---- sampling ports, by an identifier with the port that is created and of this kind
 
 -- WRITE_SAMPLING_MESSAGE
-abbrev pub write_reply : Configuration → Option Port → List ℕ → Reply
-write_reply config None message = Code InvalidParam
-write_reply config (Some port) message =
-    if length message == 0 then Code InvalidParam
-    else if nat_lt (size_of config port) (length message) then Code InvalidConfig
-    else if not (is_source port.direction) then Code InvalidMode
-    else Code NoError
+abbrev pub write_row : Configuration → Option Port → List ℕ → Row
+write_row config None message = Refused NoSuchPort
+write_row config (Some port) message =
+    if length message == 0 then Refused EmptyMessage
+    else if nat_lt (size_of config port) (length message) then Refused MessageTooLong
+    else if not (is_source port.direction) then Refused NotSource
+    else Written
 
-abbrev pub sample_reply : Moment → ℕ → Option Sample → Reply
-sample_reply now refresh None = Code NoAction
-sample_reply now refresh (Some sample) = Read sample.message (validity_at now.0 sample.at.0 refresh)
+abbrev pub last_row : Moment → ℕ → ℕ → Option Sample → Row
+last_row now id refresh None = Refused NeverWritten
+last_row now id refresh (Some sample) = LastRead id (validity_at now.0 sample.at.0 refresh)
 
 -- READ_SAMPLING_MESSAGE
-abbrev pub read_reply : Configuration → History → Moment → Option Port → Reply
-read_reply config history now None = Code InvalidParam
-read_reply config history now (Some port) =
-    if is_source port.direction then Code InvalidMode
-    else sample_reply now (refresh_of_kind port.kind) (last_write_on config port.channel history)
+abbrev pub read_row : Seen → Moment → ℕ → Option Port → Row
+read_row seen now id None = Refused NoSuchPort
+read_row seen now id (Some port) =
+    if is_source port.direction then Refused NotDestination else last_row now id (refresh_of_kind port.kind) (seen.sample id)
 
--- GET_SAMPLING_PORT_STATUS
-abbrev pub sampling_status_reply : Configuration → History → ℕ → ℕ → Option Port → Reply
-sampling_status_reply config history partition id None = Code InvalidParam
-sampling_status_reply config history partition id (Some port) =
-    SamplingStatus (refresh_of_kind port.kind) (size_of config port) port.direction (last_validity_of partition id history)
-
--- the validity that a created sampling port shows as its last; INVALID where there is no such port
-abbrev pub validity_shown : History → ℕ → ℕ → Option Port → Validity
-validity_shown history partition id None = Invalid
-validity_shown history partition id (Some port) = last_validity_of partition id history
+-- GET_QUEUING_PORT_STATUS and GET_SAMPLING_PORT_STATUS: the row of the status, where there is the port
+abbrev pub status_row : Row → Option Port → Row
+status_row status None = Refused NoSuchPort
+status_row status (Some port) = status
 
 -- ---- modes
 
 -- SET_PARTITION_MODE, in the partition's present mode
-abbrev pub set_mode_reply : Mode → Option Mode → Reply
-set_mode_reply present None = Code InvalidParam
-set_mode_reply present (Some Normal) = if is_normal present then Code NoAction else Code NoError
-set_mode_reply present (Some WarmStart) = if is_cold_start present then Code InvalidMode else Code NoError
-set_mode_reply present (Some _) = Code NoError
+abbrev pub set_mode_row : Mode → Option Mode → Row
+set_mode_row present None = Refused UnknownMode
+set_mode_row present (Some Normal) = if is_normal present then Refused AlreadyNormal else ModeSet
+set_mode_row present (Some WarmStart) = if is_cold_start present then Refused WarmStartInColdStart else ModeSet
+set_mode_row present (Some _) = ModeSet
 
 -- ---- every call
 
--- what a partition that isn't in IDLE is answered
-abbrev pub service_reply : Configuration → History → ℕ → Moment → Call → Reply
-service_reply config history p now (call.CreateSampling name size direction refresh) =
-    create_sampling_reply config history p (sampling_named config p name) size direction refresh
-service_reply config history p now (call.WriteSampling id message) = write_reply config (sampling_port config history p id) message
-service_reply config history p now (call.ReadSampling id) = read_reply config history now (sampling_port config history p id)
-service_reply config history p now (call.SamplingId name) =
-    id_reply history p (sampling_named config p name)
-service_reply config history p now (call.SamplingStatus id) =
-    sampling_status_reply config history p id (sampling_port config history p id)
-service_reply config history p now (call.CreateQueuing name size depth direction discipline) =
-    create_queuing_reply config history p (queuing_named config p name) size depth direction discipline
-service_reply config history p now (call.SendQueuing id message) =
-    send_reply config history (queuing_port config history p id) message
-service_reply config history p now (call.ReceiveQueuing id) = receive_reply config history (queuing_port config history p id)
-service_reply config history p now (call.QueuingId name) =
-    id_reply history p (queuing_named config p name)
-service_reply config history p now (call.QueuingStatus id) =
-    queuing_status_reply config history (queuing_port config history p id)
-service_reply config history p now (call.ClearQueuing id) = clear_reply (queuing_port config history p id)
-service_reply config history p now (call.SetMode number) = set_mode_reply (mode_of p history) (mode_numbered number)
+-- the row of a partition that isn't in IDLE
+abbrev pub service_row : Configuration → Seen → ℕ → Moment → Call → Row
+service_row config seen p now (call.CreateSampling name size direction refresh) =
+    create_sampling_row config seen (sampling_named config p name) size direction refresh
+service_row config seen p now (call.WriteSampling id message) = write_row config (sampling_port config seen p id) message
+service_row config seen p now (call.ReadSampling id) = read_row seen now id (sampling_port config seen p id)
+service_row config seen p now (call.SamplingId name) = id_row seen (sampling_named config p name)
+service_row config seen p now (call.SamplingStatus id) = status_row (row.SamplingStatus id) (sampling_port config seen p id)
+service_row config seen p now (call.CreateQueuing name size depth direction discipline) =
+    create_queuing_row config seen (queuing_named config p name) size depth direction discipline
+service_row config seen p now (call.SendQueuing id message) = send_row config seen id (queuing_port config seen p id) message
+service_row config seen p now (call.ReceiveQueuing id) = receive_row seen id (queuing_port config seen p id)
+service_row config seen p now (call.QueuingId name) = id_row seen (queuing_named config p name)
+service_row config seen p now (call.QueuingStatus id) = status_row (row.QueuingStatus id) (queuing_port config seen p id)
+service_row config seen p now (call.ClearQueuing id) = clear_row (queuing_port config seen p id)
+service_row config seen p now (call.SetMode number) = set_mode_row seen.mode (mode_numbered number)
 
 -- in IDLE no service is performed
+abbrev pub row_of : Configuration → Seen → ℕ → Moment → Call → Row
+row_of config seen p now call = if is_idle seen.mode then row.Idle else service_row config seen p now call
+
+-- ---- the reply of a row
+
+abbrev pub oldest_reply : List (List ℕ) → Reply
+oldest_reply [] = reply.Code NotAvailable
+oldest_reply (message ∷ rest) = reply.Received message
+
+abbrev pub last_reply : Validity → Option Sample → Reply
+last_reply validity None = reply.Code NoAction
+last_reply validity (Some sample) = reply.Read sample.message validity
+
+abbrev pub queuing_status_reply : Configuration → Seen → ℕ → Option Port → Reply
+queuing_status_reply config seen id None = reply.Code InvalidParam
+queuing_status_reply config seen id (Some port) =
+    reply.QueuingStatus (length (seen.waiting id)) (depth_of config port.channel) (size_of config port) port.direction
+
+abbrev pub sampling_status_reply : Configuration → Seen → ℕ → Option Port → Reply
+sampling_status_reply config seen id None = reply.Code InvalidParam
+sampling_status_reply config seen id (Some port) =
+    reply.SamplingStatus (refresh_of_kind port.kind) (size_of config port) port.direction (seen.last id)
+
+abbrev pub reply_of : Configuration → Seen → ℕ → Row → Reply
+reply_of config seen p row.Idle = reply.NotMade
+reply_of config seen p (Refused refusal) = reply.Code (code_of refusal)
+reply_of config seen p (Created id) = reply.Id id
+reply_of config seen p (Identified id) = reply.Id id
+reply_of config seen p Sent = reply.Code NoError
+reply_of config seen p (OldestReceived id) = oldest_reply (seen.waiting id)
+reply_of config seen p Cleared = reply.Code NoError
+reply_of config seen p (row.QueuingStatus id) = queuing_status_reply config seen id (queuing_port config seen p id)
+reply_of config seen p Written = reply.Code NoError
+reply_of config seen p (LastRead id validity) = last_reply validity (seen.sample id)
+reply_of config seen p (row.SamplingStatus id) = sampling_status_reply config seen id (sampling_port config seen p id)
+reply_of config seen p ModeSet = reply.Code NoError
+
+-- what is seen, and the call, give the row, and the row the reply
 abbrev pub reply_to : Configuration → History → ℕ → Moment → Call → Reply
-reply_to config history p now call =
-    if is_idle (mode_of p history) then NotMade else service_reply config history p now call
+reply_to config history p now call = reply_of config (seen config history p) p (row_of config (seen config history p) p now call)
+
+-- the reply to a call is its row's, whatever was called before
+abbrev pub RowsReply : Type 0
+RowsReply = (config : Configuration) (history : History) (p : ℕ) (now : Moment) (call : Call) →
+    reply_to config history p now call ≡ reply_of config (seen config history p) p (row_of config (seen config history p) p now call)

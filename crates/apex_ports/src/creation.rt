@@ -2,20 +2,22 @@
 ghost use Rattle.std.specs.Prelude.{◌≡◌, ◌<◌, length, IfOk};
 ghost use Rattle.apex_types.specs.declared.call.Call.TheVariants as call;
 ghost use Rattle.apex_types.specs.declared.moment.Moment.{Moment};
-ghost use Rattle.apex_types.specs.declared.reply.Reply.TheVariants.{Id};
 ghost use Rattle.apex_config.specs.Configuration.{ports_of};
+ghost use Rattle.apex_ports.specs.declared.rows.Row.TheVariants.{Created, Identified};
 ghost use Rattle.apex_ports.specs.Decisions.{Decides};
 ghost use Rattle.apex_ports.specs.History.{entry_of};
 ghost use Rattle.apex_ports.specs.Kept.{IsKept, IsKeptWith};
 ghost use Rattle.apex_ports.specs.Ports.{IsPlace, queuing_named, sampling_named};
-ghost use Rattle.apex_ports.specs.ReplyTable.{create_queuing_reply, create_sampling_reply, id_reply};
+ghost use Rattle.apex_ports.specs.ReplyTable.{create_queuing_row, create_sampling_row, id_row, reply_of};
+ghost use Rattle.apex_ports.specs.Seen.{seen};
 
 use crate::lookup::{queuing_named, sampling_named};
 use crate::modes::is_normal;
 use crate::partition::PortState;
+use crate::rows::Refusal;
 use crate::state::State;
 use apex_config::Config;
-use apex_types::{Name, Reply, ReturnCode, Validity};
+use apex_types::{Name, Reply, Validity};
 use std::alloc::Allocator;
 
 /// What a CREATE_QUEUING_PORT asks of a port: the size in bytes, the depth in messages, and raw numbers.
@@ -45,72 +47,75 @@ const CREATED: PortState = PortState {
 };
 
 impl<A: Allocator> State<A> {
-    // The identifier of the queuing port that the attributes create, or the code that refuses it.
-    fn queuing_to_create(
+    /// The identifier of the queuing port that the attributes create, or why they create none.
+    pub(crate) fn queuing_to_create(
         &self,
         config: &Config,
         partition: usize,
         name: &Name,
         asked: QueuingAttributes,
-    ) -> Result<u32, ReturnCode>
+    ) -> Result<u32, Refusal>
         requires partition { partition < length config.now.partitions }
         requires kept { IsKept config.now self.now.history self.now }
         ensures place { IfOk result (λ id. IsPlace (ports_of config.now partition) id) }
         ensures decided { let named = queuing_named config.now partition name.now in
-            let reply = create_queuing_reply config.now self.now.history partition named
-            asked.size asked.depth asked.direction asked.discipline in
-            Decides reply (λ id. Id id) result }
+            let row = create_queuing_row config.now (seen config.now self.now.history partition)
+            named asked.size asked.depth asked.direction asked.discipline in
+            Decides row (λ id. Created id) result }
     {
         let Some((id, port)) = queuing_named(config, partition, name) else {
-            return Err(ReturnCode::InvalidConfig);
+            return Err(Refusal::NotConfigured);
         };
         let state = &self.partitions[partition];
         let channel = config.channel(port.channel);
         if state.is_created(id) {
-            Err(ReturnCode::NoAction)
-        } else if asked.size != channel.size
-            || asked.depth != channel.kind.depth()
-            || asked.direction != port.direction.number()
-            || asked.discipline > PRIORITY
-        {
-            Err(ReturnCode::InvalidConfig)
+            Err(Refusal::AlreadyCreated)
+        } else if asked.size != channel.size {
+            Err(Refusal::SizeDiffers)
+        } else if asked.depth != channel.kind.depth() {
+            Err(Refusal::DepthDiffers)
+        } else if asked.direction != port.direction.number() {
+            Err(Refusal::DirectionDiffers)
+        } else if asked.discipline > PRIORITY {
+            Err(Refusal::UnknownDiscipline)
         } else if is_normal(state.mode) {
-            Err(ReturnCode::InvalidMode)
+            Err(Refusal::CreatedInNormal)
         } else {
             Ok(id)
         }
     }
 
-    // The identifier of the sampling port that the attributes create, or the code that refuses it.
-    fn sampling_to_create(
+    /// The identifier of the sampling port that the attributes create, or why they create none.
+    pub(crate) fn sampling_to_create(
         &self,
         config: &Config,
         partition: usize,
         name: &Name,
         asked: SamplingAttributes,
-    ) -> Result<u32, ReturnCode>
+    ) -> Result<u32, Refusal>
         requires partition { partition < length config.now.partitions }
         requires kept { IsKept config.now self.now.history self.now }
         ensures place { IfOk result (λ id. IsPlace (ports_of config.now partition) id) }
         ensures decided { let named = sampling_named config.now partition name.now in
-            let reply = create_sampling_reply config.now self.now.history partition named
-            asked.size asked.direction asked.refresh in
-            Decides reply (λ id. Id id) result }
+            let row = create_sampling_row config.now (seen config.now self.now.history partition)
+            named asked.size asked.direction asked.refresh in
+            Decides row (λ id. Created id) result }
     {
         let Some((id, port)) = sampling_named(config, partition, name) else {
-            return Err(ReturnCode::InvalidConfig);
+            return Err(Refusal::NotConfigured);
         };
         let state = &self.partitions[partition];
         let channel = config.channel(port.channel);
         if state.is_created(id) {
-            Err(ReturnCode::NoAction)
-        } else if asked.size != channel.size
-            || asked.direction != port.direction.number()
-            || asked.refresh != port.kind.refresh()
-        {
-            Err(ReturnCode::InvalidConfig)
+            Err(Refusal::AlreadyCreated)
+        } else if asked.size != channel.size {
+            Err(Refusal::SizeDiffers)
+        } else if asked.direction != port.direction.number() {
+            Err(Refusal::DirectionDiffers)
+        } else if asked.refresh != port.kind.refresh() {
+            Err(Refusal::RefreshDiffers)
         } else if is_normal(state.mode) {
-            Err(ReturnCode::InvalidMode)
+            Err(Refusal::CreatedInNormal)
         } else {
             Ok(id)
         }
@@ -127,8 +132,10 @@ impl<A: Allocator> State<A> {
         requires partition { partition < length config.now.partitions }
         requires kept { IsKept config.now self.old.history self.old }
         ensures reply { let named = queuing_named config.now partition name.now in
-            result ≡ create_queuing_reply config.now self.old.history partition named
-            asked.size asked.depth asked.direction asked.discipline }
+            let here = seen config.now self.old.history partition in
+            result ≡ reply_of config.now here partition
+            (create_queuing_row config.now here named
+            asked.size asked.depth asked.direction asked.discipline) }
         ensures kept { (at : Moment) →
             let asking = call.CreateQueuing name.now
             asked.size asked.depth asked.direction asked.discipline in
@@ -140,7 +147,7 @@ impl<A: Allocator> State<A> {
                 self.partitions[partition].set_port(id, CREATED);
                 Reply::Id(id)
             }
-            Err(code) => Reply::Code(code),
+            Err(refusal) => Reply::Code(refusal.code()),
         }
     }
 
@@ -155,8 +162,10 @@ impl<A: Allocator> State<A> {
         requires partition { partition < length config.now.partitions }
         requires kept { IsKept config.now self.old.history self.old }
         ensures reply { let named = sampling_named config.now partition name.now in
-            result ≡ create_sampling_reply config.now self.old.history partition named
-            asked.size asked.direction asked.refresh }
+            let here = seen config.now self.old.history partition in
+            result ≡ reply_of config.now here partition
+            (create_sampling_row config.now here named
+            asked.size asked.direction asked.refresh) }
         ensures kept { (at : Moment) →
             let asking = call.CreateSampling name.now asked.size asked.direction asked.refresh in
             IsKeptWith config.now self.old (entry_of partition at asking result) self.new }
@@ -167,33 +176,45 @@ impl<A: Allocator> State<A> {
                 self.partitions[partition].set_port(id, CREATED);
                 Reply::Id(id)
             }
-            Err(code) => Reply::Code(code),
+            Err(refusal) => Reply::Code(refusal.code()),
         }
     }
 
     /// GET_QUEUING_PORT_ID.
-    pub(crate) fn queuing_id(&self, config: &Config, partition: usize, name: &Name) -> Reply
+    pub(crate) fn queuing_id(
+        &self,
+        config: &Config,
+        partition: usize,
+        name: &Name,
+    ) -> Result<u32, Refusal>
         requires partition { partition < length config.now.partitions }
         requires kept { IsKept config.now self.now.history self.now }
         ensures { let named = queuing_named config.now partition name.now in
-            result ≡ id_reply self.now.history partition named }
+            Decides (id_row (seen config.now self.now.history partition) named)
+            (λ id. Identified id) result }
     {
         match queuing_named(config, partition, name) {
-            Some((id, _)) if self.partitions[partition].is_created(id) => Reply::Id(id),
-            _ => Reply::Code(ReturnCode::InvalidConfig),
+            Some((id, _)) if self.partitions[partition].is_created(id) => Ok(id),
+            _ => Err(Refusal::NotCreated),
         }
     }
 
     /// GET_SAMPLING_PORT_ID.
-    pub(crate) fn sampling_id(&self, config: &Config, partition: usize, name: &Name) -> Reply
+    pub(crate) fn sampling_id(
+        &self,
+        config: &Config,
+        partition: usize,
+        name: &Name,
+    ) -> Result<u32, Refusal>
         requires partition { partition < length config.now.partitions }
         requires kept { IsKept config.now self.now.history self.now }
         ensures { let named = sampling_named config.now partition name.now in
-            result ≡ id_reply self.now.history partition named }
+            Decides (id_row (seen config.now self.now.history partition) named)
+            (λ id. Identified id) result }
     {
         match sampling_named(config, partition, name) {
-            Some((id, _)) if self.partitions[partition].is_created(id) => Reply::Id(id),
-            _ => Reply::Code(ReturnCode::InvalidConfig),
+            Some((id, _)) if self.partitions[partition].is_created(id) => Ok(id),
+            _ => Err(Refusal::NotCreated),
         }
     }
 }

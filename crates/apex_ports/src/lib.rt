@@ -12,6 +12,7 @@ mod partition;
 mod past;
 pub mod ports;
 mod queuing;
+pub mod rows;
 pub mod rules;
 pub mod run_fault;
 mod sampling;
@@ -21,5 +22,6 @@ mod state;
 
 pub use crate::history::{Entry, Request};
 pub use crate::ports::Ports;
+pub use crate::rows::{Refusal, Row};
 pub use crate::run_fault::RunFault;
 pub use crate::script::Script;

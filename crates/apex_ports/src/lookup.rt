@@ -3,7 +3,8 @@ ghost use Rattle.std.specs.Prelude.{◌≡◌, ◌<◌, true, false, length, Som
 ghost use Rattle.std.specs.Option.{option_copied};
 ghost use Rattle.apex_config.specs.Configuration.{port_of, ports_of, is_queuing_port};
 ghost use Rattle.apex_ports.specs.Kept.{IsKept};
-ghost use Rattle.apex_ports.specs.Ports.{IsPlace, is_queuing, queuing_only, created_port, queuing_port, sampling_port, queuing_named, sampling_named};
+ghost use Rattle.apex_ports.specs.Ports.{IsPlace, is_queuing, queuing_only, queuing_named, sampling_named};
+ghost use Rattle.apex_ports.specs.Seen.{seen, created_port, queuing_port, sampling_port};
 
 use crate::state::State;
 use apex_config::{Config, Port, PortKind};
@@ -15,8 +16,8 @@ impl<A: Allocator> State<A> {
     fn created_port<'a>(&self, config: &'a Config, partition: usize, id: u32) -> Option<&'a Port>
         requires partition { partition < length config.now.partitions }
         requires kept { IsKept config.now self.now.history self.now }
-        ensures port { option_copied result
-            ≡ created_port config.now self.now.history partition id }
+        ensures port { let here = seen config.now self.now.history partition in
+            option_copied result ≡ created_port config.now here partition id }
         ensures configured { IfSome result
             (λ port. port_of config.now partition id ≡ Some port.now) }
         ensures linked { IfSome result (λ port. port.now.channel < length config.now.channels) }
@@ -39,8 +40,8 @@ impl<A: Allocator> State<A> {
     ) -> Option<&'a Port>
         requires partition { partition < length config.now.partitions }
         requires kept { IsKept config.now self.now.history self.now }
-        ensures port { option_copied result
-            ≡ queuing_port config.now self.now.history partition id }
+        ensures port { let here = seen config.now self.now.history partition in
+            option_copied result ≡ queuing_port config.now here partition id }
         ensures configured { IfSome result
             (λ port. port_of config.now partition id ≡ Some port.now) }
         ensures queuing { IfSome result
@@ -64,8 +65,8 @@ impl<A: Allocator> State<A> {
     ) -> Option<&'a Port>
         requires partition { partition < length config.now.partitions }
         requires kept { IsKept config.now self.now.history self.now }
-        ensures port { option_copied result
-            ≡ sampling_port config.now self.now.history partition id }
+        ensures port { let here = seen config.now self.now.history partition in
+            option_copied result ≡ sampling_port config.now here partition id }
         ensures kind { IfSome result (λ port. is_queuing config.now port.now.channel ≡ false) }
         ensures configured { IfSome result
             (λ port. port_of config.now partition id ≡ Some port.now) }

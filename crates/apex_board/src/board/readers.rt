@@ -15,8 +15,9 @@ impl<A: Allocator> Board<A> {
     ghost use Rattle.apex_ports.specs.Interference.{IsFreeFromInterference};
     ghost use Rattle.apex_ports.specs.Lawful.{IsLawful};
     ghost use Rattle.apex_ports.specs.Modes.{mode_of};
-    ghost use Rattle.apex_ports.specs.Ports.{is_created, is_queuing, sampling_port};
-    ghost use Rattle.apex_ports.specs.ReplyTable.{depth_of, validity_shown};
+    ghost use Rattle.apex_ports.specs.Ports.{is_created, is_queuing};
+    ghost use Rattle.apex_ports.specs.ReplyTable.{depth_of};
+    ghost use Rattle.apex_ports.specs.Seen.{seen, sampling_port, validity_shown};
 
     /// The ports alone: the configuration, and the history that the log has.
     pub fn ports(&self) -> &Ports<A>
@@ -123,8 +124,8 @@ impl<A: Allocator> Board<A> {
     /// What the last read of a created sampling port showed since the port's creation; INVALID for any other identifier.
     pub fn last_validity(&self, p: usize, id: u32) -> Validity
         requires { p < length self.now.config.partitions }
-        ensures { let port = sampling_port self.now.config self.now.log p id in
-            result ≡ validity_shown self.now.log p id port }
+        ensures { let here = seen self.now.config self.now.log p in
+            result ≡ validity_shown here id (sampling_port self.now.config here p id) }
     {
         self.ports.last_validity(p, id)
     }

@@ -3,8 +3,9 @@ ghost use Rattle.std.specs.Prelude.{◌≡◌, [], ◌<◌, ◌≤◌, ◌++◌,
 ghost use Rattle.std.specs.Option.{option_copied};
 
 use crate::ports::Ports;
+use crate::rows::Row;
 use apex_config::Config;
-use apex_types::{Call, Message, Mode, Sample, Validity};
+use apex_types::{Call, Message, Mode, Moment, Sample, Validity};
 use std::alloc::Allocator;
 
 impl<A: Allocator> Ports<A> {
@@ -12,9 +13,10 @@ impl<A: Allocator> Ports<A> {
     ghost use Rattle.apex_ports.specs.Counts.{count_of};
     ghost use Rattle.apex_ports.specs.History.{entries_of};
     ghost use Rattle.apex_ports.specs.Modes.{mode_of};
-    ghost use Rattle.apex_ports.specs.Ports.{is_created, is_queuing, sampling_port};
-    ghost use Rattle.apex_ports.specs.ReplyTable.{validity_shown};
+    ghost use Rattle.apex_ports.specs.Ports.{is_created, is_queuing};
+    ghost use Rattle.apex_ports.specs.ReplyTable.{row_of};
     ghost use Rattle.apex_ports.specs.Rules.{IsConserved};
+    ghost use Rattle.apex_ports.specs.Seen.{seen, sampling_port, validity_shown};
     ghost use Rattle.apex_ports.specs.Sound.{IsSound};
     ghost use Rattle.apex_ports.specs.Writes.{Writes, WritesNothing};
 
@@ -42,6 +44,15 @@ impl<A: Allocator> Ports<A> {
         self.calls[p]
     }
 
+    /// The row of the reply table that a call of partition `p` would get at the moment. The call isn't made.
+    pub fn row(&self, p: usize, at: Moment, call: &Call) -> Row
+        requires { p < length self.now.config.partitions }
+        ensures { let here = seen self.now.config self.now.history p in
+            result ≡ row_of self.now.config here p at call.now }
+    {
+        self.state.row(&self.config, p, at, call)
+    }
+
     /// The sampling channel that a call of partition `p` would write into, with the message. `None` where the
     /// call would write nothing. That doesn't turn on the call's moment.
     pub fn write_of<'a>(&self, p: usize, call: &'a Call) -> Option<(usize, &'a Message)>
@@ -67,8 +78,8 @@ impl<A: Allocator> Ports<A> {
     /// other identifier.
     pub fn last_validity(&self, p: usize, id: u32) -> Validity
         requires { p < length self.now.config.partitions }
-        ensures { let port = sampling_port self.now.config self.now.history p id in
-            result ≡ validity_shown self.now.history p id port }
+        ensures { let here = seen self.now.config self.now.history p in
+            result ≡ validity_shown here id (sampling_port self.now.config here p id) }
     {
         match self.state.sampling_port(&self.config, p, id) {
             Some(_) => self.state.partitions[p].last_validity(id),

@@ -1,8 +1,8 @@
+use Rattle.std.proofs.Common.{refl}
 use Rattle.apex_ports.proofs.Lookups.{partition_at}
 use Rattle.apex_ports.proofs.PartitionSteps.{created_keeps}
 use Rattle.apex_ports.proofs.Stays.{quiet_keeps, refused_is_quiet}
 use Rattle.apex_ports.proofs.state.State.create_queuing.Goals as goal
-use Rattle.std.proofs.Common.{refl}
 
 pub returns-in-Ok-clause-kept : goal.returns-in-Ok-clause-kept
 returns-in-Ok-clause-kept g c at =
@@ -11,4 +11,4 @@ returns-in-Ok-clause-kept g c at =
 
 pub returns-in-Err-clause-kept : goal.returns-in-Err-clause-kept
 returns-in-Err-clause-kept g c at =
-    quiet_keeps _ _ _ _ _ at _ _ c.requires.kept (refused_is_quiet _ _ c.in-Err.ensures.decided.1)
+    quiet_keeps _ _ _ _ _ at _ _ c.requires.kept (refused_is_quiet _ _ c.code.ensures.refused)

@@ -2,7 +2,6 @@ use Rattle.std.proofs.Common.{rules, ◌≡◌, true, false, sym, ◌∙◌}
 use Rattle.apex_ports.specs.Ports.{is_created}
 use Rattle.apex_ports.proofs.Lookups.{partition_at}
 use Rattle.apex_ports.proofs.state.State.queuing_id.Goals as goal
-use Rattle.apex_ports.proofs.state.State.queuing_id.Goals.{in_default-via-in-Some+else-is_created, in_default-via-in_default}
 
 pub returns-in-Some : goal.returns-in-Some
 returns-in-Some g c =
@@ -12,10 +11,6 @@ returns-in-Some g c =
 
 pub returns-in_default : goal.returns-in_default
 returns-in_default g c =
-    elim c.in_default.branch [
-      | in_default-via-in-Some+else-is_created w ↦
-          let state = partition_at _ _ _ _ c.requires.kept c.args.partition w.index.result.now c.requires.partition w.index.ensures in
-          let not_made : is_created c.args.partition w.in-Some.id c.args.self.now.history ≡ false = sym (state.created w.in-Some.id) ∙ (sym w.is_created.ensures ∙ w.if-is_created.false) in
-          search rules
-      | in_default-via-in_default w ↦ search rules
-    ]
+    let state = partition_at _ _ _ _ c.requires.kept c.args.partition c.index.result.now c.requires.partition c.index.ensures in
+    let not_made : is_created c.args.partition c.in-Some.id c.args.self.now.history ≡ false = sym (state.created c.in-Some.id) ∙ (sym c.is_created.ensures ∙ c.if-is_created.false) in
+    search rules

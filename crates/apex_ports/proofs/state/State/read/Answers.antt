@@ -6,7 +6,7 @@ use Rattle.apex_ports.proofs.state.State.read.Goals as goal
 
 pub returns-in-Err-clause-kept : goal.returns-in-Err-clause-kept
 returns-in-Err-clause-kept g c =
-    rw c.put_code.ensures (quiet_keeps _ _ _ _ _ c.args.at _ _ c.requires.kept (refused_is_quiet _ _ c.in-Err.ensures.decided.1))
+    rw c.put_refusal.ensures.code (quiet_keeps _ _ _ _ _ c.args.at _ _ c.requires.kept (refused_is_quiet _ _ c.put_refusal.ensures.refused))
 
 pub set_port-requires-clause-last : goal.set_port-requires-clause-last
 set_port-requires-clause-last g c =

@@ -15,7 +15,7 @@ receive-requires g c =
 pub returns-in-Ok-clause-reply : goal.returns-in-Ok-clause-reply
 returns-in-Ok-clause-reply g c =
     let was = channel_at _ _ _ _ c.requires.kept _ _ c.in-Ok.ensures.channel c.index_mut.ensures.value in
-    c.receive.ensures.reply ∙ (ap oldest_reply was.waiting ∙ sym c.in-Ok.ensures.decided)
+    rw c.in-Ok.ensures.decided (c.receive.ensures.reply ∙ ap oldest_reply (was.waiting ∙ sym c.in-Ok.ensures.waiting))
 
 pub returns-in-Ok-clause-kept : goal.returns-in-Ok-clause-kept
 returns-in-Ok-clause-kept g c at =
@@ -29,4 +29,4 @@ returns-in-Ok-clause-kept g c at =
 
 pub returns-in-Err-clause-kept : goal.returns-in-Err-clause-kept
 returns-in-Err-clause-kept g c at =
-    rw c.put_code.ensures (quiet_keeps _ _ _ _ _ at _ _ c.requires.kept (refused_is_quiet _ _ c.in-Err.ensures.decided.1))
+    rw c.put_refusal.ensures.code (quiet_keeps _ _ _ _ _ at _ _ c.requires.kept (refused_is_quiet _ _ c.put_refusal.ensures.refused))

@@ -15,5 +15,11 @@ returns-clause-decided g c =
     let last : last_write_on c.args.config.now c.in-Some.port.now.channel c.args.self.now.history ≡ Some c.in-Some-sample.sample.now = sym state.sample ∙ sym c.in-Some-sample.ensures in
     search rules
 
+pub returns-clause-message : goal.returns-clause-message
+returns-clause-message g c =
+    let state = channel_at _ _ _ _ c.requires.kept _ _ c.in-Some.ensures.linked c.index.ensures in
+    let last : last_write_on c.args.config.now c.in-Some.port.now.channel c.args.self.now.history ≡ Some c.in-Some-sample.sample.now = sym state.sample ∙ sym c.in-Some-sample.ensures in
+    search rules
+
 pub returns-clause-place : goal.returns-clause-place
 returns-clause-place g c = is_place c.args.config.now c.args.partition c.args.id c.in-Some.port.now c.in-Some.ensures.configured

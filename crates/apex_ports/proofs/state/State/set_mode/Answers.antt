@@ -1,7 +1,3 @@
-use Rattle.std.proofs.Common.{sym, ap, ◌∙◌}
-use Rattle.apex_types.specs.Mode.{mode_numbered}
-use Rattle.apex_types.specs.declared.mode.Mode.{Mode}
-use Rattle.apex_ports.specs.ReplyTable.{set_mode_reply}
 use Rattle.apex_ports.proofs.Lookups.{partition_at}
 use Rattle.apex_ports.proofs.PartitionSteps.{mode_set_keeps}
 use Rattle.apex_ports.proofs.Stays.{quiet_keeps, refused_is_quiet}
@@ -12,11 +8,6 @@ returns-in-Ok-clause-kept g c at =
     let was = partition_at _ _ _ _ c.requires.kept c.args.partition c.index_mut.result.now c.requires.partition c.index_mut.ensures.value in
     mode_set_keeps _ _ _ _ c.args.partition at c.args.number c.in-Ok.mode c.index_mut.result.now c.set_mode.new.self c.requires.kept was c.in-Ok.ensures.mode c.set_mode.ensures.mode c.set_mode.ensures.count c.set_mode.ensures.restart c.set_mode.ensures.stay c.set_mode.ensures.last
 
-pub returns-in-Err-clause-reply : goal.returns-in-Err-clause-reply
-returns-in-Err-clause-reply g c =
-    let was = partition_at _ _ _ _ c.requires.kept c.args.partition c.index.result.now c.requires.partition c.index.ensures in
-    sym c.in-Err.ensures.decided.0 ∙ ap (λ (mode : Mode). set_mode_reply mode (mode_numbered c.args.number)) was.mode
-
 pub returns-in-Err-clause-kept : goal.returns-in-Err-clause-kept
 returns-in-Err-clause-kept g c at =
-    quiet_keeps _ _ _ _ _ at _ _ c.requires.kept (refused_is_quiet _ _ c.in-Err.ensures.decided.1)
+    quiet_keeps _ _ _ _ _ at _ _ c.requires.kept (refused_is_quiet _ _ c.code.ensures.refused)

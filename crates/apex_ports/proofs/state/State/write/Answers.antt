@@ -11,4 +11,4 @@ returns-in-Ok-clause-kept g c =
 
 pub returns-in-Err-clause-kept : goal.returns-in-Err-clause-kept
 returns-in-Err-clause-kept g c =
-    rw c.put_code-in-Err.ensures (quiet_keeps _ _ _ _ _ c.args.at _ _ c.requires.kept (refused_is_quiet _ _ c.in-Err.ensures.decided.1))
+    rw c.put_refusal.ensures.code (quiet_keeps _ _ _ _ _ c.args.at _ _ c.requires.kept (refused_is_quiet _ _ c.put_refusal.ensures.refused))
