@@ -13,6 +13,5 @@ pub mod opening;
 pub mod queuing;
 pub mod readers;
 pub mod sampling;
-
 #[cfg(test)]
 mod tests;
