@@ -11,4 +11,5 @@ mod ports;
 mod refused_lists;
 mod refused_memory;
 mod rounds;
+mod rows;
 mod texts;

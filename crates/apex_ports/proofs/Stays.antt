@@ -9,7 +9,7 @@ use Rattle.apex_config.specs.Configuration.{Configuration}
 use Rattle.apex_types.specs.declared.call.Call.{Call}
 use Rattle.apex_types.specs.declared.moment.Moment.{Moment}
 use Rattle.apex_types.specs.declared.reply.Reply.{Reply}
-use Rattle.apex_types.specs.declared.reply.Reply.TheVariants.{Code, Id, NotMade}
+use Rattle.apex_types.specs.declared.reply.Reply.TheVariants.{Code, NotMade}
 use Rattle.apex_types.specs.declared.return_code.ReturnCode.{ReturnCode}
 use Rattle.apex_types.specs.declared.return_code.ReturnCode.TheVariants.{InvalidParam, InvalidConfig}
 use Rattle.apex_config.specs.declared.port.Port.{Port}

@@ -13,13 +13,13 @@ use Rattle.apex_types.specs.declared.reply.Reply.TheVariants as reply
 use Rattle.apex_types.specs.declared.return_code.ReturnCode.TheVariants.{NoError, NoAction, NotAvailable, InvalidParam}
 use Rattle.apex_types.specs.declared.sample.Sample.{Sample}
 use Rattle.apex_types.specs.declared.validity.Validity.{Validity}
-use Rattle.apex_config.specs.Configuration.{Configuration, port_of, channel_of, depth_of_kind, refresh_of_kind}
+use Rattle.apex_config.specs.Configuration.{Configuration, channel_of, depth_of_kind, refresh_of_kind}
 use Rattle.apex_config.specs.declared.channel.Channel.{Channel}
 use Rattle.apex_config.specs.declared.port.Port.{Port}
 use Rattle.apex_ports.specs.declared.rows.Row.{Row}
 use Rattle.apex_ports.specs.declared.rows.Row.TheVariants as row
 use Rattle.apex_ports.specs.declared.rows.Row.TheVariants.{Refused, Created, Identified, Sent, OldestReceived, Cleared, Written, LastRead, ModeSet}
-use Rattle.apex_ports.specs.declared.rows.Refusal.TheVariants.{NotConfigured, AlreadyCreated, SizeDiffers, DepthDiffers, DirectionDiffers, RefreshDiffers, UnknownDiscipline, CreatedInNormal, NotCreated, NoSuchPort, EmptyMessage, MessageTooLong, NotSource, NotDestination, QueueFull, QueueEmpty, NeverWritten, UnknownMode, AlreadyNormal, WarmStartInColdStart}
+use Rattle.apex_ports.specs.declared.rows.Refusal.TheVariants.{NotConfigured, AlreadyCreated, SizeDiffers, DepthDiffers, DirectionDiffers, RefreshDiffers, UnknownDiscipline, InNormal, NotCreated, NoSuchPort, EmptyMessage, MessageTooLong, NotSource, NotDestination, QueueFull, QueueEmpty, NeverWritten, UnknownMode, AlreadyNormal, WarmStartInColdStart}
 use Rattle.apex_ports.specs.History.{History}
 use Rattle.apex_ports.specs.Modes.{is_idle, is_normal, is_cold_start}
 use Rattle.apex_ports.specs.Ports.{is_source, NamedPort, queuing_named, sampling_named}
@@ -55,7 +55,7 @@ create_queuing_row config seen (Some named) size depth direction discipline =
     else if not (depth == depth_of config named.port.channel) then Refused DepthDiffers
     else if not (direction == number_of named.port.direction) then Refused DirectionDiffers
     else if nat_lt 1 discipline then Refused UnknownDiscipline
-    else if is_normal seen.mode then Refused CreatedInNormal
+    else if is_normal seen.mode then Refused InNormal
     else Created named.id
 
 -- CREATE_SAMPLING_PORT, of the configured sampling port of the name
@@ -66,7 +66,7 @@ create_sampling_row config seen (Some named) size direction refresh =
     else if not (size == size_of config named.port) then Refused SizeDiffers
     else if not (direction == number_of named.port.direction) then Refused DirectionDiffers
     else if not (refresh == refresh_of_kind named.port.kind) then Refused RefreshDiffers
-    else if is_normal seen.mode then Refused CreatedInNormal
+    else if is_normal seen.mode then Refused InNormal
     else Created named.id
 
 -- GET_QUEUING_PORT_ID and GET_SAMPLING_PORT_ID, of the configured port of the kind and the name

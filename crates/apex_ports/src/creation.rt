@@ -79,7 +79,7 @@ impl<A: Allocator> State<A> {
         } else if asked.discipline > PRIORITY {
             Err(Refusal::UnknownDiscipline)
         } else if is_normal(state.mode) {
-            Err(Refusal::CreatedInNormal)
+            Err(Refusal::InNormal)
         } else {
             Ok(id)
         }
@@ -115,7 +115,7 @@ impl<A: Allocator> State<A> {
         } else if asked.refresh != port.kind.refresh() {
             Err(Refusal::RefreshDiffers)
         } else if is_normal(state.mode) {
-            Err(Refusal::CreatedInNormal)
+            Err(Refusal::InNormal)
         } else {
             Ok(id)
         }

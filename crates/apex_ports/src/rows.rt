@@ -51,8 +51,8 @@ pub enum Refusal {
     RefreshDiffers,
     /// The queuing discipline is neither FIFO nor PRIORITY.
     UnknownDiscipline,
-    /// Ports aren't created in NORMAL.
-    CreatedInNormal,
+    /// The partition is in NORMAL, where no port is created.
+    InNormal,
     /// The partition has created no port of the kind and the name.
     NotCreated,
     /// The partition has created no port of the kind and the identifier.
@@ -93,7 +93,7 @@ impl Refusal {
             Refusal::NoSuchPort | Refusal::EmptyMessage | Refusal::UnknownMode => {
                 ReturnCode::InvalidParam
             }
-            Refusal::CreatedInNormal
+            Refusal::InNormal
             | Refusal::NotSource
             | Refusal::NotDestination
             | Refusal::WarmStartInColdStart => ReturnCode::InvalidMode,
