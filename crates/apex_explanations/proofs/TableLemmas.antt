@@ -1,29 +1,26 @@
 -- The lines of the table of ports, one after the other.
-use Rattle.std.proofs.Common.{◌≡◌, ℕ, suc, ◌+◌, ◌<◌, ◌≤◌, List, [], ◌∷◌, ◌++◌, length, drop, Option, Some, None, codes, sym, ap, ◌∙◌, append_assoc, add-one, refl}
+use Rattle.std.proofs.Common.{◌≡◌, ℕ, ◌+◌, ◌<◌, ◌≤◌, List, [], ◌++◌, length, drop, Option, Some, None, codes, sym, ap, ◌∙◌, append_assoc, add-one, refl}
 use Rattle.std.specs.Prelude.{slice_get, option_map, unwrap_or}
-use Rattle.std.proofs.Math.Seq.{drop-cons}
 use Rattle.std.proofs.Math.ListN.{drop_of_length-le}
-use Rattle.std.proofs.lemmas.Option.{slice_get-get_or, slice_get_within, get_or_from_slice_get}
+use Rattle.std.proofs.lemmas.Option.{slice_get-get_or}
 use Rattle.apex_config.specs.Configuration.{Configuration, PartitionData, ports_of, port_at, channel_of, partition_name_of}
 use Rattle.apex_config.specs.declared.channel.Channel.{Channel}
 use Rattle.apex_config.specs.declared.port.Port.{Port}
 use Rattle.apex_config.proofs.WithoutFault.{port_at_suc}
 use Rattle.apex_texts.specs.Report.{name_of_partition}
+use Rattle.apex_texts.proofs.ReportLemmas.{drop_at}
 use Rattle.apex_explanations.specs.PortTable.{partner_text, partners_in, partners_text, port_line, port_lines, partition_text, partition_texts}
-
-pub drop_at : {X : Type 0} (xs : List X) (i : ℕ) (x : X) → slice_get xs i ≡ Some x → drop i xs ≡ x ∷ drop (i + 1) xs
-drop_at xs i x is = rw add-one (drop-cons xs i x (slice_get_within xs i x is) ∙ ap (λ y. y ∷ drop (suc i) xs) (get_or_from_slice_get xs i x x is))
 
 -- ---- partners
 
-pub partner_cut : (port : Port) (name : List ℕ) (ports : List Port) (place : ℕ) (other : Port) → slice_get ports place ≡ Some other
-    → partners_in port name (drop place ports) ≡ partner_text port name other ++ partners_in port name (drop (place + 1) ports)
+pub partner_cut : (port : Port) (name : List ℕ) (ports : List Port) (index : ℕ) (other : Port) → slice_get ports index ≡ Some other
+    → partners_in port name (drop index ports) ≡ partner_text port name other ++ partners_in port name (drop (index + 1) ports)
 unfolding partners_in
-partner_cut port name ports place other is = rw (drop_at ports place other is) refl
+partner_cut port name ports index other is = rw (drop_at ports index other is) refl
 
-pub partner_end : (port : Port) (name : List ℕ) (ports : List Port) (place : ℕ) → length ports ≤ place → partners_in port name (drop place ports) ≡ []
+pub partner_end : (port : Port) (name : List ℕ) (ports : List Port) (index : ℕ) → length ports ≤ index → partners_in port name (drop index ports) ≡ []
 unfolding partners_in
-partner_end port name ports place past = rw (drop_of_length-le ports past) refl
+partner_end port name ports index past = rw (drop_of_length-le ports past) refl
 
 partners_by : (port : Port) (config : Configuration) (p : ℕ) (found : Option PartitionData) → slice_get config.partitions p ≡ found → p < length config.partitions
     → partners_text port (drop p config.partitions) ≡ partners_in port (name_of_partition config p) (ports_of config p) ++ partners_text port (drop (p + 1) config.partitions)
@@ -43,14 +40,14 @@ partners_end port partitions p past = rw (drop_of_length-le partitions past) ref
 
 -- ---- ports
 
-pub port_cut : (config : Configuration) (ports : List Port) (place : ℕ) (port : Port) (channel : Channel) → slice_get ports place ≡ Some port → channel_of config port.channel ≡ Some channel
-    → port_lines config (place + 1) (drop place ports) ≡ port_line config (place + 1) port channel ++ port_lines config (place + 1 + 1) (drop (place + 1) ports)
+pub port_cut : (config : Configuration) (ports : List Port) (index : ℕ) (port : Port) (channel : Channel) → slice_get ports index ≡ Some port → channel_of config port.channel ≡ Some channel
+    → port_lines config (index + 1) (drop index ports) ≡ port_line config (index + 1) port channel ++ port_lines config (index + 1 + 1) (drop (index + 1) ports)
 unfolding port_lines
-port_cut config ports place port channel is found = rw (drop_at ports place port is, found) refl
+port_cut config ports index port channel is found = rw (drop_at ports index port is, found) refl
 
-pub port_end : (config : Configuration) (ports : List Port) (place : ℕ) → length ports ≤ place → port_lines config (place + 1) (drop place ports) ≡ []
+pub port_end : (config : Configuration) (ports : List Port) (index : ℕ) → length ports ≤ index → port_lines config (index + 1) (drop index ports) ≡ []
 unfolding port_lines
-port_end config ports place past = rw (drop_of_length-le ports past) refl
+port_end config ports index past = rw (drop_of_length-le ports past) refl
 
 -- ---- partitions
 
@@ -70,10 +67,10 @@ pub partition_end : (config : Configuration) (p : ℕ) → length config.partiti
 unfolding partition_texts
 partition_end config p past = rw (drop_of_length-le config.partitions past) refl
 
--- ---- the port at a place
+-- ---- the port at a index
 
-pub port_at_place : (ports : List Port) (place : ℕ) (port : Port) → port_at ports (place + 1) ≡ Some port → slice_get ports place ≡ Some port
-port_at_place ports place port is = sym (port_at_suc ports place) ∙ rw (← add-one) is
+pub port_at_index : (ports : List Port) (index : ℕ) (port : Port) → port_at ports (index + 1) ≡ Some port → slice_get ports index ≡ Some port
+port_at_index ports index port is = sym (port_at_suc ports index) ∙ rw (← add-one) is
 
 pub named : (config : Configuration) (p : ℕ) (name : List ℕ) → partition_name_of config p ≡ Some name → name ≡ name_of_partition config p
 named config p name is = ap (λ (found : Option (List ℕ)). unwrap_or found []) (sym is)

@@ -2,7 +2,6 @@
 use Rattle.std.specs.Prelude.{ℕ, ◌+◌, List, [], ◌∷◌, ◌++◌, length, codes, decimal, Option, Some, None, Result, Ok, Err, IsOk}
 use Rattle.std.specs.List.{before_first, after_first}
 use Rattle.std.specs.Str.Lines.{lines}
-use Rattle.apex_types.specs.declared.reply.Reply.{Reply}
 use Rattle.apex_config.specs.Configuration.{Configuration}
 use Rattle.apex_ports.specs.declared.history.Request.{Request}
 use Rattle.apex_texts.specs.declared.line_fault.LineFault.{LineFault}

@@ -31,8 +31,8 @@ pub struct Explanation {
     pub fault: Option<TraceFault>,
 }
 
-/// Explains a trace: each line beside its reply, and then the remarks; or up to the first faulty line, with its fault.
-/// Each line is read, served, noted and written before the next one.
+/// Explains a trace: each line beside its reply, and then the remarks; or up to the first faulty
+/// line, with its fault. Each line is read, served, noted and written before the next one.
 pub fn explain_trace(alloc: Global, config: Config, trace: &[u8]) -> Result<Explanation, Fault>
     ensures text { IfOk result (λ told. told.text.items ≡ explanation_of config trace.now) }
     ensures fault { IfOk result (λ told. IsFaultOf (trace_of config trace.now) told.fault) }
@@ -119,7 +119,8 @@ fn line_feed_in(text: &[u8]) -> Option<usize>
 /// A line as it stands, and what comes after it.
 fn push_line(text: &mut String, line: &[u8], after: &str) -> Result<(), AllocError>
     requires { list_all is_ascii line.now ≡ true }
-    ensures { OnOk result (string_bytes text.new ≡ string_bytes text.old ++ line.now ++ after.now) }
+    ensures { OnOk result
+        (string_bytes text.new ≡ string_bytes text.old ++ line.now ++ after.now) }
 {
     text.push_str(str::from_utf8(line).unwrap())?;
     text.push_str(after)

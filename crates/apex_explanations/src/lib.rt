@@ -1,5 +1,5 @@
-//! What a bench engineer is told of a configuration and of a trace: the table of ports, each line of the trace
-//! beside its reply, and what is worth a look when the trace has ended.
+//! What a bench engineer is told of a configuration and of a trace: the table of ports, each line
+//! of the trace beside its reply, and what is worth a look when the trace has ended.
 #![tactic(auto)]
 
 pub mod explanation;

@@ -8,7 +8,8 @@ use apex_config::{Channel, ChannelKind, Config, Port, PortKind};
 use apex_types::Direction;
 use std::alloc::{AllocError, Global};
 
-/// The table of a configuration's ports: a line for each partition, and beneath it one for each of its ports.
+/// The table of a configuration's ports: a line for each partition, and beneath it one for each of
+/// its ports.
 pub fn port_table(alloc: Global, config: &Config) -> Result<String, AllocError>
     ensures { IfOk result (λ text. string_bytes text ≡ port_table config.now) }
 {
@@ -27,8 +28,8 @@ fn push_ports(text: &mut String, config: &Config, p: usize) -> Result<(), AllocE
     ensures { OnOk result (string_bytes text.new
         ≡ string_bytes text.old ++ port_lines config.now 1 (ports_of config.now p)) }
 {
-    for place in 0..config.ports(p) {
-        let id = place as u32 + 1;
+    for index in 0..config.ports(p) {
+        let id = index as u32 + 1;
         let port = config.port(p, id).unwrap();
         push_port(text, config, id, port, config.channel(port.channel))?;
     }
@@ -139,8 +140,8 @@ fn push_partners_in(
         OnOk result (string_bytes text.new ≡ string_bytes text.old ++ partners) }
 {
     let name = config.partition_name(p).text();
-    for place in 0..config.ports(p) {
-        let other = config.port(p, place as u32 + 1).unwrap();
+    for index in 0..config.ports(p) {
+        let other = config.port(p, index as u32 + 1).unwrap();
         push_partner(text, port, name, other)?;
     }
     Ok(())

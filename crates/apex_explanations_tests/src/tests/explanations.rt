@@ -100,3 +100,38 @@ fn a_faulty_line_need_not_be_text(rt: HostRuntime) -> Result<(), Fail> {
         Some(TraceFault::Line { line: 1, fault: 1 }),
     )
 }
+
+#[test]
+fn a_faulty_line_keeps_its_carriage_return(rt: HostRuntime) -> Result<(), Fail> {
+    explains(
+        &rt,
+        b"1 FMS mode 3\r\n2 fms mode 3\r\n3 FMS mode 3\r\n",
+        b"1 FMS mode 3 -> NO_ERROR\n2 fms mode 3\r -> line 2 fault 5: partition\n",
+        Some(TraceFault::Line { line: 2, fault: 5 }),
+    )
+}
+
+#[test]
+fn a_port_that_was_created_before_a_restart_has_no_remark(rt: HostRuntime) -> Result<(), Fail> {
+    explains(
+        &rt,
+        b"1 AIR create-sampling ALT_OUT 8 0 10
+2 DSP create-sampling ALT_IN 8 1 30
+3 AIR write 1 ff
+4 DSP read 2
+5 DSP mode 1
+",
+        b"1 AIR create-sampling ALT_OUT 8 0 10 -> NO_ERROR id 1
+2 DSP create-sampling ALT_IN 8 1 30 -> NO_ERROR id 2
+3 AIR write 1 ff -> NO_ERROR
+4 DSP read 2 -> NO_ERROR message ff VALID
+5 DSP mode 1 -> NO_ERROR
+
+after 5 calls
+  port FMS.NAV_OUT: never created
+  port FMS.ALT_IN: never created
+  port DSP.NAV_IN: never created
+",
+        None,
+    )
+}

@@ -1,9 +1,8 @@
-use Rattle.std.proofs.Common.{◌≡◌, ◌+◌, ◌++◌, [], ◌∷◌, ℕ, List, Ok, Some, None, Err, refl, sym, ap, ◌∙◌, arith, string_bytes}
+use Rattle.std.proofs.Common.{◌≡◌, ◌+◌, ◌++◌, [], ℕ, List, Ok, Some, None, Err, refl, sym, ap, ◌∙◌, arith, string_bytes}
 use Rattle.std.specs.Global.{Vec}
 use Rattle.std.specs.Str.Lines.{lines}
 use Rattle.apex_config.specs.Configuration.{Configuration}
 use Rattle.apex_ports.specs.History.{requests_of}
-use Rattle.apex_texts.specs.LineFault.{number_of}
 use Rattle.apex_texts.specs.Lines.{item_of_line}
 use Rattle.apex_texts.specs.Trace.{request_at, trace_of}
 use Rattle.apex_texts.proofs.LineLemmas.{goes_on, skips, refuses, ends, read_is_ascii}

@@ -1,4 +1,4 @@
-use Rattle.std.proofs.Common.{◌≡◌, ◌<◌, ◌≤◌, length}
+use Rattle.std.proofs.Common.{◌<◌, ◌≤◌, length}
 use Rattle.apex_texts.proofs.ReportLemmas.{grows, complete}
 use Rattle.apex_explanations.proofs.RemarkLemmas.{partition_cut, partition_end}
 use Rattle.apex_explanations.proofs.remarks.push_partitions.Goals as goal

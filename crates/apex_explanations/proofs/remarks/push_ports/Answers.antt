@@ -5,7 +5,7 @@ use Rattle.apex_config.specs.Configuration.{port_of, ports_of}
 use Rattle.apex_texts.specs.Report.{name_of_partition}
 use Rattle.apex_texts.proofs.ReportLemmas.{grows, complete}
 use Rattle.apex_explanations.proofs.RemarkLemmas.{linked_channel, port_cut, port_end}
-use Rattle.apex_explanations.proofs.TableLemmas.{port_at_place}
+use Rattle.apex_explanations.proofs.TableLemmas.{port_at_index}
 use Rattle.apex_explanations.proofs.remarks.push_ports.Goals as goal
 
 pub push_port-requires-clause-channel : goal.push_port-requires-clause-channel
@@ -21,7 +21,7 @@ loop-index-preserved c =
     let ports = ports_of config c.args.p in
     let is : port_of config c.args.p (c.loop-index.index + 1) ≡ Some c.unwrap-port.result.now =
     rw (← c.config-config.ensures.config) (sym c.port.ensures.found ∙ ap option_copied c.unwrap-port.ensures) in
-    let found : slice_get ports c.loop-index.index ≡ Some c.unwrap-port.result.now = port_at_place ports c.loop-index.index c.unwrap-port.result.now is in
+    let found : slice_get ports c.loop-index.index ≡ Some c.unwrap-port.result.now = port_at_index ports c.loop-index.index c.unwrap-port.result.now is in
     let cut = port_cut config c.args.ports.now.history c.args.p (name_of_partition config c.args.p) ports c.loop-index.index c.unwrap-port.result.now found in
     grows c.loop-index.remarks.items c.push_port.new.remarks.items _ _ _ _ c.in_ok-push_port.ensures cut c.loop-index.invariant
 
