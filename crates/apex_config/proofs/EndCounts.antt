@@ -2,7 +2,7 @@
 use Rattle.std.proofs.Common.{◌≡◌, ℕ, ◌+◌, ◌-◌, ◌^◌, Bool, nat_le, min, List, ap, ◌∙◌, arith}
 use Rattle.apex_types.specs.declared.direction.Direction.{Direction}
 use Rattle.apex_config.specs.declared.place.Part.TheVariants as part
-use Rattle.apex_config.specs.Text.{ChannelText, ConfigText}
+use Rattle.apex_config.specs.Text.{ConfigText}
 use Rattle.apex_config.specs.Places.{whole, unless, at_each}
 use Rattle.apex_config.specs.Passes.{end_count, without_end}
 use Rattle.apex_config.specs.Ends.{CountEnds}

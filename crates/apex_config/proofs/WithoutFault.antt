@@ -18,11 +18,10 @@ use Rattle.apex_config.specs.declared.channel.Channel.{Channel}
 use Rattle.apex_config.specs.declared.fault.ConfigFault.{ConfigFault}
 use Rattle.apex_config.specs.declared.fault.ConfigFault.TheVariants.{BadName, NameTwice, OutOfRange, UnknownChannel, KindDiffers, Sources, Destinations, Counts}
 use Rattle.apex_config.specs.declared.limits.TheConstants.{PARTITION_LIMIT, PORT_LIMIT, CHANNEL_LIMIT, SIZE_LIMIT, DEPTH_LIMIT, REFRESH_LIMIT}
-use Rattle.apex_config.specs.declared.names.Entries.{Entries}
 use Rattle.apex_config.specs.declared.names.Entries.TheVariants as entries
 use Rattle.apex_config.specs.declared.place.Part.{Part}
 use Rattle.apex_config.specs.declared.place.Place.{Place}
-use Rattle.apex_config.specs.Configuration.{PartitionData, Configuration, IsConfiguration, ports_of_partition, port_at, port_of, channel_of, partition_name_of, is_queuing_port, is_queuing_channel, KindsAgree, IsRefresh, IsDepth, IsSize}
+use Rattle.apex_config.specs.Configuration.{PartitionData, IsConfiguration, ports_of_partition, port_at, port_of, channel_of, partition_name_of, is_queuing_port, is_queuing_channel, KindsAgree, IsRefresh, IsDepth, IsSize}
 use Rattle.apex_config.specs.Places.{unless, at_each}
 use Rattle.apex_config.specs.Accepted.{has_names, is_acceptable}
 use Rattle.apex_config.specs.Text.{PortText, PartitionText, ChannelText, ConfigText}

@@ -2,7 +2,6 @@
 use Rattle.std.specs.Prelude.{ℕ, suc, Bool, ◌≡◌, ◌++◌, if◌then◌else◌, List, [], ◌∷◌}
 use Rattle.apex_config.specs.declared.key.Key.{Key}
 use Rattle.apex_config.specs.declared.place.Part.{Part}
-use Rattle.apex_config.specs.declared.place.Spot.{Spot}
 use Rattle.apex_config.specs.declared.place.Spot.TheVariants as spot
 use Rattle.apex_config.specs.declared.place.Place.{Place}
 

@@ -1,4 +1,4 @@
-use Rattle.std.proofs.Common.{◌≡◌, ℕ, List, ◌++◌, nat_le, subst, ap, ◌∙◌}
+use Rattle.std.proofs.Common.{ℕ, List, ◌++◌, nat_le, subst, ap, ◌∙◌}
 use Rattle.apex_config.specs.declared.place.Part.TheVariants as part
 use Rattle.apex_config.specs.declared.place.Place.{Place}
 use Rattle.apex_config.specs.Text.{ConfigText}

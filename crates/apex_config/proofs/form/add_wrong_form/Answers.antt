@@ -1,4 +1,4 @@
-use Rattle.std.proofs.Common.{◌≡◌, List, ◌++◌, ap, ◌∙◌, rules}
+use Rattle.std.proofs.Common.{List, ◌++◌, ap, ◌∙◌, rules}
 use Rattle.toml.specs.View.{view}
 use Rattle.apex_config.specs.declared.key.Key.TheVariants as key
 use Rattle.apex_config.specs.declared.place.Place.{Place}
