@@ -1,32 +1,60 @@
 -- What reading answers, step by step.
-use Rattle.std.proofs.Common.{◌≡◌, ℕ, Bool, true, false, cond, List, Option, Some, None, Err, refl, sym, ap, ◌∙◌}
+use Rattle.std.proofs.Common.{◌≡◌, ◌≢◌, ℕ, Bool, true, false, cond, List, [], ◌∷◌, Option, Some, None, Result, Ok, Err, IfErr, IfSome, refl, sym, ap, subst}
 use Rattle.std.specs.Str.{is_utf8, IsUtf8}
 use Rattle.std.proofs.lemmas.Str.{IsUtf8-from_is_utf8, is_utf8-from_IsUtf8}
-use Rattle.toml.specs.Data.{Members}
+use Rattle.toml.specs.Data.{Data, Members, table}
 use Rattle.toml.specs.Parse.{parse_document}
 use Rattle.apex_config.specs.declared.fault.ConfigFault.{ConfigFault}
-use Rattle.apex_config.specs.declared.fault.ConfigFault.TheVariants.{NotToml, Shape}
+use Rattle.apex_config.specs.declared.fault.ConfigFault.TheVariants.{Shape, OutOfMemory}
+use Rattle.apex_config.specs.declared.place.Place.{Place}
 use Rattle.apex_config.specs.Configuration.{Configuration}
-use Rattle.apex_config.specs.Drafts.{draft_in}
-use Rattle.apex_config.specs.Passes.{first_fault}
-use Rattle.apex_config.specs.Meaning.{unless_faulty, config_of_document, config_of}
-use Rattle.apex_config.proofs.Meaning.{config_of_draft, same_of_document}
+use Rattle.apex_config.specs.Form.{wrong_form}
+use Rattle.apex_config.specs.Text.{ConfigText, config_text_of}
+use Rattle.apex_config.specs.Passes.{found_by, passes}
+use Rattle.apex_config.specs.Meaning.{RefusalData, refused_by, first_refusal, refusal_of, configuration_of, unless_refused, not_toml, read_of_value, read_of_document, read_of}
 
-not_toml_in : (bytes : List ℕ) (b : Bool) → is_utf8 bytes ≡ b → (IsUtf8 bytes → parse_document bytes ≡ None) → cond b (config_of_document (parse_document bytes)) (Err NotToml) ≡ Err NotToml
-not_toml_in bytes true is refused = ap config_of_document (refused (IsUtf8-from_is_utf8 bytes is))
+not_toml_in : (bytes : List ℕ) (b : Bool) → is_utf8 bytes ≡ b → (IsUtf8 bytes → parse_document bytes ≡ None) → cond b (read_of_document (parse_document bytes)) (Err not_toml) ≡ Err not_toml
+not_toml_in bytes true is refused = ap read_of_document (refused (IsUtf8-from_is_utf8 bytes is))
 not_toml_in bytes false is refused = refl
 
-pub not_toml : (bytes : List ℕ) → (IsUtf8 bytes → parse_document bytes ≡ None) → config_of bytes ≡ Err NotToml
-unfolding config_of
-not_toml bytes refused = not_toml_in bytes (is_utf8 bytes) refl refused
+pub is_not_toml : (bytes : List ℕ) → (IsUtf8 bytes → parse_document bytes ≡ None) → read_of bytes ≡ Err not_toml
+unfolding read_of
+is_not_toml bytes refused = not_toml_in bytes (is_utf8 bytes) refl refused
 
-pub is_document : (bytes : List ℕ) (document : Members) → IsUtf8 bytes → parse_document bytes ≡ Some document → config_of bytes ≡ config_of_draft (draft_in document)
-unfolding config_of
-is_document bytes document text parsed = rw (is_utf8-from_IsUtf8 bytes text, parsed) (sym (same_of_document document))
+pub is_document : (bytes : List ℕ) (document : Members) → IsUtf8 bytes → parse_document bytes ≡ Some document → read_of bytes ≡ read_of_value (table document)
+unfolding read_of
+is_document bytes document text parsed = rw (is_utf8-from_IsUtf8 bytes text, parsed) refl
 
-pub no_shape : (bytes : List ℕ) (document : Members) → IsUtf8 bytes → parse_document bytes ≡ Some document → draft_in document ≡ None → config_of bytes ≡ Err Shape
-no_shape bytes document text parsed none = is_document bytes document text parsed ∙ ap config_of_draft none
+-- ---- each refusal has a place
 
-pub is_unless_faulty : (bytes : List ℕ) (document : Members) (draft : Configuration) (found : Option ConfigFault) → IsUtf8 bytes → parse_document bytes ≡ Some document → draft_in document ≡ Some draft → first_fault draft ≡ found
-    → config_of bytes ≡ unless_faulty draft found
-is_unless_faulty bytes document draft found text parsed some is = is_document bytes document text parsed ∙ (ap config_of_draft some ∙ ap (unless_faulty draft) is)
+refused_placed : (fault : ConfigFault) (places : List Place) (later : Option RefusalData) → IfSome later (λ refusal. refusal.places ≢ []) → IfSome (refused_by fault places later) (λ refusal. refusal.places ≢ [])
+refused_placed fault [] later h = h
+refused_placed fault (place ∷ places) later h = λ e. absurd cc
+
+first_placed : (faults : List ConfigFault) (config : ConfigText) → IfSome (first_refusal faults config) (λ refusal. refusal.places ≢ [])
+first_placed [] config = tt
+first_placed (fault ∷ faults) config = refused_placed fault (found_by fault config) (first_refusal faults config) (first_placed faults config)
+
+value_placed : (document : Data) → IfSome (refusal_of document) (λ refusal. refusal.places ≢ [])
+unfolding refusal_of
+value_placed document = refused_placed Shape (wrong_form document) _ (first_placed passes (config_text_of document))
+
+unless_placed : (config : Configuration) (refusal : Option RefusalData) → IfSome refusal (λ refusal. refusal.places ≢ []) → IfErr (unless_refused config refusal) (λ refusal. refusal.places ≢ [])
+unless_placed config None h = tt
+unless_placed config (Some refusal) h = h
+
+document_placed : (document : Option Members) → IfErr (read_of_document document) (λ refusal. refusal.places ≢ [])
+document_placed None = λ e. absurd cc
+document_placed (Some members) = unless_placed (configuration_of (config_text_of (table members))) (refusal_of (table members)) (value_placed (table members))
+
+bytes_placed : (b : Bool) (document : Option Members) → IfErr (cond b (read_of_document document) (Err not_toml)) (λ refusal. refusal.places ≢ [])
+bytes_placed true document = document_placed document
+bytes_placed false document = λ e. absurd cc
+
+is_placed : (bytes : List ℕ) (refusal : RefusalData) → Err refusal ≡ read_of bytes → refusal.places ≢ []
+unfolding read_of
+is_placed bytes refusal is = subst (λ (answer : Result Configuration RefusalData). IfErr answer (λ refusal. refusal.places ≢ [])) (sym is) (bytes_placed (is_utf8 bytes) (parse_document bytes))
+
+pub answer_placed : (bytes : List ℕ) (answer : Result Configuration RefusalData) → answer ≡ read_of bytes → IfErr answer (λ refusal. refusal.fault ≢ OutOfMemory → refusal.places ≢ [])
+answer_placed bytes (Ok config) is = tt
+answer_placed bytes (Err refusal) is = λ ran. is_placed bytes refusal is

@@ -1,9 +1,9 @@
 pub mod Answering
-pub mod Distinct
-pub mod Each
+pub mod EachEntry
 pub mod EndCounts
-pub mod FirstPlaces
-pub mod Meaning
-pub mod Places
-pub mod Tables
+pub mod FirstNumbers
+pub mod Indexes
+pub mod SeenNames
+pub mod Tails
+pub mod Views
 pub mod WithoutFault

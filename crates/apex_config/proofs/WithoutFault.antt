@@ -1,35 +1,79 @@
--- A configuration in which no test finds a fault is a configuration that is accepted.
-use Rattle.std.proofs.Common.{◌≡◌, ℕ, zero, suc, ◌+◌, ◌-◌, ◌<◌, ◌≤◌, Bool, true, false, cond, ◌&&◌, not, eqb, ltb, leb, List, [], ◌∷◌, map, length, Option, Some, None, option_map, Result, Ok, Err, is_ok, refl, sym, ap, subst, ◌∙◌, arith}
-use Rattle.std.specs.List.{slice_get, list_all, count_by}
-use Rattle.std.proofs.lemmas.Bool.{and_parts, false≢true, leb-true, eqb-true, ltb-false}
+-- The configuration of a text in which no pass finds a place is a configuration that is accepted.
+use Rattle.std.proofs.Common.{◌≡◌, ℕ, zero, suc, ◌+◌, ◌-◌, ◌<◌, ◌≤◌, ℤ, pos, negsuc, Bool, true, false, cond, ◌&&◌, ◌||◌, not, eqb, ltb, leb, List, [], ◌∷◌, ◌++◌, map, length, take, Option, Some, None, option_map, Result, Ok, Err, is_ok, refl, sym, ap, subst, ◌∙◌, arith}
+use Rattle.std.specs.Prelude.{is_some, is_none}
+use Rattle.std.specs.List.{slice_get, list_all, list_any, count_by}
+use Rattle.std.proofs.lemmas.Bool.{and_parts, false≢true, not-true, leb-true, eqb-true, ltb-false}
 use Rattle.std.proofs.lemmas.Bool.Decides.{nat_tests}
+use Rattle.std.proofs.lemmas.List.{length-map}
 use Rattle.std.proofs.lemmas.Option.{same_Some, slice_get-map}
+use Rattle.std.specs.Str.{bytes_eq}
+use Rattle.std.proofs.lemmas.Slice.Eq.{bytes_eq-Decides}
 use Rattle.apex_types.specs.Name.{IsName, is_name_byte}
 use Rattle.apex_types.specs.declared.direction.Direction.{Direction}
 use Rattle.apex_types.specs.declared.direction.Direction.TheVariants.{Source, Destination}
 use Rattle.apex_types.specs.declared.name.NameFault.{NameFault}
 use Rattle.apex_types.specs.declared.name.NameFault.TheVariants.{Empty, TooLong, BadCharacter}
 use Rattle.apex_config.specs.declared.port.Port.{Port}
-use Rattle.apex_config.specs.declared.port.PortKind.{PortKind}
-use Rattle.apex_config.specs.declared.port.PortKind.TheVariants as port_kind
 use Rattle.apex_config.specs.declared.channel.Channel.{Channel}
-use Rattle.apex_config.specs.declared.channel.ChannelKind.{ChannelKind}
-use Rattle.apex_config.specs.declared.channel.ChannelKind.TheVariants as channel_kind
 use Rattle.apex_config.specs.declared.fault.ConfigFault.{ConfigFault}
 use Rattle.apex_config.specs.declared.fault.ConfigFault.TheVariants.{BadName, NameTwice, OutOfRange, UnknownChannel, KindDiffers, Sources, Destinations, Counts}
-use Rattle.apex_config.specs.declared.limits.TheConstants.{PARTITION_LIMIT, PORT_LIMIT, CHANNEL_LIMIT, SIZE_LIMIT}
-use Rattle.apex_config.specs.Configuration.{PartitionData, Configuration, IsConfiguration, ports_of_partition, port_at, port_of, channel_of, partition_name_of, is_queuing_port, is_queuing_channel, KindsAgree, IsRefresh, IsDepth}
-use Rattle.apex_config.specs.Passes.{all_ports, is_name, has_names, are_distinct, has_distinct_names, is_within, has_refresh, has_depth, has_numbers, has_channels, same_kind, agrees, fits_kind, has_kinds, same_direction, is_end, end_count, has_sources, fits_destinations, has_destinations, has_counts, first_fault}
-use Rattle.apex_config.proofs.Places.{no_place, same_place, all_at, distinct_at, part-le-sum_by, one_part, some_part, numbered_at}
+use Rattle.apex_config.specs.declared.limits.TheConstants.{PARTITION_LIMIT, PORT_LIMIT, CHANNEL_LIMIT, SIZE_LIMIT, DEPTH_LIMIT, REFRESH_LIMIT}
+use Rattle.apex_config.specs.declared.names.Entries.TheVariants as entries
+use Rattle.apex_config.specs.declared.place.Part.{Part}
+use Rattle.apex_config.specs.declared.place.Place.{Place}
+use Rattle.apex_config.specs.Configuration.{PartitionData, IsConfiguration, ports_of_partition, port_at, port_of, channel_of, partition_name_of, is_queuing_port, is_queuing_channel, KindsAgree, IsRefresh, IsDepth, IsSize}
+use Rattle.apex_config.specs.Places.{unless, at_each}
+use Rattle.apex_config.specs.Accepted.{has_names, is_acceptable}
+use Rattle.apex_config.specs.Text.{PortText, PartitionText, ChannelText, ConfigText}
+use Rattle.apex_config.specs.Passes.{at_ports, is_name, bad_port_name, bad_partition_names, bad_channel_name, bad_names, part_in, stood_before, repeated, repeated_port_names, repeated_names, is_within, is_from_one_to, is_from_one_to_if_any, bad_refresh, bad_channel_numbers, bad_numbers, channel_named, channel_of_port, unknown_channel, unknown_channels, is_of_kind, other_kind, other_kinds, same_direction, is_end, end_count, may_have_several, without_end, is_alone, one_of_several, wrong_ends, too_many_ports, bad_counts, passes}
+use Rattle.apex_config.specs.Meaning.{natural, channel_kind_of, port_kind_of, channel_of_text, port_of_text, partition_of_text, configuration_of, RefusalData, refused_by, first_refusal}
+use Rattle.apex_config.proofs.Indexes.{no_index, same_index, any_at, part-le-sum_by, one_part, some_part}
+
+-- ---- lists in which nothing is found
+
+append_empty : {X : Type 0} (xs ys : List X) → xs ++ ys ≡ [] → (xs ≡ []) × (ys ≡ [])
+append_empty [] ys h = (refl, h)
+append_empty (x ∷ xs) ys h = absurd cc
+
+unless_empty : (passes : Bool) (place : Place) → unless passes place ≡ [] → passes ≡ true
+unless_empty true place h = refl
+unless_empty false place h = absurd cc
+
+empty_at : {X : Type 0} (find : ℕ → X → List Place) (n : ℕ) (xs : List X) (i : ℕ) (x : X) → at_each find n xs ≡ [] → slice_get xs i ≡ Some x → find (n + i) x ≡ []
+empty_at find n [] i x none found = no_index i x found
+empty_at find n (y ∷ ys) zero x none found =
+    let at : n + 0 ≡ n = omega arith in
+    ap (λ (k : ℕ). find k x) at ∙ ap (find n) (sym (same_Some y x found)) ∙ (append_empty (find n y) (at_each find (suc n) ys) none).0
+empty_at find n (y ∷ ys) (suc i) x none found =
+    let at : n + suc i ≡ suc n + i = omega arith in
+    ap (λ (k : ℕ). find k x) at ∙ empty_at find (suc n) ys i x (append_empty (find n y) (at_each find (suc n) ys) none).1 found
+
+found_at : {X : Type 0} (find : ℕ → X → List Place) (xs : List X) (i : ℕ) (x : X) → at_each find 0 xs ≡ [] → slice_get xs i ≡ Some x → find i x ≡ []
+found_at find xs i x none found =
+    let at : i ≡ 0 + i = omega arith in
+    ap (λ (k : ℕ). find k x) at ∙ empty_at find 0 xs i x none found
+
+-- the element that an element of a mapped list was
+from_map : {X Y : Type 0} (f : X → Y) (xs : List X) (i : ℕ) (y : Y) → slice_get (map f xs) i ≡ Some y → (x : X) × (slice_get xs i ≡ Some x) × (y ≡ f x)
+from_map f xs i y found = by_element (slice_get xs i) refl (sym (slice_get-map f xs i) ∙ found)
+  where
+    by_element : (o : Option _) → slice_get xs i ≡ o → option_map f o ≡ Some y → (x : _) × (slice_get xs i ≡ Some x) × (y ≡ f x)
+    by_element None is h = absurd cc
+    by_element (Some x) is h = (x, is, sym (same_Some (f x) y h))
+
+to_map : {X Y : Type 0} (f : X → Y) (xs : List X) (i : ℕ) (x : X) → slice_get xs i ≡ Some x → slice_get (map f xs) i ≡ Some (f x)
+to_map f xs i x found = slice_get-map f xs i ∙ ap (option_map f) found
 
 -- ---- where a port stands
 
-pub record StandsAt (config : Configuration) (p id : ℕ) (port : Port) : Type 0 where
-  pub partition : PartitionData
-  pub place : ℕ
-  pub found : slice_get config.partitions p ≡ Some partition
-  pub inside : slice_get partition.ports place ≡ Some port
-  pub numbered : id ≡ suc place
+pub record StandsAt (text : ConfigText) (p id : ℕ) (port : Port) : Type 0 where
+  pub partition : PartitionText
+  pub entry : PortText
+  pub index : ℕ
+  pub found : slice_get text.partitions p ≡ Some partition
+  pub inside : slice_get partition.ports index ≡ Some entry
+  pub is : port ≡ port_of_text text.channels entry
+  pub numbered : id ≡ suc index
 
 pub port_at_suc : (ports : List Port) (i : ℕ) → port_at ports (suc i) ≡ slice_get ports i
 port_at_suc ports i =
@@ -37,24 +81,29 @@ port_at_suc ports i =
     let before : suc i - 1 ≡ i = omega arith in
     rw (above, before)
 
-stands_in : (config : Configuration) (p : ℕ) (o : Option PartitionData) (id : ℕ) (port : Port) → slice_get config.partitions p ≡ o → port_at (ports_of_partition o) id ≡ Some port → StandsAt config p id port
-stands_in config p None zero port is found = absurd cc
-stands_in config p None (suc id) port is found = no_place id port (sym (port_at_suc [] id) ∙ found)
-stands_in config p (Some partition) zero port is found = absurd cc
-stands_in config p (Some partition) (suc id) port is found =
-    record { partition = partition; place = id; found = is; inside = sym (port_at_suc partition.ports id) ∙ found; numbered = refl }
+stands_in : (text : ConfigText) (p : ℕ) (o : Option PartitionText) (id : ℕ) (port : Port) → slice_get text.partitions p ≡ o
+    → port_at (ports_of_partition (option_map (partition_of_text text.channels) o)) id ≡ Some port → StandsAt text p id port
+stands_in text p None zero port is found = absurd cc
+stands_in text p None (suc id) port is found = no_index id port (sym (port_at_suc [] id) ∙ found)
+stands_in text p (Some partition) zero port is found = absurd cc
+stands_in text p (Some partition) (suc id) port is found =
+    let at = from_map (port_of_text text.channels) partition.ports id port (sym (port_at_suc (map (port_of_text text.channels) partition.ports) id) ∙ found) in
+    record { partition = partition; entry = at.0; index = id; found = is; inside = at.1; is = at.2; numbered = refl }
 
-pub stands_at : (config : Configuration) (p id : ℕ) (port : Port) → port_of config p id ≡ Some port → StandsAt config p id port
-stands_at config p id port found = stands_in config p (slice_get config.partitions p) id port refl found
+pub stands_at : (text : ConfigText) (p id : ℕ) (port : Port) → port_of (configuration_of text) p id ≡ Some port → StandsAt text p id port
+stands_at text p id port found =
+    stands_in text p (slice_get text.partitions p) id port refl
+    (ap (λ (o : Option PartitionData). port_at (ports_of_partition o) id) (sym (slice_get-map (partition_of_text text.channels) text.partitions p)) ∙ found)
 
-found_from : (config : Configuration) (p i : ℕ) (partition : PartitionData) (port : Port) → slice_get config.partitions p ≡ Some partition → slice_get partition.ports i ≡ Some port → port_of config p (suc i) ≡ Some port
-found_from config p i partition port here inside =
-    ap (λ (o : Option PartitionData). port_at (ports_of_partition o) (suc i)) here ∙ (port_at_suc partition.ports i ∙ inside)
+found_from : (text : ConfigText) (p i : ℕ) (partition : PartitionText) (entry : PortText) → slice_get text.partitions p ≡ Some partition → slice_get partition.ports i ≡ Some entry
+    → port_of (configuration_of text) p (suc i) ≡ Some (port_of_text text.channels entry)
+found_from text p i partition entry here inside =
+    ap (λ (o : Option PartitionData). port_at (ports_of_partition o) (suc i)) (to_map (partition_of_text text.channels) text.partitions p partition here)
+    ∙ (port_at_suc (map (port_of_text text.channels) partition.ports) i ∙ to_map (port_of_text text.channels) partition.ports i entry inside)
 
-all_ports_at : (config : Configuration) (test : Port → Bool) (p id : ℕ) (port : Port) → all_ports test config.partitions ≡ true → port_of config p id ≡ Some port → test port ≡ true
-all_ports_at config test p id port all found =
-    let at = stands_at config p id port found in
-    all_at test at.partition.ports at.place port (all_at (λ (partition : PartitionData). list_all test partition.ports) config.partitions p at.partition all at.found) at.inside
+port_found : (text : ConfigText) (find : ℕ → ℕ → PortText → List Place) (p id : ℕ) (port : Port) (at : StandsAt text p id port) → at_ports find text.partitions ≡ [] → find p at.index at.entry ≡ []
+port_found text find p id port at none =
+    found_at (find p) at.partition.ports at.index at.entry (found_at (λ (p : ℕ) (partition : PartitionText). at_each (find p) 0 partition.ports) text.partitions p at.partition none at.found) at.inside
 
 -- ---- names
 
@@ -75,14 +124,6 @@ IsName-from text h =
     let two = name_step (ltb 30 (length text)) TooLong (cond (list_all is_name_byte text) (Ok text) (Err BadCharacter)) one.1 in
     record { not_empty = not_empty (length text) one.0; short = ltb-false 30 (length text) two.0; characters = name_end (list_all is_name_byte text) BadCharacter text two.1 }
 
-partition_at : (config : Configuration) (p : ℕ) (o : Option PartitionData) (name : List ℕ) → slice_get config.partitions p ≡ o → option_map (λ partition. partition.name) o ≡ Some name
-    → (partition : PartitionData) × (slice_get config.partitions p ≡ Some partition) × (partition.name ≡ name)
-partition_at config p None name is named = absurd cc
-partition_at config p (Some partition) name is named = (partition, is, same_Some partition.name name named)
-
-name_at : {X : Type 0} (f : X → List ℕ) (xs : List X) (i : ℕ) (x : X) → slice_get xs i ≡ Some x → slice_get (map f xs) i ≡ Some (f x)
-name_at f xs i x found = slice_get-map f xs i ∙ ap (option_map f) found
-
 -- ---- numbers
 
 within : (limit number : ℕ) → is_within limit number ≡ true → (1 ≤ number) × (number ≤ limit)
@@ -90,30 +131,59 @@ within limit number h =
     let parts = and_parts (leb 1 number) (leb number limit) h in
     (leb-true 1 number parts.0, leb-true number limit parts.1)
 
-refresh_from : (kind : PortKind) → has_refresh kind ≡ true → IsRefresh kind
-refresh_from port_kind.Queuing h = tt
-refresh_from (port_kind.Sampling refresh) h = within _ refresh h
+within_natural : (limit : ℕ) (number : ℤ) → is_from_one_to limit number ≡ true → (1 ≤ natural number) × (natural number ≤ limit)
+within_natural limit (pos number) h = within limit number h
+within_natural limit (negsuc number) h = absurd (false≢true h)
 
-depth_from : (kind : ChannelKind) → has_depth kind ≡ true → IsDepth kind
-depth_from (channel_kind.Queuing depth) h = within _ depth h
-depth_from channel_kind.Sampling h = tt
+refresh_from : (refresh : Option ℤ) → is_from_one_to_if_any REFRESH_LIMIT refresh ≡ true → IsRefresh (port_kind_of refresh)
+refresh_from None h = tt
+refresh_from (Some refresh) h = within_natural REFRESH_LIMIT refresh h
 
-few_from : (limit : ℕ) (partitions : List PartitionData) (p : ℕ) → list_all (λ partition. leb (length partition.ports) limit) partitions ≡ true → length (ports_of_partition (slice_get partitions p)) ≤ limit
-few_from limit [] p h = omega arith
-few_from limit (x ∷ xs) zero h = leb-true _ _ (and_parts (leb (length x.ports) limit) (list_all (λ partition. leb (length partition.ports) limit) xs) h).0
-few_from limit (x ∷ xs) (suc p) h = few_from limit xs p (and_parts (leb (length x.ports) limit) (list_all (λ partition. leb (length partition.ports) limit) xs) h).1
+depth_from : (depth : Option ℤ) → is_from_one_to_if_any DEPTH_LIMIT depth ≡ true → IsDepth (channel_kind_of depth)
+depth_from None h = tt
+depth_from (Some depth) h = within_natural DEPTH_LIMIT depth h
+
+few_in : (text : ConfigText) (p : ℕ) (o : Option PartitionText) → slice_get text.partitions p ≡ o → at_each too_many_ports 0 text.partitions ≡ []
+    → length (ports_of_partition (option_map (partition_of_text text.channels) o)) ≤ PORT_LIMIT
+few_in text p None is none = omega arith
+few_in text p (Some partition) is none =
+    let few = leb-true (length partition.ports) PORT_LIMIT (unless_empty _ _ (found_at too_many_ports text.partitions p partition none is)) in
+    subst (λ (n : ℕ). n ≤ PORT_LIMIT) (sym (length-map partition.ports (port_of_text text.channels))) few
+
+-- ---- distinct names
+
+get_take : {X : Type 0} (xs : List X) (j i : ℕ) → i < j → slice_get (take j xs) i ≡ slice_get xs i
+get_take xs zero i before = absurd (omega (arith, before))
+get_take [] (suc j) i before = refl
+get_take (x ∷ xs) (suc j) zero before = refl
+get_take (x ∷ xs) (suc j) (suc i) before = get_take xs j i (omega (arith, before))
+
+not_before : (part : ℕ → Part) (names : List (List ℕ)) (i j : ℕ) (name : List ℕ) → repeated part names ≡ [] → slice_get names i ≡ Some name → slice_get names j ≡ Some name → i < j → false ≡ true
+not_before part names i j name once here there before =
+    let new : not (list_any (λ other. bytes_eq other name) (take j names)) ≡ true = unless_empty _ _ (found_at (stood_before part names) names j name once there) in
+    sym (not-true (list_any (λ other. bytes_eq other name) (take j names)) new)
+    ∙ any_at (λ other. bytes_eq other name) (take j names) i name (get_take names j i before ∙ here) ((bytes_eq-Decides name name).1 refl)
+
+distinct_at : (part : ℕ → Part) (names : List (List ℕ)) (i j : ℕ) (name : List ℕ) → repeated part names ≡ [] → slice_get names i ≡ Some name → slice_get names j ≡ Some name → i ≡ j
+distinct_at part names i j name once here there = by_order (ltb i j) (ltb j i) refl refl
+  where
+    by_order : (a b : Bool) → ltb i j ≡ a → ltb j i ≡ b → i ≡ j
+    by_order true b h k = absurd (false≢true (not_before part names i j name once here there (grind (arith, nat_tests))))
+    by_order false true h k = absurd (false≢true (not_before part names j i name once there here (grind (arith, nat_tests))))
+    by_order false false h k = omega (arith, ltb-false i j h, ltb-false j i k)
 
 -- ---- links
 
-same_kind_is : (kind : PortKind) (other : ChannelKind) → same_kind kind other ≡ true → is_queuing_port kind ≡ is_queuing_channel other
-same_kind_is port_kind.Queuing (channel_kind.Queuing depth) h = refl
-same_kind_is port_kind.Queuing channel_kind.Sampling h = absurd (false≢true h)
-same_kind_is (port_kind.Sampling refresh) (channel_kind.Queuing depth) h = absurd (false≢true h)
-same_kind_is (port_kind.Sampling refresh) channel_kind.Sampling h = refl
+kinds_agree : (refresh depth : Option ℤ) → cond (is_none refresh) (is_some depth) (is_none depth) ≡ true → is_queuing_port (port_kind_of refresh) ≡ is_queuing_channel (channel_kind_of depth)
+kinds_agree None None h = absurd (false≢true h)
+kinds_agree None (Some depth) h = refl
+kinds_agree (Some refresh) None h = refl
+kinds_agree (Some refresh) (Some depth) h = absurd (false≢true h)
 
-linked_in : (port : Port) (o : Option Channel) → agrees port.kind o ≡ true → (channel : Channel) × (o ≡ Some channel) × KindsAgree port channel
-linked_in port None h = absurd (false≢true h)
-linked_in port (Some channel) h = (channel, refl, same_kind_is port.kind channel.kind h)
+linked_in : (entry : PortText) (o : Option ChannelText) → is_some o ≡ true → is_of_kind entry o ≡ true
+    → (channel : ChannelText) × (o ≡ Some channel) × (is_queuing_port (port_kind_of entry.refresh) ≡ is_queuing_channel (channel_kind_of channel.depth))
+linked_in entry None there kind = absurd (false≢true there)
+linked_in entry (Some channel) there kind = (channel, refl, kinds_agree entry.refresh channel.depth kind)
 
 -- ---- ends
 
@@ -129,19 +199,19 @@ same_direction_is Source Destination h = absurd (false≢true h)
 same_direction_is Destination Source h = absurd (false≢true h)
 same_direction_is Destination Destination h = refl
 
-is_end_from : (direction : Direction) (c : ℕ) (port : Port) → port.direction ≡ direction → port.channel ≡ c → is_end direction c port ≡ true
-is_end_from direction c port here there = rw (same_direction_from port.direction direction here, same_number port.channel c there)
+is_end_from : (channels : List ChannelText) (direction : Direction) (c : ℕ) (port : PortText) → port.direction ≡ direction → channel_named channels port.channel ≡ c → is_end channels direction c port ≡ true
+is_end_from channels direction c port here there = rw (same_direction_from port.direction direction here, same_number (channel_named channels port.channel) c there)
   where
     same_number : (a b : ℕ) → a ≡ b → eqb a b ≡ true
     same_number a b h = grind (arith, nat_tests)
 
-is_end_is : (direction : Direction) (c : ℕ) (port : Port) → is_end direction c port ≡ true → (port.direction ≡ direction) × (port.channel ≡ c)
-is_end_is direction c port h =
-    let parts = and_parts (same_direction port.direction direction) (eqb port.channel c) h in
-    (same_direction_is port.direction direction parts.0, eqb-true port.channel c parts.1)
+is_end_is : (channels : List ChannelText) (direction : Direction) (c : ℕ) (port : PortText) → is_end channels direction c port ≡ true → (port.direction ≡ direction) × (channel_named channels port.channel ≡ c)
+is_end_is channels direction c port h =
+    let parts = and_parts (same_direction port.direction direction) (eqb (channel_named channels port.channel) c) h in
+    (same_direction_is port.direction direction parts.0, eqb-true (channel_named channels port.channel) c parts.1)
 
-abbrev ends_in : Direction → ℕ → PartitionData → ℕ
-ends_in direction c partition = count_by (is_end direction c) partition.ports
+abbrev ends_in : List ChannelText → Direction → ℕ → PartitionText → ℕ
+ends_in channels direction c partition = count_by (is_end channels direction c) partition.ports
 
 counted : (b : Bool) → b ≡ true → 1 ≤ cond b 1 0
 counted true h = omega arith
@@ -151,168 +221,287 @@ counts : (b : Bool) → 1 ≤ cond b 1 0 → b ≡ true
 counts true h = refl
 counts false h = absurd (omega arith)
 
-end_counted : (config : Configuration) (direction : Direction) (c p id : ℕ) (port : Port) (at : StandsAt config p id port) → is_end direction c port ≡ true → 1 ≤ ends_in direction c at.partition
-end_counted config direction c p id port at end =
-    omega (arith, counted (is_end direction c port) end, part-le-sum_by (λ (x : Port). cond (is_end direction c x) 1 0) at.partition.ports at.place port at.inside)
+end_counted : (text : ConfigText) (direction : Direction) (c p id : ℕ) (port : Port) (at : StandsAt text p id port) → is_end text.channels direction c at.entry ≡ true → 1 ≤ ends_in text.channels direction c at.partition
+end_counted text direction c p id port at end =
+    omega (arith, counted (is_end text.channels direction c at.entry) end, part-le-sum_by (λ (x : PortText). cond (is_end text.channels direction c x) 1 0) at.partition.ports at.index at.entry at.inside)
 
 -- two ports that are the only end are one port
-pub one_end : (config : Configuration) (direction : Direction) (c : ℕ) → end_count direction c config.partitions ≤ 1
-    → (p id : ℕ) (port : Port) (q jd : ℕ) (other : Port) → port_of config p id ≡ Some port → port_of config q jd ≡ Some other
-    → is_end direction c port ≡ true → is_end direction c other ≡ true → (p ≡ q) × (id ≡ jd)
-one_end config direction c few p id port q jd other here there end also =
-    let at = stands_at config p id port here in
-    let ot = stands_at config q jd other there in
-    let same : p ≡ q = one_part (ends_in direction c) config.partitions p q at.partition ot.partition few at.found ot.found (end_counted config direction c p id port at end) (end_counted config direction c q jd other ot also) in
-    let moved : slice_get config.partitions p ≡ Some ot.partition = ap (slice_get config.partitions) same ∙ ot.found in
-    let partition : ot.partition ≡ at.partition = same_place config.partitions p ot.partition at.partition moved at.found in
-    let inside : slice_get at.partition.ports ot.place ≡ Some other = ap (λ (x : PartitionData). slice_get x.ports ot.place) (sym partition) ∙ ot.inside in
-    let fewer : count_by (is_end direction c) at.partition.ports ≤ 1 = omega (arith, part-le-sum_by (ends_in direction c) config.partitions p at.partition at.found) in
-    let place : at.place ≡ ot.place = one_part (λ (x : Port). cond (is_end direction c x) 1 0) at.partition.ports at.place ot.place port other fewer at.inside inside (counted _ end) (counted _ also) in
-    (same, at.numbered ∙ (ap suc place ∙ sym ot.numbered))
+one_end : (text : ConfigText) (direction : Direction) (c : ℕ) → end_count text.channels direction c text.partitions ≤ 1
+    → (p id : ℕ) (port : Port) (q jd : ℕ) (other : Port) (at : StandsAt text p id port) (ot : StandsAt text q jd other)
+    → is_end text.channels direction c at.entry ≡ true → is_end text.channels direction c ot.entry ≡ true → (p ≡ q) × (id ≡ jd)
+one_end text direction c few p id port q jd other at ot end also =
+    let same : p ≡ q = one_part (ends_in text.channels direction c) text.partitions p q at.partition ot.partition few at.found ot.found (end_counted text direction c p id port at end) (end_counted text direction c q jd other ot also) in
+    let moved : slice_get text.partitions p ≡ Some ot.partition = ap (slice_get text.partitions) same ∙ ot.found in
+    let partition : ot.partition ≡ at.partition = same_index text.partitions p ot.partition at.partition moved at.found in
+    let inside : slice_get at.partition.ports ot.index ≡ Some ot.entry = ap (λ (x : PartitionText). slice_get x.ports ot.index) (sym partition) ∙ ot.inside in
+    let fewer : count_by (is_end text.channels direction c) at.partition.ports ≤ 1 = omega (arith, part-le-sum_by (ends_in text.channels direction c) text.partitions p at.partition at.found) in
+    let index : at.index ≡ ot.index = one_part (λ (x : PortText). cond (is_end text.channels direction c x) 1 0) at.partition.ports at.index ot.index at.entry ot.entry fewer at.inside inside (counted _ end) (counted _ also) in
+    (same, at.numbered ∙ (ap suc index ∙ sym ot.numbered))
 
-pub some_end : (config : Configuration) (direction : Direction) (c : ℕ) → 1 ≤ end_count direction c config.partitions
-    → (p : ℕ) × (id : ℕ) × (port : Port) × (port_of config p id ≡ Some port) × (port.direction ≡ direction) × (port.channel ≡ c)
-some_end config direction c more =
-    let partition = some_part (ends_in direction c) config.partitions more in
-    let port = some_part (λ (x : Port). cond (is_end direction c x) 1 0) partition.1.ports partition.3 in
-    let is = is_end_is direction c port.1 (counts _ port.3) in
-    (partition.0, suc port.0, port.1, found_from config partition.0 port.0 partition.1 port.1 partition.2 port.2, is.0, is.1)
+some_end : (text : ConfigText) (direction : Direction) (c : ℕ) → 1 ≤ end_count text.channels direction c text.partitions
+    → (p : ℕ) × (id : ℕ) × (port : Port) × (port_of (configuration_of text) p id ≡ Some port) × (port.direction ≡ direction) × (port.channel ≡ c)
+some_end text direction c more =
+    let partition = some_part (ends_in text.channels direction c) text.partitions more in
+    let port = some_part (λ (x : PortText). cond (is_end text.channels direction c x) 1 0) partition.1.ports partition.3 in
+    let is = is_end_is text.channels direction c port.1 (counts _ port.3) in
+    (partition.0, suc port.0, port_of_text text.channels port.1, found_from text partition.0 port.0 partition.1 port.1 partition.2 port.2, is.0, is.1)
 
--- ---- all tests
+clear : (a b c : Bool) → a ≡ true → b ≡ false → (not a || b || c) ≡ true → c ≡ true
+clear true true c h k m = absurd (false≢true (sym k))
+clear true false c h k m = m
+clear false b c h k m = absurd (false≢true h)
 
-passed : (b : Bool) (fault : ConfigFault) (rest : Option ConfigFault) → cond (not b) (Some fault) rest ≡ None → (b ≡ true) × (rest ≡ None)
-passed true fault rest h = (refl, h)
-passed false fault rest h = absurd cc
+alone : (text : ConfigText) (direction : Direction) (entry : PortText) → entry.direction ≡ direction → may_have_several direction (channel_of_port text.channels entry) ≡ false
+    → is_alone direction text entry ≡ true → end_count text.channels direction (channel_named text.channels entry.channel) text.partitions ≤ 1
+alone text direction entry same single passes =
+    leb-true _ 1 (clear (same_direction entry.direction direction) (may_have_several direction (channel_of_port text.channels entry)) _ (same_direction_from entry.direction direction same) single passes)
 
-pub record PassesAll (config : Configuration) : Type 0 where
-  pub names : has_names config ≡ true
-  pub distinct : has_distinct_names config ≡ true
-  pub numbers : has_numbers config ≡ true
-  pub channels : has_channels config ≡ true
-  pub kinds : has_kinds config ≡ true
-  pub sources : has_sources config ≡ true
-  pub destinations : has_destinations config ≡ true
-  pub counts : has_counts config ≡ true
+-- ---- all passes
 
-pub passes_all : (config : Configuration) → first_fault config ≡ None → PassesAll config
-unfolding first_fault
-passes_all config h =
-    let one = passed (has_names config) BadName _ h in
-    let two = passed (has_distinct_names config) NameTwice _ one.1 in
-    let three = passed (has_numbers config) OutOfRange _ two.1 in
-    let four = passed (has_channels config) UnknownChannel _ three.1 in
-    let five = passed (has_kinds config) KindDiffers _ four.1 in
-    let six = passed (has_sources config) Sources _ five.1 in
-    let seven = passed (has_destinations config) Destinations _ six.1 in
-    let eight = passed (has_counts config) Counts _ seven.1 in
+passed : (fault : ConfigFault) (places : List Place) (later : Option RefusalData) → refused_by fault places later ≡ None → (places ≡ []) × (later ≡ None)
+passed fault [] later h = (refl, h)
+passed fault (place ∷ places) later h = absurd cc
+
+pub record PassesAll (text : ConfigText) : Type 0 where
+  pub names : bad_names text ≡ []
+  pub distinct : repeated_names text ≡ []
+  pub numbers : bad_numbers text ≡ []
+  pub channels : unknown_channels text ≡ []
+  pub kinds : other_kinds text ≡ []
+  pub sources : wrong_ends Source text ≡ []
+  pub destinations : wrong_ends Destination text ≡ []
+  pub counts : bad_counts text ≡ []
+
+pub passes_all : (text : ConfigText) → first_refusal passes text ≡ None → PassesAll text
+passes_all text h =
+    let one = passed BadName (bad_names text) _ h in
+    let two = passed NameTwice (repeated_names text) _ one.1 in
+    let three = passed OutOfRange (bad_numbers text) _ two.1 in
+    let four = passed UnknownChannel (unknown_channels text) _ three.1 in
+    let five = passed KindDiffers (other_kinds text) _ four.1 in
+    let six = passed Sources (wrong_ends Source text) _ five.1 in
+    let seven = passed Destinations (wrong_ends Destination text) _ six.1 in
+    let eight = passed Counts (bad_counts text) _ seven.1 in
     record { names = one.0; distinct = two.0; numbers = three.0; channels = four.0; kinds = five.0; sources = six.0; destinations = seven.0; counts = eight.0 }
 
-and_three : (a b c : Bool) → (a && b && c) ≡ true → (a ≡ true) × (b ≡ true) × (c ≡ true)
-and_three a b c h =
-    let both = and_parts (a && b) c h in
-    let first = and_parts a b both.0 in
+names_empty : (text : ConfigText) → PassesAll text → (at_each bad_partition_names 0 text.partitions ≡ []) × (at_each bad_channel_name 0 text.channels ≡ [])
+unfolding bad_names
+names_empty text pass = append_empty _ _ pass.names
+
+partition_names : (text : ConfigText) → PassesAll text → (p : ℕ) (partition : PartitionText) → slice_get text.partitions p ≡ Some partition
+    → (is_name partition.name ≡ true) × (at_each (bad_port_name p) 0 partition.ports ≡ [])
+partition_names text pass p partition found =
+    let both = append_empty _ _ (found_at bad_partition_names text.partitions p partition (names_empty text pass).0 found) in
+    (unless_empty (is_name partition.name) _ both.0, both.1)
+
+port_name_is : (text : ConfigText) → PassesAll text → (p id : ℕ) (port : Port) (at : StandsAt text p id port) → is_name at.entry.name ≡ true
+port_name_is text pass p id port at =
+    unless_empty (is_name at.entry.name) _ (found_at (bad_port_name p) at.partition.ports at.index at.entry (partition_names text pass p at.partition at.found).1 at.inside)
+
+channel_name_is : (text : ConfigText) → PassesAll text → (c : ℕ) (channel : ChannelText) → slice_get text.channels c ≡ Some channel → is_name channel.name ≡ true
+channel_name_is text pass c channel found = unless_empty (is_name channel.name) _ (found_at bad_channel_name text.channels c channel (names_empty text pass).1 found)
+
+distinct_empty : (text : ConfigText) → PassesAll text
+    → (repeated (part_in entries.Partitions) (map (λ partition. partition.name) text.partitions) ≡ [])
+    × (at_each repeated_port_names 0 text.partitions ≡ [])
+    × (repeated (part_in entries.Channels) (map (λ channel. channel.name) text.channels) ≡ [])
+unfolding repeated_names
+distinct_empty text pass =
+    let both = append_empty (repeated (part_in entries.Partitions) (map (λ partition. partition.name) text.partitions) ++ at_each repeated_port_names 0 text.partitions) _ pass.distinct in
+    let first = append_empty (repeated (part_in entries.Partitions) (map (λ partition. partition.name) text.partitions)) _ both.0 in
     (first.0, first.1, both.1)
 
-pub names_pass : (config : Configuration) → PassesAll config
-    → (list_all (λ partition. is_name partition.name) config.partitions ≡ true) × (all_ports (λ port. is_name port.name) config.partitions ≡ true) × (list_all (λ channel. is_name channel.name) config.channels ≡ true)
-unfolding has_names
-names_pass config pass = and_three _ _ _ pass.names
+numbers_empty : (text : ConfigText) → PassesAll text → (at_ports bad_refresh text.partitions ≡ []) × (at_each bad_channel_numbers 0 text.channels ≡ [])
+unfolding bad_numbers
+numbers_empty text pass = append_empty _ _ pass.numbers
 
-pub numbers_pass : (config : Configuration) → PassesAll config
-    → (list_all (λ channel. is_within SIZE_LIMIT channel.size && has_depth channel.kind) config.channels ≡ true) × (all_ports (λ port. has_refresh port.kind) config.partitions ≡ true)
-unfolding has_numbers
-numbers_pass config pass = and_parts _ _ pass.numbers
+channel_numbers : (text : ConfigText) → PassesAll text → (c : ℕ) (channel : ChannelText) → slice_get text.channels c ≡ Some channel
+    → (is_from_one_to SIZE_LIMIT channel.size ≡ true) × (is_from_one_to_if_any DEPTH_LIMIT channel.depth ≡ true)
+channel_numbers text pass c channel found =
+    let both = append_empty _ _ (found_at bad_channel_numbers text.channels c channel (numbers_empty text pass).1 found) in
+    (unless_empty (is_from_one_to SIZE_LIMIT channel.size) _ both.0, unless_empty (is_from_one_to_if_any DEPTH_LIMIT channel.depth) _ both.1)
 
-distinct_pass : (config : Configuration) → PassesAll config
-    → (are_distinct (map (λ partition. partition.name) config.partitions) ≡ true) × (list_all (λ partition. are_distinct (map (λ port. port.name) partition.ports)) config.partitions ≡ true)
-    × (are_distinct (map (λ channel. channel.name) config.channels) ≡ true)
-unfolding has_distinct_names
-distinct_pass config pass = and_three _ _ _ pass.distinct
+linked : (text : ConfigText) → PassesAll text → (p id : ℕ) (port : Port) (at : StandsAt text p id port)
+    → (channel : ChannelText) × (channel_of_port text.channels at.entry ≡ Some channel) × (is_queuing_port (port_kind_of at.entry.refresh) ≡ is_queuing_channel (channel_kind_of channel.depth))
+unfolding unknown_channels other_kinds
+linked text pass p id port at =
+    linked_in at.entry (channel_of_port text.channels at.entry)
+    (unless_empty (is_some (channel_of_port text.channels at.entry)) _ (port_found text (unknown_channel text.channels) p id port at pass.channels))
+    (unless_empty (is_of_kind at.entry (channel_of_port text.channels at.entry)) _ (port_found text (other_kind text.channels) p id port at pass.kinds))
 
-counts_pass : (config : Configuration) → PassesAll config
-    → (is_within PARTITION_LIMIT (length config.partitions) ≡ true) × (list_all (λ partition. leb (length partition.ports) PORT_LIMIT) config.partitions ≡ true)
-    × (leb (length config.channels) CHANNEL_LIMIT ≡ true)
-unfolding has_counts
-counts_pass config pass = and_three _ _ _ pass.counts
+ends_empty : (text : ConfigText) (direction : Direction) → wrong_ends direction text ≡ [] → (at_each (without_end direction text) 0 text.channels ≡ []) × (at_ports (one_of_several direction text) text.partitions ≡ [])
+unfolding wrong_ends
+ends_empty text direction none = append_empty _ _ none
 
-linked_from : (config : Configuration) → PassesAll config → (p id : ℕ) (port : Port) → port_of config p id ≡ Some port → (channel : Channel) × (channel_of config port.channel ≡ Some channel) × KindsAgree port channel
-unfolding has_kinds fits_kind
-linked_from config pass p id port found =
-    linked_in port (channel_of config port.channel) (all_ports_at config (fits_kind config.channels) p id port pass.kinds found)
+end_of_channel : (text : ConfigText) (direction : Direction) → wrong_ends direction text ≡ [] → (c : ℕ) (channel : ChannelText) → slice_get text.channels c ≡ Some channel
+    → 1 ≤ end_count text.channels direction c text.partitions
+end_of_channel text direction none c channel found = leb-true 1 _ (unless_empty _ _ (found_at (without_end direction text) text.channels c channel (ends_empty text direction none).0 found))
 
-channel_fits : (config : Configuration) → PassesAll config → (c : ℕ) (channel : Channel) → channel_of config c ≡ Some channel → (is_within SIZE_LIMIT channel.size ≡ true) × (has_depth channel.kind ≡ true)
-channel_fits config pass c channel found =
-    and_parts _ _ (all_at (λ (channel : Channel). is_within SIZE_LIMIT channel.size && has_depth channel.kind) config.channels c channel (numbers_pass config pass).0 found)
+few_ends : (text : ConfigText) (direction : Direction) → wrong_ends direction text ≡ [] → (p id : ℕ) (port : Port) (at : StandsAt text p id port)
+    → at.entry.direction ≡ direction → may_have_several direction (channel_of_port text.channels at.entry) ≡ false
+    → end_count text.channels direction (channel_named text.channels at.entry.channel) text.partitions ≤ 1
+few_ends text direction none p id port at same single =
+    alone text direction at.entry same single (unless_empty (is_alone direction text at.entry) _ (port_found text (one_of_several direction text) p id port at (ends_empty text direction none).1))
 
-source_count : (config : Configuration) → PassesAll config → (c : ℕ) (channel : Channel) → channel_of config c ≡ Some channel → end_count Source c config.partitions ≡ 1
-unfolding has_sources
-source_count config pass c channel found =
-    let one = numbered_at (λ (numbered : ℕ × Channel). eqb (end_count Source numbered.0 config.partitions) 1) 0 config.channels c channel pass.sources found in
-    let at : 0 + c ≡ c = omega arith in
-    eqb-true _ 1 (subst (λ (n : ℕ). eqb (end_count Source n config.partitions) 1 ≡ true) at one)
+-- two ends of one direction that are on one channel, where there may be one alone
+same_end : (text : ConfigText) (direction : Direction) → wrong_ends direction text ≡ [] → (p id : ℕ) (port : Port) (q jd : ℕ) (other : Port) (at : StandsAt text p id port) (ot : StandsAt text q jd other)
+    → port.direction ≡ direction → other.direction ≡ direction → port.channel ≡ other.channel → may_have_several direction (channel_of_port text.channels at.entry) ≡ false → (p ≡ q) × (id ≡ jd)
+same_end text direction none p id port q jd other at ot here there same single =
+    let first : at.entry.direction ≡ direction = sym (ap (λ (x : Port). x.direction) at.is) ∙ here in
+    let second : ot.entry.direction ≡ direction = sym (ap (λ (x : Port). x.direction) ot.is) ∙ there in
+    let c = channel_named text.channels at.entry.channel in
+    let also : channel_named text.channels ot.entry.channel ≡ c = sym (ap (λ (x : Port). x.channel) ot.is) ∙ sym same ∙ ap (λ (x : Port). x.channel) at.is in
+    one_end text direction c (few_ends text direction none p id port at first single) p id port q jd other at ot
+    (is_end_from text.channels direction c at.entry first refl) (is_end_from text.channels direction c ot.entry second also)
 
-destinations_fit : (config : Configuration) → PassesAll config → (c : ℕ) (channel : Channel) → channel_of config c ≡ Some channel → fits_destinations channel.kind (end_count Destination c config.partitions) ≡ true
-unfolding has_destinations
-destinations_fit config pass c channel found =
-    let fits = numbered_at (λ (numbered : ℕ × Channel). fits_destinations numbered.1.kind (end_count Destination numbered.0 config.partitions)) 0 config.channels c channel pass.destinations found in
-    let at : 0 + c ≡ c = omega arith in
-    subst (λ (n : ℕ). fits_destinations channel.kind (end_count Destination n config.partitions) ≡ true) at fits
+counts_empty : (text : ConfigText) → PassesAll text → (is_within PARTITION_LIMIT (length text.partitions) ≡ true) × (at_each too_many_ports 0 text.partitions ≡ []) × (leb (length text.channels) CHANNEL_LIMIT ≡ true)
+unfolding bad_counts
+counts_empty text pass =
+    let both = append_empty (unless (is_within PARTITION_LIMIT (length text.partitions)) _ ++ at_each too_many_ports 0 text.partitions) _ pass.counts in
+    let first = append_empty (unless (is_within PARTITION_LIMIT (length text.partitions)) _) _ both.0 in
+    (unless_empty (is_within PARTITION_LIMIT (length text.partitions)) _ first.0, first.1, unless_empty (leb (length text.channels) CHANNEL_LIMIT) _ both.1)
 
-some_destination : (kind : ChannelKind) (count : ℕ) → fits_destinations kind count ≡ true → 1 ≤ count
-some_destination (channel_kind.Queuing depth) count h = omega (arith, eqb-true count 1 h)
-some_destination channel_kind.Sampling count h = leb-true 1 count h
+-- ---- tests of all entries
 
-one_destination_of : (kind : ChannelKind) (count : ℕ) → is_queuing_channel kind ≡ true → fits_destinations kind count ≡ true → count ≤ 1
-one_destination_of (channel_kind.Queuing depth) count queuing h = omega (arith, eqb-true count 1 h)
-one_destination_of channel_kind.Sampling count queuing h = absurd (false≢true queuing)
+all_from : {X : Type 0} (find : ℕ → X → List Place) (test : X → Bool) → ((i : ℕ) (x : X) → find i x ≡ [] → test x ≡ true) → (n : ℕ) (xs : List X) → at_each find n xs ≡ [] → list_all test xs ≡ true
+all_from find test each n [] none = refl
+all_from find test each n (x ∷ xs) none =
+    let parts = append_empty (find n x) (at_each find (suc n) xs) none in
+    rw (each n x parts.0, all_from find test each (suc n) xs parts.1) refl
 
-ports_distinct : (config : Configuration) → PassesAll config → (p id jd : ℕ) (port other : Port) → port_of config p id ≡ Some port → port_of config p jd ≡ Some other → port.name ≡ other.name → id ≡ jd
-ports_distinct config pass p id jd port other here there same =
-    let at = stands_at config p id port here in
-    let ot = stands_at config p jd other there in
-    let partition : ot.partition ≡ at.partition = same_place config.partitions p ot.partition at.partition ot.found at.found in
-    let inside : slice_get at.partition.ports ot.place ≡ Some other = ap (λ (x : PartitionData). slice_get x.ports ot.place) (sym partition) ∙ ot.inside in
-    let names = λ (x : Port). x.name in
-    let once : are_distinct (map names at.partition.ports) ≡ true = all_at (λ (x : PartitionData). are_distinct (map names x.ports)) config.partitions p at.partition (distinct_pass config pass).1 at.found in
-    let place : at.place ≡ ot.place = distinct_at (map names at.partition.ports) at.place ot.place port.name other.name once (name_at names at.partition.ports at.place port at.inside) (name_at names at.partition.ports ot.place other inside) same in
-    at.numbered ∙ (ap suc place ∙ sym ot.numbered)
+both_hold : (a b : Bool) → a ≡ true → b ≡ true → (a && b) ≡ true
+both_hold true b h k = k
+both_hold false b h k = absurd (false≢true h)
 
-partition_is : (config : Configuration) (p : ℕ) (name : List ℕ) → partition_name_of config p ≡ Some name → slice_get (map (λ partition. partition.name) config.partitions) p ≡ Some name
-partition_is config p name found = slice_get-map (λ (x : PartitionData). x.name) config.partitions p ∙ found
+all_both : {X : Type 0} (p q : X → Bool) (xs : List X) → list_all p xs ≡ true → list_all q xs ≡ true → list_all (λ x. p x && q x) xs ≡ true
+all_both p q [] h k = refl
+all_both p q (x ∷ xs) h k =
+    let first = and_parts (p x) (list_all p xs) h in
+    let second = and_parts (q x) (list_all q xs) k in
+    both_hold _ _ (both_hold (p x) (q x) first.0 second.0) (all_both p q xs first.1 second.1)
 
-partition_name_is : (config : Configuration) → PassesAll config → (p : ℕ) (name : List ℕ) → partition_name_of config p ≡ Some name → IsName name
-partition_name_is config pass p name found =
-    let at = partition_at config p (slice_get config.partitions p) name refl found in
-    IsName-from name (ap is_name (sym at.2) ∙ all_at (λ (x : PartitionData). is_name x.name) config.partitions p at.0 (names_pass config pass).0 at.1)
+partition_has_names : (p : ℕ) (partition : PartitionText) → bad_partition_names p partition ≡ [] → has_names partition ≡ true
+partition_has_names p partition none =
+    let parts = append_empty _ _ none in
+    both_hold _ _ (unless_empty (is_name partition.name) _ parts.0)
+    (all_from (bad_port_name p) (λ (port : PortText). is_name port.name) (λ i port here. unless_empty (is_name port.name) _ here) 0 partition.ports parts.1)
 
-pub IsConfiguration-from : (config : Configuration) → first_fault config ≡ None → IsConfiguration config
-IsConfiguration-from config accepted =
-    let pass : PassesAll config = passes_all config accepted in
-    let partitions : (1 ≤ length config.partitions) × (length config.partitions ≤ PARTITION_LIMIT) = within PARTITION_LIMIT (length config.partitions) (counts_pass config pass).0 in
+pub all_have_names : (text : ConfigText) → PassesAll text → list_all has_names text.partitions ≡ true
+all_have_names text pass = all_from bad_partition_names has_names partition_has_names 0 text.partitions (names_empty text pass).0
+
+abbrev has_numbers : ChannelText → Bool
+has_numbers channel = is_from_one_to SIZE_LIMIT channel.size && is_from_one_to_if_any DEPTH_LIMIT channel.depth
+
+channel_has_numbers : (c : ℕ) (channel : ChannelText) → bad_channel_numbers c channel ≡ [] → has_numbers channel ≡ true
+channel_has_numbers c channel none =
+    let parts = append_empty _ _ none in
+    both_hold _ _ (unless_empty (is_from_one_to SIZE_LIMIT channel.size) _ parts.0) (unless_empty (is_from_one_to_if_any DEPTH_LIMIT channel.depth) _ parts.1)
+
+pub all_are_acceptable : (text : ConfigText) → PassesAll text → list_all is_acceptable text.channels ≡ true
+all_are_acceptable text pass =
+    all_both (λ (channel : ChannelText). is_name channel.name) has_numbers text.channels
+    (all_from bad_channel_name (λ (channel : ChannelText). is_name channel.name) (λ c channel here. unless_empty (is_name channel.name) _ here) 0 text.channels (names_empty text pass).1)
+    (all_from bad_channel_numbers has_numbers channel_has_numbers 0 text.channels (numbers_empty text pass).1)
+
+-- ---- the configuration
+
+named_in : (channels : List ChannelText) (o : Option PartitionText) → option_map (λ partition. partition.name) o ≡ option_map (λ partition. partition.name) (option_map (partition_of_text channels) o)
+named_in channels None = refl
+named_in channels (Some partition) = refl
+
+partition_named_at : (text : ConfigText) (p : ℕ) (name : List ℕ) → partition_name_of (configuration_of text) p ≡ Some name → slice_get (map (λ partition. partition.name) text.partitions) p ≡ Some name
+partition_named_at text p name found =
+    slice_get-map (λ (x : PartitionText). x.name) text.partitions p
+    ∙ named_in text.channels (slice_get text.partitions p)
+    ∙ sym (ap (option_map (λ (x : PartitionData). x.name)) (slice_get-map (partition_of_text text.channels) text.partitions p))
+    ∙ found
+
+partition_name_is : (text : ConfigText) → PassesAll text → (p : ℕ) (name : List ℕ) → partition_name_of (configuration_of text) p ≡ Some name → IsName name
+partition_name_is text pass p name found =
+    let at = from_map (λ (x : PartitionText). x.name) text.partitions p name (partition_named_at text p name found) in
+    subst IsName (sym at.2) (IsName-from at.0.name (partition_names text pass p at.0 at.1).0)
+
+ports_distinct : (text : ConfigText) → PassesAll text → (p id jd : ℕ) (port other : Port) → StandsAt text p id port → StandsAt text p jd other → port.name ≡ other.name → id ≡ jd
+ports_distinct text pass p id jd port other at ot same =
+    let partition : ot.partition ≡ at.partition = same_index text.partitions p ot.partition at.partition ot.found at.found in
+    let inside : slice_get at.partition.ports ot.index ≡ Some ot.entry = ap (λ (x : PartitionText). slice_get x.ports ot.index) (sym partition) ∙ ot.inside in
+    let names = λ (x : PortText). x.name in
+    let once = found_at repeated_port_names text.partitions p at.partition (distinct_empty text pass).1 at.found in
+    let name : ot.entry.name ≡ at.entry.name = sym (ap (λ (x : Port). x.name) ot.is) ∙ sym same ∙ ap (λ (x : Port). x.name) at.is in
+    let index : at.index ≡ ot.index = distinct_at (part_in (entries.PortsOf p)) (map names at.partition.ports) at.index ot.index at.entry.name once (to_map names at.partition.ports at.index at.entry at.inside)
+    (to_map names at.partition.ports ot.index ot.entry inside ∙ ap Some name) in
+    at.numbered ∙ (ap suc index ∙ sym ot.numbered)
+
+channels_distinct : (text : ConfigText) → PassesAll text → (c d : ℕ) (channel other : Channel) → channel_of (configuration_of text) c ≡ Some channel → channel_of (configuration_of text) d ≡ Some other → channel.name ≡ other.name → c ≡ d
+channels_distinct text pass c d channel other here there same =
+    let at = from_map channel_of_text text.channels c channel here in
+    let ot = from_map channel_of_text text.channels d other there in
+    let names = λ (x : ChannelText). x.name in
+    let name : ot.0.name ≡ at.0.name = sym (ap (λ (x : Channel). x.name) ot.2) ∙ sym same ∙ ap (λ (x : Channel). x.name) at.2 in
+    distinct_at (part_in entries.Channels) (map names text.channels) c d at.0.name (distinct_empty text pass).2 (to_map names text.channels c at.0 at.1) (to_map names text.channels d ot.0 ot.1 ∙ ap Some name)
+
+single : (channel : ChannelText) → is_queuing_channel (channel_kind_of channel.depth) ≡ true → may_have_several Destination (Some channel) ≡ false
+single channel queuing = by_depth channel.depth queuing
+  where
+    by_depth : (depth : Option ℤ) → is_queuing_channel (channel_kind_of depth) ≡ true → is_none depth ≡ false
+    by_depth None h = absurd (false≢true h)
+    by_depth (Some depth) h = refl
+
+one_destination_of : (text : ConfigText) → PassesAll text → (p id : ℕ) (port : Port) (q jd : ℕ) (other : Port) → StandsAt text p id port → StandsAt text q jd other
+    → port.direction ≡ Destination → other.direction ≡ Destination → port.channel ≡ other.channel → is_queuing_port port.kind ≡ true → (p ≡ q) × (id ≡ jd)
+one_destination_of text pass p id port q jd other at ot here there same queuing =
+    let channel = linked text pass p id port at in
+    let kind : is_queuing_port (port_kind_of at.entry.refresh) ≡ true = sym (ap (λ (x : Port). is_queuing_port x.kind) at.is) ∙ queuing in
+    same_end text Destination pass.destinations p id port q jd other at ot here there same
+    (ap (may_have_several Destination) channel.1 ∙ single channel.0 (sym channel.2 ∙ kind))
+
+one_source_of : (text : ConfigText) → PassesAll text → (p id : ℕ) (port : Port) (q jd : ℕ) (other : Port) → StandsAt text p id port → StandsAt text q jd other
+    → port.direction ≡ Source → other.direction ≡ Source → port.channel ≡ other.channel → (p ≡ q) × (id ≡ jd)
+one_source_of text pass p id port q jd other at ot here there same =
+    same_end text Source pass.sources p id port q jd other at ot here there same (ap (may_have_several Source) (linked text pass p id port at).1)
+
+linked_from : (text : ConfigText) → PassesAll text → (p id : ℕ) (port : Port) → StandsAt text p id port
+    → (channel : Channel) × (channel_of (configuration_of text) port.channel ≡ Some channel) × KindsAgree port channel
+linked_from text pass p id port at =
+    let channel = linked text pass p id port at in
+    subst (λ (x : Port). (channel : Channel) × (channel_of (configuration_of text) x.channel ≡ Some channel) × KindsAgree x channel) (sym at.is)
+    (channel_of_text channel.0, to_map channel_of_text text.channels (channel_named text.channels at.entry.channel) channel.0 channel.1, channel.2)
+
+pub IsConfiguration-from : (text : ConfigText) → first_refusal passes text ≡ None → IsConfiguration (configuration_of text)
+IsConfiguration-from text accepted =
+    let pass : PassesAll text = passes_all text accepted in
+    let partitions : (1 ≤ length text.partitions) × (length text.partitions ≤ PARTITION_LIMIT) = within PARTITION_LIMIT (length text.partitions) (counts_empty text pass).0 in
+    let many : length (map (partition_of_text text.channels) text.partitions) ≡ length text.partitions = length-map text.partitions (partition_of_text text.channels) in
     record {
-      some_partition = partitions.0;
-      few_partitions = partitions.1;
-      few_ports = λ p. few_from PORT_LIMIT config.partitions p (counts_pass config pass).1;
-      few_channels = leb-true (length config.channels) CHANNEL_LIMIT (counts_pass config pass).2;
-      refresh = λ p id port found. refresh_from port.kind (all_ports_at config (λ (x : Port). has_refresh x.kind) p id port (numbers_pass config pass).1 found);
-      size = λ c channel found. within SIZE_LIMIT channel.size (channel_fits config pass c channel found).0;
-      depth = λ c channel found. depth_from channel.kind (channel_fits config pass c channel found).1;
-      partition_name = partition_name_is config pass;
-      port_name = λ p id port found. IsName-from port.name (all_ports_at config (λ (x : Port). is_name x.name) p id port (names_pass config pass).1 found);
-      channel_name = λ c channel found. IsName-from channel.name (all_at (λ (x : Channel). is_name x.name) config.channels c channel (names_pass config pass).2 found);
-      distinct_partitions = λ p q name here there. distinct_at (map (λ (x : PartitionData). x.name) config.partitions) p q name name (distinct_pass config pass).0 (partition_is config p name here) (partition_is config q name there) refl;
-      distinct_ports = ports_distinct config pass;
-      distinct_channels = λ c d channel other here there same. distinct_at (map (λ (x : Channel). x.name) config.channels) c d channel.name other.name (distinct_pass config pass).2
-          (name_at (λ (x : Channel). x.name) config.channels c channel here) (name_at (λ (x : Channel). x.name) config.channels d other there) same;
-      linked = linked_from config pass;
-      one_source = λ p id port q jd other here there source also same.
-          let channel = linked_from config pass p id port here in
-          one_end config Source port.channel (omega (arith, source_count config pass port.channel channel.0 channel.1)) p id port q jd other here there
-          (is_end_from Source port.channel port source refl) (is_end_from Source port.channel other also (sym same));
-      has_source = λ c channel found. some_end config Source c (omega (arith, source_count config pass c channel found));
-      one_destination = λ p id port q jd other here there destination also same queuing.
-          let channel = linked_from config pass p id port here in
-          one_end config Destination port.channel (one_destination_of channel.0.kind (end_count Destination port.channel config.partitions) (sym channel.2 ∙ queuing) (destinations_fit config pass port.channel channel.0 channel.1)) p id port q jd other here there
-          (is_end_from Destination port.channel port destination refl) (is_end_from Destination port.channel other also (sym same));
-      has_destination = λ c channel found. some_end config Destination c (some_destination channel.kind (end_count Destination c config.partitions) (destinations_fit config pass c channel found));
+      some_partition = subst (λ (n : ℕ). 1 ≤ n) (sym many) partitions.0;
+      few_partitions = subst (λ (n : ℕ). n ≤ PARTITION_LIMIT) (sym many) partitions.1;
+      few_ports = λ p. subst (λ (o : Option PartitionData). length (ports_of_partition o) ≤ PORT_LIMIT) (sym (slice_get-map (partition_of_text text.channels) text.partitions p))
+          (few_in text p (slice_get text.partitions p) refl (counts_empty text pass).1);
+      few_channels = subst (λ (n : ℕ). n ≤ CHANNEL_LIMIT) (sym (length-map text.channels channel_of_text)) (leb-true (length text.channels) CHANNEL_LIMIT (counts_empty text pass).2);
+      refresh = λ p id port found.
+          let at = stands_at text p id port found in
+          subst (λ (x : Port). IsRefresh x.kind) (sym at.is)
+          (refresh_from at.entry.refresh (unless_empty (is_from_one_to_if_any REFRESH_LIMIT at.entry.refresh) _ (port_found text bad_refresh p id port at (numbers_empty text pass).0)));
+      size = λ c channel found.
+          let at = from_map channel_of_text text.channels c channel found in
+          subst (λ (x : Channel). IsSize x.size) (sym at.2) (within_natural SIZE_LIMIT at.0.size (channel_numbers text pass c at.0 at.1).0);
+      depth = λ c channel found.
+          let at = from_map channel_of_text text.channels c channel found in
+          subst (λ (x : Channel). IsDepth x.kind) (sym at.2) (depth_from at.0.depth (channel_numbers text pass c at.0 at.1).1);
+      partition_name = partition_name_is text pass;
+      port_name = λ p id port found.
+          let at = stands_at text p id port found in
+          subst (λ (x : Port). IsName x.name) (sym at.is) (IsName-from at.entry.name (port_name_is text pass p id port at));
+      channel_name = λ c channel found.
+          let at = from_map channel_of_text text.channels c channel found in
+          subst (λ (x : Channel). IsName x.name) (sym at.2) (IsName-from at.0.name (channel_name_is text pass c at.0 at.1));
+      distinct_partitions = λ p q name here there.
+          distinct_at (part_in entries.Partitions) (map (λ (x : PartitionText). x.name) text.partitions) p q name (distinct_empty text pass).0 (partition_named_at text p name here) (partition_named_at text q name there);
+      distinct_ports = λ p id jd port other here there same. ports_distinct text pass p id jd port other (stands_at text p id port here) (stands_at text p jd other there) same;
+      distinct_channels = channels_distinct text pass;
+      linked = λ p id port found. linked_from text pass p id port (stands_at text p id port found);
+      one_source = λ p id port q jd other here there source also same. one_source_of text pass p id port q jd other (stands_at text p id port here) (stands_at text q jd other there) source also same;
+      has_source = λ c channel found. some_end text Source c (end_of_channel text Source pass.sources c (from_map channel_of_text text.channels c channel found).0 (from_map channel_of_text text.channels c channel found).1);
+      one_destination = λ p id port q jd other here there destination also same queuing. one_destination_of text pass p id port q jd other (stands_at text p id port here) (stands_at text q jd other there) destination also same queuing;
+      has_destination = λ c channel found. some_end text Destination c (end_of_channel text Destination pass.destinations c (from_map channel_of_text text.channels c channel found).0 (from_map channel_of_text text.channels c channel found).1);
     }

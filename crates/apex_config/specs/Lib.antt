@@ -1,12 +1,14 @@
+pub mod Accepted
 pub mod Configuration
-pub mod Drafts
 pub mod Ends
 pub mod Equality
 pub mod EqualityLaws
 pub mod Fault
+pub mod Form
 pub mod Limits
 pub mod Meaning
+pub mod Numbers
 pub mod Passes
 pub mod Places
-pub mod Table
 pub mod Text
+pub mod Values

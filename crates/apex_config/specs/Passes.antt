@@ -1,96 +1,130 @@
--- The tests of a draft, in their order. Each looks at the whole draft. Those of kinds, ends and counts are tests of the configuration that
--- the draft then is; those before them say of a draft what `Meaning` says of the text.
-use Rattle.std.specs.Prelude.{ℕ, Bool, true, false, ◌&&◌, ◌==◌, nat_le, nat_lt, not, if◌then◌else◌, List, [], ◌∷◌, length, map, slice_get, sum_by, count_by, is_ok, Option, Some, None}
-use Rattle.std.specs.List.{list_any, list_all, enumerate_from}
+-- The passes over the text of a configuration whose form is right. Each finds all places that it refuses, in its order.
+use Rattle.std.specs.Prelude.{ℕ, ℤ, pos, negsuc, Bool, true, false, ◌&&◌, ◌||◌, ◌++◌, ◌==◌, nat_le, not, if◌then◌else◌, List, [], ◌∷◌, length, map, take, slice_get, sum_by, count_by, position, unwrap_or, is_ok, is_some, is_none, Option, Some, None}
+use Rattle.std.specs.List.{list_any}
 use Rattle.std.specs.Str.{bytes_eq}
 use Rattle.apex_types.specs.Name.{name_of}
 use Rattle.apex_types.specs.declared.direction.Direction.{Direction}
 use Rattle.apex_types.specs.declared.direction.Direction.TheVariants.{Source, Destination}
-use Rattle.apex_config.specs.declared.port.Port.{Port}
-use Rattle.apex_config.specs.declared.port.PortKind.{PortKind}
-use Rattle.apex_config.specs.declared.port.PortKind.TheVariants as port_kind
-use Rattle.apex_config.specs.declared.channel.Channel.{Channel}
-use Rattle.apex_config.specs.declared.channel.ChannelKind.{ChannelKind}
-use Rattle.apex_config.specs.declared.channel.ChannelKind.TheVariants as channel_kind
 use Rattle.apex_config.specs.declared.fault.ConfigFault.{ConfigFault}
-use Rattle.apex_config.specs.declared.fault.ConfigFault.TheVariants.{BadName, NameTwice, OutOfRange, UnknownChannel, KindDiffers, Sources, Destinations, Counts}
+use Rattle.apex_config.specs.declared.fault.ConfigFault.TheVariants.{NotToml, Shape, BadName, NameTwice, OutOfRange, UnknownChannel, KindDiffers, Sources, Destinations, Counts, OutOfMemory}
 use Rattle.apex_config.specs.declared.limits.TheConstants.{PARTITION_LIMIT, PORT_LIMIT, CHANNEL_LIMIT, SIZE_LIMIT, DEPTH_LIMIT, REFRESH_LIMIT}
-use Rattle.apex_config.specs.Configuration.{PartitionData, Configuration}
+use Rattle.apex_config.specs.declared.key.Key.TheVariants as key
+use Rattle.apex_config.specs.declared.place.Part.{Part}
+use Rattle.apex_config.specs.declared.place.Part.TheVariants as part
+use Rattle.apex_config.specs.declared.place.Place.{Place}
+use Rattle.apex_config.specs.declared.place.Spot.{Spot}
+use Rattle.apex_config.specs.declared.names.Entries.{Entries}
+use Rattle.apex_config.specs.declared.names.Entries.TheVariants as entries
+use Rattle.apex_config.specs.Places.{whole, at, unless, at_each}
+use Rattle.apex_config.specs.Text.{PortText, PartitionText, ChannelText, ConfigText}
 
--- a test of each port
-abbrev pub all_ports : (Port → Bool) → List PartitionData → Bool
-all_ports test partitions = list_all (λ partition. list_all test partition.ports) partitions
+-- what is found of each port, with the indexes of its partition and its own
+abbrev pub at_ports : (ℕ → ℕ → PortText → List Place) → List PartitionText → List Place
+at_ports find partitions = at_each (λ p partition. at_each (find p) 0 partition.ports) 0 partitions
+
+-- a spot of a port
+abbrev pub spot_of_port : Spot → ℕ → ℕ → Place
+spot_of_port spot p i = record { part = part.Port p i; spot = spot }
 
 -- ---- names are names
 
 abbrev pub is_name : List ℕ → Bool
 is_name text = is_ok (name_of text)
 
-unfoldable pub has_names : Configuration → Bool
-has_names config =
-    list_all (λ partition. is_name partition.name) config.partitions
-    && all_ports (λ port. is_name port.name) config.partitions
-    && list_all (λ channel. is_name channel.name) config.channels
+abbrev pub bad_name : Part → List ℕ → List Place
+bad_name part name = unless (is_name name) (at part key.Name)
+
+abbrev pub bad_port_name : ℕ → ℕ → PortText → List Place
+bad_port_name p i port = bad_name (part.Port p i) port.name
+
+abbrev pub bad_partition_names : ℕ → PartitionText → List Place
+bad_partition_names p partition = bad_name (part.Partition p) partition.name ++ at_each (bad_port_name p) 0 partition.ports
+
+abbrev pub bad_channel_name : ℕ → ChannelText → List Place
+bad_channel_name c channel = bad_name (part.Channel c) channel.name
+
+unfoldable pub bad_names : ConfigText → List Place
+bad_names config = at_each bad_partition_names 0 config.partitions ++ at_each bad_channel_name 0 config.channels
 
 -- ---- no name twice
 
-abbrev pub are_distinct : List (List ℕ) → Bool
-are_distinct [] = true
-are_distinct (name ∷ names) = not (list_any (λ other. bytes_eq other name) names) && are_distinct names
+-- the part that an entry of a list is
+abbrev pub part_in : Entries → ℕ → Part
+part_in entries.Partitions i = part.Partition i
+part_in (entries.PortsOf p) i = part.Port p i
+part_in entries.Channels i = part.Channel i
+
+-- the entry of a number, where its name stood before
+abbrev pub stood_before : (ℕ → Part) → List (List ℕ) → ℕ → List ℕ → List Place
+stood_before part names i name = unless (not (list_any (λ other. bytes_eq other name) (take i names))) (at (part i) key.Name)
+
+-- the entries with the name of one before them
+abbrev pub repeated : (ℕ → Part) → List (List ℕ) → List Place
+repeated part names = at_each (stood_before part names) 0 names
 
 -- no two ports of one partition have one name
-abbrev pub has_distinct_port_names : List PartitionData → Bool
-has_distinct_port_names partitions = list_all (λ partition. are_distinct (map (λ port. port.name) partition.ports)) partitions
+abbrev pub repeated_port_names : ℕ → PartitionText → List Place
+repeated_port_names p partition = repeated (part_in (entries.PortsOf p)) (map (λ port. port.name) partition.ports)
 
-unfoldable pub has_distinct_names : Configuration → Bool
-has_distinct_names config =
-    are_distinct (map (λ partition. partition.name) config.partitions)
-    && has_distinct_port_names config.partitions
-    && are_distinct (map (λ channel. channel.name) config.channels)
+unfoldable pub repeated_names : ConfigText → List Place
+repeated_names config =
+    repeated (part_in entries.Partitions) (map (λ partition. partition.name) config.partitions)
+    ++ at_each repeated_port_names 0 config.partitions
+    ++ repeated (part_in entries.Channels) (map (λ channel. channel.name) config.channels)
 
--- ---- numbers within their limits
+-- ---- numbers are within their limits
 
 abbrev pub is_within : ℕ → ℕ → Bool
 is_within limit number = nat_le 1 number && nat_le number limit
 
-abbrev pub has_refresh : PortKind → Bool
-has_refresh port_kind.Queuing = true
-has_refresh (port_kind.Sampling refresh) = is_within REFRESH_LIMIT refresh
+abbrev pub is_from_one_to : ℕ → ℤ → Bool
+is_from_one_to limit (pos number) = is_within limit number
+is_from_one_to limit (negsuc number) = false
 
-abbrev pub has_depth : ChannelKind → Bool
-has_depth (channel_kind.Queuing depth) = is_within DEPTH_LIMIT depth
-has_depth channel_kind.Sampling = true
+-- a number that may be missing
+abbrev pub is_from_one_to_if_any : ℕ → Option ℤ → Bool
+is_from_one_to_if_any limit None = true
+is_from_one_to_if_any limit (Some number) = is_from_one_to limit number
 
-abbrev pub has_size_and_depth : Channel → Bool
-has_size_and_depth channel = is_within SIZE_LIMIT channel.size && has_depth channel.kind
+abbrev pub bad_refresh : ℕ → ℕ → PortText → List Place
+bad_refresh p i port = unless (is_from_one_to_if_any REFRESH_LIMIT port.refresh) (at (part.Port p i) key.Refresh)
 
-unfoldable pub has_numbers : Configuration → Bool
-has_numbers config =
-    list_all has_size_and_depth config.channels
-    && all_ports (λ port. has_refresh port.kind) config.partitions
+abbrev pub bad_channel_numbers : ℕ → ChannelText → List Place
+bad_channel_numbers c channel =
+    unless (is_from_one_to SIZE_LIMIT channel.size) (at (part.Channel c) key.Size)
+    ++ unless (is_from_one_to_if_any DEPTH_LIMIT channel.depth) (at (part.Channel c) key.Depth)
 
--- ---- each port's channel is there
+unfoldable pub bad_numbers : ConfigText → List Place
+bad_numbers config = at_ports bad_refresh config.partitions ++ at_each bad_channel_numbers 0 config.channels
 
-unfoldable pub has_channels : Configuration → Bool
-has_channels config = all_ports (λ port. nat_lt port.channel (length config.channels)) config.partitions
+-- ---- each port names a channel
 
--- ---- each port's kind is its channel's kind
+-- the number of the first channel of a name; where there is none, the number of channels, which is no channel's number
+abbrev pub channel_named : List ChannelText → List ℕ → ℕ
+channel_named channels name = unwrap_or (position (λ channel. bytes_eq channel.name name) channels) (length channels)
 
-abbrev pub same_kind : PortKind → ChannelKind → Bool
-same_kind port_kind.Queuing (channel_kind.Queuing depth) = true
-same_kind port_kind.Queuing channel_kind.Sampling = false
-same_kind (port_kind.Sampling refresh) (channel_kind.Queuing depth) = false
-same_kind (port_kind.Sampling refresh) channel_kind.Sampling = true
+-- the channel that a port names
+abbrev pub channel_of_port : List ChannelText → PortText → Option ChannelText
+channel_of_port channels port = slice_get channels (channel_named channels port.channel)
 
-abbrev pub agrees : PortKind → Option Channel → Bool
-agrees kind None = false
-agrees kind (Some channel) = same_kind kind channel.kind
+abbrev pub unknown_channel : List ChannelText → ℕ → ℕ → PortText → List Place
+unknown_channel channels p i port = unless (is_some (channel_of_port channels port)) (at (part.Port p i) key.Channel)
 
-unfoldable pub fits_kind : List Channel → Port → Bool
-fits_kind channels port = agrees port.kind (slice_get channels port.channel)
+unfoldable pub unknown_channels : ConfigText → List Place
+unknown_channels config = at_ports (unknown_channel config.channels) config.partitions
 
-unfoldable pub has_kinds : Configuration → Bool
-has_kinds config = all_ports (fits_kind config.channels) config.partitions
+-- ---- a port is of its channel's kind
+
+-- a sampling port has a refresh period, and a queuing channel a depth
+abbrev pub is_of_kind : PortText → Option ChannelText → Bool
+is_of_kind port None = true
+is_of_kind port (Some channel) = if is_none port.refresh then is_some channel.depth else is_none channel.depth
+
+abbrev pub other_kind : List ChannelText → ℕ → ℕ → PortText → List Place
+other_kind channels p i port = unless (is_of_kind port (channel_of_port channels port)) (at (part.Port p i) key.Kind)
+
+unfoldable pub other_kinds : ConfigText → List Place
+other_kinds config = at_ports (other_kind config.channels) config.partitions
 
 -- ---- the ends of channels
 
@@ -100,45 +134,62 @@ same_direction Source Destination = false
 same_direction Destination Source = false
 same_direction Destination Destination = true
 
-abbrev pub is_end : Direction → ℕ → Port → Bool
-is_end direction c port = same_direction port.direction direction && (port.channel == c)
+abbrev pub is_end : List ChannelText → Direction → ℕ → PortText → Bool
+is_end channels direction c port = same_direction port.direction direction && (channel_named channels port.channel == c)
 
 -- how many ports of a direction a channel has
-abbrev pub end_count : Direction → ℕ → List PartitionData → ℕ
-end_count direction c partitions = sum_by (λ partition. count_by (is_end direction c) partition.ports) partitions
+abbrev pub end_count : List ChannelText → Direction → ℕ → List PartitionText → ℕ
+end_count channels direction c partitions = sum_by (λ partition. count_by (is_end channels direction c) partition.ports) partitions
 
-unfoldable pub has_sources : Configuration → Bool
-has_sources config = list_all (λ numbered. end_count Source numbered.0 config.partitions == 1) (enumerate_from 0 config.channels)
+-- a sampling channel may have several destinations; each other channel has one end of each direction
+abbrev pub may_have_several : Direction → Option ChannelText → Bool
+may_have_several direction None = true
+may_have_several Source (Some channel) = false
+may_have_several Destination (Some channel) = is_none channel.depth
 
--- a queuing channel has one destination, a sampling channel one or more
-abbrev pub fits_destinations : ChannelKind → ℕ → Bool
-fits_destinations (channel_kind.Queuing depth) count = count == 1
-fits_destinations channel_kind.Sampling count = nat_le 1 count
+-- a channel has no end
+abbrev pub without_end : Direction → ConfigText → ℕ → ChannelText → List Place
+without_end direction config c channel = unless (nat_le 1 (end_count config.channels direction c config.partitions)) (whole (part.Channel c))
 
-unfoldable pub has_destinations : Configuration → Bool
-has_destinations config = list_all (λ numbered. fits_destinations numbered.1.kind (end_count Destination numbered.0 config.partitions)) (enumerate_from 0 config.channels)
+-- a port is one of several ends, where there may be one alone
+abbrev pub is_alone : Direction → ConfigText → PortText → Bool
+is_alone direction config port =
+    not (same_direction port.direction direction)
+    || may_have_several direction (channel_of_port config.channels port)
+    || nat_le (end_count config.channels direction (channel_named config.channels port.channel) config.partitions) 1
 
--- ---- counts within their limits
+abbrev pub one_of_several : Direction → ConfigText → ℕ → ℕ → PortText → List Place
+one_of_several direction config p i port = unless (is_alone direction config port) (whole (part.Port p i))
 
-abbrev pub has_few_ports : PartitionData → Bool
-has_few_ports partition = nat_le (length partition.ports) PORT_LIMIT
+unfoldable pub wrong_ends : Direction → ConfigText → List Place
+wrong_ends direction config = at_each (without_end direction config) 0 config.channels ++ at_ports (one_of_several direction config) config.partitions
 
-unfoldable pub has_counts : Configuration → Bool
-has_counts config =
-    is_within PARTITION_LIMIT (length config.partitions)
-    && list_all has_few_ports config.partitions
-    && nat_le (length config.channels) CHANNEL_LIMIT
+-- ---- counts are within their limits
 
--- ---- the first fault
+abbrev pub too_many_ports : ℕ → PartitionText → List Place
+too_many_ports p partition = unless (nat_le (length partition.ports) PORT_LIMIT) (at (part.Partition p) key.Port)
 
-unfoldable pub first_fault : Configuration → Option ConfigFault
-first_fault config =
-    if not (has_names config) then Some BadName
-    else if not (has_distinct_names config) then Some NameTwice
-    else if not (has_numbers config) then Some OutOfRange
-    else if not (has_channels config) then Some UnknownChannel
-    else if not (has_kinds config) then Some KindDiffers
-    else if not (has_sources config) then Some Sources
-    else if not (has_destinations config) then Some Destinations
-    else if not (has_counts config) then Some Counts
-    else None
+unfoldable pub bad_counts : ConfigText → List Place
+bad_counts config =
+    unless (is_within PARTITION_LIMIT (length config.partitions)) (at part.Document key.Partition)
+    ++ at_each too_many_ports 0 config.partitions
+    ++ unless (nat_le (length config.channels) CHANNEL_LIMIT) (at part.Document key.Channel)
+
+-- ---- the passes by their faults; those before the text is read find nothing in it
+
+abbrev pub found_by : ConfigFault → ConfigText → List Place
+found_by NotToml config = []
+found_by Shape config = []
+found_by BadName config = bad_names config
+found_by NameTwice config = repeated_names config
+found_by OutOfRange config = bad_numbers config
+found_by UnknownChannel config = unknown_channels config
+found_by KindDiffers config = other_kinds config
+found_by Sources config = wrong_ends Source config
+found_by Destinations config = wrong_ends Destination config
+found_by Counts config = bad_counts config
+found_by OutOfMemory config = []
+
+-- the order of the passes over the text
+abbrev pub passes : List ConfigFault
+passes = BadName ∷ NameTwice ∷ OutOfRange ∷ UnknownChannel ∷ KindDiffers ∷ Sources ∷ Destinations ∷ Counts ∷ []

@@ -1,13 +1,31 @@
--- The places of channels by their names.
-use Rattle.std.specs.Prelude.{ℕ, ◌≡◌, List, position}
-use Rattle.std.specs.Borrow.{Bor}
-use Rattle.std.specs.BTreeMap.{BTreeMap, get}
-use Rattle.std.specs.Cmp.Lexicographic.{slice_cmp}
-use Rattle.std.specs.Ordering.{nat_cmp}
-use Rattle.std.specs.Str.{bytes_eq}
-use Rattle.apex_config.specs.declared.channel.Channel.{Channel}
+-- Lists of places in the text of a configuration.
+use Rattle.std.specs.Prelude.{ℕ, suc, Bool, ◌≡◌, ◌++◌, if◌then◌else◌, List, [], ◌∷◌}
+use Rattle.apex_config.specs.declared.key.Key.{Key}
+use Rattle.apex_config.specs.declared.place.Part.{Part}
+use Rattle.apex_config.specs.declared.place.Spot.TheVariants as spot
+use Rattle.apex_config.specs.declared.place.Place.{Place}
 
--- a map that has the place of the first channel of each name, and no other names
-abbrev pub ArePlaces : BTreeMap (Bor (List ℕ)) ℕ → List Channel → Type 0
-ArePlaces places channels =
-    (name : Bor (List ℕ)) → get (λ x y. slice_cmp nat_cmp x.now y.now) places name ≡ position (λ channel. bytes_eq channel.name name.now) channels
+-- a part as a whole
+abbrev pub whole : Part → Place
+whole part = record { part = part; spot = spot.Whole }
+
+-- a key of a part
+abbrev pub at : Part → Key → Place
+at part key = record { part = part; spot = spot.At key }
+
+-- a key of a part that it doesn't take, by its number in the order of the part's keys
+abbrev pub unknown : Part → ℕ → Place
+unknown part number = record { part = part; spot = spot.Unknown number }
+
+-- a place, where a test fails
+abbrev pub unless : Bool → Place → List Place
+unless passes place = if passes then [] else place ∷ []
+
+-- what is found of the entries of a list, each with its index
+abbrev pub at_each : {X : Type 0} → (ℕ → X → List Place) → ℕ → List X → List Place
+at_each find index [] = []
+at_each find index (x ∷ xs) = find index x ++ at_each find (suc index) xs
+
+-- the places afterwards are those before and then these
+abbrev pub Adds : List Place → List Place → List Place → Type 0
+Adds found before after = after ≡ before ++ found

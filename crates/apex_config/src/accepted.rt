@@ -1,13 +1,16 @@
-//! Makes the configuration of a draft in which no test found a fault.
-ghost use Rattle.std.specs.Prelude.{◌≡◌, ◌&&◌, IsTrue, IfOk, None};
+//! Makes the configuration of a text in which no pass found a place.
+ghost use Rattle.std.specs.Prelude.{◌≡◌, ◌&&◌, IsTrue, IfOk, None, map};
 ghost use Rattle.std.specs.List.{list_all};
-ghost use Rattle.apex_config.specs.Passes.{all_ports, is_name, has_size_and_depth, first_fault};
+ghost use Rattle.apex_config.specs.Meaning.{natural, port_kind_of, channel_kind_of, port_of_text, partition_of_text, channel_of_text, configuration_of, first_refusal};
+ghost use Rattle.apex_config.specs.Passes.{is_name, passes};
+ghost use Rattle.apex_config.specs.Accepted.{has_names, is_acceptable};
 
 use crate::channel::{Channel, ChannelKind};
+use crate::channel_index::ChannelIndex;
 use crate::config::Config;
-use crate::draft::{ChannelDraft, Draft, PartitionDraft, PortDraft};
+use crate::config_text::{ChannelText, ConfigText, PartitionText, PortText};
 use crate::partition::Partition;
-use crate::port::Port;
+use crate::port::{Port, PortKind};
 use apex_types::Name;
 use std::alloc::{AllocError, Global};
 
@@ -18,90 +21,118 @@ fn accepted_name(text: &str) -> Name
     Name::read(text).unwrap()
 }
 
-fn accepted_port(draft: &PortDraft) -> Port
-    requires { IsTrue (is_name draft.now.name) }
-    ensures { result ≡ draft.now }
+fn natural(number: i64) -> u64
+    ensures { result ≡ natural number }
 {
-    Port {
-        name: accepted_name(draft.name),
-        kind: draft.kind,
-        direction: draft.direction,
-        channel: draft.channel,
+    if number < 0 { 0 } else { number as u64 }
+}
+
+fn port_kind(refresh: Option<i64>) -> PortKind
+    ensures { result ≡ port_kind_of refresh }
+{
+    match refresh {
+        Some(refresh) => PortKind::Sampling {
+            refresh: natural(refresh),
+        },
+        None => PortKind::Queuing,
     }
 }
 
-fn accepted_ports(alloc: Global, drafts: &[PortDraft]) -> Result<Vec<Port>, AllocError>
-    requires { IsTrue (list_all (λ port. is_name port.name) drafts.now) }
-    ensures { IfOk result (λ ports. ports.items ≡ drafts.now) }
+fn accepted_port<'a>(channels: &ChannelIndex<'_, 'a>, text: &PortText<'a>) -> Port
+    requires { IsTrue (is_name text.now.name) }
+    ensures { result ≡ port_of_text channels.now text.now }
 {
-    let mut ports = Vec::with_capacity(alloc, drafts.len())?;
-    for draft in drafts {
-        ports.push(accepted_port(draft))?;
+    Port {
+        name: accepted_name(text.name),
+        kind: port_kind(text.refresh),
+        direction: text.direction,
+        channel: channels.number_of(text.channel),
+    }
+}
+
+fn accepted_ports<'a>(
+    alloc: Global,
+    channels: &ChannelIndex<'_, 'a>,
+    texts: &[PortText<'a>],
+) -> Result<Vec<Port>, AllocError>
+    requires { IsTrue (list_all (λ port. is_name port.name) texts.now) }
+    ensures { IfOk result (λ ports. ports.items ≡ map (port_of_text channels.now) texts.now) }
+{
+    let mut ports = Vec::with_capacity(alloc, texts.len())?;
+    for text in texts {
+        ports.push(accepted_port(channels, text))?;
     }
     Ok(ports)
 }
 
-fn accepted_partition(alloc: Global, draft: &PartitionDraft) -> Result<Partition, AllocError>
-    requires name { IsTrue (is_name draft.now.name) }
-    requires ports { IsTrue (list_all (λ port. is_name port.name) draft.now.ports) }
-    ensures { IfOk result (λ partition. partition ≡ draft.now) }
+fn accepted_partition<'a>(
+    alloc: Global,
+    channels: &ChannelIndex<'_, 'a>,
+    text: &PartitionText<'a>,
+) -> Result<Partition, AllocError>
+    requires { IsTrue (has_names text.now) }
+    ensures { IfOk result (λ partition. partition ≡ partition_of_text channels.now text.now) }
 {
-    let ports = accepted_ports(alloc, draft.ports.as_slice())?;
-    Ok(Partition::new(accepted_name(draft.name), ports))
+    let ports = accepted_ports(alloc, channels, text.ports.as_slice())?;
+    Ok(Partition::new(accepted_name(text.name), ports))
 }
 
-fn accepted_partitions(
+fn accepted_partitions<'a>(
     alloc: Global,
-    drafts: &[PartitionDraft],
+    channels: &ChannelIndex<'_, 'a>,
+    texts: &[PartitionText<'a>],
 ) -> Result<Vec<Partition>, AllocError>
-    requires names { IsTrue (list_all (λ partition. is_name partition.name) drafts.now) }
-    requires ports { IsTrue (all_ports (λ port. is_name port.name) drafts.now) }
-    ensures { IfOk result (λ partitions. partitions.items ≡ drafts.now) }
+    requires { IsTrue (list_all has_names texts.now) }
+    ensures { IfOk result (λ partitions.
+        partitions.items ≡ map (partition_of_text channels.now) texts.now) }
 {
-    let mut partitions = Vec::with_capacity(alloc, drafts.len())?;
-    for draft in drafts {
-        let partition = accepted_partition(alloc, draft)?;
+    let mut partitions = Vec::with_capacity(alloc, texts.len())?;
+    for text in texts {
+        let partition = accepted_partition(alloc, channels, text)?;
         partitions.push(partition)?;
     }
     Ok(partitions)
 }
 
-fn accepted_channel(draft: &ChannelDraft) -> Channel
-    requires name { IsTrue (is_name draft.now.name) }
-    requires numbers { IsTrue (has_size_and_depth draft.now) }
-    ensures { result ≡ draft.now }
+fn accepted_channel(text: &ChannelText) -> Channel
+    requires { IsTrue (is_acceptable text.now) }
+    ensures { result ≡ channel_of_text text.now }
 {
-    let kind = match draft.depth {
+    let kind = match text.depth {
         Some(depth) => ChannelKind::Queuing {
-            depth: depth as u32,
+            depth: natural(depth) as u32,
         },
         None => ChannelKind::Sampling,
     };
     Channel {
-        name: accepted_name(draft.name),
-        size: draft.size as u32,
+        name: accepted_name(text.name),
+        size: natural(text.size) as u32,
         kind,
     }
 }
 
-fn accepted_channels(alloc: Global, drafts: &[ChannelDraft]) -> Result<Vec<Channel>, AllocError>
-    requires names { IsTrue (list_all (λ channel. is_name channel.name) drafts.now) }
-    requires numbers { IsTrue (list_all has_size_and_depth drafts.now) }
-    ensures { IfOk result (λ channels. channels.items ≡ drafts.now) }
+fn accepted_channels(alloc: Global, texts: &[ChannelText]) -> Result<Vec<Channel>, AllocError>
+    requires { IsTrue (list_all is_acceptable texts.now) }
+    ensures { IfOk result (λ channels. channels.items ≡ map channel_of_text texts.now) }
 {
-    let mut channels = Vec::with_capacity(alloc, drafts.len())?;
-    for draft in drafts {
-        channels.push(accepted_channel(draft))?;
+    let mut channels = Vec::with_capacity(alloc, texts.len())?;
+    for text in texts {
+        channels.push(accepted_channel(text))?;
     }
     Ok(channels)
 }
 
-/// The configuration of a draft in which no test found a fault.
-pub fn accepted_config(alloc: Global, draft: &Draft) -> Result<Config, AllocError>
-    requires { first_fault draft.now ≡ None }
-    ensures { IfOk result (λ config. config ≡ draft.now) }
+/// The configuration of a text in which no pass found a place.
+pub fn accepted_config<'a>(
+    alloc: Global,
+    config: &ConfigText<'a>,
+    channels: &ChannelIndex<'_, 'a>,
+) -> Result<Config, AllocError>
+    requires index { channels.now ≡ config.now.channels }
+    requires accepted { first_refusal passes config.now ≡ None }
+    ensures { IfOk result (λ made. made ≡ configuration_of config.now) }
 {
-    let partitions = accepted_partitions(alloc, draft.partitions.as_slice())?;
-    let channels = accepted_channels(alloc, draft.channels.as_slice())?;
+    let partitions = accepted_partitions(alloc, channels, config.partitions.as_slice())?;
+    let channels = accepted_channels(alloc, config.channels.as_slice())?;
     Ok(Config::new(partitions, channels))
 }

@@ -1,55 +1,70 @@
-//! Finds the channels of a draft by their names.
-ghost use Rattle.std.specs.Prelude.{◌≡◌, IfOk};
-ghost use Rattle.apex_config.specs.Drafts.{channel_number};
+//! Finds the channels of a configuration's text by their names.
+ghost use Rattle.std.specs.Prelude.{◌≡◌, length, IfOk};
+ghost use Rattle.std.specs.Option.{option_copied};
+ghost use Rattle.apex_config.specs.Passes.{channel_named, channel_of_port};
 
-use crate::draft::ChannelDraft;
+use crate::config_text::{ChannelText, PortText};
 use std::alloc::{AllocError, Global};
 use std::collections::BTreeMap;
 use std::marker::Model;
 
-/// The channels of a draft, with the place of the first channel of each name. A contract sees the channels.
+/// The channels of a text, with the number of the first channel of each name. A contract sees the channels.
 #[derive(Drop)]
-pub struct ChannelIndex<'d, 'a> {
-    channels: &'d [ChannelDraft<'a>],
-    places: BTreeMap<&'a str, usize>,
+pub struct ChannelIndex<'t, 'a> {
+    channels: &'t [ChannelText<'a>],
+    numbers: BTreeMap<&'a str, usize>,
 }
 
-impl<'d, 'a> Model for ChannelIndex<'d, 'a> {
+impl<'t, 'a> Model for ChannelIndex<'t, 'a> {
     ghost use Rattle.std.specs.Prelude.{List};
-    ghost use Rattle.apex_config.specs.declared.channel.Channel.{Channel};
-    ghost use Rattle.apex_config.specs.Places.{ArePlaces};
+    ghost use Rattle.apex_config.specs.Text.{ChannelText};
+    ghost use Rattle.apex_config.specs.Numbers.{AreNumbers};
 
-    ghost Value = { List Channel };
+    ghost Value = { List ChannelText };
 
     ghost view = { λ index. index.channels.now };
 
-    ghost invariant = { λ index. ArePlaces index.places index.channels.now };
+    ghost invariant = { λ index. AreNumbers index.numbers index.channels.now };
 }
 
-impl<'d, 'a> ChannelIndex<'d, 'a> {
+impl<'t, 'a> ChannelIndex<'t, 'a> {
     /// The index of these channels.
     pub fn new(
         alloc: Global,
-        channels: &'d [ChannelDraft<'a>],
-    ) -> Result<ChannelIndex<'d, 'a>, AllocError>
+        channels: &'t [ChannelText<'a>],
+    ) -> Result<ChannelIndex<'t, 'a>, AllocError>
         ensures { IfOk result (λ index. index ≡ channels.now) }
     {
-        let mut places = BTreeMap::new(alloc);
-        for (place, channel) in channels.iter().enumerate() {
-            if !places.contains_key(&channel.name) {
-                places.insert(channel.name, place)?;
+        let mut numbers = BTreeMap::new(alloc);
+        for (number, channel) in channels.iter().enumerate() {
+            if !numbers.contains_key(&channel.name) {
+                numbers.insert(channel.name, number)?;
             }
         }
-        Ok(ChannelIndex { channels, places })
+        Ok(ChannelIndex { channels, numbers })
+    }
+
+    /// How many channels there are.
+    pub fn count(&self) -> usize
+        ensures { result ≡ length self.now }
+    {
+        self.channels.len()
     }
 
     /// The number of the first channel of a name; where there is none, the number of channels.
     pub fn number_of(&self, name: &'a str) -> usize
-        ensures { result ≡ channel_number self.now name.now }
+        ensures { result ≡ channel_named self.now name.now }
     {
-        match self.places.get(&name) {
-            Some(place) => *place,
+        match self.numbers.get(&name) {
+            Some(number) => *number,
             None => self.channels.len(),
         }
+    }
+
+    /// The channel that a port names.
+    pub fn channel_of(&self, port: &PortText<'a>) -> Option<&ChannelText<'a>>
+        ensures { option_copied result ≡ channel_of_port self.now port.now }
+    {
+        self.channels.get(self.number_of(port.channel))
     }
 }

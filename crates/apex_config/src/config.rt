@@ -1,17 +1,17 @@
 //! The configuration of a module.
-ghost use Rattle.std.specs.Prelude.{◌≡◌, ◌<◌, length, position, Some, IfSome, IfOk, IsTrue, ◌↔◌};
+ghost use Rattle.std.specs.Prelude.{◌≡◌, ◌≢◌, ◌<◌, [], length, position, Some, IfSome, IfOk, IfErr, IsTrue, ◌↔◌};
+ghost use Rattle.apex_config.specs.declared.fault.ConfigFault.TheVariants as fault;
 ghost use Rattle.std.specs.Cmp.Lexicographic.{pointwise};
 ghost use Rattle.std.specs.Option.{option_copied};
 ghost use Rattle.apex_config.specs.Equality.{equal_partitions, equal_channels};
 ghost use Rattle.std.specs.Str.{bytes_eq};
 
-use crate::accepted::accepted_config;
 use crate::channel::Channel;
-use crate::document::draft_of_document;
-use crate::draft_faults::first_fault;
 use crate::fault::ConfigFault;
 use crate::partition::Partition;
 use crate::port::Port;
+use crate::reading::read_bytes;
+use crate::refusal::Refusal;
 use apex_types::{Name, OutOfMemory};
 use std::alloc::{AllocError, Global};
 use std::marker::Model;
@@ -41,7 +41,7 @@ impl Model for Config {
 }
 
 impl Config {
-    ghost use Rattle.apex_config.specs.Meaning.{IsConfigRead, config_of};
+    ghost use Rattle.apex_config.specs.Meaning.{IsConfigRead, IsPlacedRead, config_of, read_of};
     ghost use Rattle.apex_config.specs.Configuration.{IsConfiguration, port_of, ports_of, channel_of, channel_named, partition_name_of, partition_named, id_named};
 
     /// The configuration of these lists.
@@ -61,17 +61,25 @@ impl Config {
     pub fn read(alloc: Global, bytes: &[u8]) -> Result<Config, ConfigFault>
         ensures { IsConfigRead result (config_of bytes.now) }
     {
-        let document = match toml::table_from_slice(alloc, bytes) {
-            Ok(document) => document,
-            Err(refused) if refused.is_memory() => return Err(ConfigFault::OutOfMemory),
-            Err(_) => return Err(ConfigFault::NotToml),
-        };
-        let Some(draft) = draft_of_document(alloc, &document)? else {
-            return Err(ConfigFault::Shape);
-        };
-        match first_fault(alloc, &draft)? {
-            Some(fault) => Err(fault),
-            None => Ok(accepted_config(alloc, &draft)?),
+        match Config::read_placed(alloc, bytes) {
+            Ok(config) => Ok(config),
+            Err(refusal) => Err(refusal.fault),
+        }
+    }
+
+    /// Reads a configuration as `read` does, and answers of a text that it refuses all places that the pass of its fault
+    /// finds.
+    pub fn read_placed(alloc: Global, bytes: &[u8]) -> Result<Config, Refusal>
+        ensures read { IsPlacedRead result (read_of bytes.now) }
+        ensures placed { IfErr result (λ refusal.
+            refusal.fault ≢ fault.OutOfMemory → refusal.places ≢ []) }
+    {
+        match read_bytes(alloc, bytes) {
+            Ok(answer) => answer,
+            Err(_) => Err(Refusal {
+                fault: ConfigFault::OutOfMemory,
+                places: Vec::new(alloc),
+            }),
         }
     }
 
@@ -159,9 +167,9 @@ impl Config {
         ensures valid { IsConfiguration self.now }
     {
         let ports = self.partitions[p].ports();
-        match place_of(ports, name) {
+        match index_of(ports, name) {
             None => None,
-            Some(place) => Some(place as u32 + 1),
+            Some(index) => Some(index as u32 + 1),
         }
     }
 
@@ -185,9 +193,9 @@ impl Config {
     }
 }
 
-fn place_of(ports: &[Port], name: &Name) -> Option<usize>
+fn index_of(ports: &[Port], name: &Name) -> Option<usize>
     ensures found { result ≡ position (λ port. bytes_eq port.name name.now) ports.now }
-    ensures within { IfSome result (λ place. place < length ports.now) }
+    ensures within { IfSome result (λ index. index < length ports.now) }
 {
     ports.iter().position(|port| &port.name == name)
 }

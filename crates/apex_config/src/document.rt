@@ -1,202 +1,113 @@
-//! Reads the tables of a document as a draft, where their shape is right.
-ghost use Rattle.std.specs.Prelude.{◌≡◌, option_map, IfOk};
-ghost use Rattle.toml.specs.View.{view, table_view, items_view};
-ghost use Rattle.apex_config.specs.Drafts.{queuing_port_keys, sampling_port_keys, channel_kind_of, channel_kind_in, channel_in, port_kind_in, direction_in, port_in, partition_in, draft_in};
-ghost use Rattle.apex_config.specs.Table.{each, has_only_keys};
+//! Reads what a document says of a configuration, where its form is right.
+ghost use Rattle.std.specs.Prelude.{◌≡◌, map, IfOk};
+ghost use Rattle.toml.specs.View.{view};
+ghost use Rattle.apex_config.specs.Text.{is_queuing, is_sampling, is_source, port_text_of, partition_text_of, channel_text_of, config_text_of};
 
-use crate::channel_index::ChannelIndex;
-use crate::draft::{ChannelDraft, Draft, PartitionDraft, PortDraft};
-use crate::port::PortKind;
-use crate::table::{array_at, array_if_any, has_only_keys, number_at, text_at};
+use crate::config_text::{ChannelText, ConfigText, PartitionText, PortText};
+use crate::key::Key;
+use crate::value::{has_word, items_at, number_in, text_in};
 use apex_types::Direction;
 use std::alloc::{AllocError, Global};
-use toml::{Table, Value};
+use toml::Value;
 
-/// The depth of a queuing channel, or none for a sampling channel.
-#[tactic(auto, unfolding(crate::specs::Drafts::channel_kind_in))]
-fn channel_depth(table: &Table) -> Option<Option<u64>>
-    ensures { option_map channel_kind_of result ≡ channel_kind_in (table_view table.now) }
+/// Whether the kind of a port or of a channel is queuing.
+pub fn is_queuing(value: &Value) -> bool
+    ensures { result ≡ is_queuing (view value.now) }
 {
-    match text_at(table, "kind")? {
-        "queuing" => {
-            let depth = number_at(table, "depth")?;
-            has_only_keys(table, &["name", "kind", "size", "depth"]).then_some(Some(depth))
-        }
-        "sampling" => has_only_keys(table, &["name", "kind", "size"]).then_some(None),
-        _ => None,
+    has_word(value, Key::Kind, "queuing")
+}
+
+/// Whether the kind of a port or of a channel is sampling.
+pub fn is_sampling(value: &Value) -> bool
+    ensures { result ≡ is_sampling (view value.now) }
+{
+    has_word(value, Key::Kind, "sampling")
+}
+
+/// Whether the direction of a port is source.
+pub fn is_source(value: &Value) -> bool
+    ensures { result ≡ is_source (view value.now) }
+{
+    has_word(value, Key::Direction, "source")
+}
+
+fn port_text(value: &Value) -> PortText<'_>
+    ensures { result ≡ port_text_of (view value.now) }
+{
+    PortText {
+        name: text_in(value, Key::Name),
+        refresh: is_sampling(value).then_some(number_in(value, Key::Refresh)),
+        direction: if is_source(value) {
+            Direction::Source
+        } else {
+            Direction::Destination
+        },
+        channel: text_in(value, Key::Channel),
     }
 }
 
-#[tactic(auto, unfolding(crate::specs::Drafts::channel_in))]
-fn channel_draft(value: &Value) -> Option<ChannelDraft<'_>>
-    ensures { result ≡ channel_in (view value.now) }
+fn port_texts(alloc: Global, values: &[Value]) -> Result<Vec<PortText<'_>>, AllocError>
+    ensures { IfOk result (λ ports.
+        ports.items ≡ map (λ value. port_text_of (view value)) values.now) }
 {
-    let table = value.as_table()?;
-    let name = text_at(table, "name")?;
-    let size = number_at(table, "size")?;
-    let depth = channel_depth(table)?;
-    Some(ChannelDraft { name, size, depth })
-}
-
-fn channel_drafts(
-    alloc: Global,
-    values: &[Value],
-) -> Result<Option<Vec<ChannelDraft<'_>>>, AllocError>
-    ensures { IfOk result (λ found.
-        option_map (λ channels. channels.items) found ≡ each channel_in (items_view values.now)) }
-{
-    let mut channels = Vec::new(alloc);
+    let mut ports = Vec::with_capacity(alloc, values.len())?;
     for value in values {
-        match channel_draft(value) {
-            Some(channel) => channels.push(channel)?,
-            None => return Ok(None),
-        }
+        ports.push(port_text(value))?;
     }
-    Ok(Some(channels))
+    Ok(ports)
 }
 
-fn has_queuing_port_keys(table: &Table) -> bool
-    ensures { result ≡ has_only_keys queuing_port_keys (table_view table.now) }
+fn partition_text(alloc: Global, value: &Value) -> Result<PartitionText<'_>, AllocError>
+    ensures { IfOk result (λ partition. partition ≡ partition_text_of (view value.now)) }
 {
-    has_only_keys(table, &["name", "kind", "direction", "channel"])
-}
-
-fn has_sampling_port_keys(table: &Table) -> bool
-    ensures { result ≡ has_only_keys sampling_port_keys (table_view table.now) }
-{
-    has_only_keys(table, &["name", "kind", "direction", "channel", "refresh"])
-}
-
-#[tactic(auto, unfolding(crate::specs::Drafts::port_kind_in))]
-fn port_kind(table: &Table) -> Option<PortKind>
-    ensures { result ≡ port_kind_in (table_view table.now) }
-{
-    match text_at(table, "kind")? {
-        "queuing" => has_queuing_port_keys(table).then_some(PortKind::Queuing),
-        "sampling" => {
-            let refresh = number_at(table, "refresh")?;
-            has_sampling_port_keys(table).then_some(PortKind::Sampling { refresh })
-        }
-        _ => None,
-    }
-}
-
-#[tactic(auto, unfolding(crate::specs::Drafts::direction_in))]
-fn port_direction(table: &Table) -> Option<Direction>
-    ensures { result ≡ direction_in (table_view table.now) }
-{
-    match text_at(table, "direction")? {
-        "source" => Some(Direction::Source),
-        "destination" => Some(Direction::Destination),
-        _ => None,
-    }
-}
-
-#[tactic(auto, unfolding(crate::specs::Drafts::port_in))]
-fn port_draft<'a>(channels: &ChannelIndex<'_, 'a>, value: &'a Value) -> Option<PortDraft<'a>>
-    ensures { result ≡ port_in channels.now (view value.now) }
-{
-    let table = value.as_table()?;
-    let name = text_at(table, "name")?;
-    let direction = port_direction(table)?;
-    let channel = channels.number_of(text_at(table, "channel")?);
-    let kind = port_kind(table)?;
-    Some(PortDraft {
-        name,
-        kind,
-        direction,
-        channel,
+    let ports = port_texts(alloc, items_at(value, Key::Port))?;
+    Ok(PartitionText {
+        name: text_in(value, Key::Name),
+        ports,
     })
 }
 
-fn port_drafts<'a>(
-    alloc: Global,
-    channels: &ChannelIndex<'_, 'a>,
-    values: &'a [Value],
-) -> Result<Option<Vec<PortDraft<'a>>>, AllocError>
-    ensures { IfOk result (λ found.
-        option_map (λ ports. ports.items) found
-        ≡ each (port_in channels.now) (items_view values.now)) }
+fn partition_texts(alloc: Global, values: &[Value]) -> Result<Vec<PartitionText<'_>>, AllocError>
+    ensures { IfOk result (λ partitions.
+        partitions.items ≡ map (λ value. partition_text_of (view value)) values.now) }
 {
-    let mut ports = Vec::new(alloc);
+    let mut partitions = Vec::with_capacity(alloc, values.len())?;
     for value in values {
-        match port_draft(channels, value) {
-            Some(port) => ports.push(port)?,
-            None => return Ok(None),
-        }
+        let partition = partition_text(alloc, value)?;
+        partitions.push(partition)?;
     }
-    Ok(Some(ports))
+    Ok(partitions)
 }
 
-#[tactic(auto, unfolding(crate::specs::Drafts::partition_in))]
-fn partition_draft<'a>(
-    alloc: Global,
-    channels: &ChannelIndex<'_, 'a>,
-    value: &'a Value,
-) -> Result<Option<PartitionDraft<'a>>, AllocError>
-    ensures { IfOk result (λ found. found ≡ partition_in channels.now (view value.now)) }
+fn channel_text(value: &Value) -> ChannelText<'_>
+    ensures { result ≡ channel_text_of (view value.now) }
 {
-    let Some(table) = value.as_table() else {
-        return Ok(None);
-    };
-    let Some(name) = text_at(table, "name") else {
-        return Ok(None);
-    };
-    let Some(values) = array_if_any(table, "port") else {
-        return Ok(None);
-    };
-    let Some(ports) = port_drafts(alloc, channels, values)? else {
-        return Ok(None);
-    };
-    if !has_only_keys(table, &["name", "port"]) {
-        return Ok(None);
+    ChannelText {
+        name: text_in(value, Key::Name),
+        size: number_in(value, Key::Size),
+        depth: is_queuing(value).then_some(number_in(value, Key::Depth)),
     }
-    Ok(Some(PartitionDraft { name, ports }))
 }
 
-fn partition_drafts<'a>(
-    alloc: Global,
-    channels: &ChannelIndex<'_, 'a>,
-    values: &'a [Value],
-) -> Result<Option<Vec<PartitionDraft<'a>>>, AllocError>
-    ensures { IfOk result (λ found.
-        option_map (λ partitions. partitions.items) found
-        ≡ each (partition_in channels.now) (items_view values.now)) }
+fn channel_texts(alloc: Global, values: &[Value]) -> Result<Vec<ChannelText<'_>>, AllocError>
+    ensures { IfOk result (λ channels.
+        channels.items ≡ map (λ value. channel_text_of (view value)) values.now) }
 {
-    let mut partitions = Vec::new(alloc);
+    let mut channels = Vec::with_capacity(alloc, values.len())?;
     for value in values {
-        match partition_draft(alloc, channels, value)? {
-            Some(partition) => partitions.push(partition)?,
-            None => return Ok(None),
-        }
+        channels.push(channel_text(value))?;
     }
-    Ok(Some(partitions))
+    Ok(channels)
 }
 
-/// The draft that a document is, where its shape is right.
-#[tactic(auto, unfolding(crate::specs::Drafts::draft_in))]
-pub fn draft_of_document(alloc: Global, document: &Table) -> Result<Option<Draft<'_>>, AllocError>
-    ensures { IfOk result (λ found. found ≡ draft_in (table_view document.now)) }
+/// What a document says of a configuration.
+pub fn config_text(alloc: Global, document: &Value) -> Result<ConfigText<'_>, AllocError>
+    ensures { IfOk result (λ config. config ≡ config_text_of (view document.now)) }
 {
-    let Some(values) = array_if_any(document, "channel") else {
-        return Ok(None);
-    };
-    let Some(channels) = channel_drafts(alloc, values)? else {
-        return Ok(None);
-    };
-    let Some(values) = array_at(document, "partition") else {
-        return Ok(None);
-    };
-    let index = ChannelIndex::new(alloc, channels.as_slice())?;
-    let Some(partitions) = partition_drafts(alloc, &index, values)? else {
-        return Ok(None);
-    };
-    if !has_only_keys(document, &["partition", "channel"]) {
-        return Ok(None);
-    }
-    drop(index);
-    Ok(Some(Draft {
+    let partitions = partition_texts(alloc, items_at(document, Key::Partition))?;
+    let channels = channel_texts(alloc, items_at(document, Key::Channel))?;
+    Ok(ConfigText {
         partitions,
         channels,
-    }))
+    })
 }

@@ -4,6 +4,9 @@ ghost use Rattle.apex_config_tests.specs.Examples.{base};
 ghost use Rattle.apex_config.specs.Meaning.{IsConfigRead};
 
 mod counts;
+mod large;
+mod lines;
+mod places;
 mod texts;
 
 use crate::tests::texts::{BASE, INLINE, TWO_SOURCES};

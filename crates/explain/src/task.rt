@@ -1,8 +1,7 @@
 //! What the program does: from the words of the command line to a status.
 use crate::words::{Task, Unexplained, task_of};
 use apex_command_line::WordsFault;
-use apex_config::Config;
-use apex_config_faults::places_of_fault;
+use apex_config::{Config, refusal_lines};
 use apex_explanations::{explain_trace, port_table};
 use apex_files::{Opener, Refusal, print, read_file};
 use apex_texts::{Fault, TraceFault};
@@ -89,12 +88,12 @@ fn read_config<'a, O: Opener, W: Write>(
     output: &mut W,
 ) -> Result<Config, Refusal<'a>> {
     let text = read_file(alloc, opener, path)?;
-    match Config::read(alloc, text.as_slice()) {
+    match Config::read_placed(alloc, text.as_slice()) {
         Ok(config) => Ok(config),
-        Err(fault) => {
-            let places = places_of_fault(alloc, text.as_slice(), fault)?;
-            print(output, places.as_bytes())?;
-            Err(Refusal::Text(Fault::from(fault)))
+        Err(refusal) => {
+            let lines = refusal_lines(alloc, text.as_slice(), &refusal)?;
+            print(output, lines.as_bytes())?;
+            Err(Refusal::Text(Fault::from(refusal.fault)))
         }
     }
 }

@@ -1,29 +1,22 @@
-use Rattle.std.proofs.Common.{◌≡◌, None, ap, ◌∙◌}
-use Rattle.apex_config.specs.Passes.{first_fault}
-use Rattle.apex_config.proofs.WithoutFault.{passes_all, names_pass, numbers_pass, IsConfiguration-from}
+use Rattle.std.proofs.Common.{◌≡◌, None, sym, ap, ◌∙◌}
+use Rattle.apex_config.specs.Text.{ConfigText}
+use Rattle.apex_config.specs.Passes.{passes}
+use Rattle.apex_config.specs.Meaning.{first_refusal}
+use Rattle.apex_config.proofs.WithoutFault.{passes_all, all_have_names, all_are_acceptable, IsConfiguration-from}
 use Rattle.apex_config.proofs.accepted.accepted_config.Goals as goal
 
-pub accepted_partitions-requires-clause-names : goal.accepted_partitions-requires-clause-names
-accepted_partitions-requires-clause-names c =
-    let accepted : first_fault (record { partitions = c.draft.inside.partitions.items; channels = c.draft.inside.channels.items }) ≡ None = ap first_fault c.draft.view_is ∙ c.requires in
-    rw c.as_slice.ensures.value (names_pass _ (passes_all _ accepted)).0
+pub accepted_partitions-requires : goal.accepted_partitions-requires
+accepted_partitions-requires c =
+    let accepted : first_refusal passes (record { partitions = c.config.inside.partitions.items; channels = c.config.inside.channels.items }) ≡ None = ap (first_refusal passes) c.config.view_is ∙ c.requires.accepted in
+    rw c.as_slice.ensures.value (all_have_names _ (passes_all _ accepted))
 
-pub accepted_partitions-requires-clause-ports : goal.accepted_partitions-requires-clause-ports
-accepted_partitions-requires-clause-ports c =
-    let accepted : first_fault (record { partitions = c.draft.inside.partitions.items; channels = c.draft.inside.channels.items }) ≡ None = ap first_fault c.draft.view_is ∙ c.requires in
-    rw c.as_slice.ensures.value (names_pass _ (passes_all _ accepted)).1
-
-pub accepted_channels-requires-clause-names : goal.accepted_channels-requires-clause-names
-accepted_channels-requires-clause-names c =
-    let accepted : first_fault (record { partitions = c.draft.inside.partitions.items; channels = c.draft.inside.channels.items }) ≡ None = ap first_fault c.draft.view_is ∙ c.requires in
-    rw c.as_slice-2.ensures.value (names_pass _ (passes_all _ accepted)).2
-
-pub accepted_channels-requires-clause-numbers : goal.accepted_channels-requires-clause-numbers
-accepted_channels-requires-clause-numbers c =
-    let accepted : first_fault (record { partitions = c.draft.inside.partitions.items; channels = c.draft.inside.channels.items }) ≡ None = ap first_fault c.draft.view_is ∙ c.requires in
-    rw c.as_slice-2.ensures.value (numbers_pass _ (passes_all _ accepted)).0
+pub accepted_channels-requires : goal.accepted_channels-requires
+accepted_channels-requires c =
+    let accepted : first_refusal passes (record { partitions = c.config.inside.partitions.items; channels = c.config.inside.channels.items }) ≡ None = ap (first_refusal passes) c.config.view_is ∙ c.requires.accepted in
+    rw c.as_slice-2.ensures.value (all_are_acceptable _ (passes_all _ accepted))
 
 pub new-requires : goal.new-requires
 new-requires c =
-    let accepted : first_fault (record { partitions = c.draft.inside.partitions.items; channels = c.draft.inside.channels.items }) ≡ None = ap first_fault c.draft.view_is ∙ c.requires in
-    rw (c.in_ok-partitions.ensures, c.as_slice.ensures.value, c.in_ok-channels.ensures, c.as_slice-2.ensures.value) (IsConfiguration-from _ accepted)
+    let accepted : first_refusal passes (record { partitions = c.config.inside.partitions.items; channels = c.config.inside.channels.items }) ≡ None = ap (first_refusal passes) c.config.view_is ∙ c.requires.accepted in
+    let index : c.args.channels.now ≡ c.config.inside.channels.items = c.requires.index ∙ sym (ap (λ (config : ConfigText). config.channels) c.config.view_is) in
+    rw (c.in_ok-partitions.ensures, c.as_slice.ensures.value, c.in_ok-channels.ensures, c.as_slice-2.ensures.value, index) (IsConfiguration-from _ accepted)

@@ -1,5 +1,6 @@
-use Rattle.std.proofs.Common.{◌≡◌, take}
+use Rattle.std.proofs.Common.{◌≡◌, map, take}
+use Rattle.apex_config.specs.Meaning.{port_of_text}
 use Rattle.apex_config.proofs.accepted.accepted_ports.Given as goal
 
-abbrev pub invariant-loop-draft : goal.invariant-loop-draft
-invariant-loop-draft l = l.ports.items ≡ take l.draft-index l.drafts
+abbrev pub invariant-loop-text : goal.invariant-loop-text
+invariant-loop-text l = l.ports.items ≡ map (port_of_text l.channels) (take l.text-index l.texts)

@@ -1,6 +1,0 @@
-use Rattle.std.proofs.Common.{take}
-use Rattle.apex_config.specs.Ends.{CountMoreEnds}
-use Rattle.apex_config.proofs.channel_ends.count_ends.Given as goal
-
-abbrev pub invariant-loop-port : goal.invariant-loop-port
-invariant-loop-port l = CountMoreEnds l.direction (take l.port-index l.ports) l.initial.counts l.counts

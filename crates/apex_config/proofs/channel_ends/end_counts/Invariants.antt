@@ -1,6 +1,0 @@
-use Rattle.std.proofs.Common.{take}
-use Rattle.apex_config.specs.Ends.{CountEnds}
-use Rattle.apex_config.proofs.channel_ends.end_counts.Given as goal
-
-abbrev pub invariant-loop-partition : goal.invariant-loop-partition
-invariant-loop-partition l = CountEnds l.direction l.channels (take l.partition-index l.partitions) l.counts.items

@@ -1,0 +1,6 @@
+use Rattle.std.proofs.Common.{take}
+use Rattle.apex_config.specs.Places.{Adds, at_each}
+use Rattle.apex_config.proofs.found.add_each.Given as goal
+
+abbrev pub invariant-loop-index : goal.invariant-loop-index
+invariant-loop-index g l = Adds (at_each (g.F.Finder.find l.finder) 0 (take l.index l.entries)) l.initial.places.items l.places.items
