@@ -25,7 +25,7 @@ use Rattle.apex_config.specs.Configuration.{PartitionData, IsConfiguration, port
 use Rattle.apex_config.specs.Places.{unless, at_each}
 use Rattle.apex_config.specs.Accepted.{has_names, is_acceptable}
 use Rattle.apex_config.specs.Text.{PortText, PartitionText, ChannelText, ConfigText}
-use Rattle.apex_config.specs.Passes.{at_ports, is_name, bad_port_name, bad_partition_names, bad_channel_name, bad_names, part_in, stood_before, repeated, repeated_port_names, repeated_names, is_within, is_from_one_to, is_from_one_to_if_any, bad_refresh, bad_channel_numbers, bad_numbers, channel_named, channel_of_port, unknown_channel, unknown_channels, is_of_kind, other_kind, other_kinds, same_direction, is_end, end_count, may_have_several, without_end, is_alone, one_of_several, wrong_ends, too_many_ports, bad_counts, passes}
+use Rattle.apex_config.specs.Passes.{at_ports, is_name, bad_port_name, bad_partition_names, bad_channel_name, bad_names, part_in, stood_before, repeated, repeated_port_names, repeated_names, is_within, is_from_one_to, is_from_one_to_if_any, bad_refresh, bad_channel_numbers, bad_numbers, index_of_channel, channel_of_port, unknown_channel, unknown_channels, is_of_kind, other_kind, other_kinds, same_direction, is_end, end_count, may_have_several, without_end, is_alone, one_of_several, wrong_ends, too_many_ports, bad_counts, passes}
 use Rattle.apex_config.specs.Meaning.{natural, channel_kind_of, port_kind_of, channel_of_text, port_of_text, partition_of_text, configuration_of, RefusalData, refused_by, first_refusal}
 use Rattle.apex_config.proofs.Indexes.{no_index, same_index, any_at, part-le-sum_by, one_part, some_part}
 
@@ -199,16 +199,16 @@ same_direction_is Source Destination h = absurd (false≢true h)
 same_direction_is Destination Source h = absurd (false≢true h)
 same_direction_is Destination Destination h = refl
 
-is_end_from : (channels : List ChannelText) (direction : Direction) (c : ℕ) (port : PortText) → port.direction ≡ direction → channel_named channels port.channel ≡ c → is_end channels direction c port ≡ true
-is_end_from channels direction c port here there = rw (same_direction_from port.direction direction here, same_number (channel_named channels port.channel) c there)
+is_end_from : (channels : List ChannelText) (direction : Direction) (c : ℕ) (port : PortText) → port.direction ≡ direction → index_of_channel channels port.channel ≡ c → is_end channels direction c port ≡ true
+is_end_from channels direction c port here there = rw (same_direction_from port.direction direction here, same_number (index_of_channel channels port.channel) c there)
   where
     same_number : (a b : ℕ) → a ≡ b → eqb a b ≡ true
     same_number a b h = grind (arith, nat_tests)
 
-is_end_is : (channels : List ChannelText) (direction : Direction) (c : ℕ) (port : PortText) → is_end channels direction c port ≡ true → (port.direction ≡ direction) × (channel_named channels port.channel ≡ c)
+is_end_is : (channels : List ChannelText) (direction : Direction) (c : ℕ) (port : PortText) → is_end channels direction c port ≡ true → (port.direction ≡ direction) × (index_of_channel channels port.channel ≡ c)
 is_end_is channels direction c port h =
-    let parts = and_parts (same_direction port.direction direction) (eqb (channel_named channels port.channel) c) h in
-    (same_direction_is port.direction direction parts.0, eqb-true (channel_named channels port.channel) c parts.1)
+    let parts = and_parts (same_direction port.direction direction) (eqb (index_of_channel channels port.channel) c) h in
+    (same_direction_is port.direction direction parts.0, eqb-true (index_of_channel channels port.channel) c parts.1)
 
 abbrev ends_in : List ChannelText → Direction → ℕ → PartitionText → ℕ
 ends_in channels direction c partition = count_by (is_end channels direction c) partition.ports
@@ -252,7 +252,7 @@ clear true false c h k m = m
 clear false b c h k m = absurd (false≢true h)
 
 alone : (text : ConfigText) (direction : Direction) (entry : PortText) → entry.direction ≡ direction → may_have_several direction (channel_of_port text.channels entry) ≡ false
-    → is_alone direction text entry ≡ true → end_count text.channels direction (channel_named text.channels entry.channel) text.partitions ≤ 1
+    → is_alone direction text entry ≡ true → end_count text.channels direction (index_of_channel text.channels entry.channel) text.partitions ≤ 1
 alone text direction entry same single passes =
     leb-true _ 1 (clear (same_direction entry.direction direction) (may_have_several direction (channel_of_port text.channels entry)) _ (same_direction_from entry.direction direction same) single passes)
 
@@ -339,7 +339,7 @@ end_of_channel text direction none c channel found = leb-true 1 _ (unless_empty 
 
 few_ends : (text : ConfigText) (direction : Direction) → wrong_ends direction text ≡ [] → (p id : ℕ) (port : Port) (at : StandsAt text p id port)
     → at.entry.direction ≡ direction → may_have_several direction (channel_of_port text.channels at.entry) ≡ false
-    → end_count text.channels direction (channel_named text.channels at.entry.channel) text.partitions ≤ 1
+    → end_count text.channels direction (index_of_channel text.channels at.entry.channel) text.partitions ≤ 1
 few_ends text direction none p id port at same single =
     alone text direction at.entry same single (unless_empty (is_alone direction text at.entry) _ (port_found text (one_of_several direction text) p id port at (ends_empty text direction none).1))
 
@@ -349,8 +349,8 @@ same_end : (text : ConfigText) (direction : Direction) → wrong_ends direction 
 same_end text direction none p id port q jd other at ot here there same single =
     let first : at.entry.direction ≡ direction = sym (ap (λ (x : Port). x.direction) at.is) ∙ here in
     let second : ot.entry.direction ≡ direction = sym (ap (λ (x : Port). x.direction) ot.is) ∙ there in
-    let c = channel_named text.channels at.entry.channel in
-    let also : channel_named text.channels ot.entry.channel ≡ c = sym (ap (λ (x : Port). x.channel) ot.is) ∙ sym same ∙ ap (λ (x : Port). x.channel) at.is in
+    let c = index_of_channel text.channels at.entry.channel in
+    let also : index_of_channel text.channels ot.entry.channel ≡ c = sym (ap (λ (x : Port). x.channel) ot.is) ∙ sym same ∙ ap (λ (x : Port). x.channel) at.is in
     one_end text direction c (few_ends text direction none p id port at first single) p id port q jd other at ot
     (is_end_from text.channels direction c at.entry first refl) (is_end_from text.channels direction c ot.entry second also)
 
@@ -465,7 +465,7 @@ linked_from : (text : ConfigText) → PassesAll text → (p id : ℕ) (port : Po
 linked_from text pass p id port at =
     let channel = linked text pass p id port at in
     subst (λ (x : Port). (channel : Channel) × (channel_of (configuration_of text) x.channel ≡ Some channel) × KindsAgree x channel) (sym at.is)
-    (channel_of_text channel.0, to_map channel_of_text text.channels (channel_named text.channels at.entry.channel) channel.0 channel.1, channel.2)
+    (channel_of_text channel.0, to_map channel_of_text text.channels (index_of_channel text.channels at.entry.channel) channel.0 channel.1, channel.2)
 
 pub IsConfiguration-from : (text : ConfigText) → first_refusal passes text ≡ None → IsConfiguration (configuration_of text)
 IsConfiguration-from text accepted =

@@ -16,7 +16,7 @@ use Rattle.toml.specs.Parse.{parse_document}
 use Rattle.apex_config.specs.Configuration.{PartitionData, Configuration}
 use Rattle.apex_config.specs.Form.{wrong_form}
 use Rattle.apex_config.specs.Text.{PortText, PartitionText, ChannelText, ConfigText, config_text_of}
-use Rattle.apex_config.specs.Passes.{channel_named, found_by, passes}
+use Rattle.apex_config.specs.Passes.{index_of_channel, found_by, passes}
 use Rattle.apex_config.specs.Places.{whole}
 
 -- ---- the configuration of a text that no pass refuses: its numbers are no less than 1, and each port's channel is there
@@ -38,7 +38,7 @@ abbrev pub channel_of_text : ChannelText → Channel
 channel_of_text channel = record { name = channel.name; size = natural channel.size; kind = channel_kind_of channel.depth }
 
 abbrev pub port_of_text : List ChannelText → PortText → Port
-port_of_text channels port = record { name = port.name; kind = port_kind_of port.refresh; direction = port.direction; channel = channel_named channels port.channel }
+port_of_text channels port = record { name = port.name; kind = port_kind_of port.refresh; direction = port.direction; channel = index_of_channel channels port.channel }
 
 abbrev pub partition_of_text : List ChannelText → PartitionText → PartitionData
 partition_of_text channels partition = record { name = partition.name; ports = map (port_of_text channels) partition.ports }

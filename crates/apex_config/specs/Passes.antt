@@ -100,12 +100,12 @@ bad_numbers config = at_ports bad_refresh config.partitions ++ at_each bad_chann
 -- ---- each port names a channel
 
 -- the number of the first channel of a name; where there is none, the number of channels, which is no channel's number
-abbrev pub channel_named : List ChannelText → List ℕ → ℕ
-channel_named channels name = unwrap_or (position (λ channel. bytes_eq channel.name name) channels) (length channels)
+abbrev pub index_of_channel : List ChannelText → List ℕ → ℕ
+index_of_channel channels name = unwrap_or (position (λ channel. bytes_eq channel.name name) channels) (length channels)
 
 -- the channel that a port names
 abbrev pub channel_of_port : List ChannelText → PortText → Option ChannelText
-channel_of_port channels port = slice_get channels (channel_named channels port.channel)
+channel_of_port channels port = slice_get channels (index_of_channel channels port.channel)
 
 abbrev pub unknown_channel : List ChannelText → ℕ → ℕ → PortText → List Place
 unknown_channel channels p i port = unless (is_some (channel_of_port channels port)) (at (part.Port p i) key.Channel)
@@ -135,7 +135,7 @@ same_direction Destination Source = false
 same_direction Destination Destination = true
 
 abbrev pub is_end : List ChannelText → Direction → ℕ → PortText → Bool
-is_end channels direction c port = same_direction port.direction direction && (channel_named channels port.channel == c)
+is_end channels direction c port = same_direction port.direction direction && (index_of_channel channels port.channel == c)
 
 -- how many ports of a direction a channel has
 abbrev pub end_count : List ChannelText → Direction → ℕ → List PartitionText → ℕ
@@ -156,7 +156,7 @@ abbrev pub is_alone : Direction → ConfigText → PortText → Bool
 is_alone direction config port =
     not (same_direction port.direction direction)
     || may_have_several direction (channel_of_port config.channels port)
-    || nat_le (end_count config.channels direction (channel_named config.channels port.channel) config.partitions) 1
+    || nat_le (end_count config.channels direction (index_of_channel config.channels port.channel) config.partitions) 1
 
 abbrev pub one_of_several : Direction → ConfigText → ℕ → ℕ → PortText → List Place
 one_of_several direction config p i port = unless (is_alone direction config port) (whole (part.Port p i))

@@ -1,7 +1,7 @@
 //! Finds the channels of a configuration's text by their names.
 ghost use Rattle.std.specs.Prelude.{◌≡◌, length, IfOk};
 ghost use Rattle.std.specs.Option.{option_copied};
-ghost use Rattle.apex_config.specs.Passes.{channel_named, channel_of_port};
+ghost use Rattle.apex_config.specs.Passes.{index_of_channel, channel_of_port};
 
 use crate::config_text::{ChannelText, PortText};
 use std::alloc::{AllocError, Global};
@@ -53,7 +53,7 @@ impl<'t, 'a> ChannelIndex<'t, 'a> {
 
     /// The number of the first channel of a name; where there is none, the number of channels.
     pub fn number_of(&self, name: &'a str) -> usize
-        ensures { result ≡ channel_named self.now name.now }
+        ensures { result ≡ index_of_channel self.now name.now }
     {
         match self.numbers.get(&name) {
             Some(number) => *number,
