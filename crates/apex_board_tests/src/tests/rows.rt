@@ -38,25 +38,57 @@ fn nav_out(size: u32, depth: u32, direction: u32, discipline: u32) -> Result<Cal
 
 fn creations() -> Result<[Case; 12], Fail> {
     Ok([
-        (FMS, create_queuing("NAV", 4, 2, 0, 0)?, refused(Refusal::NotConfigured)),
+        (
+            FMS,
+            create_queuing("NAV", 4, 2, 0, 0)?,
+            refused(Refusal::NotConfigured),
+        ),
         (FMS, nav_out(5, 2, 0, 0)?, refused(Refusal::SizeDiffers)),
         (FMS, nav_out(4, 3, 0, 0)?, refused(Refusal::DepthDiffers)),
-        (FMS, nav_out(4, 2, 1, 0)?, refused(Refusal::DirectionDiffers)),
-        (FMS, nav_out(4, 2, 0, 2)?, refused(Refusal::UnknownDiscipline)),
+        (
+            FMS,
+            nav_out(4, 2, 1, 0)?,
+            refused(Refusal::DirectionDiffers),
+        ),
+        (
+            FMS,
+            nav_out(4, 2, 0, 2)?,
+            refused(Refusal::UnknownDiscipline),
+        ),
         (FMS, nav_out(4, 2, 0, 1)?, Row::Created { id: 1 }),
         (FMS, nav_out(4, 2, 0, 1)?, refused(Refusal::AlreadyCreated)),
-        (AIR, create_sampling("SPD_OUT", 4, 0, 51)?, refused(Refusal::RefreshDiffers)),
-        (AIR, create_sampling("SPD_OUT", 4, 0, 50)?, Row::Created { id: 1 }),
-        (DSP, create_sampling("SPD_IN", 4, 1, 50)?, Row::Created { id: 2 }),
+        (
+            AIR,
+            create_sampling("SPD_OUT", 4, 0, 51)?,
+            refused(Refusal::RefreshDiffers),
+        ),
+        (
+            AIR,
+            create_sampling("SPD_OUT", 4, 0, 50)?,
+            Row::Created { id: 1 },
+        ),
+        (
+            DSP,
+            create_sampling("SPD_IN", 4, 1, 50)?,
+            Row::Created { id: 2 },
+        ),
         (DSP, receive(1), refused(Refusal::NoSuchPort)),
-        (DSP, create_queuing("NAV_IN", 4, 2, 1, 0)?, Row::Created { id: 1 }),
+        (
+            DSP,
+            create_queuing("NAV_IN", 4, 2, 1, 0)?,
+            Row::Created { id: 1 },
+        ),
     ])
 }
 
 fn queuing() -> Result<[Case; 12], Fail> {
     Ok([
         (FMS, send(1, "-")?, refused(Refusal::EmptyMessage)),
-        (FMS, send(1, "0102030405")?, refused(Refusal::MessageTooLong)),
+        (
+            FMS,
+            send(1, "0102030405")?,
+            refused(Refusal::MessageTooLong),
+        ),
         (DSP, send(1, "01")?, refused(Refusal::NotSource)),
         (FMS, receive(1), refused(Refusal::NotDestination)),
         (DSP, receive(1), refused(Refusal::QueueEmpty)),
@@ -64,7 +96,11 @@ fn queuing() -> Result<[Case; 12], Fail> {
         (FMS, send(1, "02")?, Row::Sent),
         (FMS, send(1, "03")?, refused(Refusal::QueueFull)),
         (DSP, receive(1), Row::OldestReceived { id: 1 }),
-        (DSP, Call::QueuingStatus { id: 1 }, Row::QueuingStatus { id: 1 }),
+        (
+            DSP,
+            Call::QueuingStatus { id: 1 },
+            Row::QueuingStatus { id: 1 },
+        ),
         (FMS, clear(1), refused(Refusal::NotDestination)),
         (DSP, clear(1), Row::Cleared),
     ])
@@ -82,7 +118,11 @@ fn sampling() -> Result<[Case; 7], Fail> {
         (DSP, read(2), shown),
         (AIR, read(1), refused(Refusal::NotDestination)),
         (AIR, read(2), refused(Refusal::NoSuchPort)),
-        (DSP, Call::SamplingStatus { id: 2 }, Row::SamplingStatus { id: 2 }),
+        (
+            DSP,
+            Call::SamplingStatus { id: 2 },
+            Row::SamplingStatus { id: 2 },
+        ),
     ])
 }
 
@@ -90,14 +130,32 @@ fn names_and_modes() -> Result<[Case; 9], Fail> {
     let nav_out = Name::read("NAV_OUT")?;
     let spd_in = Name::read("SPD_IN")?;
     Ok([
-        (FMS, Call::QueuingId { name: nav_out.copy() }, Row::Identified { id: 1 }),
-        (FMS, Call::SamplingId { name: spd_in }, refused(Refusal::NotCreated)),
+        (
+            FMS,
+            Call::QueuingId {
+                name: nav_out.copy(),
+            },
+            Row::Identified { id: 1 },
+        ),
+        (
+            FMS,
+            Call::SamplingId { name: spd_in },
+            refused(Refusal::NotCreated),
+        ),
         (FMS, mode(4), refused(Refusal::UnknownMode)),
         (FMS, mode(2), refused(Refusal::WarmStartInColdStart)),
         (FMS, mode(1), Row::ModeSet),
-        (FMS, Call::QueuingId { name: nav_out }, refused(Refusal::NotCreated)),
+        (
+            FMS,
+            Call::QueuingId { name: nav_out },
+            refused(Refusal::NotCreated),
+        ),
         (FMS, mode(3), Row::ModeSet),
-        (FMS, create_queuing("NAV_OUT", 4, 2, 0, 0)?, refused(Refusal::InNormal)),
+        (
+            FMS,
+            create_queuing("NAV_OUT", 4, 2, 0, 0)?,
+            refused(Refusal::InNormal),
+        ),
         (FMS, mode(3), refused(Refusal::AlreadyNormal)),
     ])
 }
@@ -110,6 +168,10 @@ fn rows_tell_why(rt: HostRuntime) -> Result<(), Fail> {
     rows_are(&rt, &mut ports, &queuing()?);
     rows_are(&rt, &mut ports, &sampling()?);
     rows_are(&rt, &mut ports, &names_and_modes()?);
-    rows_are(&rt, &mut ports, &[(AIR, mode(0), Row::ModeSet), (AIR, read(1), Row::Idle)]);
+    rows_are(
+        &rt,
+        &mut ports,
+        &[(AIR, mode(0), Row::ModeSet), (AIR, read(1), Row::Idle)],
+    );
     Ok(())
 }
