@@ -52,5 +52,6 @@ told_lines config log number text (line ∷ rest) =
     told config log number line (before_first is_line_feed text) (item_of_line (request_at config) line)
     (λ after. told_lines config after (number + 1) (after_first is_line_feed text) rest)
 
+-- the whole text
 abbrev pub explanation_of : Configuration → List ℕ → List ℕ
 explanation_of config trace = told_lines config [] 1 trace (lines trace)

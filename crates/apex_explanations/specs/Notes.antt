@@ -12,13 +12,16 @@ use Rattle.apex_explanations.specs.Remarks.{LineEntry, history_of, moment_remark
 
 -- ---- ports
 
+-- the key is that of the port
 abbrev pub is_port : ℕ → ℕ → PortKey → Bool
 is_port p id port = (port.partition == p) && (port.id == id)
 
+-- there is a key, and it is that of the port
 abbrev pub is_some_port : ℕ → ℕ → Option PortKey → Bool
 is_some_port p id None = false
 is_some_port p id (Some port) = is_port p id port
 
+-- the port is among these
 abbrev pub has_port : ℕ → ℕ → List PortKey → Bool
 has_port p id ports = list_any (is_port p id) ports
 

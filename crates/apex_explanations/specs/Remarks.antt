@@ -36,6 +36,7 @@ abbrev pub moment_remarks : Moment → List LineEntry → List Remark
 moment_remarks last [] = []
 moment_remarks last (one ∷ rest) = earlier last one.line one.entry.at ++ moment_remarks one.entry.at rest
 
+-- the reply of a call that was not made
 abbrev pub is_not_made : Reply → Bool
 is_not_made NotMade = true
 is_not_made _ = false
@@ -100,6 +101,7 @@ remarks_of config log =
 
 -- ---- words
 
+-- the words of a remark, without its indentation
 abbrev pub remark_text : Remark → List ℕ
 remark_text (MomentBefore line at last) = codes "line " ++ (decimal line ++ (codes ": moment " ++ (decimal at.0 ++ (codes " is before " ++ decimal last.0))))
 remark_text (CallNotMade line partition) = codes "line " ++ (decimal line ++ (codes ": not made, since " ++ (partition ++ codes " is in IDLE")))

@@ -1,7 +1,8 @@
 //! The explanation of a trace: each line beside its reply, and then the remarks.
-ghost use Rattle.std.specs.Prelude.{◌≡◌, ◌<◌, ◌∷◌, ◌++◌, [], true, List, Some, length, position, string_bytes, IfOk, OnOk};
+ghost use Rattle.std.specs.Prelude.{◌≡◌, ◌<◌, ◌∷◌, ◌++◌, [], true, List, Some, length, position, string_bytes, IfOk, IfErr, OnOk};
 ghost use Rattle.std.specs.List.{list_all, before_first};
 ghost use Rattle.apex_ports.specs.Sound.{IsSound};
+ghost use Rattle.apex_texts.specs.declared.fault.Fault.TheVariants as faults;
 ghost use Rattle.apex_texts.specs.FaultLine.{trace_words};
 ghost use Rattle.apex_texts.specs.Lines.{is_ascii};
 ghost use Rattle.apex_texts.specs.Replay.{entry_after};
@@ -36,6 +37,7 @@ pub struct Explanation {
 pub fn explain_trace(alloc: Global, config: Config, trace: &[u8]) -> Result<Explanation, Fault>
     ensures text { IfOk result (λ told. told.text.items ≡ explanation_of config trace.now) }
     ensures fault { IfOk result (λ told. IsFaultOf (trace_of config trace.now) told.fault) }
+    ensures refused { IfErr result (λ why. why ≡ faults.Memory) }
 {
     let mut ports = Ports::new(alloc, config)?;
     Ok(explain_on(alloc, &mut ports, trace)?)
