@@ -14,7 +14,7 @@ use Rattle.apex_ports.specs.declared.history.Entry.{Entry}
 use Rattle.apex_ports.specs.History.{History, entries_of}
 use Rattle.apex_ports.specs.Channels.{accepted_on, received_on, cleared_on, message_accepted, message_received}
 use Rattle.apex_ports.specs.Counts.{count_of}
-use Rattle.apex_texts.specs.Report.{entry_line, line_of, entry_lines, partition_line, partition_lines, messages_text, channel_text, channel_lines}
+use Rattle.apex_texts.specs.Report.{line_of, entry_lines, partition_line, partition_lines, messages_text, channel_text, channel_lines}
 
 -- a text that grew by the line that comes next
 pub grows : (old new line rest all total : List ℕ) → new ≡ old ++ line → all ≡ line ++ rest → old ++ all ≡ total → new ++ rest ≡ total
