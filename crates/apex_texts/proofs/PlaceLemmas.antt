@@ -1,6 +1,6 @@
 -- The words of a line from a word on, and the place of a fault in it.
 use Rattle.std.proofs.Common.{◌≡◌, ◌≢◌, ℕ, zero, suc, ◌+◌, ◌-◌, ◌<◌, not, List, [], ◌∷◌, ◌++◌, length, take, drop, get_or, Option, Some, None, refl, sym, ap, ◌∙◌, arith, length-append}
-use Rattle.std.proofs.Math.Seq.{drop-nil, drop-cons, get_or-append_right}
+use Rattle.std.proofs.Math.Seq.{drop-nil, get_or-append_right}
 use Rattle.std.proofs.Math.ListN.{drop_of_length-le}
 use Rattle.std.specs.Prelude.{position}
 use Rattle.std.specs.List.{position_or_len}

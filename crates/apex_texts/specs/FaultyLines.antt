@@ -1,5 +1,5 @@
 -- All faulty lines of a text, with the places of their faults.
-use Rattle.std.specs.Prelude.{◌≡◌, ℕ, ◌+◌, List, [], ◌∷◌, ◌++◌, length, take, Option, Some, None, Result, option_map, option_to_list}
+use Rattle.std.specs.Prelude.{◌≡◌, ℕ, ◌+◌, List, [], ◌∷◌, ◌++◌, length, take, Option, Result, option_map, option_to_list}
 use Rattle.std.specs.Result.{result_err}
 use Rattle.std.specs.Str.Lines.{lines}
 use Rattle.apex_config.specs.Configuration.{Configuration}

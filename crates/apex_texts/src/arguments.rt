@@ -96,7 +96,7 @@ fn name_of(word: &[u8]) -> Result<Name, LineFault>
     name_in(word).ok_or(LineFault::Name)
 }
 
-// Reads the message that a word is into its place.
+// Reads the message that a word is into `message`.
 pub(crate) fn read_message(word: &[u8], message: &mut Message) -> Result<(), LineFault>
     ensures { Gives (λ _. message.new) result
         (or_fault LineFault.Message (message_in word.now)) }

@@ -13,7 +13,7 @@ mod lines;
 pub mod replay;
 pub mod report_text;
 pub mod script;
-pub mod service;
+mod service;
 mod text;
 pub mod trace;
 

@@ -5,6 +5,7 @@ mod creation;
 mod interference;
 mod lines;
 mod long_trace;
+mod places;
 mod queuing;
 mod sampling;
 mod scripts;

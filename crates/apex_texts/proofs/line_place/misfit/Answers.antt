@@ -1,4 +1,4 @@
-use Rattle.std.proofs.Common.{◌≡◌, ◌+◌, drop, ap, ◌∙◌, arith}
+use Rattle.std.proofs.Common.{◌≡◌, drop, ap, ◌∙◌, arith}
 use Rattle.apex_texts.specs.Text.{words_of}
 use Rattle.apex_texts.specs.LinePlace.{misfit}
 use Rattle.apex_texts.proofs.PlaceLemmas.{misfit-nothing}

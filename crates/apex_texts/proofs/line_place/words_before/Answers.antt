@@ -1,4 +1,4 @@
-use Rattle.std.proofs.Common.{◌≡◌, ◌+◌, length, drop, sym, ap, ◌∙◌}
+use Rattle.std.proofs.Common.{◌+◌, length, drop, sym, ap, ◌∙◌}
 use Rattle.apex_texts.specs.Text.{words_of}
 use Rattle.apex_texts.specs.LinePlace.{parameters_at, misfit}
 use Rattle.apex_texts.specs.declared.expected.Expected.TheVariants as kinds
