@@ -30,7 +30,13 @@ fn form_has_all_its_places(rt: HostRuntime) -> Result<(), Fail> {
     assert!(rt; places[0] == Part::Document.at(Key::Channel));
     let partition = Part::Partition { partition: 0 };
     let spot = Spot::Unknown { number: 0 };
-    assert!(rt; places[1] == Place { part: partition, spot });
+    assert!(rt;
+        places[1]
+            == Place {
+                part: partition,
+                spot
+            }
+    );
     let part = Part::Port {
         partition: 0,
         port: 0,
