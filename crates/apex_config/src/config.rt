@@ -58,6 +58,7 @@ impl Config {
 
     /// Reads a configuration from its TOML text. The passes run one after the other over the whole text, and the first
     /// that finds a fault names it. `OutOfMemory` comes only where an allocation was refused, in any pass.
+    #[tactic(auto, unfolding(crate::specs::Meaning::config_of))]
     pub fn read(alloc: Global, bytes: &[u8]) -> Result<Config, ConfigFault>
         ensures { IsConfigRead result (config_of bytes.now) }
     {
