@@ -6,13 +6,13 @@ ghost use Rattle.apex_texts.specs.Script.{script_of};
 ghost use Rattle.apex_texts.specs.Trace.{trace_of};
 ghost use Rattle.apex_line_faults.specs.FaultyLines.{places_from, places_of, trace_places, script_places, faulty_line, AreFirst};
 
-use apex_texts::Expected;
 use crate::line_place::{LinePlace, place_in};
+use apex_config::Config;
+use apex_texts::Expected;
 use apex_texts::lines::{LineForm, item_of_line};
 use apex_texts::script::ScriptLine;
 use apex_texts::text::next_line;
 use apex_texts::trace::TraceLine;
-use apex_config::Config;
 use std::alloc::{AllocError, Global};
 
 /// The first faulty lines of a text, and how many there are in all.

@@ -5,10 +5,8 @@ ghost use Rattle.apex_texts.specs.Lines.{is_ascii};
 ghost use Rattle.apex_texts.specs.declared.expected.Expected.TheVariants as kinds;
 ghost use Rattle.apex_line_faults.specs.LinePlace.{behind_first_word, from_first_word, from_word_at, column_of, parameters_at, words_expected, misfit, words_before, place_in};
 
-use apex_texts::Expected;
-use apex_texts::LineFault;
-use apex_texts::Service;
 use apex_texts::text::{blank_in, next_word, word_in};
+use apex_texts::{Expected, LineFault, Service};
 
 /// The place of a line's fault. Line, word and column count from 1, and a column counts bytes.
 #[derive(Clone, Copy, Debug, PartialEq, Eq)]
