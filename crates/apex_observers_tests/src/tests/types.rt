@@ -1,4 +1,4 @@
-//! Worked texts, each public call once, and the limits from both sides.
+//! The public types: worked texts, each public call once, and the limits from both sides.
 use apex_types::{
     Call, Direction, HexFault, Message, Mode, Name, NameFault, OutOfMemory, Reply, ReturnCode,
     TooLong, Validity,

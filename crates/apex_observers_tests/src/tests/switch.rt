@@ -1,5 +1,5 @@
-//! What the plan refuses and what it counts.
-use crate::Switch;
+//! What an allocator refuses by its plan, and what it counts.
+use refusing::Switch;
 use std::alloc::{AllocError, Allocator};
 
 // Three vectors of one byte each, so three requests.
