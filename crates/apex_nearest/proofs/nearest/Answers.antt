@@ -1,0 +1,33 @@
+use Rattle.std.proofs.Common.{◌≡◌, map, option_map, ℕ, List, [], get_or, sym, ap, ◌∙◌, arith, Bor}
+use Rattle.std.proofs.lemmas.List.{length-map}
+use Rattle.std.proofs.lemmas.Option.{slice_get-map, slice_get-get_or}
+use Rattle.apex_nearest.specs.Nearest.{edits}
+use Rattle.apex_nearest.proofs.Nearer.{few, one_more, nearest_of}
+use Rattle.apex_nearest.proofs.nearest.Goals as goal
+use Rattle.apex_nearest.proofs.nearest.Goals.{then-edits-least, else-edits-least}
+
+pub loop-name-preserved : goal.loop-name-preserved
+loop-name-preserved c =
+    let known : List (List ℕ) = map (λ (name : Bor (List ℕ)). name.now) c.args.known.now in
+    let i = c.loop-name.name-index in
+    let blank : Bor (List ℕ) = record { ref_ptr = (0, 0); now = [] } in
+    let name : List ℕ = (get_or c.args.known.now i blank).now in
+    let here = slice_get-map (λ (name : Bor (List ℕ)). name.now) c.args.known.now i ∙ ap (option_map (λ (name : Bor (List ℕ)). name.now)) (slice_get-get_or c.args.known.now i blank c.loop-name-test.true) in
+    let same : c.in_ok-edits.edits ≡ edits c.args.word.now name = c.in_ok-edits.ensures ∙ ap (edits c.args.word.now) c.as_bytes.ensures.value in
+    elim c.if-edits-least.branch [
+      | then-edits-least w ↦
+          rw (w.least-is, w.found-is) (
+            (sym same, few c.args.word.now c.loop-name.least c.in_ok-edits.edits _ c.loop-name.invariant.0 w.if-edits-least.true),
+            one_more c.args.word.now known i c.loop-name.least c.in_ok-edits.edits name here c.loop-name.invariant.1 (let less = w.if-edits-least.true in omega arith) (grind (arith, same)),
+          )
+      | else-edits-least w ↦
+          rw (w.least-is, w.found-is) (
+            c.loop-name.invariant.0,
+            one_more c.args.word.now known i c.loop-name.least c.loop-name.least name here c.loop-name.invariant.1 (omega arith) (let less = w.if-edits-least.false in grind (arith, same, less)),
+          )
+    ]
+
+pub returns : goal.returns
+returns c short =
+    let known : List (List ℕ) = map (λ (name : Bor (List ℕ)). name.now) c.args.known.now in
+    nearest_of c.args.word.now known c.loop-name.name-index c.loop-name.least (option_map (λ name. name.now) c.loop-name.found) (let all = c.loop-name-test.false in grind (arith, all, length-map c.args.known.now (λ (name : Bor (List ℕ)). name.now))) c.loop-name.invariant.0 c.loop-name.invariant.1
