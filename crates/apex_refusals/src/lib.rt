@@ -2,8 +2,12 @@
 #![tactic(auto)]
 
 mod finding;
+mod head;
+mod hint;
 mod lines;
+mod mistakes;
 mod owner;
 mod printed;
 
 pub use crate::lines::refusal_lines;
+pub use crate::mistakes::{MISTAKE_LIMIT, config_mistakes};

@@ -1,5 +1,7 @@
 //! The lines that tell a refusal: what stands at each of its places, and what must stand there.
 use crate::finding::{Finding, Found, Wanted};
+use crate::head::push_head;
+use crate::hint::push_hint;
 use crate::owner::Owner;
 use apex_config::channel_index::ChannelIndex;
 use apex_config::config_text::{ConfigText, PortText};
@@ -19,7 +21,7 @@ use toml::Value;
 use toml::de::Error;
 
 /// The line and the column of an offset in a text, both from 1. A column counts characters.
-fn line_and_column(text: &[u8], offset: usize) -> (usize, usize) {
+pub fn line_and_column(text: &[u8], offset: usize) -> (usize, usize) {
     let mut line = 1usize;
     let mut column = 1usize;
     for byte in text.iter().take(offset) {
@@ -43,7 +45,7 @@ fn not_toml(alloc: Global, text: &[u8], error: &Error) -> Result<String, AllocEr
 }
 
 /// The value that a part of a document is.
-fn value_of(document: &Value, part: Part) -> Option<&Value> {
+pub fn value_of(document: &Value, part: Part) -> Option<&Value> {
     match part {
         Part::Document => Some(document),
         Part::Partition { partition } => items_at(document, Key::Partition).get(partition),
@@ -279,12 +281,26 @@ fn value_finding<'a>(
     }
 }
 
+/// How the lines of a refusal are told.
+#[derive(Clone, Copy)]
+pub enum Form<'f> {
+    /// Each by the names of what holds its place.
+    Names,
+    /// Each by the file and the line as well, with what was most likely meant; at most so many.
+    File {
+        file: &'f str,
+        text: &'f [u8],
+        most: usize,
+    },
+}
+
 /// Writes the line of each place of a text that is TOML.
-fn write_lines(
+pub fn write_lines(
     alloc: Global,
     text: &mut String,
     document: &Value,
     refusal: &Refusal,
+    form: Form<'_>,
 ) -> Result<(), AllocError> {
     let config = config_text(alloc, document)?;
     let channels = ChannelIndex::new(alloc, config.channels.as_slice())?;
@@ -299,15 +315,24 @@ fn write_lines(
         ends: &ends,
         direction,
     };
-    for place in refusal.places.as_slice() {
+    for (index, place) in refusal.places.as_slice().iter().enumerate() {
+        if let Form::File { most, .. } = form && index >= most {
+            break;
+        }
         let finding = match refusal.fault {
             ConfigFault::Shape => form_finding(document, *place),
             fault => value_finding(document, read, fault, *place),
         };
         if let Some(finding) = finding {
             let owner = owner_of(document, refusal.fault, place.part);
-            let line = format!(in alloc; "{owner}: {finding}\n")?;
-            text.push_str(line.as_str())?;
+            if let Form::File { file, text: source, .. } = form {
+                push_head(alloc, text, file, source, document, *place)?;
+            }
+            write!(text, "{owner}: {finding}")?;
+            if let Form::File { .. } = form {
+                push_hint(alloc, text, &finding, config.channels.as_slice())?;
+            }
+            text.push('\n')?;
         }
     }
     Ok(())
@@ -321,7 +346,7 @@ pub fn refusal_lines(alloc: Global, text: &[u8], refusal: &Refusal) -> Result<St
         Ok(table) => {
             let document = Value::Table(table);
             let mut lines = String::new(alloc);
-            write_lines(alloc, &mut lines, &document, refusal)?;
+            write_lines(alloc, &mut lines, &document, refusal, Form::Names)?;
             Ok(lines)
         }
         Err(error) => not_toml(alloc, text, &error),

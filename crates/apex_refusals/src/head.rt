@@ -1,0 +1,116 @@
+//! The head of a place's line: the file, the line of the text where that is known, and the path of the place.
+use crate::lines::value_of;
+use crate::printed::Named;
+use apex_config::key::Key;
+use apex_config::place::{Part, Place, Spot};
+use std::alloc::{AllocError, Global};
+use std::fmt;
+use toml::Value;
+
+/// The most bytes of a text in which the lines of places are looked for, since each look reads the text up to a line.
+const LOOKED_THROUGH: usize = 65_536;
+
+/// A part of a configuration, as a path whose indexes count from 0.
+#[derive(Clone, Copy)]
+struct PathOfPart(Part);
+
+impl fmt::Display for PathOfPart {
+    fn fmt<W: fmt::Write>(&self, f: &mut fmt::Formatter<W>) -> fmt::Result {
+        match self.0 {
+            Part::Document => f.write_str("configuration"),
+            Part::Partition { partition } => write!(f, "partition[{partition}]"),
+            Part::Port { partition, port } => write!(f, "partition[{partition}].port[{port}]"),
+            Part::Channel { channel } => write!(f, "channel[{channel}]"),
+        }
+    }
+}
+
+/// The word of a key that stands at a place, or must stand there.
+fn key_at<'a>(document: &'a Value, place: Place) -> Option<&'a str> {
+    match place.spot {
+        Spot::Whole => None,
+        Spot::At { key } => Some(key.word()),
+        Spot::Unknown { number } => {
+            let part = value_of(document, place.part)?;
+            Some(part.as_table()?.keys().nth(number)?.as_str())
+        }
+    }
+}
+
+/// Whether a document has something at a key of a part, or the part itself where no key is named.
+fn stands(document: &Value, part: Part, key: Option<&str>) -> bool {
+    match (value_of(document, part), key) {
+        (None, _) => false,
+        (Some(_), None) => true,
+        (Some(value), Some(key)) => value.get(key).is_some(),
+    }
+}
+
+/// Whether the begin of a text is TOML in which this stands.
+fn stands_in(alloc: Global, text: &[u8], part: Part, key: Option<&str>) -> bool {
+    match toml::table_from_slice(alloc, text) {
+        Ok(table) => stands(&Value::Table(table), part, key),
+        Err(_) => false,
+    }
+}
+
+/// Where each line of a text ends.
+fn ends_of_lines(alloc: Global, text: &[u8]) -> Result<Vec<usize>, AllocError> {
+    let mut ends = Vec::new(alloc);
+    for (index, byte) in text.iter().enumerate() {
+        if *byte == b'\n' {
+            ends.push(index)?;
+        }
+    }
+    ends.push(text.len())?;
+    Ok(ends)
+}
+
+/// The line of a place, from 1: with it the text's lines are TOML in which the place stands, and without it they aren't.
+/// What is missing has the line of what it is missing in. None in a text that is too long, or without the place.
+fn line_of(alloc: Global, text: &[u8], part: Part, key: Option<&str>) -> Result<Option<usize>, AllocError> {
+    if text.len() > LOOKED_THROUGH || !stands_in(alloc, text, part, key) {
+        return Ok(None);
+    }
+    let ends = ends_of_lines(alloc, text)?;
+    let mut without: usize = 0;
+    let mut with = ends.len();
+    for _ in 0..64 {
+        let middle = without / 2 + with / 2 + (without % 2 + with % 2) / 2;
+        if middle <= without || middle >= with {
+            break;
+        }
+        let end = ends.get(middle - 1).copied().unwrap_or(text.len());
+        if stands_in(alloc, text.get(..end).unwrap_or(text), part, key) {
+            with = middle;
+        } else {
+            without = middle;
+        }
+    }
+    Ok(Some(with))
+}
+
+/// Writes the head of a place's line.
+pub fn push_head(
+    alloc: Global,
+    told: &mut String,
+    file: &str,
+    text: &[u8],
+    document: &Value,
+    place: Place,
+) -> Result<(), AllocError> {
+    let key = key_at(document, place);
+    let there = match key {
+        Some(key) if stands(document, place.part, Some(key)) => Some(key),
+        _ => None,
+    };
+    told.push_str(file)?;
+    if let Some(line) = line_of(alloc, text, place.part, there)? {
+        write!(told, ":{line}")?;
+    }
+    match (place.part, key) {
+        (Part::Document, Some(key)) => write!(told, ": {}: ", Named(key)),
+        (part, Some(key)) => write!(told, ": {}.{}: ", PathOfPart(part), Named(key)),
+        (part, None) => write!(told, ": {}: ", PathOfPart(part)),
+    }
+}

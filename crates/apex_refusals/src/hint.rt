@@ -1,0 +1,88 @@
+//! What was most likely meant at a place of a configuration.
+use crate::finding::{Finding, Found, Wanted};
+use apex_config::config_text::ChannelText;
+use apex_config::key::Key;
+use apex_nearest::nearest;
+use std::alloc::{AllocError, Global};
+use std::fmt;
+
+/// The keys of a configuration.
+const KEYS: [&'static str; 9] = [
+    "partition",
+    "port",
+    "channel",
+    "name",
+    "kind",
+    "direction",
+    "size",
+    "depth",
+    "refresh",
+];
+
+const KINDS: [&'static str; 2] = ["queuing", "sampling"];
+
+const DIRECTIONS: [&'static str; 2] = ["source", "destination"];
+
+/// Writes what was most likely meant, where something can be said of it.
+pub fn push_hint(
+    alloc: Global,
+    told: &mut String,
+    finding: &Finding<'_>,
+    channels: &[ChannelText<'_>],
+) -> Result<(), AllocError> {
+    match finding {
+        Finding::UnknownKey { key, .. } => push_nearest(alloc, told, key, &KEYS),
+        Finding::Wrong {
+            found: Found::Text(text),
+            wanted,
+            ..
+        } => push_text_hint(alloc, told, text, *wanted, channels),
+        Finding::Wrong {
+            found: Found::Number(_),
+            wanted: Wanted::Text | Wanted::Kind | Wanted::Direction,
+            ..
+        } => told.push_str("; a text stands in quotes"),
+        Finding::Wrong {
+            key,
+            found: Found::Other("a table"),
+            wanted: Wanted::Tables,
+        } => write!(told, "; write `[[{}]]` for each", key.word()),
+        _ => Ok(()),
+    }
+}
+
+/// What was most likely meant by a text.
+fn push_text_hint(
+    alloc: Global,
+    told: &mut String,
+    text: &str,
+    wanted: Wanted<'_>,
+    channels: &[ChannelText<'_>],
+) -> Result<(), AllocError> {
+    match wanted {
+        Wanted::Kind => push_nearest(alloc, told, text, &KINDS),
+        Wanted::Direction => push_nearest(alloc, told, text, &DIRECTIONS),
+        Wanted::WholeNumber => told.push_str("; a number stands without quotes"),
+        Wanted::ChannelName => {
+            let mut names = Vec::with_capacity(alloc, channels.len())?;
+            for channel in channels {
+                names.push(channel.name)?;
+            }
+            push_nearest(alloc, told, text, names.as_slice())
+        }
+        _ => Ok(()),
+    }
+}
+
+/// The nearest of the known words.
+fn push_nearest(
+    alloc: Global,
+    told: &mut String,
+    word: &str,
+    known: &[&str],
+) -> Result<(), AllocError> {
+    match nearest(alloc, word.as_bytes(), known)? {
+        Some(known) => write!(told, "; did you mean `{known}`?"),
+        None => Ok(()),
+    }
+}

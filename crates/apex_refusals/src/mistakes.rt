@@ -1,0 +1,81 @@
+//! The mistakes of a configuration, told to people by file and line.
+use crate::lines::{Form, line_and_column, write_lines};
+use apex_config::refusal::Refusal;
+use std::alloc::{AllocError, Global};
+use toml::Value;
+use toml::de::Error;
+
+/// The most mistakes that are told.
+pub const MISTAKE_LIMIT: usize = 20;
+
+/// A line for each place at which the text of a file was refused, at most `MISTAKE_LIMIT`, and then one that says how many
+/// more there are: the file, the line where it is known, the path, what stands there, what must stand there, and what was
+/// most likely meant. The only error is that an allocation was refused.
+pub fn config_mistakes(
+    alloc: Global,
+    file: &str,
+    text: &[u8],
+    refusal: &Refusal,
+) -> Result<String, AllocError> {
+    let mut told = String::new(alloc);
+    match toml::table_from_slice(alloc, text) {
+        Ok(table) => {
+            let form = Form::File {
+                file,
+                text,
+                most: MISTAKE_LIMIT,
+            };
+            write_lines(alloc, &mut told, &Value::Table(table), refusal, form)?;
+            let more = refusal.places.len().saturating_sub(MISTAKE_LIMIT);
+            if more > 0 {
+                writeln!(told, "and {more} more")?;
+            }
+        }
+        Err(error) => push_not_toml(&mut told, file, text, &error)?,
+    }
+    Ok(told)
+}
+
+/// The line of a text that is no TOML: where the reader of TOML stopped, and why.
+fn push_not_toml(
+    told: &mut String,
+    file: &str,
+    text: &[u8],
+    error: &Error,
+) -> Result<(), AllocError> {
+    let Some(span) = error.span() else {
+        return Err(AllocError);
+    };
+    let (line, column) = line_and_column(text, span.start);
+    write!(told, "{file}:{line}:{column}: not TOML: {}", error.message())?;
+    if let Some(words) = other_form(text) {
+        write!(told, "; {words}")?;
+    }
+    told.push('\n')
+}
+
+/// Of which other form a text seems to be, by its first bytes.
+fn other_form(text: &[u8]) -> Option<&'static str> {
+    if text.starts_with(b"\xEF\xBB\xBF") {
+        return Some("the file begins with a byte order mark: save it without");
+    }
+    let first = text.trim_ascii_start();
+    if first.starts_with(b"{") {
+        Some("this looks like JSON; a configuration is TOML")
+    } else if first.starts_with(b"---") || first.starts_with(b"- ") || has_yaml_key(first) {
+        Some("this looks like YAML; a configuration is TOML")
+    } else {
+        None
+    }
+}
+
+/// Whether a text begins with a key and a colon.
+fn has_yaml_key(text: &[u8]) -> bool {
+    let word = text
+        .iter()
+        .position(|byte| !(byte.is_ascii_alphanumeric() || *byte == b'_'));
+    match word {
+        Some(end) => text.get(end) == Some(&b':'),
+        None => false,
+    }
+}
