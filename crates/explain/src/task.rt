@@ -1,7 +1,8 @@
 //! What the program does: from the words of the command line to a status.
 use crate::words::{Task, Unexplained, task_of};
 use apex_command_line::WordsFault;
-use apex_config::{Config, refusal_lines};
+use apex_config::Config;
+use apex_refusals::refusal_lines;
 use apex_explanations::{explain_trace, port_table};
 use apex_files::{Opener, Refusal, print, read_file};
 use apex_texts::{Fault, TraceFault};
