@@ -1,0 +1,9 @@
+pub mod CallValues
+pub mod Conditions
+pub mod Law
+pub mod Names
+pub mod Pieces
+pub mod PortValues
+pub mod Services
+pub mod Table
+pub mod Words
