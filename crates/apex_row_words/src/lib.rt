@@ -1,0 +1,17 @@
+//! The words of the rows of the reply table: the name of each row, what it says of a call, and the whole table as
+//! text.
+#![tactic(auto)]
+
+mod call_values;
+mod conditions;
+mod names;
+mod piece;
+mod port_values;
+mod services;
+mod table;
+mod words;
+
+pub use crate::names::row_name;
+pub use crate::services::standard_name;
+pub use crate::table::{push_rows, push_service_rows};
+pub use crate::words::{push_note, push_words};
