@@ -30,6 +30,8 @@ pub struct Explanation {
     pub text: Vec<u8>,
     /// The fault of the trace, at whose line the text ends.
     pub fault: Option<TraceFault>,
+    /// The remarks that end the text; none where the trace has a fault.
+    pub remarks: Vec<Remark>,
 }
 
 /// Explains a trace: each line beside its reply, and then the remarks; or up to the first faulty
@@ -74,10 +76,12 @@ fn explain_on(alloc: Global, ports: &mut Ports, trace: &[u8]) -> Result<Explanat
         rest = after;
     }
     let calls = notes.calls;
-    push_ending(&mut text, calls, remarks_of(ports, notes)?.as_slice())?;
+    let remarks = remarks_of(ports, notes)?;
+    push_ending(&mut text, calls, remarks.as_slice())?;
     Ok(Explanation {
         text: text.into_bytes(),
         fault: None,
+        remarks,
     })
 }
 
@@ -99,6 +103,7 @@ fn explanation_to(
     Ok(Explanation {
         text,
         fault: Some(fault),
+        remarks: Vec::new(alloc),
     })
 }
 

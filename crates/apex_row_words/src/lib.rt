@@ -12,6 +12,6 @@ mod table;
 mod words;
 
 pub use crate::names::row_name;
-pub use crate::services::standard_name;
-pub use crate::table::{push_rows, push_service_rows};
+pub use crate::services::{accepted_words, refusals_of, standard_name};
+pub use crate::table::{push_condition, push_row_pattern, push_rows, push_service_rows};
 pub use crate::words::{push_note, push_words};

@@ -26,7 +26,7 @@ pub fn standard_name(service: Service) -> &'static str
 }
 
 /// The checks of a service, in the order in which they are made.
-pub(crate) fn refusals_of(service: Service) -> &'static [Refusal]
+pub fn refusals_of(service: Service) -> &'static [Refusal]
     ensures { result.now ≡ refusals_of service }
 {
     match service {
@@ -82,7 +82,7 @@ pub(crate) fn refusals_of(service: Service) -> &'static [Refusal]
 }
 
 /// What an accepted call of a service is answered, and what comes of it.
-pub(crate) fn accepted_words(service: Service) -> &'static str
+pub fn accepted_words(service: Service) -> &'static str
     ensures { result.now ≡ accepted_words service }
 {
     match service {

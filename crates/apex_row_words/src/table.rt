@@ -2,6 +2,8 @@
 ghost use Rattle.std.specs.Prelude.{◌≡◌, ◌++◌, flat_map, string_bytes, OnOk};
 ghost use Rattle.apex_row_words.specs.Pieces.{piece_text, filled, placeholders};
 ghost use Rattle.apex_row_words.specs.Services.{refusals_of};
+ghost use Rattle.apex_row_words.specs.Conditions.{condition_words};
+ghost use Rattle.apex_row_words.specs.Words.{row_words};
 ghost use Rattle.apex_row_words.specs.Table.{heading, idle_line, refusal_line, accepted_line, service_rows, all_rows};
 
 use crate::call_values::call_placeholder;
@@ -92,6 +94,26 @@ fn push_accepted(text: &mut String, service: Service) -> Result<(), AllocError>
     text.push_str("  otherwise -> ")?;
     text.push_str(accepted_words(service))?;
     text.push_str("\n")
+}
+
+/// The condition of a row of a service. In place of a value stands a word in upper case.
+pub fn push_condition(
+    text: &mut String,
+    service: Service,
+    refusal: Refusal,
+) -> Result<(), AllocError>
+    ensures { OnOk result (string_bytes text.new
+        ≡ string_bytes text.old ++ condition_words (placeholders service) refusal) }
+{
+    push_pattern(text, service, condition_pieces(refusal))
+}
+
+/// The words of a row of a service; none of an accepted call. In place of a value stands a word in upper case.
+pub fn push_row_pattern(text: &mut String, service: Service, row: Row) -> Result<(), AllocError>
+    ensures { OnOk result (string_bytes text.new
+        ≡ string_bytes text.old ++ row_words (placeholders service) row) }
+{
+    push_pattern(text, service, row_pieces(row))
 }
 
 /// Pieces, with a word in upper case in place of each value.

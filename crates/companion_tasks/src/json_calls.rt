@@ -53,32 +53,39 @@ pub(crate) fn explain_as_json(
 ) -> Result<(Vec<u8>, Option<TraceFault>), Fault> {
     let mut ports = Ports::new(alloc, config.copy()?)?;
     let mut text = String::with_capacity(alloc, trace.len())?;
-    let fault = push_calls(alloc, &mut text, &mut ports, trace)?;
-    if fault.is_none() {
-        let explanation = explain_trace(alloc, config, trace)?;
-        push_ending(alloc, &mut text, &explanation)?;
-    }
+    let fault = match push_calls(alloc, &mut text, &mut ports, trace)? {
+        Ok(calls) => {
+            let explanation = explain_trace(alloc, config, trace)?;
+            push_ending(alloc, &mut text, calls, explanation.remarks.as_slice())?;
+            None
+        }
+        Err(fault) => Some(fault),
+    };
     Ok((text.into_bytes(), fault))
 }
 
-/// An object for each call of a trace, up to its first faulty line, whose fault is answered.
+/// An object for each call of a trace, whose count is answered, or up to its first faulty line, whose fault is.
 fn push_calls(
     alloc: Global,
     text: &mut String,
     ports: &mut Ports,
     trace: &[u8],
-) -> Result<Option<TraceFault>, AllocError> {
+) -> Result<Result<usize, TraceFault>, AllocError> {
+    let mut calls: usize = 0;
     let mut request = ANY_REQUEST;
     let mut rest = trace;
     let mut number: usize = 0;
     while let Some((line, after)) = next_line(rest) {
         number = number.saturating_add(1);
         match read_trace_line(ports.config(), line, &mut request) {
-            Ok(true) => push_call(alloc, text, ports, number, line, &request)?,
+            Ok(true) => {
+                calls = calls.saturating_add(1);
+                push_call(alloc, text, ports, number, line, &request)?;
+            }
             Ok(false) => {}
             Err(fault) => {
                 push_fault(alloc, text, number, fault)?;
-                return Ok(Some(TraceFault::Line {
+                return Ok(Err(TraceFault::Line {
                     line: number,
                     fault: fault.number(),
                 }));
@@ -86,7 +93,7 @@ fn push_calls(
         }
         rest = after;
     }
-    Ok(None)
+    Ok(Ok(calls))
 }
 
 fn push_fault(

@@ -1,6 +1,6 @@
 //! The end of an explanation as JSON lines.
 use crate::json::push_object;
-use apex_explanations::{Explanation, Remark};
+use apex_explanations::Remark;
 use apex_types::Moment;
 use serde::Serialize;
 use std::alloc::{AllocError, Global};
@@ -30,15 +30,16 @@ struct CountLine {
 pub(crate) fn push_ending(
     alloc: Global,
     text: &mut String,
-    explanation: &Explanation,
+    calls: usize,
+    remarks: &[Remark],
 ) -> Result<(), AllocError> {
-    for remark in &explanation.remarks {
+    for remark in remarks {
         let words = remark.to_string(alloc)?;
         push_object(alloc, text, &remark_line(remark, words.as_str()))?;
     }
     let counts = CountLine {
-        calls: explanation.calls,
-        remarks: explanation.remarks.len(),
+        calls,
+        remarks: remarks.len(),
     };
     push_object(alloc, text, &counts)
 }

@@ -2,7 +2,7 @@
 use crate::json::push_object;
 use apex_ports::{Refusal, Row};
 use apex_row_words::{
-    accepted_words, push_condition, push_pattern_words, refusals_of, row_name, standard_name,
+    accepted_words, push_condition, push_row_pattern, refusals_of, row_name, standard_name,
 };
 use apex_texts::Service;
 use apex_types::Validity;
@@ -43,7 +43,7 @@ pub(crate) fn push_row_lines(
 
 fn push_idle(alloc: Global, text: &mut String, service: Service) -> Result<(), AllocError> {
     let mut words = String::new(alloc);
-    push_pattern_words(&mut words, service, Row::Idle)?;
+    push_row_pattern(&mut words, service, Row::Idle)?;
     let idle = RowLine {
         service: service.word(),
         standard: standard_name(service),
@@ -64,7 +64,7 @@ fn push_refusal(
     let mut condition = String::new(alloc);
     push_condition(&mut condition, service, refusal)?;
     let mut words = String::new(alloc);
-    push_pattern_words(&mut words, service, Row::Refused(refusal))?;
+    push_row_pattern(&mut words, service, Row::Refused(refusal))?;
     let refused = RowLine {
         service: service.word(),
         standard: standard_name(service),

@@ -51,12 +51,7 @@ pub(crate) fn table_lines(alloc: Global, config: &Config) -> Result<String, Allo
 }
 
 /// An object for each port of partition `p`.
-fn push_ports(
-    alloc: Global,
-    text: &mut String,
-    config: &Config,
-    p: usize,
-) -> Result<(), AllocError>
+fn push_ports(alloc: Global, text: &mut String, config: &Config, p: usize) -> Result<(), AllocError>
     requires { p < length config.now.partitions }
 {
     let name = config.partition_name(p).text();

@@ -14,21 +14,25 @@ use std::thread::Threads;
 /// The status of words that aren't those of a command.
 const MISUSED: u8 = 2;
 
-/// Does what the words ask for, and answers the status. The words are none where they aren't UTF-8. A refusal writes a line
-/// to `errors`, and words that aren't those of a command the usage. A run waits for its workers.
+/// Does what the words ask for, and answers the status. A refusal writes a line to `errors`, and words
+/// that aren't those of a command write what is wrong with the usage. A run waits for its workers.
 pub fn program<R: Threads + Wait + Sync, O: Opener, W: Write, E: Write>(
     rt: &R,
     alloc: Global,
-    words: Option<&[String]>,
+    words: Result<Vec<String>, apex_command_line::WordsFault>,
     commit: Option<&str>,
     opener: &O,
     output: &mut W,
     errors: &mut E,
 ) -> u8 {
-    let Some(words) = words else {
-        return misused(&not_text(alloc), errors);
+    let words = match words {
+        Ok(words) => words,
+        Err(apex_command_line::WordsFault::Usage) => return misused(&not_text(alloc), errors),
+        Err(apex_command_line::WordsFault::OutOfMemory) => {
+            return misused(&WordsFault::OutOfMemory, errors);
+        }
     };
-    match task_of(alloc, words) {
+    match task_of(alloc, words.as_slice()) {
         Ok(task) => finish(perform(rt, alloc, task, commit, opener), output, errors),
         Err(fault) => misused(&fault, errors),
     }

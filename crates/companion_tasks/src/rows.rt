@@ -23,10 +23,8 @@ pub(crate) fn reply_table<'a>(
 }
 
 fn service_called(name: &str) -> Option<Service> {
-    SERVICES
-        .iter()
-        .copied()
-        .find(|service| name == service.word() || name == standard_name(*service))
+    SERVICES.iter().copied().find(|service| name == service.word()
+        || name == standard_name(*service))
 }
 
 fn all_rows(alloc: Global, form: Form) -> Result<String, AllocError> {

@@ -1,6 +1,4 @@
 //! The table of a configuration's ports.
-ghost use Rattle.std.specs.Prelude.{IfSome};
-ghost use Rattle.companion_tasks.specs.Table.{IsTable};
 
 use crate::configuration::read_config;
 use crate::json_table::table_lines;

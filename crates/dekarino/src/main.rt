@@ -1,18 +1,24 @@
-//! Tells a bench engineer what a configuration and a trace come to: a table of the ports, or each line of the trace
-//! beside its reply.
+//! Tells people what a configuration, a trace and a run come to: a table of the ports, and each call beside its reply.
 #![tactic(auto)]
 
-mod task;
-mod words;
-
-use crate::task::explain;
 use apex_command_line::words_given;
-use apex_files::SystemFiles;
+use companion_tasks::{SystemFiles, program};
+use std::env;
 use std::process::ExitCode;
 
 fn main(rt: HostRuntime) -> ExitCode {
     let files = SystemFiles { rt: &rt };
     let (mut output, mut errors) = (rt.stdout(), rt.stderr());
     let words = words_given(&rt);
-    ExitCode::from(explain(rt.alloc(), words, &files, &mut output, &mut errors))
+    // The script of this name tells the commit of its checkout.
+    let commit = env::var(&rt, "DEKARINO_COMMIT").ok();
+    ExitCode::from(program(
+        &rt,
+        rt.alloc(),
+        words,
+        commit.as_ref().map(String::as_str),
+        &files,
+        &mut output,
+        &mut errors,
+    ))
 }
