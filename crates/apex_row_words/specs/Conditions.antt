@@ -6,6 +6,11 @@ use Rattle.apex_ports.specs.declared.rows.Refusal.TheVariants as refusal
 use Rattle.apex_row_words.specs.Pieces.{Values}
 use Rattle.apex_row_words.specs.declared.piece.CallValue.TheVariants.{Kind}
 
+-- when a call isn't made
+abbrev pub idle_condition : List ℕ
+idle_condition = codes "the partition is in IDLE"
+
+-- when a call is refused so
 abbrev pub condition_words : Values → Refusal → List ℕ
 condition_words values refusal.NotConfigured = concat (codes "the partition has no " ∷ values.call Kind ∷ codes " port of this name configured" ∷ [])
 condition_words values refusal.AlreadyCreated = codes "the port is created already"

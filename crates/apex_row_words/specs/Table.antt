@@ -6,7 +6,7 @@ use Rattle.apex_ports.specs.declared.rows.Refusal.{Refusal}
 use Rattle.apex_ports.specs.declared.rows.Row.TheVariants.{Idle, Refused}
 use Rattle.apex_texts.specs.Service.{services, word_of}
 use Rattle.apex_texts.specs.declared.service.Service.{Service}
-use Rattle.apex_row_words.specs.Conditions.{condition_words}
+use Rattle.apex_row_words.specs.Conditions.{idle_condition, condition_words}
 use Rattle.apex_row_words.specs.Pieces.{placeholders}
 use Rattle.apex_row_words.specs.Services.{standard_name, refusals_of, accepted_words}
 use Rattle.apex_row_words.specs.Words.{row_words}
@@ -15,14 +15,17 @@ use Rattle.apex_row_words.specs.Words.{row_words}
 unfoldable pub heading : Service → List ℕ
 heading service = standard_name service ++ codes " (" ++ word_of service ++ codes ")\n"
 
--- the row of a partition in IDLE, which every service has before all others
-unfoldable pub idle_line : Service → List ℕ
-idle_line service = codes "  the partition is in IDLE -> not made (" ++ row_words (placeholders service) Idle ++ codes ")\n"
+-- `CONDITION -> REPLY (WORDS)`
+unfoldable pub row_line : List ℕ → List ℕ → List ℕ → List ℕ
+row_line condition reply words = codes "  " ++ condition ++ codes " -> " ++ reply ++ codes " (" ++ words ++ codes ")\n"
 
--- `CONDITION -> CODE (WORDS)`
-unfoldable pub refusal_line : Service → Refusal → List ℕ
-refusal_line service refusal =
-    codes "  " ++ condition_words (placeholders service) refusal ++ codes " -> " ++ code_word (code_of refusal) ++ codes " (" ++ row_words (placeholders service) (Refused refusal) ++ codes ")\n"
+-- the row of a partition in IDLE, which every service has before all others
+abbrev pub idle_line : Service → List ℕ
+idle_line service = row_line idle_condition (codes "not made") (row_words (placeholders service) Idle)
+
+-- the row of a check
+abbrev pub refusal_line : Service → Refusal → List ℕ
+refusal_line service refusal = row_line (condition_words (placeholders service) refusal) (code_word (code_of refusal)) (row_words (placeholders service) (Refused refusal))
 
 -- the row that is left where no check applies
 unfoldable pub accepted_line : Service → List ℕ

@@ -1,10 +1,17 @@
 //! The conditions of the rows of the reply table.
 ghost use Rattle.std.specs.Prelude.{◌≡◌};
-ghost use Rattle.apex_row_words.specs.Conditions.{condition_words};
+ghost use Rattle.apex_row_words.specs.Conditions.{idle_condition, condition_words};
 ghost use Rattle.apex_row_words.specs.Pieces.{Values, filled};
 
 use crate::piece::{CallValue, Piece};
 use apex_ports::Refusal;
+
+/// When a call isn't made.
+pub(crate) fn idle_condition() -> &'static [Piece]
+    ensures { (values : Values) → filled values result.now ≡ idle_condition }
+{
+    &[Piece::Text("the partition is in IDLE")]
+}
 
 /// When a call is refused so: the condition of the row, as the table of the service says it.
 pub(crate) fn condition_pieces(refusal: Refusal) -> &'static [Piece]

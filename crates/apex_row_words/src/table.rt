@@ -4,10 +4,10 @@ ghost use Rattle.apex_row_words.specs.Pieces.{piece_text, filled, placeholders};
 ghost use Rattle.apex_row_words.specs.Services.{refusals_of};
 ghost use Rattle.apex_row_words.specs.Conditions.{condition_words};
 ghost use Rattle.apex_row_words.specs.Words.{row_words};
-ghost use Rattle.apex_row_words.specs.Table.{heading, idle_line, refusal_line, accepted_line, service_rows, all_rows};
+ghost use Rattle.apex_row_words.specs.Table.{heading, row_line, idle_line, refusal_line, accepted_line, service_rows, all_rows};
 
 use crate::call_values::call_placeholder;
-use crate::conditions::condition_pieces;
+use crate::conditions::{condition_pieces, idle_condition};
 use crate::piece::Piece;
 use crate::port_values::port_placeholder;
 use crate::services::{accepted_words, refusals_of, standard_name};
@@ -20,7 +20,14 @@ use std::alloc::AllocError;
 pub fn push_rows(text: &mut String) -> Result<(), AllocError>
     ensures { OnOk result (string_bytes text.new ≡ string_bytes text.old ++ all_rows) }
 {
-    for service in SERVICES.as_slice() {
+    push_services(text, SERVICES.as_slice())
+}
+
+fn push_services(text: &mut String, services: &[Service]) -> Result<(), AllocError>
+    ensures { OnOk result (string_bytes text.new
+        ≡ string_bytes text.old ++ flat_map service_rows services.now) }
+{
+    for service in services {
         push_service_rows(text, *service)?;
     }
     Ok(())
@@ -49,12 +56,39 @@ fn push_heading(text: &mut String, service: Service) -> Result<(), AllocError>
     text.push_str(")\n")
 }
 
-#[tactic(auto, unfolding(crate::specs::Table::idle_line))]
+/// The row of a partition in IDLE.
 fn push_idle(text: &mut String, service: Service) -> Result<(), AllocError>
     ensures { OnOk result (string_bytes text.new ≡ string_bytes text.old ++ idle_line service) }
 {
-    text.push_str("  the partition is in IDLE -> not made (")?;
-    push_pattern(text, service, row_pieces(Row::Idle))?;
+    push_row(
+        text,
+        service,
+        idle_condition(),
+        "not made",
+        row_pieces(Row::Idle),
+    )
+}
+
+/// `  CONDITION -> REPLY (WORDS)`.
+#[tactic(auto, unfolding(crate::specs::Table::row_line))]
+fn push_row(
+    text: &mut String,
+    service: Service,
+    condition: &[Piece],
+    reply: &str,
+    words: &[Piece],
+) -> Result<(), AllocError>
+    ensures { let condition = filled (placeholders service) condition.now in
+        let words = filled (placeholders service) words.now in
+        OnOk result (string_bytes text.new
+        ≡ string_bytes text.old ++ row_line condition reply.now words) }
+{
+    text.push_str("  ")?;
+    push_pattern(text, service, condition)?;
+    text.push_str(" -> ")?;
+    text.push_str(reply)?;
+    text.push_str(" (")?;
+    push_pattern(text, service, words)?;
     text.push_str(")\n")
 }
 
@@ -72,19 +106,18 @@ fn push_refusals(
     Ok(())
 }
 
-/// `  CONDITION -> CODE (WORDS)`.
-#[tactic(auto, unfolding(crate::specs::Table::refusal_line))]
 fn push_refusal(text: &mut String, service: Service, refusal: Refusal) -> Result<(), AllocError>
     ensures { OnOk result (string_bytes text.new
         ≡ string_bytes text.old ++ refusal_line service refusal) }
 {
-    text.push_str("  ")?;
-    push_pattern(text, service, condition_pieces(refusal))?;
-    text.push_str(" -> ")?;
-    text.push_str(refusal.code().word())?;
-    text.push_str(" (")?;
-    push_pattern(text, service, row_pieces(Row::Refused(refusal)))?;
-    text.push_str(")\n")
+    let words = row_pieces(Row::Refused(refusal));
+    push_row(
+        text,
+        service,
+        condition_pieces(refusal),
+        refusal.code().word(),
+        words,
+    )
 }
 
 #[tactic(auto, unfolding(crate::specs::Table::accepted_line))]

@@ -24,10 +24,7 @@ pub fn push_words(
     ensures { OnOk result (string_bytes text.new
         ≡ string_bytes text.old ++ words_of config.now partition call.now row) }
 {
-    for piece in row_pieces(row) {
-        push_piece(text, config, partition, call, *piece)?;
-    }
-    Ok(())
+    push_filled(text, config, partition, call, row_pieces(row))
 }
 
 /// The words of a row in brackets, as they stand behind a reply: ` (WORDS)`. Nothing for an accepted call.
@@ -58,6 +55,24 @@ fn has_words(row: Row) -> bool
         Row::Refused(_) => true,
         _ => false,
     }
+}
+
+/// Pieces, with the values of a call of partition `p`.
+fn push_filled(
+    text: &mut String,
+    config: &Config,
+    p: usize,
+    call: &Call,
+    pieces: &[Piece],
+) -> Result<(), AllocError>
+    requires { p < length config.now.partitions }
+    ensures { OnOk result (string_bytes text.new
+        ≡ string_bytes text.old ++ filled (values_of config.now p call.now) pieces.now) }
+{
+    for piece in pieces {
+        push_piece(text, config, p, call, *piece)?;
+    }
+    Ok(())
 }
 
 fn push_piece(
