@@ -5,7 +5,7 @@ use crate::tables::table;
 use crate::unfinished::Unfinished;
 use apex_files::{Opener, Refusal, print, refuse};
 use apex_texts::Fault;
-use companion_command_line::{Calls, Task, WordsFault, not_text, task_of, version_text};
+use companion_command_line::{Calls, Given, Task, WordsFault, task_of, version_text};
 use std::alloc::Global;
 use std::io::Write;
 use std::sync::Wait;
@@ -14,26 +14,25 @@ use std::thread::Threads;
 /// The status of words that aren't those of a command.
 const MISUSED: u8 = 2;
 
-/// Does what the words ask for, and answers the status. A refusal writes a line to `errors`, and words
-/// that aren't those of a command write what is wrong with the usage. A run waits for its workers.
+/// Does what the words ask for, and answers the status. A refusal writes a line to `errors`, and words that aren't those
+/// of a command what is wrong, with the usage. A run waits for its workers.
 pub fn program<R: Threads + Wait + Sync, O: Opener, W: Write, E: Write>(
     rt: &R,
     alloc: Global,
-    words: Result<Vec<String>, apex_command_line::WordsFault>,
-    commit: Option<&str>,
+    given: Result<Given, WordsFault>,
     opener: &O,
     output: &mut W,
     errors: &mut E,
 ) -> u8 {
-    let words = match words {
-        Ok(words) => words,
-        Err(apex_command_line::WordsFault::Usage) => return misused(&not_text(alloc), errors),
-        Err(apex_command_line::WordsFault::OutOfMemory) => {
-            return misused(&WordsFault::OutOfMemory, errors);
-        }
+    let Given { words, commit } = match given {
+        Ok(given) => given,
+        Err(fault) => return misused(&fault, errors),
     };
     match task_of(alloc, words.as_slice()) {
-        Ok(task) => finish(perform(rt, alloc, task, commit, opener), output, errors),
+        Ok(task) => {
+            let commit = commit.as_ref().map(String::as_str);
+            finish(perform(rt, alloc, task, commit, opener), output, errors)
+        }
         Err(fault) => misused(&fault, errors),
     }
 }
