@@ -14,14 +14,13 @@ use Rattle.apex_texts.specs.FaultLine.{trace_words}
 use Rattle.apex_texts.specs.LineFault.{number_of}
 use Rattle.apex_texts.specs.Lines.{FaultyLine, item_of_line}
 use Rattle.apex_texts.specs.Replay.{entry_after, IsRefused}
-use Rattle.apex_texts.specs.Report.{reply_text}
 use Rattle.apex_texts.specs.Text.{is_line_feed}
 use Rattle.apex_texts.specs.Trace.{request_at}
 use Rattle.apex_texts.proofs.ReportLemmas.{grows}
 use Rattle.apex_explanations.specs.declared.explanation.Explanation.{Explanation}
 use Rattle.apex_explanations.specs.declared.notes.Notes.{Notes}
 use Rattle.apex_explanations.specs.declared.remark.Remark.{Remark}
-use Rattle.apex_explanations.specs.Explanation.{IsFaultOf, line_with, ending, told, told_lines}
+use Rattle.apex_explanations.specs.Explanation.{IsFaultOf, line_with, answer_of, ending, told, told_lines}
 use Rattle.apex_explanations.specs.Notes.{AreNoted}
 use Rattle.apex_explanations.specs.Remarks.{LineEntry, history_of, remarks_of, partition_remarks, channel_remarks}
 use Rattle.apex_explanations.proofs.NoteLemmas.{history_of-push}
@@ -56,7 +55,7 @@ module _ (config : Configuration) (history : History) (notes : Notes) (number : 
 
   -- after a line with a call
   pub tells_call : (request : Request) (later : History) (noted : Notes) → lines rest ≡ line ∷ lines after → after ≡ after_first is_line_feed rest → item_of_line (request_at config) line ≡ Ok (Some request)
-      → later ≡ history ++ entry_after config history request ∷ [] → new ≡ text ++ line_with line (reply_text (entry_after config history request).reply)
+      → later ≡ history ++ entry_after config history request ∷ [] → new ≡ text ++ line_with line (answer_of config history request)
       → ((log : List LineEntry) → AreNoted config log notes → AreNoted config (log ++ record { line = number + 1; entry = entry_after config history request } ∷ []) noted)
       → IsUnderWay config history notes number rest text total → IsUnderWay config later noted (number + 1) after new total
   tells_call request later noted cut next is grew grown notes_grew was =
@@ -72,8 +71,8 @@ module _ (config : Configuration) (history : History) (notes : Notes) (number : 
         fewer = omega arith;
         told =
             let here = line_cut config log (number + 1) rest after line (lines rest) (lines after) (Ok (Some request)) cut next is in
-            grows text new (line_with line (reply_text (entry_after config (history_of log) request).reply)) _ _ total
-            (grown ∙ (λ i. text ++ line_with line (reply_text (entry_after config (was.served i) request).reply))) here was.told;
+            grows text new (line_with line (answer_of config (history_of log) request)) _ _ total
+            (grown ∙ (λ i. text ++ line_with line (answer_of config (was.served i) request))) here was.told;
       }
 
   -- at a faulty line

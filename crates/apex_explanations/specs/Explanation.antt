@@ -4,6 +4,11 @@ use Rattle.std.specs.List.{before_first, after_first}
 use Rattle.std.specs.Str.Lines.{lines}
 use Rattle.apex_config.specs.Configuration.{Configuration}
 use Rattle.apex_ports.specs.declared.history.Request.{Request}
+use Rattle.apex_ports.specs.declared.rows.Row.{Row}
+use Rattle.apex_ports.specs.History.{History}
+use Rattle.apex_ports.specs.ReplyTable.{row_of}
+use Rattle.apex_ports.specs.Seen.{seen}
+use Rattle.apex_row_words.specs.Words.{note_of}
 use Rattle.apex_texts.specs.declared.line_fault.LineFault.{LineFault}
 use Rattle.apex_texts.specs.declared.fault.TraceFault.{TraceFault}
 use Rattle.apex_texts.specs.declared.fault.TraceFault.TheVariants as trace_faults
@@ -34,6 +39,15 @@ line_with line told = line ++ codes " -> " ++ told ++ codes "\n"
 abbrev pub line_entry : Configuration → List LineEntry → ℕ → Request → LineEntry
 line_entry config log number request = record { line = number; entry = entry_after config (history_of log) request }
 
+-- the row that gives the reply to a request after a history
+abbrev pub row_after : Configuration → History → Request → Row
+row_after config history request = row_of config (seen config history request.partition) request.partition request.at request.call
+
+-- the reply to a request after a history, and the words of its row
+abbrev pub answer_of : Configuration → History → Request → List ℕ
+answer_of config history request =
+    reply_text (entry_after config history request).reply ++ note_of config request.partition request.call (row_after config history request)
+
 -- what follows the lines: how many calls there were, and the remarks
 unfoldable pub ending : ℕ → List Remark → List ℕ
 ending calls remarks = codes "\nafter " ++ decimal calls ++ codes " calls\n" ++ remark_lines remarks
@@ -42,7 +56,7 @@ ending calls remarks = codes "\nafter " ++ decimal calls ++ codes " calls\n" ++ 
 abbrev pub told : Configuration → List LineEntry → ℕ → List ℕ → List ℕ → Result (Option Request) LineFault → (List LineEntry → List ℕ) → List ℕ
 told config log number line bytes (Ok None) after = (line ++ codes "\n") ++ after log
 told config log number line bytes (Ok (Some request)) after =
-    let one = line_entry config log number request in line_with line (reply_text one.entry.reply) ++ after (log ++ one ∷ [])
+    line_with line (answer_of config (history_of log) request) ++ after (log ++ line_entry config log number request ∷ [])
 told config log number line bytes (Err fault) after = line_with bytes (trace_words (trace_faults.Line number (number_of fault)))
 
 -- what is told of a text with these lines, of which the first has this number, after these entries

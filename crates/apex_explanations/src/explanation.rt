@@ -6,10 +6,9 @@ ghost use Rattle.apex_texts.specs.declared.fault.Fault.TheVariants as faults;
 ghost use Rattle.apex_texts.specs.FaultLine.{trace_words};
 ghost use Rattle.apex_texts.specs.Lines.{is_ascii};
 ghost use Rattle.apex_texts.specs.Replay.{entry_after};
-ghost use Rattle.apex_texts.specs.Report.{reply_text};
 ghost use Rattle.apex_texts.specs.Text.{is_line_feed};
 ghost use Rattle.apex_texts.specs.Trace.{trace_of};
-ghost use Rattle.apex_explanations.specs.Explanation.{IsFaultOf, line_with, ending, explanation_of};
+ghost use Rattle.apex_explanations.specs.Explanation.{IsFaultOf, line_with, answer_of, ending, explanation_of};
 ghost use Rattle.apex_explanations.specs.Notes.{AreNoted};
 ghost use Rattle.apex_explanations.specs.Remarks.{LineEntry, remark_lines};
 
@@ -18,6 +17,7 @@ use crate::remark::Remark;
 use crate::remarks::remarks_of;
 use apex_config::Config;
 use apex_ports::{Ports, Request};
+use apex_row_words::push_note;
 use apex_texts::trace::{ANY_REQUEST, read_trace_line};
 use apex_texts::{Fault, TraceFault, next_line, push_reply};
 use std::alloc::{AllocError, Global};
@@ -133,7 +133,8 @@ fn push_line(text: &mut String, line: &[u8], after: &str) -> Result<(), AllocErr
     text.push_str(after)
 }
 
-/// Serves the request of a line, notes it, and writes the line beside the reply.
+/// Serves the request of a line, notes it, and writes the line beside the reply, with the words of
+/// its row.
 fn push_call(
     text: &mut String,
     ports: &mut Ports,
@@ -149,18 +150,21 @@ fn push_call(
     ensures sound { IsSound ports.new.config ports.new.history }
     ensures history { let entry = entry_after ports.old.config ports.old.history request.now in
         ports.new.history ≡ ports.old.history ++ entry ∷ [] }
-    ensures written { let entry = entry_after ports.old.config ports.old.history request.now in
+    ensures written { let answer = answer_of ports.old.config ports.old.history request.now in
         OnOk result (string_bytes text.new
-        ≡ string_bytes text.old ++ line_with line.now (reply_text entry.reply)) }
+        ≡ string_bytes text.old ++ line_with line.now answer) }
     ensures noted { let entry = entry_after ports.old.config ports.old.history request.now in
         let one : LineEntry = record { line = number; entry = entry } in
         OnOk result ((log : List LineEntry) → AreNoted ports.old.config log notes.old →
         AreNoted ports.old.config (log ++ one ∷ []) notes.new) }
 {
-    let reply = ports.call(request.partition, request.at, &request.call);
+    let (p, at, call) = (request.partition, request.at, &request.call);
+    let row = ports.row(p, at, call);
+    let reply = ports.call(p, at, call);
     notes.note(ports.config(), number, request, &reply)?;
     push_line(text, line, " -> ")?;
     push_reply(text, &reply)?;
+    push_note(text, ports.config(), p, call, row)?;
     text.push('\n')
 }
 

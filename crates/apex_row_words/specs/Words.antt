@@ -56,5 +56,5 @@ has_words (row.Refused refusal) = true
 has_words _ = false
 
 -- ` (WORDS)`, where the row has words
-abbrev pub note_of : Configuration → ℕ → Call → Row → List ℕ
+unfoldable pub note_of : Configuration → ℕ → Call → Row → List ℕ
 note_of config p call row = if has_words row then codes " (" ++ words_of config p call row ++ codes ")" else []

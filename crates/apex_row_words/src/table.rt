@@ -1,10 +1,10 @@
 //! The reply table as text: of each service its heading, and beneath it a line for each of its rows.
 ghost use Rattle.std.specs.Prelude.{◌≡◌, ◌++◌, flat_map, string_bytes, OnOk};
+ghost use Rattle.apex_row_words.specs.Conditions.{condition_words};
 ghost use Rattle.apex_row_words.specs.Pieces.{piece_text, filled, placeholders};
 ghost use Rattle.apex_row_words.specs.Services.{refusals_of};
-ghost use Rattle.apex_row_words.specs.Conditions.{condition_words};
-ghost use Rattle.apex_row_words.specs.Words.{row_words};
 ghost use Rattle.apex_row_words.specs.Table.{heading, row_line, idle_line, refusal_line, accepted_line, service_rows, all_rows};
+ghost use Rattle.apex_row_words.specs.Words.{row_words};
 
 use crate::call_values::call_placeholder;
 use crate::conditions::{condition_pieces, idle_condition};
@@ -141,7 +141,8 @@ pub fn push_condition(
     push_pattern(text, service, condition_pieces(refusal))
 }
 
-/// The words of a row of a service; none of an accepted call. In place of a value stands a word in upper case.
+/// The words of a row of a service; none of an accepted call. In place of a value stands a word in
+/// upper case.
 pub fn push_row_pattern(text: &mut String, service: Service, row: Row) -> Result<(), AllocError>
     ensures { OnOk result (string_bytes text.new
         ≡ string_bytes text.old ++ row_words (placeholders service) row) }

@@ -28,6 +28,7 @@ pub fn push_words(
 }
 
 /// The words of a row in brackets, as they stand behind a reply: ` (WORDS)`. Nothing for an accepted call.
+#[tactic(auto, unfolding(crate::specs::Words::note_of))]
 pub fn push_note(
     text: &mut String,
     config: &Config,
