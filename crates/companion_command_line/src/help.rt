@@ -35,7 +35,7 @@ Example:
   20 DSP create-queuing NAV_IN 4 2 1 0 -> NO_ERROR id 1
   30 FMS send 1 0a0b -> NO_ERROR
   40 DSP receive 1 -> NO_ERROR message 0a0b
-  50 DSP receive 1 -> NOT_AVAILABLE (no message waits)
+  50 DSP receive 1 -> NOT_AVAILABLE (no message waits on NAV)
   60 FMS send 1 0102030405 -> INVALID_CONFIG (message of 5 bytes, channel NAV takes 4)
 
   after 6 calls";
@@ -45,6 +45,12 @@ Each service with its rows in order: the first whose condition holds gives the r
 explanation. NAME is a service's call word or the standard's name; without it all services are told.
 
 Example:
-  $ ./dekarino rows send";
+  $ ./dekarino rows receive
+  RECEIVE_QUEUING_MESSAGE (receive)
+    the partition is in IDLE -> not made (partition is in IDLE)
+    no such queuing port -> INVALID_PARAM (no queuing port of identifier ID is created)
+    the port is no destination -> INVALID_MODE (port PORT is a source)
+    no message waits -> NOT_AVAILABLE (no message waits on CHANNEL)
+    otherwise -> NO_ERROR with the oldest waiting message, which waits no longer";
 
 pub(crate) const JSON: &str = "Tells the same as JSON lines, an object a line (docs/FORMATS.md)";
