@@ -1,4 +1,7 @@
 //! The configuration in a file, or the places of its fault.
+ghost use Rattle.std.specs.Prelude.{◌≡◌, Ok, IfOk, IfSome};
+ghost use Rattle.apex_config.specs.Meaning.{config_of};
+
 use crate::json::push_object;
 use crate::unfinished::Unfinished;
 use apex_config::{Config, refusal_lines};
@@ -16,26 +19,50 @@ struct PlaceLine<'a> {
 }
 
 /// The configuration in a file. Where it is refused, the places of its fault are told.
+#[tactic(auto, unfolding(apex_config::specs::Meaning::config_of))]
 pub(crate) fn read_config<'a, O: Opener>(
     alloc: Global,
     opener: &O,
     path: &'a str,
     form: Form,
-) -> Result<Config, Unfinished<'a>> {
+) -> Result<Config, Unfinished<'a>>
+    ensures { IfOk result (λ config.
+        IfSome (O.bytes_at opener.now path.now) (λ bytes. config_of bytes ≡ Ok config)) }
+{
     let bytes = read_file(alloc, opener, path)?;
     match Config::read_placed(alloc, bytes.as_slice()) {
         Ok(config) => Ok(config),
-        Err(refusal) => {
-            let lines = refusal_lines(alloc, bytes.as_slice(), &refusal)?;
-            let text = match form {
-                Form::Text => lines,
-                Form::Json => place_lines(alloc, refusal.fault.number(), lines.as_str())?,
-            };
-            Err(Unfinished::Told {
-                text: text.into_bytes(),
-                refusal: Refusal::Text(Fault::from(refusal.fault)),
-            })
-        }
+        Err(refusal) => Err(refused(alloc, bytes.as_slice(), &refusal, form)),
+    }
+}
+
+/// Why the task of a refused configuration isn't done; want of memory goes before all else.
+fn refused<'a>(
+    alloc: Global,
+    bytes: &[u8],
+    refusal: &apex_config::Refusal,
+    form: Form,
+) -> Unfinished<'a> {
+    match places(alloc, bytes, refusal, form) {
+        Ok(text) => Unfinished::Told {
+            text: text.into_bytes(),
+            refusal: Refusal::Text(Fault::from(refusal.fault)),
+        },
+        Err(wanting) => Unfinished::from(wanting),
+    }
+}
+
+/// The places of a configuration's fault.
+fn places(
+    alloc: Global,
+    bytes: &[u8],
+    refusal: &apex_config::Refusal,
+    form: Form,
+) -> Result<String, AllocError> {
+    let lines = refusal_lines(alloc, bytes, refusal)?;
+    match form {
+        Form::Text => Ok(lines),
+        Form::Json => place_lines(alloc, refusal.fault.number(), lines.as_str()),
     }
 }
 

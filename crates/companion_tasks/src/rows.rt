@@ -1,4 +1,8 @@
 //! The reply table.
+ghost use Rattle.std.specs.Prelude.{◌≡◌, IfOk, string_bytes};
+ghost use Rattle.apex_row_words.specs.Table.{service_rows, all_rows};
+ghost use Rattle.companion_command_line.specs.declared.task.Form.TheVariants.{Text};
+
 use crate::json_rows::push_row_lines;
 use crate::unfinished::Unfinished;
 use apex_row_words::{push_rows, push_service_rows, standard_name};
@@ -27,20 +31,24 @@ fn service_called(name: &str) -> Option<Service> {
         || name == standard_name(*service))
 }
 
-fn all_rows(alloc: Global, form: Form) -> Result<String, AllocError> {
+fn all_rows(alloc: Global, form: Form) -> Result<String, AllocError>
+    ensures { form ≡ Text → IfOk result (λ text. string_bytes text ≡ all_rows) }
+{
     let mut text = String::new(alloc);
     match form {
         Form::Text => push_rows(&mut text)?,
         Form::Json => {
-            for service in SERVICES {
-                push_row_lines(alloc, &mut text, service)?;
+            for service in SERVICES.as_slice() {
+                push_row_lines(alloc, &mut text, *service)?;
             }
         }
     }
     Ok(text)
 }
 
-fn rows_of(alloc: Global, service: Service, form: Form) -> Result<String, AllocError> {
+fn rows_of(alloc: Global, service: Service, form: Form) -> Result<String, AllocError>
+    ensures { form ≡ Text → IfOk result (λ text. string_bytes text ≡ service_rows service) }
+{
     let mut text = String::new(alloc);
     match form {
         Form::Text => push_service_rows(&mut text, service)?,
