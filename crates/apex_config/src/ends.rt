@@ -3,7 +3,7 @@ ghost use Rattle.std.specs.Prelude.{◌≡◌, ◌<◌, nat_le, length, IfOk, On
 ghost use Rattle.apex_config.specs.declared.place.Part.TheVariants as part;
 ghost use Rattle.apex_config.specs.Places.{Adds, whole, unless};
 ghost use Rattle.apex_config.specs.Passes.{may_have_several, is_alone, wrong_ends};
-ghost use Rattle.apex_config.specs.Ends.{CountEnds, CountMoreEnds};
+ghost use Rattle.apex_config.specs.Ends.{CountEnds, CountMoreEnds, ends_at};
 
 use crate::channel_index::ChannelIndex;
 use crate::config_text::{ChannelText, PartitionText, PortText};
@@ -106,11 +106,14 @@ impl<'t, 'a> Ends<'t, 'a> {
         })
     }
 
-    /// How many ends the channel of a port has.
-    pub fn count_at(&self, port: &PortText<'a>) -> Option<usize> {
-        self.counts
-            .get(self.channels.number_of(port.channel))
-            .copied()
+    /// How many ends the channel of a port has, or the largest number where they are more.
+    pub fn count_at(&self, port: &PortText<'a>) -> Option<usize>
+        ensures { result ≡ ends_at self.now.direction self.now.config port.now }
+    {
+        match self.channels.channel_of(port) {
+            Some(_) => Some(self.counts[self.channels.number_of(port.channel)]),
+            None => None,
+        }
     }
 
     /// Whether a port is the only end of its channel, where there may be one alone.

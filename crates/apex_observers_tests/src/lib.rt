@@ -1,4 +1,4 @@
-//! The tests of `apex_observers`, apart from it: a crate with tests is proved twice.
+//! The tests of `refusing`, of `apex_types` and of `apex_observers`, apart from them: a crate with tests is proved twice.
 #![tactic(auto)]
 
 #[cfg(test)]

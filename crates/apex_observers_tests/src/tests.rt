@@ -1,8 +1,10 @@
-//! Observers of one channel, from outside.
+//! Observers of one channel, from outside; beside them those of all channels, the public types, and an allocator that refuses.
 ghost use Rattle.std.specs.Prelude.{◌≡◌};
 
 mod channels;
+mod switch;
 mod threads;
+mod types;
 
 use apex_observers::{NoPlace, Observer, Publisher, Sampled};
 use apex_types::Validity::{Invalid, Valid};

@@ -7,5 +7,3 @@ pub mod KnownLemmas
 pub mod ReportLemmas
 pub mod ReplayLemmas
 pub mod CheckLemmas
-pub mod PlaceLemmas
-pub mod FaultyLinesLemmas

@@ -2,10 +2,8 @@ pub mod Arguments
 pub mod Check
 pub mod Expected
 pub mod FaultLine
-pub mod FaultyLines
 pub mod Limits
 pub mod LineFault
-pub mod LinePlace
 pub mod Lines
 pub mod Replay
 pub mod Report

@@ -41,7 +41,7 @@ pub enum Expected {
 
 impl Expected {
     /// Whether a word is what was expected of it as an argument.
-    pub(crate) fn is_argument(self, word: &[u8]) -> bool
+    pub fn is_argument(self, word: &[u8]) -> bool
         ensures { result ≡ is_argument self word.now }
     {
         match self {

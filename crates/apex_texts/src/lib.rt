@@ -2,29 +2,23 @@
 //! does both.
 #![tactic(auto)]
 
-mod arguments;
+pub mod arguments;
 mod check;
 pub mod expected;
 pub mod fault;
-pub mod faulty_lines;
 pub mod line_fault;
-pub mod line_place;
-mod lines;
+pub mod lines;
 pub mod replay;
 pub mod report_text;
 pub mod script;
-mod service;
-mod text;
+pub mod service;
+pub mod text;
 pub mod trace;
 
 pub use crate::check::check_line;
 pub use crate::expected::Expected;
 pub use crate::fault::{Fault, TraceFault};
-pub use crate::faulty_lines::{
-    FaultyLines, find_script_fault, find_trace_fault, script_faults, trace_faults,
-};
 pub use crate::line_fault::LineFault;
-pub use crate::line_place::LinePlace;
 pub use crate::replay::{replay_text, replay_trace};
 pub use crate::report_text::{push_entry, push_reply, push_totals};
 pub use crate::script::read_script;

@@ -52,7 +52,7 @@ pub fn read_lines<F: LineForm>(
 
 /// The item of a line; none where the line has no words or is a comment.
 #[tactic(auto, unfolding(crate::specs::Lines::item_of_line))]
-pub(crate) fn item_of_line<F: LineForm>(form: &F, line: &[u8]) -> Result<Option<F::Item>, LineFault>
+pub fn item_of_line<F: LineForm>(form: &F, line: &[u8]) -> Result<Option<F::Item>, LineFault>
     ensures { result ≡ item_of_line (F.item_at form.now) line.now }
 {
     match line_words(line)? {
@@ -63,7 +63,7 @@ pub(crate) fn item_of_line<F: LineForm>(form: &F, line: &[u8]) -> Result<Option<
 
 /// The first word of a line and the words after it; none where the line has no word or is a comment.
 #[tactic(auto, unfolding(crate::specs::Lines::line_words))]
-pub(crate) fn line_words(line: &[u8]) -> Result<Option<(&[u8], &[u8])>, LineFault>
+pub fn line_words(line: &[u8]) -> Result<Option<(&[u8], &[u8])>, LineFault>
     ensures { Gives (option_map (λ x. (x.0.now, words_of x.1.now))) result (line_words line.now) }
 {
     if !is_ascii(line) {

@@ -23,7 +23,7 @@ pub fn read_script(alloc: Global, text: &[u8]) -> Result<Script, TraceFault>
 
 /// `MOMENT CALL ARGUMENTS`.
 #[derive(Drop)]
-pub(crate) struct ScriptLine;
+pub struct ScriptLine;
 
 impl LineForm for ScriptLine {
     type Item = (Moment, Call);

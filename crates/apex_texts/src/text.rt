@@ -45,13 +45,13 @@ fn is_blank(byte: u8) -> bool
     byte == b' ' || byte == b'\t'
 }
 
-pub(crate) fn blank_in(line: &[u8]) -> Option<usize>
+pub fn blank_in(line: &[u8]) -> Option<usize>
     ensures { result ≡ position is_blank line.now }
 {
     memchr2(b' ', b'\t', line)
 }
 
-pub(crate) fn word_in(line: &[u8]) -> Option<usize>
+pub fn word_in(line: &[u8]) -> Option<usize>
     ensures { result ≡ position (λ byte. not (is_blank byte)) line.now }
 {
     line.iter().position(|byte| !is_blank(*byte))

@@ -24,8 +24,8 @@ pub fn read_trace(alloc: Global, config: &Config, text: &[u8]) -> Result<Vec<Req
 
 /// `MOMENT PARTITION CALL ARGUMENTS`.
 #[derive(Drop)]
-pub(crate) struct TraceLine<'a> {
-    pub(crate) config: &'a Config,
+pub struct TraceLine<'a> {
+    pub config: &'a Config,
 }
 
 impl LineForm for TraceLine<'_> {

@@ -2,6 +2,7 @@
 mod caller;
 mod clears;
 mod creation;
+mod explanations;
 mod interference;
 mod lines;
 mod long_trace;
@@ -9,5 +10,6 @@ mod places;
 mod queuing;
 mod sampling;
 mod scripts;
+mod tables;
 mod texts;
 mod words;

@@ -1,15 +1,14 @@
 -- The hexadecimal texts of messages.
-use Rattle.std.proofs.Common.{◌≡◌, ◌∙◌, refl, sym, ap, ℕ, ◌+◌, ◌*◌, ◌%◌, ◌<◌, ◌≤◌, Bool, true, false, ◌&&◌, List, [], ◌∷◌, ◌++◌, length, drop, slice_index, length-append, Some, None, unwrap_or, Result, Ok, Err, arith, inl, inr}
-use Rattle.std.specs.Result.{result_ok}
-use Rattle.std.specs.List.{list_all}
+use Rattle.std.proofs.Common.{◌≡◌, ◌∙◌, refl, ℕ, ◌*◌, ◌%◌, ◌<◌, ◌≤◌, Bool, true, false, ◌&&◌, List, [], ◌∷◌, length, Result, Ok, Err, arith, inl, inr}
+use Rattle.std.specs.Prelude.{MatchResult}
+use Rattle.std.specs.List.{list_all, refill}
 use Rattle.std.specs.Str.{IsAscii, bytes_eq}
 use Rattle.std.proofs.lemmas.Bool.Decides.{nat_tests}
-use Rattle.std.proofs.lemmas.List.{append-nil}
+use Rattle.std.proofs.Math.Seq.{take-append_seam}
 use Rattle.std.proofs.lemmas.List.Sums.{AllPass-from_list_all, list_all-from_AllPass}
-use Rattle.hex.specs.Hex.{IsBytes, decode_of, decode_pairs, encode_lower, is_hex_digit, lower_digits, pair_value}
+use Rattle.hex.specs.Hex.{IsBytes, decode_of, decode_sized, encode_lower, is_hex_digit, lower_digits}
 use Rattle.hex.specs.declared.error.FromHexError.{FromHexError}
-use Rattle.hex.proofs.HexLemmas.{decode_of-digits, decode_of-encode_lower, decode_of-err, decode_of-even, decode_of-ok, length-encode_with, IsAscii-encode_with}
-use Rattle.hex.proofs.Pairs.{decode_pairs-ok_pair, decode_pairs-err_pair, decode_start, prepend, prepend-cons_byte}
+use Rattle.hex.proofs.HexLemmas.{decode_of-digits, decode_of-encode_lower, decode_of-err, decode_of-ok, decode_sized-twice, length-encode_with, IsAscii-encode_with}
 use Rattle.apex_types.proofs.NameLemmas.{name_is_ascii}
 use Rattle.apex_types.specs.Message.{empty_word, hex_text_of, message_of_digits, message_of_hex}
 use Rattle.apex_types.specs.declared.message.HexFault.TheVariants.{BadDigit, TooLong}
@@ -56,46 +55,19 @@ fault_of_result text (Err e) refused even bad = bad_digit text e even refused
 pub some_bad_digit : (text : List ℕ) → length text % 2 ≡ 0 → list_all is_hex_digit text ≡ false → message_of_digits (decode_of text) ≡ Err BadDigit
 some_bad_digit text even bad = fault_of_result text (decode_of text) refl even bad
 
--- ---- reading pair by pair
+-- ---- reading into room for the bytes
 
--- what the bytes read so far and the digits that are left say of a text
-abbrev pub IsReadUpTo : List ℕ → List ℕ → List ℕ → Type 0
-IsReadUpTo text bytes rest = decode_pairs 0 text ≡ prepend bytes (decode_pairs (2 * length bytes) rest)
+-- what was decoded into room for as many bytes as there are pairs
+decoded_in : (digits room out : List ℕ) (decoded : Result (List ℕ) FromHexError) (answer : Result Unit FromHexError) → decode_of digits ≡ decoded → length digits % 2 ≡ 0 → length digits ≤ 2 * MESSAGE_LIMIT → length digits ≡ 2 * length room → MatchResult decoded (λ bytes. (answer ≡ Ok tt) × (out ≡ bytes)) (λ e. answer ≡ Err e) → MatchResult answer (λ _. message_of_digits (decode_of digits) ≡ Ok (refill (length room) room out)) (λ _. message_of_digits (decode_of digits) ≡ Err BadDigit)
+decoded_in digits room out (Ok bytes) answer read even short twice is =
+    let bytes_twice = (decode_of-ok digits bytes read).2 in
+    let full : length room ≡ length bytes = omega (arith, twice, bytes_twice) in
+    rw (is.0, is.1, full, take-append_seam) (good_digits digits bytes short read)
+decoded_in digits room out (Err e) answer read even short twice is = rw is (bad_digit digits e even read)
 
-ok_from : (r : Result ℕ FromHexError) (x : ℕ) → Some x ≡ result_ok r → r ≡ Ok x
-ok_from (Ok y) x same = ap Ok (sym (ap (λ o. unwrap_or o 0) same))
-ok_from (Err e) x same = cc same
-
-err_from : (r : Result ℕ FromHexError) → None ≡ result_ok r → (e : FromHexError) × (r ≡ Err e)
-err_from (Ok y) same = cc same
-err_from (Err e) same = (e, refl)
-
-pub none_read : (text : List ℕ) → IsReadUpTo text [] text
-none_read text = decode_start text []
-
--- one more pair
-pub pair_read : (text bytes rest : List ℕ) (byte : ℕ) → 2 ≤ length rest → ((at : ℕ) → Some byte ≡ result_ok (pair_value (slice_index rest 0) (slice_index rest 1) at)) → IsReadUpTo text bytes rest → IsReadUpTo text (bytes ++ byte ∷ []) (drop 2 rest)
-pair_read text bytes [] byte two pair before = absurd (omega arith)
-pair_read text bytes (a ∷ []) byte two pair before = absurd (omega arith)
-pair_read text bytes (a ∷ b ∷ rest) byte two pair before =
-    let at = 2 * length bytes in
-    let next : 2 * length (bytes ++ byte ∷ []) ≡ at + 2 = omega (arith, length-append bytes (byte ∷ [])) in
-    rw next (before ∙ ap (prepend bytes) (decode_pairs-ok_pair at a b byte rest (ok_from _ byte (pair at))) ∙ prepend-cons_byte bytes byte (decode_pairs (at + 2) rest))
-
--- a pair that has a bad digit
-pub bad_pair : (text bytes rest : List ℕ) → length text % 2 ≡ 0 → 2 ≤ length rest → ((at : ℕ) → None ≡ result_ok (pair_value (slice_index rest 0) (slice_index rest 1) at)) → IsReadUpTo text bytes rest → message_of_digits (decode_of text) ≡ Err BadDigit
-bad_pair text bytes [] even two pair before = absurd (omega arith)
-bad_pair text bytes (a ∷ []) even two pair before = absurd (omega arith)
-bad_pair text bytes (a ∷ b ∷ rest) even two pair before =
-    let at = 2 * length bytes in
-    let bad = err_from _ (pair at) in
-    bad_digit text bad.0 even (decode_of-even text even ∙ before ∙ ap (prepend bytes) (decode_pairs-err_pair at a b bad.0 rest bad.1))
-
--- no pair is left
-pub all_read : (text bytes rest : List ℕ) → length text % 2 ≡ 0 → length rest ≡ 0 → IsReadUpTo text bytes rest → decode_of text ≡ Ok bytes
-unfolding decode_pairs
-all_read text bytes [] even none read = decode_of-even text even ∙ read ∙ ap Ok (append-nil bytes)
-all_read text bytes (a ∷ rest) even none read = absurd (omega arith)
+pub read_in_place : (digits room out : List ℕ) (answer : Result Unit FromHexError) → length digits % 2 ≡ 0 → length digits ≤ 2 * MESSAGE_LIMIT → length digits ≡ 2 * length room → MatchResult (decode_sized digits (length room)) (λ bytes. (answer ≡ Ok tt) × (out ≡ bytes)) (λ e. answer ≡ Err e) → MatchResult answer (λ _. message_of_digits (decode_of digits) ≡ Ok (refill (length room) room out)) (λ _. message_of_digits (decode_of digits) ≡ Err BadDigit)
+read_in_place digits room out answer even short twice is =
+    decoded_in digits room out (decode_of digits) answer refl even short twice (rw (decode_sized-twice digits (length room) twice) at is)
 
 -- ---- the word `-`
 

@@ -1,9 +1,8 @@
 //! Messages.
-ghost use Rattle.std.specs.Prelude.{◌≡◌, ◌≤◌, ◌<◌, ℕ, [], length, Ok, Err, MatchResult};
-ghost use Rattle.std.specs.Result.{result_ok};
+ghost use Rattle.std.specs.Prelude.{◌≡◌, ◌%◌, ◌≤◌, ◌<◌, [], length, Ok, Err, MatchResult};
 ghost use Rattle.std.specs.List.{list_all};
-ghost use Rattle.hex.specs.Hex.{hex_digit_value, is_hex_digit, pair_value};
-ghost use Rattle.apex_types.specs.Message.{message_of_hex, hex_text_of};
+ghost use Rattle.hex.specs.Hex.{decode_of, is_hex_digit};
+ghost use Rattle.apex_types.specs.Message.{message_of_digits, message_of_hex, hex_text_of};
 
 use arrayvec::{ArrayString, ArrayVec};
 use std::marker::Model;
@@ -15,6 +14,9 @@ pub const MESSAGE_LIMIT: usize = 1024;
 
 /// The bytes of the longest message's hexadecimal text: two digits a byte.
 pub const HEX_LIMIT: usize = 2 * MESSAGE_LIMIT;
+
+// The room that a text is read into.
+static BLANK: [u8; MESSAGE_LIMIT] = [0; MESSAGE_LIMIT];
 
 /// A message of at most `MESSAGE_LIMIT` bytes. To a contract it is the list of its bytes.
 #[derive(Debug, Drop, PartialEq, Eq)]
@@ -91,11 +93,11 @@ impl Message {
         ensures { MatchResult result (λ _. message_of_hex text.now ≡ Ok self.new)
             (λ fault. message_of_hex text.now ≡ Err fault) }
     {
-        self.bytes.clear();
-        let digits = text.as_bytes();
         if text == "-" {
+            self.bytes.clear();
             return Ok(());
         }
+        let digits = text.as_bytes();
         if digits.len() % 2 != 0 {
             return Err(HexFault::OddLength);
         }
@@ -106,15 +108,25 @@ impl Message {
                 HexFault::BadDigit
             });
         }
-        let mut rest = digits;
-        while let [high, low, after @ ..] = rest {
-            match byte_of(*high, *low) {
-                Some(byte) => self.bytes.push(byte),
-                None => return Err(HexFault::BadDigit),
-            }
-            rest = after;
+        self.read_in_place(digits)
+    }
+
+    // Reads an even number of digits that are no more than a message has.
+    fn read_in_place(&mut self, digits: &[u8]) -> Result<(), HexFault>
+        requires even { length digits.now % 2 ≡ 0 }
+        requires short { length digits.now ≤ HEX_LIMIT }
+        ensures { MatchResult result
+            (λ _. message_of_digits (decode_of digits.now) ≡ Ok self.new)
+            (λ fault. message_of_digits (decode_of digits.now) ≡ Err fault) }
+    {
+        self.bytes.clear();
+        self.bytes
+            .try_extend_from_slice(&BLANK[..digits.len() / 2])
+            .unwrap();
+        match hex::decode_to_slice(digits, self.bytes.as_mut_slice()) {
+            Ok(()) => Ok(()),
+            Err(_) => Err(HexFault::BadDigit),
         }
-        Ok(())
     }
 
     /// The lower-case hexadecimal text of the message, `-` for the empty message. `from_hex` gives the message back.
@@ -160,31 +172,6 @@ impl Message {
         self.bytes
             .try_extend_from_slice(other.bytes.as_slice())
             .unwrap();
-    }
-}
-
-// The byte of two hexadecimal digits.
-fn byte_of(high: u8, low: u8) -> Option<u8>
-    ensures { (at : ℕ) → result ≡ result_ok (pair_value high low at) }
-{
-    Some(digit_value(high)? * 16 + digit_value(low)?)
-}
-
-// The value of a hexadecimal digit of either case.
-fn digit_value(digit: u8) -> Option<u8>
-    ensures { result ≡ hex_digit_value digit }
-{
-    let decimal = digit.wrapping_sub(b'0');
-    let lower = digit.wrapping_sub(b'a');
-    let upper = digit.wrapping_sub(b'A');
-    if decimal < 10 {
-        Some(decimal)
-    } else if lower < 6 {
-        Some(lower + 10)
-    } else if upper < 6 {
-        Some(upper + 10)
-    } else {
-        None
     }
 }
 

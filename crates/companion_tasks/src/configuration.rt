@@ -4,8 +4,9 @@ ghost use Rattle.apex_config.specs.Meaning.{config_of};
 
 use crate::json::push_object;
 use crate::unfinished::Unfinished;
-use apex_config::{Config, refusal_lines};
+use apex_config::Config;
 use apex_files::{Opener, Refusal, read_file};
+use apex_refusals::refusal_lines;
 use apex_texts::Fault;
 use companion_command_line::Form;
 use serde::Serialize;

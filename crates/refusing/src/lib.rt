@@ -3,7 +3,5 @@
 
 mod plan;
 mod switch;
-#[cfg(test)]
-mod tests;
 
 pub use switch::Switch;

@@ -1,6 +1,7 @@
 //! Texts of configurations with the lines that are wanted, which were worked out by hand.
 use crate::tests::texts::BASE;
-use apex_config::{Config, refusal_lines};
+use apex_config::Config;
+use apex_refusals::refusal_lines;
 use std::alloc::Global;
 use std::test::Fail;
 

@@ -1,10 +1,8 @@
 //! Where the faults of traces and scripts stand, and what is expected there.
 use super::texts::BASE;
 use apex_config::Config;
-use apex_texts::{
-    Expected, LineFault, LinePlace, SERVICES, find_script_fault, find_trace_fault, script_faults,
-    trace_faults,
-};
+use apex_line_faults::{LinePlace, find_script_fault, find_trace_fault, script_faults, trace_faults};
+use apex_texts::{Expected, LineFault, SERVICES};
 use std::test::Fail;
 
 /// A line, its fault, the number of the word and the column where that stands, and what is expected.

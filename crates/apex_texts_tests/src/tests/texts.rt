@@ -1,4 +1,4 @@
-//! The configurations of the worked examples, and what compares a replay with its report.
+//! The configurations of the worked examples and of the explanations, and what compares a replay with its report.
 use apex_texts::replay_text;
 use std::process::Abort;
 use std::test::Fail;
@@ -69,6 +69,28 @@ depth = 2
 name = "SPD"
 kind = "sampling"
 size = 4
+"#;
+
+/// Four partitions, one of them without ports; a queuing channel, and a sampling channel with two readers.
+pub const MODULE: &[u8] = br#"
+partition = [
+    { name = "FMS", port = [
+        { name = "NAV_OUT", kind = "queuing", direction = "source", channel = "NAV" },
+        { name = "ALT_IN", kind = "sampling", direction = "destination", channel = "ALT", refresh = 20 },
+    ] },
+    { name = "DSP", port = [
+        { name = "NAV_IN", kind = "queuing", direction = "destination", channel = "NAV" },
+        { name = "ALT_IN", kind = "sampling", direction = "destination", channel = "ALT", refresh = 30 },
+    ] },
+    { name = "IDLE_ONE" },
+    { name = "AIR", port = [
+        { name = "ALT_OUT", kind = "sampling", direction = "source", channel = "ALT", refresh = 10 },
+    ] },
+]
+channel = [
+    { name = "NAV", kind = "queuing", size = 4, depth = 2 },
+    { name = "ALT", kind = "sampling", size = 8 },
+]
 "#;
 
 /// Both ports of NAV are created, and both partitions enter NORMAL.

@@ -1,0 +1,2 @@
+pub mod FaultyLines
+pub mod LinePlace
