@@ -1,5 +1,5 @@
 # Tells whether a program or a static library is built from the sources, and by the toolchain, that are there now.
-# For the scripts 'apexports', 'explain' and 'package' and for 'test', which set root to the checkout.
+# For the scripts 'apexports', 'dekarino' and 'package' and for 'test', which set root to the checkout.
 
 # Prints the names of all programs, the crates with a main.
 programs() {

@@ -187,7 +187,7 @@ def record():
             config.write('partition = [{ name = "A" }]\n')
         for name in crates.programs(ROOT):
             words = [f"{copy}/config.toml"]
-            is_built, took = build(copy, name, words if name == "explain" else ["check", *words])
+            is_built, took = build(copy, name, ["table" if name == "dekarino" else "check", *words])
             if not is_built:
                 return 1
             seconds.update(took)

@@ -25,12 +25,12 @@ make_checkout() {
     printf '#!/bin/sh\nfor it in "%s" /usr/bin/python3; do [ ! -x "$it" ] || exec "$it" -S "$@"; done\n' "$python" \
         > "$work/python/python3"
     chmod +x "$work/python/python3"
-    cp "$root/apexports" "$root/explain" "$root/built_from.sh" "$checkout"
+    cp "$root/apexports" "$root/dekarino" "$root/built_from.sh" "$checkout"
     cp "$root"/gate/*.py "$checkout/gate"
-    printf '%s\n' 'apexports:' 'explain:' > "$checkout/crates.txt"
-    mkdir -p "$crate/src" "$crates/explain/src"
+    printf '%s\n' 'apexports:' 'dekarino:' > "$checkout/crates.txt"
+    mkdir -p "$crate/src" "$crates/dekarino/src"
     echo one > "$crate/src/main.rt"
-    echo explained > "$crates/explain/src/main.rt"
+    echo explained > "$crates/dekarino/src/main.rt"
     echo lemma > "$crate/proofs/Lemma.antt"
     echo 'kit 1' > "$kit/WHAT"
     sed -n 's/^WANTED = "\(.*\)"$/\1/p' "$root/gate/toolchain.py" > "$kit/version"
@@ -40,7 +40,7 @@ make_checkout() {
 # make_libraries: a small checkout whose program stands on three libraries, of which two can be proved side by side.
 make_libraries() {
     make_checkout
-    printf '%s\n' 'low:' 'left: low arrayvec' 'right: low' 'apexports: left right' 'explain: left' \
+    printf '%s\n' 'low:' 'left: low arrayvec' 'right: low' 'apexports: left right' 'dekarino: left' \
         > "$checkout/crates.txt"
     for library in low left right; do
         mkdir -p "$crates/$library/src"

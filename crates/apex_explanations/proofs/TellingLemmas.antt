@@ -20,6 +20,7 @@ use Rattle.apex_texts.proofs.ReportLemmas.{grows}
 use Rattle.apex_explanations.specs.declared.explanation.Explanation.{Explanation}
 use Rattle.apex_explanations.specs.declared.notes.Notes.{Notes}
 use Rattle.apex_explanations.specs.declared.remark.Remark.{Remark}
+use Rattle.apex_explanations.specs.Ended.{EndsWithRemarks}
 use Rattle.apex_explanations.specs.Explanation.{IsFaultOf, line_with, answer_of, ending, told, told_lines}
 use Rattle.apex_explanations.specs.Notes.{AreNoted}
 use Rattle.apex_explanations.specs.Remarks.{LineEntry, history_of, remarks_of, partition_remarks, channel_remarks}
@@ -104,3 +105,7 @@ text_told (Err refused) text total is same = tt
 pub fault_told : (answer : Result Explanation AllocError) (meaning : Result (List Request) FaultyLine) (fault : TraceFault) → IfOk answer (λ told. told.fault ≡ Some fault) → IsRefused meaning fault → IfOk answer (λ told. IsFaultOf meaning told.fault)
 fault_told (Ok told) meaning fault is refused = rw is refused
 fault_told (Err error) meaning fault is refused = tt
+
+pub ends_at_fault : (answer : Result Explanation AllocError) (fault : TraceFault) → IfOk answer (λ told. told.fault ≡ Some fault) → IfOk answer (λ told. told.remarks.items ≡ []) → IfOk answer EndsWithRemarks
+ends_at_fault (Ok told) fault is none = rw is none
+ends_at_fault (Err error) fault is none = tt

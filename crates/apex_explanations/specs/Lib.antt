@@ -1,3 +1,4 @@
+pub mod Ended
 pub mod Explanation
 pub mod Notes
 pub mod PortTable

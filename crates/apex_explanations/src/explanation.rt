@@ -8,6 +8,7 @@ ghost use Rattle.apex_texts.specs.Lines.{is_ascii};
 ghost use Rattle.apex_texts.specs.Replay.{entry_after};
 ghost use Rattle.apex_texts.specs.Text.{is_line_feed};
 ghost use Rattle.apex_texts.specs.Trace.{trace_of};
+ghost use Rattle.apex_explanations.specs.Ended.{EndsWithRemarks};
 ghost use Rattle.apex_explanations.specs.Explanation.{IsFaultOf, line_with, answer_of, ending, explanation_of};
 ghost use Rattle.apex_explanations.specs.Notes.{AreNoted};
 ghost use Rattle.apex_explanations.specs.Remarks.{LineEntry, remark_lines};
@@ -30,6 +31,8 @@ pub struct Explanation {
     pub text: Vec<u8>,
     /// The fault of the trace, at whose line the text ends.
     pub fault: Option<TraceFault>,
+    /// The remarks that end the text; none where the trace has a fault.
+    pub remarks: Vec<Remark>,
 }
 
 /// Explains a trace: each line beside its reply, and then the remarks; or up to the first faulty
@@ -37,6 +40,7 @@ pub struct Explanation {
 pub fn explain_trace(alloc: Global, config: Config, trace: &[u8]) -> Result<Explanation, Fault>
     ensures text { IfOk result (λ told. told.text.items ≡ explanation_of config trace.now) }
     ensures fault { IfOk result (λ told. IsFaultOf (trace_of config trace.now) told.fault) }
+    ensures remarks { IfOk result EndsWithRemarks }
     ensures refused { IfErr result (λ why. why ≡ faults.Memory) }
 {
     let mut ports = Ports::new(alloc, config)?;
@@ -51,6 +55,7 @@ fn explain_on(alloc: Global, ports: &mut Ports, trace: &[u8]) -> Result<Explanat
         IfOk result (λ told. told.text.items ≡ explanation_of config trace.now) }
     ensures fault { let config = ports.old.config in
         IfOk result (λ told. IsFaultOf (trace_of config trace.now) told.fault) }
+    ensures remarks { IfOk result EndsWithRemarks }
 {
     // Most lines with their replies are at most twice as long as the lines.
     let mut text = String::with_capacity(alloc, trace.len().saturating_mul(2))?;
@@ -74,10 +79,12 @@ fn explain_on(alloc: Global, ports: &mut Ports, trace: &[u8]) -> Result<Explanat
         rest = after;
     }
     let calls = notes.calls;
-    push_ending(&mut text, calls, remarks_of(ports, notes)?.as_slice())?;
+    let remarks = remarks_of(ports, notes)?;
+    push_ending(&mut text, calls, remarks.as_slice())?;
     Ok(Explanation {
         text: text.into_bytes(),
         fault: None,
+        remarks,
     })
 }
 
@@ -91,6 +98,7 @@ fn explanation_to(
     ensures text { IfOk result (λ told. told.text.items
         ≡ string_bytes text ++ line_with line.now (trace_words fault)) }
     ensures fault { IfOk result (λ told. told.fault ≡ Some fault) }
+    ensures remarks { IfOk result (λ told. told.remarks.items ≡ []) }
 {
     let mut text = text.into_bytes();
     text.extend_from_slice(line)?;
@@ -99,6 +107,7 @@ fn explanation_to(
     Ok(Explanation {
         text,
         fault: Some(fault),
+        remarks: Vec::new(alloc),
     })
 }
 

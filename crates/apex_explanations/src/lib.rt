@@ -5,9 +5,10 @@
 pub mod explanation;
 mod notes;
 mod port_notes;
-mod remark;
+pub mod remark;
 mod remarks;
 pub mod table;
 
 pub use crate::explanation::{Explanation, explain_trace};
+pub use crate::remark::Remark;
 pub use crate::table::port_table;

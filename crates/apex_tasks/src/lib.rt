@@ -2,8 +2,9 @@
 //! refusal is told by its line and its status.
 #![tactic(auto)]
 
-mod named_scripts;
+pub mod named_scripts;
 pub mod tasks;
 
+pub use crate::named_scripts::scripts_named;
 pub use crate::tasks::program;
 pub use apex_files::{Opener, Refusal, SystemFiles, print, read_file, refuse};

@@ -8,7 +8,7 @@ use Rattle.apex_texts.specs.Trace.{request_at, trace_of}
 use Rattle.apex_texts.proofs.LineLemmas.{goes_on, skips, refuses, ends, read_is_ascii}
 use Rattle.apex_texts.proofs.ReplayLemmas.{fresh_front, requests_of-push}
 use Rattle.apex_explanations.specs.Explanation.{told_lines, explanation_of}
-use Rattle.apex_explanations.proofs.TellingLemmas.{tells_line, tells_call, tells_fault, tells_ending, text_told, fault_told}
+use Rattle.apex_explanations.proofs.TellingLemmas.{tells_line, tells_call, tells_fault, tells_ending, text_told, fault_told, ends_at_fault}
 use Rattle.apex_explanations.proofs.explanation.explain_on.Goals as goal
 
 pub loop-line-init : goal.loop-line-init
@@ -102,9 +102,16 @@ returns-clause-text c =
     let config = c.args.ports.now.config in
     ap (λ (bytes : Vec ℕ). bytes.items) c.into_bytes.ensures.value
     ∙ tells_ending config c.loop-line.ports.history c.loop-line.notes c.loop-line.number c.loop-line.rest.now (string_bytes c.loop-line.text) (string_bytes c.push_ending.new.text) (explanation_of config c.args.trace.now)
-    c.in_ok-remarks_of.field-0.items c.in_default.ensures.line (rw (← c.loop-line.invariant.config) c.in_ok-remarks_of.ensures) (rw (← c.as_slice.ensures.value) c.in_ok-push_ending.ensures) c.loop-line.invariant.told
+    c.in_ok-remarks.remarks.items c.in_default.ensures.line (rw (← c.loop-line.invariant.config) c.in_ok-remarks.ensures) (rw (← c.as_slice.ensures.value) c.in_ok-push_ending.ensures) c.loop-line.invariant.told
 
 pub returns-clause-fault : goal.returns-clause-fault
 returns-clause-fault c =
     let config = c.args.ports.now.config in
     rw (ends (request_at config) (requests_of c.loop-line.ports.history) (c.loop-line.number + 1) (lines c.loop-line.rest.now) (trace_of config c.args.trace.now) c.in_default.ensures.line c.loop-line.invariant.read) refl
+
+pub returns-in-Err-clause-remarks : goal.returns-in-Err-clause-remarks
+returns-in-Err-clause-remarks c = ends_at_fault c.explanation_to.result _ c.explanation_to.ensures.fault c.explanation_to.ensures.remarks
+
+pub returns-clause-remarks : goal.returns-clause-remarks
+returns-clause-remarks c =
+    (c.loop-line.notes.calls, string_bytes c.loop-line.text, ap (λ (bytes : Vec ℕ). bytes.items) c.into_bytes.ensures.value ∙ rw (← c.as_slice.ensures.value) c.in_ok-push_ending.ensures)

@@ -1,0 +1,64 @@
+//! The program `dekarino` on files that stand in for the system's.
+use super::program::FakeFiles;
+use companion_command_line::Given;
+use companion_tasks::program;
+use std::alloc::{AllocError, Global};
+use std::process::Abort;
+use std::sync::Wait;
+use std::test::Fail;
+use std::thread::Threads;
+
+/// What the program is started with, where no commit is known.
+fn given(alloc: Global, words: &[&str]) -> Result<Given, AllocError> {
+    let mut own = Vec::new(alloc);
+    for word in words {
+        own.push(String::from_str(alloc, word)?)?;
+    }
+    Ok(Given {
+        words: own,
+        commit: None,
+    })
+}
+
+/// The words give the status, and these texts on standard output and standard error.
+fn tells<R: Abort + AllocGlobal + Threads + Wait + Sync>(
+    rt: &R,
+    words: &[&str],
+    status: u8,
+    output: &str,
+    errors: &str,
+) -> Result<(), Fail> {
+    let alloc: Global = rt.alloc();
+    let mut written = Vec::new(alloc);
+    let mut told = Vec::new(alloc);
+    let given = given(alloc, words)?;
+    let got = program(rt, alloc, Ok(given), &FakeFiles, &mut written, &mut told);
+    assert_eq!(rt; written.as_slice(), output.as_bytes(), "{words:?}");
+    assert_eq!(rt; told.as_slice(), errors.as_bytes(), "{words:?}");
+    assert_eq!(rt; got, status, "{words:?}");
+    Ok(())
+}
+
+#[test]
+fn a_run_is_explained(rt: HostRuntime) -> Result<(), Fail> {
+    let explained = "1 FMS create-queuing NAV_OUT 4 2 0 0 -> NO_ERROR id 1
+2 FMS mode 3 -> NO_ERROR
+3 FMS send 1 01 -> NO_ERROR
+
+after 3 calls
+  port DSP.NAV_IN: never created
+  channel NAV: messages waiting 1
+";
+    let words = ["dekarino", "explain", "reduced.toml", "FMS=sender.txt"];
+    tells(&rt, &words, 0, explained, "")
+}
+
+#[test]
+fn a_faulty_trace_is_told_up_to_its_fault(rt: HostRuntime) -> Result<(), Fail> {
+    let explained = "1 FMS mode 3 -> NO_ERROR
+
+20 FMS send 1 0a0 -> line 3 fault 9: message
+";
+    let words = ["dekarino", "explain", "base.toml", "faulty.txt"];
+    tells(&rt, &words, 1, explained, "trace line 3 fault 9: message\n")
+}

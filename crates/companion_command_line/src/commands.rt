@@ -1,0 +1,73 @@
+//! The commands, as `clap` reads them.
+use crate::help;
+use clap::{Arg, ArgAction, Command};
+use std::alloc::{AllocError, Global};
+
+pub(crate) const CONFIG: &str = "CONFIG";
+
+pub(crate) const CALLS: &str = "TRACE|NAME=SCRIPT";
+
+pub(crate) const SERVICE: &str = "NAME";
+
+pub(crate) const JSON: &str = "json";
+
+/// The command of the whole program.
+pub(crate) fn program<'a>(alloc: Global) -> Result<Command<'a>, AllocError> {
+    Ok(
+        Command::new(alloc, "dekarino")
+            .about("Tells people what a configuration, a trace and the reply table come to")
+            .after_help(help::PROGRAM)
+            .version(crate::VERSION)
+            .subcommand_required(true)
+            .arg_required_else_help(true)
+            .subcommand(table(alloc)?)?
+            .subcommand(explain(alloc)?)?
+            .subcommand(rows(alloc)?)?,
+    )
+}
+
+fn json<'a>(alloc: Global) -> Arg<'a> {
+    Arg::new(alloc, JSON)
+        .long(JSON)
+        .action(ArgAction::SetTrue)
+        .help(help::JSON)
+}
+
+fn config<'a>(alloc: Global) -> Arg<'a> {
+    Arg::new(alloc, CONFIG)
+        .required(true)
+        .help("The file of a configuration")
+}
+
+fn table<'a>(alloc: Global) -> Result<Command<'a>, AllocError> {
+    Command::new(alloc, "table")
+        .about("Tells the ports of a configuration")
+        .after_help(help::TABLE)
+        .arg(config(alloc))?
+        .arg(json(alloc))
+}
+
+/// The command `explain`, with the name that its usage has.
+pub(crate) fn explain_alone<'a>(alloc: Global) -> Result<Command<'a>, AllocError> {
+    explain(alloc)?.bin_name("dekarino explain")
+}
+
+fn explain<'a>(alloc: Global) -> Result<Command<'a>, AllocError> {
+    let calls = Arg::new(alloc, CALLS).required(true).num_args(1..).help(
+        "The file of a trace, or the file of a script for each partition that has one",
+    );
+    Command::new(alloc, "explain")
+        .about("Tells each call of a trace or a run beside its reply")
+        .after_help(help::EXPLAIN)
+        .arg(config(alloc))?
+        .arg(calls)?
+        .arg(json(alloc))
+}
+
+fn rows<'a>(alloc: Global) -> Result<Command<'a>, AllocError> {
+    Command::new(alloc, "rows")
+        .about("Tells the reply table")
+        .after_help(help::ROWS)
+        .arg(Arg::new(alloc, SERVICE).help("A service"))?
+        .arg(json(alloc))
+}

@@ -1,0 +1,56 @@
+//! What the help tells beside the usage, with a worked example of each command.
+
+pub(crate) const PROGRAM: &str = "\
+Example:
+  $ ./dekarino table examples/readme/config.toml
+  partition FMS
+    1 NAV_OUT queuing source NAV size 4 depth 2 to DSP.NAV_IN
+  partition DSP
+    1 NAV_IN queuing destination NAV size 4 depth 2 from FMS.NAV_OUT
+
+The status is 0 where all was done, 1 where a text was refused, 2 where the words are not those of a command, and 3
+where memory, a file or the output was wanting.";
+
+pub(crate) const TABLE: &str = "\
+A line for each partition, and beneath it one for each of its ports, by its identifier: the name, the kind, the
+direction and the channel, with its sizes, and the ports at the channel's other end. Of a configuration that is refused
+it tells the places of the fault.
+
+Example:
+  $ ./dekarino table examples/readme/config.toml
+  partition FMS
+    1 NAV_OUT queuing source NAV size 4 depth 2 to DSP.NAV_IN
+  partition DSP
+    1 NAV_IN queuing destination NAV size 4 depth 2 from FMS.NAV_OUT";
+
+pub(crate) const EXPLAIN: &str = "\
+Behind each call stands its reply and, in brackets where that is not NO_ERROR, the row of the reply table that gave it.
+Then comes what is worth a look in the end. A word NAME=SCRIPT gives the partition NAME a script: such words are run by a
+thread for each partition, and the calls are told in the order in which they happened. A trace is named by one word
+without such a beginning, so write ./A=B for a trace called A=B.
+
+Example:
+  $ ./dekarino explain examples/readme/config.toml examples/readme/trace.txt
+  10 FMS create-queuing NAV_OUT 4 2 0 0 -> NO_ERROR id 1
+  20 DSP create-queuing NAV_IN 4 2 1 0 -> NO_ERROR id 1
+  30 FMS send 1 0a0b -> NO_ERROR
+  40 DSP receive 1 -> NO_ERROR message 0a0b
+  50 DSP receive 1 -> NOT_AVAILABLE (no message waits on NAV)
+  60 FMS send 1 0102030405 -> INVALID_CONFIG (message of 5 bytes, channel NAV takes 4)
+
+  after 6 calls";
+
+pub(crate) const ROWS: &str = "\
+Each service with its rows in order: the first whose condition holds gives the reply, and stands behind it in an
+explanation. NAME is a service's call word or the standard's name; without it all services are told.
+
+Example:
+  $ ./dekarino rows receive
+  RECEIVE_QUEUING_MESSAGE (receive)
+    the partition is in IDLE -> not made (partition is in IDLE)
+    no such queuing port -> INVALID_PARAM (no queuing port of identifier ID is created)
+    the port is no destination -> INVALID_MODE (port PORT is a source)
+    no message waits -> NOT_AVAILABLE (no message waits on CHANNEL)
+    otherwise -> NO_ERROR with the oldest waiting message, which waits no longer";
+
+pub(crate) const JSON: &str = "Tells the same as JSON lines, an object a line (docs/FORMATS.md)";

@@ -1,0 +1,14 @@
+//! The words of the command line of `dekarino`: its commands, what each of them takes, and the help of each.
+#![tactic(auto)]
+
+mod commands;
+pub mod fault;
+pub mod given;
+mod help;
+pub mod task;
+pub mod version;
+
+pub use crate::fault::WordsFault;
+pub use crate::given::{Given, given};
+pub use crate::task::{Calls, Form, Task, not_text, task_of};
+pub use crate::version::{TOOLCHAIN, VERSION, version_text};

@@ -1,0 +1,154 @@
+//! From the words to a task.
+use crate::commands;
+use crate::fault::WordsFault;
+use clap::error::ErrorKind;
+use clap::{ArgMatches, Command};
+use std::alloc::{AllocError, Global};
+use std::convert::AsStr;
+
+/// What the program is asked to do, with the paths of the files.
+#[derive(Debug, Drop, PartialEq, Eq)]
+pub enum Task<'a> {
+    /// Tells the ports of a configuration.
+    Table {
+        config: &'a str,
+        form: Form,
+    },
+    /// Tells each call beside its reply.
+    Explain {
+        config: &'a str,
+        calls: Calls<'a>,
+        form: Form,
+    },
+    /// Tells the reply table: the rows of a service, or of all.
+    Rows {
+        service: Option<&'a str>,
+        form: Form,
+    },
+    /// Tells the version.
+    Version,
+    /// Tells this help.
+    Help(String),
+}
+
+/// Where the calls are from that are explained.
+#[derive(Debug, Drop, PartialEq, Eq)]
+pub enum Calls<'a> {
+    /// The trace in a file.
+    Trace(&'a str),
+    /// A run of the scripts that the arguments `NAME=SCRIPT` give to partitions.
+    Scripts(Vec<&'a str>),
+}
+
+/// How something is told.
+#[derive(Clone, Copy, Debug, PartialEq, Eq)]
+pub enum Form {
+    /// As a text.
+    Text,
+    /// As JSON lines, an object a line.
+    Json,
+}
+
+/// The task that the words name; the first word is the program's own name.
+pub fn task_of<'a, S: AsStr>(alloc: Global, words: &'a [S]) -> Result<Task<'a>, WordsFault> {
+    match commands::program(alloc)?.try_get_matches_from(words) {
+        Ok(matches) => task_in(alloc, &matches),
+        Err(error) => task_without(alloc, &error),
+    }
+}
+
+/// The fault of words that are not UTF-8.
+pub fn not_text(alloc: Global) -> WordsFault {
+    fault_of(alloc, commands::program(alloc), "a word is not UTF-8")
+}
+
+/// The task where there are no matches: help or the version, if the words ask for that.
+fn task_without<'a>(alloc: Global, error: &clap::Error) -> Result<Task<'a>, WordsFault> {
+    match error.kind() {
+        ErrorKind::DisplayHelp => Ok(Task::Help(error.to_string(alloc)?)),
+        ErrorKind::DisplayVersion => Ok(Task::Version),
+        ErrorKind::OutOfMemory => Err(WordsFault::OutOfMemory),
+        _ => Err(WordsFault::Usage(error.to_string(alloc)?)),
+    }
+}
+
+fn task_in<'a>(alloc: Global, matches: &ArgMatches<'a>) -> Result<Task<'a>, WordsFault> {
+    match matches.subcommand() {
+        Some(("table", given)) => Ok(Task::Table {
+            config: config_in(alloc, given)?,
+            form: form_in(given),
+        }),
+        Some(("explain", given)) => Ok(Task::Explain {
+            config: config_in(alloc, given)?,
+            calls: calls_in(alloc, given)?,
+            form: form_in(given),
+        }),
+        Some(("rows", given)) => Ok(Task::Rows {
+            service: given.get_str(commands::SERVICE),
+            form: form_in(given),
+        }),
+        _ => Err(fault_of(alloc, commands::program(alloc), "a command is missing")),
+    }
+}
+
+fn config_in<'a>(alloc: Global, given: &ArgMatches<'a>) -> Result<&'a str, WordsFault> {
+    match given.get_str(commands::CONFIG) {
+        Some(config) => Ok(config),
+        None => Err(fault_of(alloc, commands::program(alloc), "CONFIG is missing")),
+    }
+}
+
+fn form_in(given: &ArgMatches<'_>) -> Form {
+    if given.get_flag(commands::JSON) {
+        Form::Json
+    } else {
+        Form::Text
+    }
+}
+
+/// A trace where one word is no script, or else the scripts.
+fn calls_in<'a>(alloc: Global, given: &ArgMatches<'a>) -> Result<Calls<'a>, WordsFault> {
+    let words = given.get_strs(commands::CALLS).unwrap_or(&[]);
+    match words {
+        [trace] if !names_script(trace) => Ok(Calls::Trace(trace)),
+        _ if words.iter().all(|word| names_script(word)) => {
+            let mut scripts = Vec::new(alloc);
+            scripts.extend_from_slice(words)?;
+            Ok(Calls::Scripts(scripts))
+        }
+        _ => Err(fault_of(
+            alloc,
+            commands::explain_alone(alloc),
+            "a trace stands alone, and each of several words has to be NAME=SCRIPT",
+        )),
+    }
+}
+
+/// Whether a name and `=` begin the word.
+fn names_script(word: &str) -> bool {
+    match word.split_once('=') {
+        Some((name, _)) => !name.is_empty() && name.bytes().all(is_in_name),
+        None => false,
+    }
+}
+
+fn is_in_name(byte: u8) -> bool {
+    byte.is_ascii_alphanumeric() || byte == b'_'
+}
+
+/// The fault of words that the command doesn't take, or want of memory.
+fn fault_of(alloc: Global, command: Result<Command<'_>, AllocError>, message: &str) -> WordsFault {
+    match usage_fault(alloc, command, message) {
+        Ok(fault) => fault,
+        Err(refused) => WordsFault::from(refused),
+    }
+}
+
+fn usage_fault(
+    alloc: Global,
+    command: Result<Command<'_>, AllocError>,
+    message: &str,
+) -> Result<WordsFault, AllocError> {
+    let error = command?.error(ErrorKind::InvalidValue, message)?;
+    Ok(WordsFault::Usage(error.to_string(alloc)?))
+}

@@ -1,0 +1,215 @@
+//! The explanation of a trace as JSON lines.
+ghost use Rattle.std.specs.Prelude.{◌<◌, length};
+
+use crate::json::push_object;
+use crate::json_remarks::push_ending;
+use apex_config::Config;
+use apex_explanations::explain_trace;
+use apex_ports::{Ports, Request};
+use apex_row_words::{push_words, row_name};
+use apex_texts::trace::{ANY_REQUEST, read_trace_line};
+use apex_texts::{Fault, LineFault, Service, TraceFault, next_line};
+use apex_types::{HEX_LIMIT, Moment, Reply};
+use serde::Serialize;
+use std::alloc::{AllocError, Global};
+use std::str;
+
+/// A call: its line in the trace, from 1, and as it stands there, and its reply with the row of the reply table that gave it.
+#[derive(Drop, Serialize)]
+struct CallLine<'a> {
+    line: usize,
+    at: u64,
+    partition: &'a str,
+    service: &'static str,
+    text: Option<&'a str>,
+    reply: &'static str,
+    row: &'static str,
+    words: Option<&'a str>,
+    id: Option<u32>,
+    message: Option<&'a str>,
+    validity: Option<&'static str>,
+    waiting: Option<u32>,
+    depth: Option<u32>,
+    size: Option<u32>,
+    direction: Option<&'static str>,
+    refresh: Option<u64>,
+    last: Option<&'static str>,
+}
+
+/// The first faulty line, and its fault.
+#[derive(Drop, Serialize)]
+struct FaultLine {
+    line: usize,
+    fault: u32,
+    words: &'static str,
+}
+
+/// The objects that explain a trace, and its fault: one for each call, and then the remarks and how many calls there were;
+/// or up to the first faulty line, with its fault.
+pub(crate) fn explain_as_json(
+    alloc: Global,
+    config: Config,
+    trace: &[u8],
+) -> Result<(Vec<u8>, Option<TraceFault>), Fault> {
+    let mut ports = Ports::new(alloc, config.copy()?)?;
+    let mut text = String::with_capacity(alloc, trace.len())?;
+    let fault = match push_calls(alloc, &mut text, &mut ports, trace)? {
+        Ok(calls) => {
+            let explanation = explain_trace(alloc, config, trace)?;
+            push_ending(alloc, &mut text, calls, explanation.remarks.as_slice())?;
+            None
+        }
+        Err(fault) => Some(fault),
+    };
+    Ok((text.into_bytes(), fault))
+}
+
+/// An object for each call of a trace, whose count is answered, or up to its first faulty line, whose fault is.
+fn push_calls(
+    alloc: Global,
+    text: &mut String,
+    ports: &mut Ports,
+    trace: &[u8],
+) -> Result<Result<usize, TraceFault>, AllocError> {
+    let mut calls: usize = 0;
+    let mut request = ANY_REQUEST;
+    let mut rest = trace;
+    let mut number: usize = 0;
+    while let Some((line, after)) = next_line(rest) {
+        number = number.saturating_add(1);
+        match read_trace_line(ports.config(), line, &mut request) {
+            Ok(true) => {
+                calls = calls.saturating_add(1);
+                push_call(alloc, text, ports, number, line, &request)?;
+            }
+            Ok(false) => {}
+            Err(fault) => {
+                push_fault(alloc, text, number, fault)?;
+                return Ok(Err(TraceFault::Line {
+                    line: number,
+                    fault: fault.number(),
+                }));
+            }
+        }
+        rest = after;
+    }
+    Ok(Ok(calls))
+}
+
+fn push_fault(
+    alloc: Global,
+    text: &mut String,
+    line: usize,
+    fault: LineFault,
+) -> Result<(), AllocError> {
+    let object = FaultLine {
+        line,
+        fault: fault.number(),
+        words: fault.words(),
+    };
+    push_object(alloc, text, &object)
+}
+
+/// Serves the request of a line, and tells it with its row and its reply.
+fn push_call(
+    alloc: Global,
+    text: &mut String,
+    ports: &mut Ports,
+    number: usize,
+    line: &[u8],
+    request: &Request,
+) -> Result<(), AllocError>
+    requires { request.now.partition < length ports.old.config.partitions }
+{
+    let p = request.partition;
+    let row = ports.row(p, request.at, &request.call);
+    let mut words = String::new(alloc);
+    push_words(&mut words, ports.config(), p, &request.call, row)?;
+    let reply = ports.call(p, request.at, &request.call);
+    let mut digits = [0; HEX_LIMIT];
+    let mut object = call_line(ports.config(), number, line, request, &reply);
+    object.row = row_name(row);
+    object.words = some_text(words.as_str());
+    add_values(&mut object, &reply, &mut digits);
+    push_object(alloc, text, &object)
+}
+
+/// The object of a call, without its row and what the reply has beside its return code.
+fn call_line<'a>(
+    config: &'a Config,
+    number: usize,
+    line: &'a [u8],
+    request: &Request,
+    reply: &Reply,
+) -> CallLine<'a>
+    requires { request.now.partition < length config.now.partitions }
+{
+    let Moment(at) = request.at;
+    CallLine {
+        line: number,
+        at,
+        partition: config.partition_name(request.partition).text(),
+        service: Service::of(&request.call).word(),
+        text: str::from_utf8(line).ok(),
+        reply: reply_word(reply),
+        row: "",
+        words: None,
+        id: None,
+        message: None,
+        validity: None,
+        waiting: None,
+        depth: None,
+        size: None,
+        direction: None,
+        refresh: None,
+        last: None,
+    }
+}
+
+/// The word of the return code, or that the call was not made.
+fn reply_word(reply: &Reply) -> &'static str {
+    match reply.code() {
+        Some(code) => code.word(),
+        None => "not made",
+    }
+}
+
+/// A text, where it isn't empty.
+fn some_text(text: &str) -> Option<&str> {
+    if text.is_empty() { None } else { Some(text) }
+}
+
+/// Adds what a reply has beside its return code.
+fn add_values<'a>(object: &mut CallLine<'a>, reply: &Reply, digits: &'a mut [u8; HEX_LIMIT]) {
+    match reply {
+        Reply::NotMade | Reply::Code(_) => {}
+        Reply::Id(id) => object.id = Some(*id),
+        Reply::Received(message) => object.message = Some(message.hex_in(digits)),
+        Reply::Read { message, validity } => {
+            object.message = Some(message.hex_in(digits));
+            object.validity = Some(validity.word());
+        }
+        Reply::QueuingStatus {
+            waiting,
+            depth,
+            size,
+            direction,
+        } => {
+            object.waiting = Some(*waiting);
+            object.depth = Some(*depth);
+            object.size = Some(*size);
+            object.direction = Some(direction.word());
+        }
+        Reply::SamplingStatus {
+            refresh,
+            size,
+            direction,
+            last,
+        } => {
+            object.refresh = Some(*refresh);
+            object.size = Some(*size);
+            object.direction = Some(direction.word());
+            object.last = Some(last.word());
+        }
+    }
+}

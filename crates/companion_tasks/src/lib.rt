@@ -1,0 +1,20 @@
+//! The tasks of the program `dekarino`: what its words ask for is told on standard output, as a text or as JSON lines.
+#![tactic(auto)]
+
+mod configuration;
+mod explanations;
+mod json;
+mod json_calls;
+mod json_remarks;
+mod json_rows;
+mod json_table;
+pub mod program;
+mod rows;
+mod runs;
+mod tables;
+mod trace_text;
+pub mod unfinished;
+
+pub use crate::program::program;
+pub use crate::unfinished::Unfinished;
+pub use apex_files::{Opener, Refusal, SystemFiles};

@@ -1,0 +1,103 @@
+//! From the words of the command line to a status.
+use crate::explanations::{explain_run, explain_trace_in};
+use crate::rows::reply_table;
+use crate::tables::table;
+use crate::unfinished::Unfinished;
+use apex_files::{Opener, Refusal, print, refuse};
+use apex_texts::Fault;
+use companion_command_line::{Calls, Given, Task, WordsFault, task_of, version_text};
+use std::alloc::Global;
+use std::io::Write;
+use std::sync::Wait;
+use std::thread::Threads;
+
+/// The status of words that aren't those of a command.
+const MISUSED: u8 = 2;
+
+/// Does what the words ask for, and answers the status. A refusal writes a line to `errors`, and words that aren't those
+/// of a command what is wrong, with the usage. A run waits for its workers.
+pub fn program<R: Threads + Wait + Sync, O: Opener, W: Write, E: Write>(
+    rt: &R,
+    alloc: Global,
+    given: Result<Given, WordsFault>,
+    opener: &O,
+    output: &mut W,
+    errors: &mut E,
+) -> u8 {
+    let Given { words, commit } = match given {
+        Ok(given) => given,
+        Err(fault) => return misused(&fault, errors),
+    };
+    match task_of(alloc, words.as_slice()) {
+        Ok(task) => {
+            let commit = commit.as_ref().map(String::as_str);
+            finish(perform(rt, alloc, task, commit, opener), output, errors)
+        }
+        Err(fault) => misused(&fault, errors),
+    }
+}
+
+/// Says that the words aren't those of a command, and answers the status.
+fn misused<E: Write>(fault: &WordsFault, errors: &mut E) -> u8 {
+    match fault {
+        WordsFault::Usage(text) => {
+            let _ = errors.write_all(text.as_bytes());
+            MISUSED
+        }
+        WordsFault::OutOfMemory => refuse(Refusal::Text(Fault::Memory), errors),
+    }
+}
+
+/// Prints what a task tells, and answers the status.
+fn finish<W: Write, E: Write>(
+    done: Result<Vec<u8>, Unfinished<'_>>,
+    output: &mut W,
+    errors: &mut E,
+) -> u8 {
+    let (text, refusal) = match done {
+        Ok(text) => (text, None),
+        Err(Unfinished::Told { text, refusal }) => (text, Some(refusal)),
+        Err(Unfinished::Refused(refusal)) => return refuse(refusal, errors),
+        Err(Unfinished::NoService(name)) => return no_service(name, errors),
+    };
+    match (print(output, text.as_slice()), refusal) {
+        (Ok(()), None) => 0,
+        (Ok(()), Some(refusal)) => refuse(refusal, errors),
+        (Err(refusal), _) => refuse(refusal, errors),
+    }
+}
+
+/// Says that a name is none of a service, and answers the status.
+fn no_service<E: Write>(name: &str, errors: &mut E) -> u8 {
+    let _ = writeln!(
+        errors,
+        "error: {name} is no service: `dekarino rows` tells all of them"
+    );
+    MISUSED
+}
+
+/// What the task tells.
+fn perform<'a, R: Threads + Wait + Sync, O: Opener>(
+    rt: &R,
+    alloc: Global,
+    task: Task<'a>,
+    commit: Option<&str>,
+    opener: &O,
+) -> Result<Vec<u8>, Unfinished<'a>> {
+    match task {
+        Task::Table { config, form } => table(alloc, opener, config, form),
+        Task::Explain {
+            config,
+            calls: Calls::Trace(trace),
+            form,
+        } => explain_trace_in(alloc, opener, config, trace, form),
+        Task::Explain {
+            config,
+            calls: Calls::Scripts(scripts),
+            form,
+        } => explain_run(rt, alloc, opener, config, scripts.as_slice(), form),
+        Task::Rows { service, form } => reply_table(alloc, service, form),
+        Task::Version => Ok(version_text(alloc, commit)?.into_bytes()),
+        Task::Help(text) => Ok(text.into_bytes()),
+    }
+}

@@ -1,0 +1,34 @@
+//! Why a task isn't done.
+use apex_files::Refusal;
+use apex_texts::Fault;
+use std::alloc::AllocError;
+
+/// Why a task isn't done.
+#[derive(Debug, Drop, PartialEq, Eq)]
+pub enum Unfinished<'a> {
+    /// Nothing is told on standard output.
+    Refused(Refusal<'a>),
+    /// This is told on standard output before: the places of a configuration's fault, or the lines of a trace up to its
+    /// fault.
+    Told { text: Vec<u8>, refusal: Refusal<'a> },
+    /// The name of a service is none.
+    NoService(&'a str),
+}
+
+impl<'a> From<Refusal<'a>> for Unfinished<'a> {
+    fn from(refusal: Refusal<'a>) -> Unfinished<'a> {
+        Unfinished::Refused(refusal)
+    }
+}
+
+impl<'a> From<Fault> for Unfinished<'a> {
+    fn from(fault: Fault) -> Unfinished<'a> {
+        Unfinished::Refused(Refusal::Text(fault))
+    }
+}
+
+impl<'a> From<AllocError> for Unfinished<'a> {
+    fn from(refused: AllocError) -> Unfinished<'a> {
+        Unfinished::Refused(Refusal::from(refused))
+    }
+}
