@@ -1,0 +1,15 @@
+//! The drawings: a module with its channels, and the calls of a trace in their order, with an arrow from each message's
+//! sending to the call that showed it. The arrows are proved; how a drawing is laid out isn't.
+#![tactic(auto)]
+
+pub mod arrow;
+mod arrows;
+mod channel_calls;
+pub mod chart;
+pub mod fault;
+mod reading;
+
+pub use crate::arrow::Arrow;
+pub use crate::chart::{CALL_LIMIT, Chart};
+pub use crate::fault::DrawingFault;
+pub use crate::reading::read_chart;
