@@ -7,9 +7,13 @@ mod arrows;
 mod channel_calls;
 pub mod chart;
 pub mod fault;
+pub mod module_drawing;
 mod reading;
+pub mod svg;
 
 pub use crate::arrow::Arrow;
 pub use crate::chart::{CALL_LIMIT, Chart};
 pub use crate::fault::DrawingFault;
+pub use crate::module_drawing::draw_module;
 pub use crate::reading::read_chart;
+pub use crate::svg::escaped;
