@@ -19,6 +19,12 @@ pub record IsChart (config : Configuration) (trace : List ℕ) (chart : Chart) :
   pub arrows : chart.arrows.items ≡ arrows_of config chart.calls.items
   pub waiting : chart.waiting.items ≡ waiting_of config chart.calls.items
 
+-- the trace can be drawn
+pub record IsDrawn (config : Configuration) (trace : List ℕ) : Type 0 where
+  pub requests : List Request
+  pub read : trace_of config trace ≡ Ok requests
+  pub few : length requests ≤ CALL_LIMIT
+
 -- the trace has so many calls, more than are drawn
 pub record HasTooMany (config : Configuration) (trace : List ℕ) (calls : ℕ) : Type 0 where
   pub requests : List Request

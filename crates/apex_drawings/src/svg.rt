@@ -115,3 +115,24 @@ fn push_arrow_head(svg: &mut String, name: &str) -> Result<(), AllocError> {
 pub(crate) fn push_end(svg: &mut String) -> Result<(), AllocError> {
     svg.push_str("</svg>\n")
 }
+
+/// The ring about a call whose message waits.
+pub(crate) fn push_ring(
+    svg: &mut String,
+    x: usize,
+    y: usize,
+    number: usize,
+) -> Result<(), AllocError> {
+    writeln!(
+        svg,
+        "<circle class=\"waits\" data-call=\"{number}\" cx=\"{x}\" cy=\"{y}\" r=\"7\"/>"
+    )
+}
+
+/// The end of a cross about a place.
+pub(crate) fn push_cross(svg: &mut String, x: usize, y: usize) -> Result<(), AllocError> {
+    let (left, right) = (x.saturating_sub(4), x.saturating_add(4));
+    let (top, bottom) = (y.saturating_sub(4), y.saturating_add(4));
+    write!(svg, "M{left} {top} L{right} {bottom} ")?;
+    writeln!(svg, "M{left} {bottom} L{right} {top}\"/>")
+}
