@@ -145,7 +145,7 @@ fn push_paper(
     let names = if frame.is_slanted { SLANTED } else { 0 };
     let width = line_of(frame, config.partitions()).saturating_add(names);
     let height = height_of(frame, calls).saturating_add(LEGEND);
-    push_start(svg, width.max(LEAST_WIDTH), height, "Trace")
+    push_start(svg, width.max(LEAST_WIDTH), height, "Trace", 4)
 }
 
 /// The life lines with the names of their partitions.

@@ -6,10 +6,10 @@ use std::alloc::AllocError;
 const LINE: usize = 18;
 
 /// The middle of a mark.
-const MARK: usize = 32;
+const MARK: usize = 38;
 
 /// Where the words begin.
-const WORDS: usize = 60;
+const WORDS: usize = 76;
 
 /// The legend, of which the first line has this height.
 pub(crate) fn push_legend(svg: &mut String, y: usize) -> Result<(), AllocError> {
@@ -36,12 +36,14 @@ pub(crate) fn push_legend(svg: &mut String, y: usize) -> Result<(), AllocError> 
     push_words(svg, y, "a send whose message waits in the end")
 }
 
+/// An arrow to a call.
 fn push_line(svg: &mut String, y: usize, class: &str) -> Result<(), AllocError> {
     write!(
         svg,
         "<path class=\"{class}\" marker-end=\"url(#{class}-head)\" "
     )?;
-    writeln!(svg, "d=\"M12 {y} H56\"/>")
+    writeln!(svg, "d=\"M16 {y} H60\"/>")?;
+    writeln!(svg, "<circle class=\"call\" cx=\"60\" cy=\"{y}\" r=\"4\"/>")
 }
 
 fn push_words(svg: &mut String, y: usize, words: &str) -> Result<(), AllocError> {

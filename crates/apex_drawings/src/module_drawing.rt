@@ -20,6 +20,9 @@ const BOX: usize = 252;
 /// The width beside a box in which a line has its channel's name.
 const LABELS: usize = 212;
 
+/// How far beside a box a channel's name begins or ends.
+const LABEL: usize = 13;
+
 /// How far apart lanes are.
 const LANE: usize = 16;
 
@@ -53,7 +56,7 @@ pub fn draw_module(alloc: Global, config: &Config) -> Result<String, AllocError>
     let rows = rows_above(config, 0, count).max(rows_above(config, 1, count));
     let width = columns.right.saturating_add(BOX + MARGIN);
     let mut svg = String::new(alloc);
-    push_start(&mut svg, width, place(2 * MARGIN, ROW, rows), "Module")?;
+    push_start(&mut svg, width, place(2 * MARGIN, ROW, rows), "Module", 0)?;
     for p in 0..count {
         push_partition(&mut svg, config, columns, p)?;
     }
@@ -172,7 +175,7 @@ fn push_channel(
     requires { port.now.channel < length config.now.channels }
 {
     let channel = config.channel(port.channel);
-    push_label(svg, end, end.y.saturating_sub(4), "", channel.name.text())?;
+    push_label(svg, end, end.y.saturating_sub(5), "", channel.name.text())?;
     match port.direction {
         Direction::Source => {
             let carries = carries(*svg.allocator(), channel)?;
@@ -217,11 +220,17 @@ fn push_label(
     text: &str,
 ) -> Result<(), AllocError> {
     if end.is_left {
-        push_text(svg, place(end.x, 10, 1), y, class, text)
+        push_text(svg, place(end.x, LABEL, 1), y, class, text)
     } else {
         let alloc = *svg.allocator();
         let attributes = format!(in alloc; "{class} text-anchor=\"end\"")?;
-        push_text(svg, end.x.saturating_sub(10), y, attributes.as_str(), text)
+        push_text(
+            svg,
+            end.x.saturating_sub(LABEL),
+            y,
+            attributes.as_str(),
+            text,
+        )
     }
 }
 

@@ -69,12 +69,14 @@ pub(crate) fn push_text(
     writeln!(svg, "<text x=\"{x}\" y=\"{y}\"{attributes}>{text}</text>")
 }
 
-/// The beginning of a drawing: its size, its style and the heads of its arrows.
+/// The beginning of a drawing: its size, its style and the heads of its arrows, whose points lie so far before the ends of
+/// their lines.
 pub(crate) fn push_start(
     svg: &mut String,
     width: usize,
     height: usize,
     title: &str,
+    gap: usize,
 ) -> Result<(), AllocError> {
     write!(
         svg,
@@ -86,8 +88,8 @@ pub(crate) fn push_start(
         svg.push_str(line)?;
     }
     svg.push_str("<defs>\n")?;
-    push_arrow_head(svg, "message-head")?;
-    push_arrow_head(svg, "sample-head")?;
+    push_arrow_head(svg, "message-head", gap)?;
+    push_arrow_head(svg, "sample-head", gap)?;
     svg.push_str("</defs>\n")?;
     writeln!(
         svg,
@@ -95,15 +97,16 @@ pub(crate) fn push_start(
     )
 }
 
-/// The head of an arrow, whose point is 5 units before the end of its line.
-fn push_arrow_head(svg: &mut String, name: &str) -> Result<(), AllocError> {
+/// The head of an arrow.
+fn push_arrow_head(svg: &mut String, name: &str, gap: usize) -> Result<(), AllocError> {
+    let point = place(9, gap, 1);
     write!(
         svg,
         "<marker id=\"{name}\" markerUnits=\"userSpaceOnUse\" markerWidth=\"9\" "
     )?;
     write!(
         svg,
-        "markerHeight=\"8\" refX=\"13\" refY=\"4\" orient=\"auto\">"
+        "markerHeight=\"8\" refX=\"{point}\" refY=\"4\" orient=\"auto\">"
     )?;
     writeln!(
         svg,
