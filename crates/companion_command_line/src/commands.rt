@@ -7,6 +7,8 @@ pub(crate) const CONFIG: &str = "CONFIG";
 
 pub(crate) const CALLS: &str = "TRACE|NAME=SCRIPT";
 
+pub(crate) const TRACE: &str = "TRACE";
+
 pub(crate) const SERVICE: &str = "NAME";
 
 pub(crate) const JSON: &str = "json";
@@ -22,6 +24,7 @@ pub(crate) fn program<'a>(alloc: Global) -> Result<Command<'a>, AllocError> {
             .arg_required_else_help(true)
             .subcommand(table(alloc)?)?
             .subcommand(explain(alloc)?)?
+            .subcommand(draw(alloc)?)?
             .subcommand(rows(alloc)?)?,
     )
 }
@@ -62,6 +65,14 @@ fn explain<'a>(alloc: Global) -> Result<Command<'a>, AllocError> {
         .arg(config(alloc))?
         .arg(calls)?
         .arg(json(alloc))
+}
+
+fn draw<'a>(alloc: Global) -> Result<Command<'a>, AllocError> {
+    Command::new(alloc, "draw")
+        .about("Draws a configuration, or the calls of a trace")
+        .after_help(help::DRAW)
+        .arg(config(alloc))?
+        .arg(Arg::new(alloc, TRACE).help("The file of a trace"))
 }
 
 fn rows<'a>(alloc: Global) -> Result<Command<'a>, AllocError> {

@@ -40,6 +40,14 @@ Example:
 
   after 6 calls";
 
+pub(crate) const DRAW: &str = "\
+The drawing is an SVG on standard output. A configuration is drawn as boxes with their ports and arrows for channels, a
+trace as a chart: a life line for each partition, the calls downward, an arrow from each message's sending to the call
+that showed it, crosses at refused calls, and what waits in the end. At most 2,000 calls are drawn.
+
+Example:
+  $ ./dekarino draw examples/readme/config.toml examples/readme/trace.txt > chart.svg";
+
 pub(crate) const ROWS: &str = "\
 Each service with its rows in order: the first whose condition holds gives the reply, and stands behind it in an
 explanation. NAME is a service's call word or the standard's name; without it all services are told.

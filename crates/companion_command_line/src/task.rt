@@ -20,6 +20,11 @@ pub enum Task<'a> {
         calls: Calls<'a>,
         form: Form,
     },
+    /// Draws a configuration, or the calls of a trace on it.
+    Draw {
+        config: &'a str,
+        trace: Option<&'a str>,
+    },
     /// Tells the reply table: the rows of a service, or of all.
     Rows {
         service: Option<&'a str>,
@@ -82,6 +87,10 @@ fn task_in<'a>(alloc: Global, matches: &ArgMatches<'a>) -> Result<Task<'a>, Word
             config: config_in(alloc, given)?,
             calls: calls_in(alloc, given)?,
             form: form_in(given),
+        }),
+        Some(("draw", given)) => Ok(Task::Draw {
+            config: config_in(alloc, given)?,
+            trace: given.get_str(commands::TRACE),
         }),
         Some(("rows", given)) => Ok(Task::Rows {
             service: given.get_str(commands::SERVICE),

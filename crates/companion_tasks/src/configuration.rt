@@ -6,7 +6,7 @@ use crate::json::push_object;
 use crate::unfinished::Unfinished;
 use apex_config::Config;
 use apex_files::{Opener, Refusal, read_file};
-use apex_refusals::refusal_lines;
+use apex_refusals::config_mistakes;
 use apex_texts::Fault;
 use companion_command_line::Form;
 use serde::Serialize;
@@ -33,18 +33,19 @@ pub(crate) fn read_config<'a, O: Opener>(
     let bytes = read_file(alloc, opener, path)?;
     match Config::read_placed(alloc, bytes.as_slice()) {
         Ok(config) => Ok(config),
-        Err(refusal) => Err(refused(alloc, bytes.as_slice(), &refusal, form)),
+        Err(refusal) => Err(refused(alloc, path, bytes.as_slice(), &refusal, form)),
     }
 }
 
 /// Why the task of a refused configuration isn't done; want of memory goes before all else.
 fn refused<'a>(
     alloc: Global,
+    path: &str,
     bytes: &[u8],
     refusal: &apex_config::Refusal,
     form: Form,
 ) -> Unfinished<'a> {
-    match places(alloc, bytes, refusal, form) {
+    match places(alloc, path, bytes, refusal, form) {
         Ok(text) => Unfinished::Told {
             text: text.into_bytes(),
             refusal: Refusal::Text(Fault::from(refusal.fault)),
@@ -56,11 +57,12 @@ fn refused<'a>(
 /// The places of a configuration's fault.
 fn places(
     alloc: Global,
+    path: &str,
     bytes: &[u8],
     refusal: &apex_config::Refusal,
     form: Form,
 ) -> Result<String, AllocError> {
-    let lines = refusal_lines(alloc, bytes, refusal)?;
+    let lines = config_mistakes(alloc, path, bytes, refusal)?;
     match form {
         Form::Text => Ok(lines),
         Form::Json => place_lines(alloc, refusal.fault.number(), lines.as_str()),

@@ -4,11 +4,13 @@ ghost use Rattle.companion_tasks.specs.Told.{IsExplanationOf};
 
 use crate::configuration::read_config;
 use crate::json_calls::explain_as_json;
+use crate::mistakes::{push_mistakes, with_mistakes};
 use crate::runs::trace_of_run;
 use crate::unfinished::Unfinished;
 use apex_config::Config;
 use apex_explanations::{Explanation, explain_trace};
 use apex_files::{Opener, Refusal, read_file};
+use apex_mistakes::trace_mistakes;
 use apex_tasks::scripts_named;
 use apex_texts::{Fault, TraceFault};
 use companion_command_line::Form;
@@ -26,8 +28,10 @@ pub(crate) fn explain_trace_in<'a, O: Opener>(
 ) -> Result<Vec<u8>, Unfinished<'a>> {
     match form {
         Form::Text => {
-            let explanation = explanation_in(alloc, opener, config, trace)?;
-            up_to_fault(explanation.text, explanation.fault)
+            let (explanation, mistakes) = explanation_in(alloc, opener, config, trace)?;
+            let mut text = explanation.text;
+            push_mistakes(&mut text, mistakes.as_str())?;
+            up_to_fault(text, explanation.fault)
         }
         Form::Json => {
             let config = read_config(alloc, opener, config, form)?;
@@ -38,19 +42,21 @@ pub(crate) fn explain_trace_in<'a, O: Opener>(
     }
 }
 
-/// The explanation of the trace in a file, on the configuration in a file.
+/// The explanation of the trace in a file, on the configuration in a file, and the mistakes of the trace.
 fn explanation_in<'a, O: Opener>(
     alloc: Global,
     opener: &O,
     config: &'a str,
     trace: &'a str,
-) -> Result<Explanation, Unfinished<'a>>
+) -> Result<(Explanation, String), Unfinished<'a>>
     ensures { IfOk result (λ told. IfSome (O.bytes_at opener.now config.now)
-        (λ bytes. IfSome (O.bytes_at opener.now trace.now) (IsExplanationOf told bytes))) }
+        (λ bytes. IfSome (O.bytes_at opener.now trace.now) (IsExplanationOf told.0 bytes))) }
 {
     let config = read_config(alloc, opener, config, Form::Text)?;
     let bytes = read_file(alloc, opener, trace)?;
-    Ok(explain_trace(alloc, config, bytes.as_slice())?)
+    let mistakes = trace_mistakes(alloc, trace, &config, bytes.as_slice())?;
+    let explanation = explain_trace(alloc, config, bytes.as_slice())?;
+    Ok((explanation, mistakes))
 }
 
 /// The calls of a run of the scripts that the arguments name, in the order in which they happened.
@@ -63,7 +69,12 @@ pub(crate) fn explain_run<'a, R: Threads + Wait + Sync, O: Opener>(
     form: Form,
 ) -> Result<Vec<u8>, Unfinished<'a>> {
     let config = read_config(alloc, opener, config, form)?;
-    let scripts = scripts_named(alloc, opener, &config, arguments)?;
+    let scripts = match scripts_named(alloc, opener, &config, arguments) {
+        Ok(scripts) => scripts,
+        Err(refusal) => {
+            return Err(with_mistakes(alloc, opener, &config, arguments, refusal));
+        }
+    };
     let trace = trace_of_run(rt, alloc, &config, scripts.as_slice())?;
     let (text, fault) = explained(alloc, config, trace.as_bytes(), form)?;
     up_to_fault(text, fault)

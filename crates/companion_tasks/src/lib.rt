@@ -2,12 +2,14 @@
 #![tactic(auto)]
 
 mod configuration;
+mod drawings;
 mod explanations;
 mod json;
 mod json_calls;
 mod json_remarks;
 mod json_rows;
 mod json_table;
+mod mistakes;
 pub mod program;
 mod rows;
 mod runs;

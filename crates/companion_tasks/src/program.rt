@@ -1,8 +1,10 @@
 //! From the words of the command line to a status.
+use crate::drawings::drawing;
 use crate::explanations::{explain_run, explain_trace_in};
 use crate::rows::reply_table;
 use crate::tables::table;
 use crate::unfinished::Unfinished;
+use apex_drawings::DrawingFault;
 use apex_files::{Opener, Refusal, print, refuse};
 use apex_texts::Fault;
 use companion_command_line::{Calls, Given, Task, WordsFault, task_of, version_text};
@@ -13,6 +15,9 @@ use std::thread::Threads;
 
 /// The status of words that aren't those of a command.
 const MISUSED: u8 = 2;
+
+/// The status of a text that is refused.
+const REFUSED: u8 = 1;
 
 /// Does what the words ask for, and answers the status. A refusal writes a line to `errors`, and words that aren't those
 /// of a command what is wrong, with the usage. A run waits for its workers.
@@ -59,6 +64,7 @@ fn finish<W: Write, E: Write>(
         Err(Unfinished::Told { text, refusal }) => (text, Some(refusal)),
         Err(Unfinished::Refused(refusal)) => return refuse(refusal, errors),
         Err(Unfinished::NoService(name)) => return no_service(name, errors),
+        Err(Unfinished::TooManyCalls { calls }) => return too_many_calls(calls, errors),
     };
     match (print(output, text.as_slice()), refusal) {
         (Ok(()), None) => 0,
@@ -74,6 +80,12 @@ fn no_service<E: Write>(name: &str, errors: &mut E) -> u8 {
         "error: {name} is no service: `dekarino rows` tells all of them"
     );
     MISUSED
+}
+
+/// Says that a trace has too many calls to be drawn, and answers the status.
+fn too_many_calls<E: Write>(calls: usize, errors: &mut E) -> u8 {
+    let _ = writeln!(errors, "{}", DrawingFault::TooManyCalls { calls });
+    REFUSED
 }
 
 /// What the task tells.
@@ -96,6 +108,7 @@ fn perform<'a, R: Threads + Wait + Sync, O: Opener>(
             calls: Calls::Scripts(scripts),
             form,
         } => explain_run(rt, alloc, opener, config, scripts.as_slice(), form),
+        Task::Draw { config, trace } => drawing(alloc, opener, config, trace),
         Task::Rows { service, form } => reply_table(alloc, service, form),
         Task::Version => Ok(version_text(alloc, commit)?.into_bytes()),
         Task::Help(text) => Ok(text.into_bytes()),

@@ -13,6 +13,8 @@ pub enum Unfinished<'a> {
     Told { text: Vec<u8>, refusal: Refusal<'a> },
     /// The name of a service is none.
     NoService(&'a str),
+    /// The trace has so many calls, more than are drawn.
+    TooManyCalls { calls: usize },
 }
 
 impl<'a> From<Refusal<'a>> for Unfinished<'a> {
