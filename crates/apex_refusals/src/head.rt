@@ -46,12 +46,25 @@ fn stands(document: &Value, part: Part, key: Option<&str>) -> bool {
     }
 }
 
-/// Whether the begin of a text is TOML in which this stands.
-fn stands_in(alloc: Global, text: &[u8], part: Part, key: Option<&str>) -> bool {
-    match toml::table_from_slice(alloc, text) {
-        Ok(table) => stands(&Value::Table(table), part, key),
-        Err(_) => false,
+/// What ends the arrays that are open at the end of a line: none, one of tables, or one within a table of another.
+const ENDINGS: [&'static [u8]; 3] = [b"", b"\n]", b"\n]}]"];
+
+/// Whether the begin of a text, its open arrays ended, is TOML in which this stands.
+fn stands_in(
+    alloc: Global,
+    text: &[u8],
+    part: Part,
+    key: Option<&str>,
+) -> Result<bool, AllocError> {
+    for ending in &ENDINGS {
+        let mut begin = Vec::new(alloc);
+        begin.extend_from_slice(text)?;
+        begin.extend_from_slice(ending)?;
+        if let Ok(table) = toml::table_from_slice(alloc, begin.as_slice()) {
+            return Ok(stands(&Value::Table(table), part, key));
+        }
     }
+    Ok(false)
 }
 
 /// Where each line of a text ends.
@@ -66,10 +79,15 @@ fn ends_of_lines(alloc: Global, text: &[u8]) -> Result<Vec<usize>, AllocError> {
     Ok(ends)
 }
 
-/// The line of a place, from 1: with it the text's lines are TOML in which the place stands, and without it they aren't.
-/// What is missing has the line of what it is missing in. None in a text that is too long, or without the place.
-fn line_of(alloc: Global, text: &[u8], part: Part, key: Option<&str>) -> Result<Option<usize>, AllocError> {
-    if text.len() > LOOKED_THROUGH || !stands_in(alloc, text, part, key) {
+/// The line of a place, from 1: with it the place stands in the lines so far, and without it it doesn't. What is missing has
+/// the line of what it is missing in. None in a text that is too long, or without the place.
+fn line_of(
+    alloc: Global,
+    text: &[u8],
+    part: Part,
+    key: Option<&str>,
+) -> Result<Option<usize>, AllocError> {
+    if text.len() > LOOKED_THROUGH || !stands_in(alloc, text, part, key)? {
         return Ok(None);
     }
     let ends = ends_of_lines(alloc, text)?;
@@ -81,7 +99,7 @@ fn line_of(alloc: Global, text: &[u8], part: Part, key: Option<&str>) -> Result<
             break;
         }
         let end = ends.get(middle - 1).copied().unwrap_or(text.len());
-        if stands_in(alloc, text.get(..end).unwrap_or(text), part, key) {
+        if stands_in(alloc, text.get(..end).unwrap_or(text), part, key)? {
             with = middle;
         } else {
             without = middle;

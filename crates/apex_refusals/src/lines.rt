@@ -316,7 +316,9 @@ pub fn write_lines(
         direction,
     };
     for (index, place) in refusal.places.as_slice().iter().enumerate() {
-        if let Form::File { most, .. } = form && index >= most {
+        if let Form::File { most, .. } = form
+            && index >= most
+        {
             break;
         }
         let finding = match refusal.fault {
@@ -325,7 +327,12 @@ pub fn write_lines(
         };
         if let Some(finding) = finding {
             let owner = owner_of(document, refusal.fault, place.part);
-            if let Form::File { file, text: source, .. } = form {
+            if let Form::File {
+                file,
+                text: source,
+                ..
+            } = form
+            {
                 push_head(alloc, text, file, source, document, *place)?;
             }
             write!(text, "{owner}: {finding}")?;

@@ -47,7 +47,11 @@ fn push_not_toml(
         return Err(AllocError);
     };
     let (line, column) = line_and_column(text, span.start);
-    write!(told, "{file}:{line}:{column}: not TOML: {}", error.message())?;
+    write!(
+        told,
+        "{file}:{line}:{column}: not TOML: {}",
+        error.message()
+    )?;
     if let Some(words) = other_form(text) {
         write!(told, "; {words}")?;
     }
