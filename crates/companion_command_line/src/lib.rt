@@ -3,12 +3,12 @@
 
 mod commands;
 pub mod fault;
-pub mod given;
 mod help;
+pub mod start;
 pub mod task;
 pub mod version;
 
 pub use crate::fault::WordsFault;
-pub use crate::given::{Given, given};
+pub use crate::start::{Start, start_given};
 pub use crate::task::{Calls, Form, Task, not_text, task_of};
 pub use crate::version::{TOOLCHAIN, VERSION, version_text};

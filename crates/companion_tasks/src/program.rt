@@ -7,7 +7,7 @@ use crate::unfinished::Unfinished;
 use apex_drawings::DrawingFault;
 use apex_files::{Opener, Refusal, print, refuse};
 use apex_texts::Fault;
-use companion_command_line::{Calls, Given, Task, WordsFault, task_of, version_text};
+use companion_command_line::{Calls, Start, Task, WordsFault, task_of, version_text};
 use std::alloc::Global;
 use std::io::Write;
 use std::sync::Wait;
@@ -24,13 +24,13 @@ const REFUSED: u8 = 1;
 pub fn program<R: Threads + Wait + Sync, O: Opener, W: Write, E: Write>(
     rt: &R,
     alloc: Global,
-    given: Result<Given, WordsFault>,
+    start: Result<Start, WordsFault>,
     opener: &O,
     output: &mut W,
     errors: &mut E,
 ) -> u8 {
-    let Given { words, commit } = match given {
-        Ok(given) => given,
+    let Start { words, commit } = match start {
+        Ok(start) => start,
         Err(fault) => return misused(&fault, errors),
     };
     match task_of(alloc, words.as_slice()) {

@@ -1,13 +1,13 @@
 //! Tells people what a configuration, a trace and a run come to: a table of the ports, and each call beside its reply.
 #![tactic(auto)]
 
-use companion_command_line::given;
+use companion_command_line::start_given;
 use companion_tasks::{SystemFiles, program};
 use std::process::ExitCode;
 
 fn main(rt: HostRuntime) -> ExitCode {
     let files = SystemFiles { rt: &rt };
     let (mut output, mut errors) = (rt.stdout(), rt.stderr());
-    let given = given(&rt);
-    ExitCode::from(program(&rt, rt.alloc(), given, &files, &mut output, &mut errors))
+    let start = start_given(&rt);
+    ExitCode::from(program(&rt, rt.alloc(), start, &files, &mut output, &mut errors))
 }

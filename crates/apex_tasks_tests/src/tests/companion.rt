@@ -1,6 +1,6 @@
 //! The program `dekarino` on files that stand in for the system's.
 use super::program::FakeFiles;
-use companion_command_line::Given;
+use companion_command_line::Start;
 use companion_tasks::program;
 use std::alloc::{AllocError, Global};
 use std::process::Abort;
@@ -9,12 +9,12 @@ use std::test::Fail;
 use std::thread::Threads;
 
 /// What the program is started with, where no commit is known.
-fn given(alloc: Global, words: &[&str]) -> Result<Given, AllocError> {
+fn start_with(alloc: Global, words: &[&str]) -> Result<Start, AllocError> {
     let mut own = Vec::new(alloc);
     for word in words {
         own.push(String::from_str(alloc, word)?)?;
     }
-    Ok(Given {
+    Ok(Start {
         words: own,
         commit: None,
     })
@@ -31,8 +31,8 @@ fn tells<R: Abort + AllocGlobal + Threads + Wait + Sync>(
     let alloc: Global = rt.alloc();
     let mut written = Vec::new(alloc);
     let mut told = Vec::new(alloc);
-    let given = given(alloc, words)?;
-    let got = program(rt, alloc, Ok(given), &FakeFiles, &mut written, &mut told);
+    let start = start_with(alloc, words)?;
+    let got = program(rt, alloc, Ok(start), &FakeFiles, &mut written, &mut told);
     assert_eq!(rt; written.as_slice(), output.as_bytes(), "{words:?}");
     assert_eq!(rt; told.as_slice(), errors.as_bytes(), "{words:?}");
     assert_eq!(rt; got, status, "{words:?}");

@@ -10,7 +10,7 @@ const COMMIT: &str = "DEKARINO_COMMIT";
 
 /// What the program was started with.
 #[derive(Debug, Drop)]
-pub struct Given {
+pub struct Start {
     /// The words, the program's own name first.
     pub words: Vec<String>,
     /// The commit of the program's checkout, where that is known.
@@ -18,7 +18,7 @@ pub struct Given {
 }
 
 /// What the program was started with.
-pub fn given<R: Env + AllocGlobal>(rt: &R) -> Result<Given, WordsFault> {
+pub fn start_given<R: Env + AllocGlobal>(rt: &R) -> Result<Start, WordsFault> {
     let words = match words_given(rt) {
         Ok(words) => words,
         Err(apex_command_line::WordsFault::Usage) => return Err(not_text(rt.alloc())),
@@ -29,5 +29,5 @@ pub fn given<R: Env + AllocGlobal>(rt: &R) -> Result<Given, WordsFault> {
         Err(VarError::OutOfMemory) => return Err(WordsFault::OutOfMemory),
         Err(_) => None,
     };
-    Ok(Given { words, commit })
+    Ok(Start { words, commit })
 }
