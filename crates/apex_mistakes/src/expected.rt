@@ -1,4 +1,7 @@
 //! What has to stand where a fault of a line stands, in words.
+ghost use Rattle.std.specs.Prelude.{◌≡◌};
+ghost use Rattle.apex_mistakes.specs.Words.{expected_words};
+
 use crate::known::FaultyLine;
 use apex_texts::{Expected, SERVICES};
 use std::alloc::AllocError;
@@ -15,7 +18,9 @@ pub(crate) fn push_expected(text: &mut String, faulty: &FaultyLine<'_>) -> Resul
     }
 }
 
-fn words(expected: Expected) -> &'static str {
+fn words(expected: Expected) -> &'static str
+    ensures { result.now ≡ expected_words expected }
+{
     match expected {
         Expected::Ascii => "ASCII",
         Expected::Moment => "a moment: nanoseconds, a whole number without sign and unit",

@@ -1,4 +1,7 @@
 //! What was most likely meant where a fault of a line stands.
+ghost use Rattle.std.specs.Prelude.{Some};
+ghost use Rattle.apex_mistakes.specs.Words.{hint_words};
+
 use crate::known::FaultyLine;
 use crate::standard::{DIRECTIONS, DISCIPLINES, MODES, numbered, service_of_standard};
 use apex_nearest::nearest;
@@ -21,11 +24,13 @@ pub(crate) enum Hint<'a> {
 }
 
 impl fmt::Display for Hint<'_> {
+    ghost output = { λ hint. Some (hint_words hint) };
+
     fn fmt<W: fmt::Write>(&self, f: &mut fmt::Formatter<W>) -> fmt::Result {
         match self {
             Hint::Word(word) => write!(f, "did you mean `{word}`?"),
             Hint::Number { word, number } => write!(f, "{word} is {number}"),
-            Hint::Identifier { port, id } => write!(f, "port {port} has the identifier {id}"),
+            Hint::Identifier { port, id } => write!(f, "{port} has the identifier {id}"),
             Hint::Advice(words) => f.write_str(words),
         }
     }
@@ -77,9 +82,7 @@ fn number_hint<'a>(found: Option<(&'static str, u32)>) -> Option<Hint<'a>> {
 /// A byte order mark at the begin of a line.
 fn byte_order_mark<'a>(line: &[u8]) -> Option<Hint<'a>> {
     if line.starts_with(b"\xEF\xBB\xBF") {
-        Some(Hint::Advice(
-            "the line begins with a byte order mark: save the file without it",
-        ))
+        Some(Hint::Advice("the line begins with a byte order mark: save the file without it"))
     } else {
         None
     }
@@ -137,9 +140,7 @@ fn identifier_hint<'a>(faulty: &FaultyLine<'a>, word: &'a [u8]) -> Option<Hint<'
                 id,
             })
         }
-        None => Some(Hint::Advice(
-            "a port is called by the number that its creation answers",
-        )),
+        None => Some(Hint::Advice("a port is called by the number that its creation answers")),
     }
 }
 

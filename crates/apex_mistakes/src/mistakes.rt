@@ -32,7 +32,14 @@ pub fn script_mistakes(
     script: &[u8],
 ) -> Result<String, AllocError> {
     let faults = script_faults(alloc, script, MISTAKE_LIMIT)?;
-    mistakes(alloc, file, config, Caller::Script(partition), script, &faults)
+    mistakes(
+        alloc,
+        file,
+        config,
+        Caller::Script(partition),
+        script,
+        &faults,
+    )
 }
 
 fn mistakes(

@@ -1,4 +1,7 @@
 //! The head of a place's line: the file, the line of the text where that is known, and the path of the place.
+ghost use Rattle.std.specs.Prelude.{Some};
+ghost use Rattle.apex_refusals.specs.Paths.{path_of};
+
 use crate::lines::value_of;
 use crate::printed::Named;
 use apex_config::key::Key;
@@ -15,6 +18,8 @@ const LOOKED_THROUGH: usize = 65_536;
 struct PathOfPart(Part);
 
 impl fmt::Display for PathOfPart {
+    ghost output = { λ path. Some (path_of path.0) };
+
     fn fmt<W: fmt::Write>(&self, f: &mut fmt::Formatter<W>) -> fmt::Result {
         match self.0 {
             Part::Document => f.write_str("configuration"),
