@@ -26,5 +26,4 @@ expected_words kinds.EndOfLine = codes "the end of the line"
 abbrev pub hint_words : Hint → List ℕ
 hint_words (hints.Word word) = codes "did you mean `" ++ (word.now ++ codes "`?")
 hint_words (hints.Number word number) = word.now ++ (codes " is " ++ decimal number)
-hint_words (hints.Identifier port id) = port.now ++ (codes " has the identifier " ++ decimal id)
 hint_words (hints.Advice words) = words.now

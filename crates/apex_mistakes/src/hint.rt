@@ -15,10 +15,8 @@ use std::fmt;
 pub(crate) enum Hint<'a> {
     /// Another word.
     Word(&'a str),
-    /// The number that the standard's word has.
-    Number { word: &'static str, number: u32 },
-    /// The identifier that the port has.
-    Identifier { port: &'a str, id: u32 },
+    /// The number of the standard's word, or the identifier of the port.
+    Number { word: &'a str, number: u32 },
     /// What is to be done.
     Advice(&'static str),
 }
@@ -30,7 +28,6 @@ impl fmt::Display for Hint<'_> {
         match self {
             Hint::Word(word) => write!(f, "did you mean `{word}`?"),
             Hint::Number { word, number } => write!(f, "{word} is {number}"),
-            Hint::Identifier { port, id } => write!(f, "{port} has the identifier {id}"),
             Hint::Advice(words) => f.write_str(words),
         }
     }
@@ -135,9 +132,9 @@ fn identifier_hint<'a>(faulty: &FaultyLine<'a>, word: &'a [u8]) -> Option<Hint<'
     match faulty.config.port_named(partition, &name) {
         Some(id) => {
             let port = faulty.config.port(partition, id)?;
-            Some(Hint::Identifier {
-                port: port.name.text(),
-                id,
+            Some(Hint::Number {
+                word: port.name.text(),
+                number: id,
             })
         }
         None => Some(Hint::Advice("a port is called by the number that its creation answers")),
