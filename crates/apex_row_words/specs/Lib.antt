@@ -1,5 +1,6 @@
 pub mod CallValues
 pub mod Conditions
+pub mod Law
 pub mod Names
 pub mod Pieces
 pub mod PortValues

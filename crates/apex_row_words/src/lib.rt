@@ -4,6 +4,7 @@
 
 mod call_values;
 mod conditions;
+pub mod law;
 mod names;
 mod piece;
 mod port_values;

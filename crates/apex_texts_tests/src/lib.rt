@@ -1,4 +1,4 @@
-//! The tests of `apex_texts` and of `apex_explanations`, apart from them: a crate with tests is proved twice.
+//! The tests of the crates of texts, rows and explanations, apart from them: a crate with tests is proved twice.
 #![tactic(auto)]
 
 #[cfg(test)]

@@ -8,6 +8,7 @@ mod lines;
 mod long_trace;
 mod places;
 mod queuing;
+mod rows;
 mod sampling;
 mod scripts;
 mod tables;

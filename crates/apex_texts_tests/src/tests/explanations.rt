@@ -68,7 +68,7 @@ fn each_remark_has_its_line(rt: HostRuntime) -> Result<(), Fail> {
 8 FMS create-sampling ALT_IN 8 1 20 -> NO_ERROR id 2
 9 FMS mode 0 -> NO_ERROR
   # FMS is in IDLE from here on.
-9 FMS read 2 -> not made
+9 FMS read 2 -> not made (partition is in IDLE)
 
 after 10 calls
   line 3: moment 5 is before 7

@@ -1,7 +1,9 @@
 //! Where the faults of traces and scripts stand, and what is expected there.
 use super::texts::BASE;
 use apex_config::Config;
-use apex_line_faults::{LinePlace, find_script_fault, find_trace_fault, script_faults, trace_faults};
+use apex_line_faults::{
+    LinePlace, find_script_fault, find_trace_fault, script_faults, trace_faults,
+};
 use apex_texts::{Expected, LineFault, SERVICES};
 use std::test::Fail;
 
