@@ -5,7 +5,7 @@ use crate::json::push_object;
 use crate::json_remarks::push_ending;
 use apex_config::Config;
 use apex_explanations::explain_trace;
-use apex_ports::{Ports, Request};
+use apex_ports::{Ports, Request, Row};
 use apex_row_words::{push_words, row_name};
 use apex_texts::trace::{ANY_REQUEST, read_trace_line};
 use apex_texts::{Fault, LineFault, Service, TraceFault, next_line};
@@ -110,6 +110,15 @@ fn push_fault(
     push_object(alloc, text, &object)
 }
 
+/// What is told of a call: its line, from 1, its row and its reply.
+#[derive(Drop)]
+struct Answered<'a> {
+    number: usize,
+    line: &'a [u8],
+    row: Row,
+    reply: &'a Reply,
+}
+
 /// Serves the request of a line, and tells it with its row and its reply.
 fn push_call(
     alloc: Global,
@@ -121,49 +130,58 @@ fn push_call(
 ) -> Result<(), AllocError>
     requires { request.now.partition < length ports.old.config.partitions }
 {
-    let p = request.partition;
-    let row = ports.row(p, request.at, &request.call);
-    let mut words = String::new(alloc);
-    push_words(&mut words, ports.config(), p, &request.call, row)?;
-    let reply = ports.call(p, request.at, &request.call);
-    let mut digits = [0; HEX_LIMIT];
-    let mut object = call_line(ports.config(), number, line, request, &reply);
-    object.row = row_name(row);
-    object.words = some_text(words.as_str());
-    add_values(&mut object, &reply, &mut digits);
-    push_object(alloc, text, &object)
+    let row = ports.row(request.partition, request.at, &request.call);
+    let reply = ports.call(request.partition, request.at, &request.call);
+    let answered = Answered {
+        number,
+        line,
+        row,
+        reply: &reply,
+    };
+    push_answered(alloc, text, ports.config(), request, &answered)
 }
 
-/// The object of a call, without its row and what the reply has beside its return code.
-fn call_line<'a>(
-    config: &'a Config,
-    number: usize,
-    line: &'a [u8],
+/// The object of a call.
+fn push_answered(
+    alloc: Global,
+    text: &mut String,
+    config: &Config,
     request: &Request,
-    reply: &Reply,
-) -> CallLine<'a>
+    answered: &Answered<'_>,
+) -> Result<(), AllocError>
     requires { request.now.partition < length config.now.partitions }
 {
+    let mut words = String::new(alloc);
+    push_words(
+        &mut words,
+        config,
+        request.partition,
+        &request.call,
+        answered.row,
+    )?;
+    let mut digits = [0; HEX_LIMIT];
     let Moment(at) = request.at;
-    CallLine {
-        line: number,
+    let values = values_of(answered.reply);
+    let object = CallLine {
+        line: answered.number,
         at,
         partition: config.partition_name(request.partition).text(),
         service: Service::of(&request.call).word(),
-        text: str::from_utf8(line).ok(),
-        reply: reply_word(reply),
-        row: "",
-        words: None,
-        id: None,
-        message: None,
-        validity: None,
-        waiting: None,
-        depth: None,
-        size: None,
-        direction: None,
-        refresh: None,
-        last: None,
-    }
+        text: str::from_utf8(answered.line).ok(),
+        reply: reply_word(answered.reply),
+        row: row_name(answered.row),
+        words: some_text(words.as_str()),
+        id: values.id,
+        message: message_in(answered.reply, &mut digits),
+        validity: values.validity,
+        waiting: values.waiting,
+        depth: values.depth,
+        size: values.size,
+        direction: values.direction,
+        refresh: values.refresh,
+        last: values.last,
+    };
+    push_object(alloc, text, &object)
 }
 
 /// The word of the return code, or that the call was not made.
@@ -179,37 +197,73 @@ fn some_text(text: &str) -> Option<&str> {
     if text.is_empty() { None } else { Some(text) }
 }
 
-/// Adds what a reply has beside its return code.
-fn add_values<'a>(object: &mut CallLine<'a>, reply: &Reply, digits: &'a mut [u8; HEX_LIMIT]) {
+/// The message of a reply, in hexadecimal digits.
+fn message_in<'a>(reply: &Reply, digits: &'a mut [u8; HEX_LIMIT]) -> Option<&'a str> {
     match reply {
-        Reply::NotMade | Reply::Code(_) => {}
-        Reply::Id(id) => object.id = Some(*id),
-        Reply::Received(message) => object.message = Some(message.hex_in(digits)),
-        Reply::Read { message, validity } => {
-            object.message = Some(message.hex_in(digits));
-            object.validity = Some(validity.word());
-        }
+        Reply::Received(message) => Some(message.hex_in(digits)),
+        Reply::Read { message, .. } => Some(message.hex_in(digits)),
+        _ => None,
+    }
+}
+
+/// What a reply has beside its return code and a message.
+#[derive(Clone, Copy)]
+struct Values {
+    id: Option<u32>,
+    validity: Option<&'static str>,
+    waiting: Option<u32>,
+    depth: Option<u32>,
+    size: Option<u32>,
+    direction: Option<&'static str>,
+    refresh: Option<u64>,
+    last: Option<&'static str>,
+}
+
+const NO_VALUES: Values = Values {
+    id: None,
+    validity: None,
+    waiting: None,
+    depth: None,
+    size: None,
+    direction: None,
+    refresh: None,
+    last: None,
+};
+
+fn values_of(reply: &Reply) -> Values {
+    match reply {
+        Reply::NotMade | Reply::Code(_) | Reply::Received(_) => NO_VALUES,
+        Reply::Id(id) => Values {
+            id: Some(*id),
+            ..NO_VALUES
+        },
+        Reply::Read { validity, .. } => Values {
+            validity: Some(validity.word()),
+            ..NO_VALUES
+        },
         Reply::QueuingStatus {
             waiting,
             depth,
             size,
             direction,
-        } => {
-            object.waiting = Some(*waiting);
-            object.depth = Some(*depth);
-            object.size = Some(*size);
-            object.direction = Some(direction.word());
-        }
+        } => Values {
+            waiting: Some(*waiting),
+            depth: Some(*depth),
+            size: Some(*size),
+            direction: Some(direction.word()),
+            ..NO_VALUES
+        },
         Reply::SamplingStatus {
             refresh,
             size,
             direction,
             last,
-        } => {
-            object.refresh = Some(*refresh);
-            object.size = Some(*size);
-            object.direction = Some(direction.word());
-            object.last = Some(last.word());
-        }
+        } => Values {
+            refresh: Some(*refresh),
+            size: Some(*size),
+            direction: Some(direction.word()),
+            last: Some(last.word()),
+            ..NO_VALUES
+        },
     }
 }

@@ -10,13 +10,13 @@ mod json_remarks;
 mod json_rows;
 mod json_table;
 mod mistakes;
-pub mod program;
 mod rows;
 mod runs;
 mod tables;
+pub mod tasks;
 mod trace_text;
 pub mod unfinished;
 
-pub use crate::program::program;
+pub use crate::tasks::program;
 pub use crate::unfinished::Unfinished;
 pub use apex_files::{Opener, Refusal, SystemFiles};

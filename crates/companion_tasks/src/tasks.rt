@@ -100,14 +100,14 @@ fn perform<'a, R: Threads + Wait + Sync, O: Opener>(
         Task::Table { config, form } => table(alloc, opener, config, form),
         Task::Explain {
             config,
-            calls: Calls::Trace(trace),
+            calls,
             form,
-        } => explain_trace_in(alloc, opener, config, trace, form),
-        Task::Explain {
-            config,
-            calls: Calls::Scripts(scripts),
-            form,
-        } => explain_run(rt, alloc, opener, config, scripts.as_slice(), form),
+        } => match calls {
+            Calls::Trace(trace) => explain_trace_in(alloc, opener, config, trace, form),
+            Calls::Scripts(scripts) => {
+                explain_run(rt, alloc, opener, config, scripts.as_slice(), form)
+            }
+        },
         Task::Draw { config, trace } => drawing(alloc, opener, config, trace),
         Task::Rows { service, form } => reply_table(alloc, service, form),
         Task::Version => Ok(version_text(alloc, commit)?.into_bytes()),
