@@ -142,12 +142,12 @@ fn push_call(
 }
 
 /// The object of a call.
-fn push_answered(
+fn push_answered<'a>(
     alloc: Global,
     text: &mut String,
-    config: &Config,
+    config: &'a Config,
     request: &Request,
-    answered: &Answered<'_>,
+    answered: &Answered<'a>,
 ) -> Result<(), AllocError>
     requires { request.now.partition < length config.now.partitions }
 {
