@@ -9,7 +9,7 @@ use apex_ports::{Ports, Request, Row};
 use apex_row_words::{push_words, row_name};
 use apex_texts::trace::{ANY_REQUEST, read_trace_line};
 use apex_texts::{Fault, LineFault, Service, TraceFault, next_line};
-use apex_types::{HEX_LIMIT, Moment, Reply};
+use apex_types::{HEX_LIMIT, Message, Moment, Reply};
 use serde::Serialize;
 use std::alloc::{AllocError, Global};
 use std::str;
@@ -24,9 +24,9 @@ struct CallLine<'a> {
     text: Option<&'a str>,
     reply: &'static str,
     row: &'static str,
-    words: Option<&'a str>,
+    words: Option<String>,
     id: Option<u32>,
-    message: Option<&'a str>,
+    message: Option<String>,
     validity: Option<&'static str>,
     waiting: Option<u32>,
     depth: Option<u32>,
@@ -151,15 +151,6 @@ fn push_answered<'a>(
 ) -> Result<(), AllocError>
     requires { request.now.partition < length config.now.partitions }
 {
-    let mut words = String::new(alloc);
-    push_words(
-        &mut words,
-        config,
-        request.partition,
-        &request.call,
-        answered.row,
-    )?;
-    let mut digits = [0; HEX_LIMIT];
     let Moment(at) = request.at;
     let values = values_of(answered.reply);
     let object = CallLine {
@@ -170,9 +161,9 @@ fn push_answered<'a>(
         text: str::from_utf8(answered.line).ok(),
         reply: reply_word(answered.reply),
         row: row_name(answered.row),
-        words: some_text(words.as_str()),
+        words: words_of(alloc, config, request, answered.row)?,
         id: values.id,
-        message: message_in(answered.reply, &mut digits),
+        message: message_in(alloc, answered.reply)?,
         validity: values.validity,
         waiting: values.waiting,
         depth: values.depth,
@@ -192,18 +183,32 @@ fn reply_word(reply: &Reply) -> &'static str {
     }
 }
 
-/// A text, where it isn't empty.
-fn some_text(text: &str) -> Option<&str> {
-    if text.is_empty() { None } else { Some(text) }
+/// The words of a call's row, where it has some.
+fn words_of(
+    alloc: Global,
+    config: &Config,
+    request: &Request,
+    row: Row,
+) -> Result<Option<String>, AllocError>
+    requires { request.now.partition < length config.now.partitions }
+{
+    let mut words = String::new(alloc);
+    push_words(&mut words, config, request.partition, &request.call, row)?;
+    Ok(if words.is_empty() { None } else { Some(words) })
 }
 
 /// The message of a reply, in hexadecimal digits.
-fn message_in<'a>(reply: &Reply, digits: &'a mut [u8; HEX_LIMIT]) -> Option<&'a str> {
+fn message_in(alloc: Global, reply: &Reply) -> Result<Option<String>, AllocError> {
     match reply {
-        Reply::Received(message) => Some(message.hex_in(digits)),
-        Reply::Read { message, .. } => Some(message.hex_in(digits)),
-        _ => None,
+        Reply::Received(message) => Ok(Some(hex_text(alloc, message)?)),
+        Reply::Read { message, .. } => Ok(Some(hex_text(alloc, message)?)),
+        _ => Ok(None),
     }
+}
+
+fn hex_text(alloc: Global, message: &Message) -> Result<String, AllocError> {
+    let mut digits = [0; HEX_LIMIT];
+    String::from_str(alloc, message.hex_in(&mut digits))
 }
 
 /// What a reply has beside its return code and a message.
