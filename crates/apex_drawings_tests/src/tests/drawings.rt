@@ -31,8 +31,7 @@ fn a_chart_is_drawn(rt: HostRuntime) -> Result<(), Fail> {
 #[test]
 fn text_is_escaped(rt: HostRuntime) -> Result<(), Fail> {
     let made = escaped(rt.alloc(), "<a href=\"x\">Tom & Jörg</a>")?;
-    assert_eq!(
-        rt;
+    assert_eq!(rt;
         made.as_str(),
         "&lt;a href=&quot;x&quot;&gt;Tom &amp; Jörg&lt;/a&gt;"
     );

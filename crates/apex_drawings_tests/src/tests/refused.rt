@@ -36,8 +36,7 @@ fn one_call_more_is_refused(rt: HostRuntime) -> Result<(), Fail> {
 #[test]
 fn the_refusal_says_what_to_do(rt: HostRuntime) -> Result<(), Fail> {
     let told = format!(in rt.alloc(); "{}", DrawingFault::TooManyCalls { calls: 2001 })?;
-    assert_eq!(
-        rt;
+    assert_eq!(rt;
         told.as_str(),
         "drawing: the trace has 2001 calls, and at most 2000 are drawn: draw a part of the trace"
     );
