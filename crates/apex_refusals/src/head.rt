@@ -4,7 +4,6 @@ ghost use Rattle.apex_refusals.specs.Paths.{path_of};
 
 use crate::lines::value_of;
 use crate::printed::Named;
-use apex_config::key::Key;
 use apex_config::place::{Part, Place, Spot};
 use std::alloc::{AllocError, Global};
 use std::fmt;

@@ -1,10 +1,8 @@
 //! What was most likely meant at a place of a configuration.
 use crate::finding::{Finding, Found, Wanted};
 use apex_config::config_text::ChannelText;
-use apex_config::key::Key;
 use apex_nearest::nearest;
 use std::alloc::{AllocError, Global};
-use std::fmt;
 
 /// The keys of a configuration.
 const KEYS: [&'static str; 9] = [
