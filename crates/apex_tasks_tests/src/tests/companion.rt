@@ -58,6 +58,8 @@ fn a_faulty_trace_is_told_up_to_its_fault(rt: HostRuntime) -> Result<(), Fail> {
     let explained = "1 FMS mode 3 -> NO_ERROR
 
 20 FMS send 1 0a0 -> line 3 fault 9: message
+
+faulty.txt:3:15: message: \"0a0\"; expected a message of at most 1,024 bytes: two hexadecimal digits for each, or `-` for none; the number of digits is odd
 ";
     let words = ["dekarino", "explain", "base.toml", "faulty.txt"];
     tells(&rt, &words, 1, explained, "trace line 3 fault 9: message\n")
