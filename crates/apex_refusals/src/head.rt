@@ -64,8 +64,11 @@ fn stands_in(
         let mut begin = Vec::new(alloc);
         begin.extend_from_slice(text)?;
         begin.extend_from_slice(ending)?;
-        if let Ok(table) = toml::table_from_slice(alloc, begin.as_slice()) {
-            return Ok(stands(&Value::Table(table), part, key));
+        match toml::table_from_slice(alloc, begin.as_slice()) {
+            Ok(table) => return Ok(stands(&Value::Table(table), part, key)),
+            // An error without a span is want of memory.
+            Err(error) if error.span().is_none() => return Err(AllocError),
+            Err(_) => {}
         }
     }
     Ok(false)
