@@ -57,11 +57,13 @@ is_built() {
         archive "${program#"$root/"}" 2> /dev/null | cmp -s - "$record/archive"
 }
 
-# record_build FILE: records that the program was built from what the archive in the file has, if that is still there.
+# record_build FILE: records that the program was built from what the archive in the file has, if that is still there,
+# and the line of the toolchain.
 record_build() {
     mkdir -p "$record" && archive "${program#"$root/"}" > "$record/archive.$$" &&
         archive | cmp -s - "$1" && cp "$toolchain/WHAT" "$record/WHAT.$$" &&
-        mv -f "$record/WHAT.$$" "$record/WHAT" && mv -f "$record/archive.$$" "$record/archive" && return
+        "$toolchain/bin/rt" version > "$record/toolchain" && mv -f "$record/WHAT.$$" "$record/WHAT" &&
+        mv -f "$record/archive.$$" "$record/archive" && return
     rm -f "$record/WHAT.$$" "$record/archive.$$"
     return 1
 }

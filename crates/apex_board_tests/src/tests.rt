@@ -1,6 +1,7 @@
 //! Refused memory, boards and ports of modules at the limits, long histories and lists, and observers. The worked
 //! examples of all services are replays, and stand with the texts.
 mod clears;
+mod closed;
 mod examples;
 mod last_calls;
 mod limits;

@@ -5,6 +5,7 @@ ghost use Rattle.apex_config.specs.Meaning.{IsConfigRead};
 
 mod counts;
 mod large;
+mod largest;
 mod lines;
 mod places;
 mod texts;

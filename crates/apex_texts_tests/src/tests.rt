@@ -4,6 +4,8 @@ mod clears;
 mod creation;
 mod explanations;
 mod interference;
+mod largest;
+mod largest_faults;
 mod lines;
 mod long_trace;
 mod places;

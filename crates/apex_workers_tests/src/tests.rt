@@ -11,4 +11,5 @@ mod rings;
 mod runs;
 mod steps;
 mod texts;
+mod threads;
 mod turns;

@@ -1,12 +1,14 @@
 -- The version of the program, in words.
-use Rattle.std.specs.Prelude.{ℕ, List, [], ◌++◌, codes, Option, Some, None}
-use Rattle.std.specs.Borrow.{Bor}
+use Rattle.std.specs.Prelude.{ℕ, List, [], ◌++◌, codes, string_bytes, String, Option, Some, None}
+use Rattle.std.specs.declared.alloc.Global.{Global}
+use Rattle.companion_command_line.specs.declared.start.Origin.{Origin}
 
--- the line of the commit, where it is known
-abbrev pub commit_line : Option (Bor (List ℕ)) → List ℕ
-commit_line None = []
-commit_line (Some commit) = codes "commit " ++ commit.now ++ codes "\n"
+-- a line of these words and what is known, where it is known
+abbrev pub known_line : List ℕ → Option (String Global) → List ℕ
+known_line words None = []
+known_line words (Some known) = words ++ string_bytes known ++ codes "\n"
 
 -- the version, the toolchain that proved it, and the commit
-abbrev pub version_text : Option (Bor (List ℕ)) → List ℕ
-version_text commit = codes "dekarino 0.2.0\nproved by rattle-kit-13f logic dac8208d650f15bf\n" ++ commit_line commit
+abbrev pub version_text : Origin → List ℕ
+version_text origin =
+    codes "dekarino 0.2.0\n" ++ known_line (codes "proved by ") origin.toolchain ++ known_line (codes "commit ") origin.commit

@@ -11,13 +11,19 @@ pub(crate) const TRACE: &str = "TRACE";
 
 pub(crate) const SERVICE: &str = "NAME";
 
+pub(crate) const LOG: &str = "LOG";
+
+pub(crate) const FIRST: &str = "first";
+
 pub(crate) const JSON: &str = "json";
 
 /// The command of the whole program.
 pub(crate) fn program<'a>(alloc: Global) -> Result<Command<'a>, AllocError> {
     Ok(
         Command::new(alloc, "dekarino")
-            .about("Tells people what a configuration, a trace and the reply table come to")
+            .about(
+                "Tells people what a configuration, a trace, a recorded log and the reply table come to",
+            )
             .after_help(help::PROGRAM)
             .version(crate::VERSION)
             .subcommand_required(true)
@@ -25,6 +31,7 @@ pub(crate) fn program<'a>(alloc: Global) -> Result<Command<'a>, AllocError> {
             .subcommand(table(alloc)?)?
             .subcommand(explain(alloc)?)?
             .subcommand(draw(alloc)?)?
+            .subcommand(judge(alloc)?)?
             .subcommand(rows(alloc)?)?,
     )
 }
@@ -73,6 +80,24 @@ fn draw<'a>(alloc: Global) -> Result<Command<'a>, AllocError> {
         .after_help(help::DRAW)
         .arg(config(alloc))?
         .arg(Arg::new(alloc, TRACE).help("The file of a trace"))
+}
+
+fn judge<'a>(alloc: Global) -> Result<Command<'a>, AllocError> {
+    let first = Arg::new(alloc, FIRST)
+        .long(FIRST)
+        .action(ArgAction::SetTrue)
+        .help(help::FIRST);
+    Command::new(alloc, "judge")
+        .about("Tells where the replies of a recorded log depart from the standard")
+        .after_help(help::JUDGE)
+        .arg(config(alloc))?
+        .arg(
+            Arg::new(alloc, LOG)
+                .required(true)
+                .help("The file of a log"),
+        )?
+        .arg(first)?
+        .arg(json(alloc))
 }
 
 fn rows<'a>(alloc: Global) -> Result<Command<'a>, AllocError> {

@@ -8,8 +8,8 @@ Example:
   partition DSP
     1 NAV_IN queuing destination NAV size 4 depth 2 from FMS.NAV_OUT
 
-The status is 0 where all was done, 1 where a text was refused, 2 where the words are not those of a command, and 3
-where memory, a file or the output was wanting.";
+The status is 0 where all was done, 1 where a text was refused, 2 where the words are not those of a command, 3 where
+memory, a file or the output was wanting, and 4 where a judged log departs from the standard.";
 
 pub(crate) const TABLE: &str = "\
 A line for each partition, and beneath it one for each of its ports, by its identifier: the name, the kind, the
@@ -47,6 +47,20 @@ that showed it, crosses at refused calls, and what waits in the end. At most 2,0
 
 Example:
   $ ./dekarino draw examples/readme/config.toml examples/readme/trace.txt > chart.svg";
+
+pub(crate) const JUDGE: &str = "\
+A log is a trace whose lines have their reply behind an arrow, as `explain` writes it. Each reply that is not the
+standard's has a line: the call, what was logged, what the standard has, and the row of the reply table that gives it. A
+call is judged after what the log itself shows to have happened before it, so that a departure has no consequences. The
+last line counts. The status is 4 where a reply departs.
+
+Example:
+  $ ./dekarino judge examples/recorded/config.toml examples/recorded/log.txt
+  examples/recorded/log.txt:6: 50 DSP receive 1: logged NO_ERROR message 0c0d, the standard has NO_ERROR message 0a0b
+  examples/recorded/log.txt:8: 70 FMS send 1 0102030405: logged NO_ERROR, the standard has INVALID_CONFIG (message of 5 bytes, channel NAV takes 4)
+  8 calls, 2 departures";
+
+pub(crate) const FIRST: &str = "Tells the first departure alone, and how many there are";
 
 pub(crate) const ROWS: &str = "\
 Each service with its rows in order: the first whose condition holds gives the reply, and stands behind it in an

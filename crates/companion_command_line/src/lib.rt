@@ -9,6 +9,6 @@ pub mod task;
 pub mod version;
 
 pub use crate::fault::WordsFault;
-pub use crate::start::{Start, start_given};
+pub use crate::start::{Origin, Start, start_given};
 pub use crate::task::{Calls, Form, Task, not_text, task_of};
-pub use crate::version::{TOOLCHAIN, VERSION, version_text};
+pub use crate::version::{VERSION, version_text};

@@ -5,6 +5,9 @@ use apex_command_line::words_given;
 use std::env;
 use std::env::{Env, VarError};
 
+/// The variable of the environment by which the script of the program tells the toolchain that proved it.
+const TOOLCHAIN: &str = "DEKARINO_TOOLCHAIN";
+
 /// The variable of the environment by which the script of the program tells the commit of its checkout.
 const COMMIT: &str = "DEKARINO_COMMIT";
 
@@ -13,7 +16,16 @@ const COMMIT: &str = "DEKARINO_COMMIT";
 pub struct Start {
     /// The words, the program's own name first.
     pub words: Vec<String>,
-    /// The commit of the program's checkout, where that is known.
+    /// Where the program comes from.
+    pub origin: Origin,
+}
+
+/// Where the program comes from, as far as that is known.
+#[derive(Debug, Drop)]
+pub struct Origin {
+    /// The line of the toolchain that proved the program, as `rt version` prints it.
+    pub toolchain: Option<String>,
+    /// The commit of the program's checkout.
     pub commit: Option<String>,
 }
 
@@ -24,10 +36,18 @@ pub fn start_given<R: Env + AllocGlobal>(rt: &R) -> Result<Start, WordsFault> {
         Err(apex_command_line::WordsFault::Usage) => return Err(not_text(rt.alloc())),
         Err(apex_command_line::WordsFault::OutOfMemory) => return Err(WordsFault::OutOfMemory),
     };
-    let commit = match env::var(rt, COMMIT) {
-        Ok(commit) => Some(commit),
-        Err(VarError::OutOfMemory) => return Err(WordsFault::OutOfMemory),
-        Err(_) => None,
+    let origin = Origin {
+        toolchain: value_given(rt, TOOLCHAIN)?,
+        commit: value_given(rt, COMMIT)?,
     };
-    Ok(Start { words, commit })
+    Ok(Start { words, origin })
+}
+
+/// The value of a variable of the environment, where it has one that is text.
+fn value_given<R: Env + AllocGlobal>(rt: &R, name: &str) -> Result<Option<String>, WordsFault> {
+    match env::var(rt, name) {
+        Ok(value) => Ok(Some(value)),
+        Err(VarError::OutOfMemory) => Err(WordsFault::OutOfMemory),
+        Err(_) => Ok(None),
+    }
 }

@@ -25,6 +25,13 @@ pub enum Task<'a> {
         config: &'a str,
         trace: Option<&'a str>,
     },
+    /// Tells where the replies of a recorded log depart from the standard, or the first of them alone.
+    Judge {
+        config: &'a str,
+        log: &'a str,
+        first: bool,
+        form: Form,
+    },
     /// Tells the reply table: the rows of a service, or of all.
     Rows {
         service: Option<&'a str>,
@@ -92,6 +99,12 @@ fn task_in<'a>(alloc: Global, matches: &ArgMatches<'a>) -> Result<Task<'a>, Word
             config: config_in(alloc, given)?,
             trace: given.get_str(commands::TRACE),
         }),
+        Some(("judge", given)) => Ok(Task::Judge {
+            config: config_in(alloc, given)?,
+            log: log_in(alloc, given)?,
+            first: given.get_flag(commands::FIRST),
+            form: form_in(given),
+        }),
         Some(("rows", given)) => Ok(Task::Rows {
             service: given.get_str(commands::SERVICE),
             form: form_in(given),
@@ -104,6 +117,13 @@ fn config_in<'a>(alloc: Global, given: &ArgMatches<'a>) -> Result<&'a str, Words
     match given.get_str(commands::CONFIG) {
         Some(config) => Ok(config),
         None => Err(fault_of(alloc, commands::program(alloc), "CONFIG is missing")),
+    }
+}
+
+fn log_in<'a>(alloc: Global, given: &ArgMatches<'a>) -> Result<&'a str, WordsFault> {
+    match given.get_str(commands::LOG) {
+        Some(log) => Ok(log),
+        None => Err(fault_of(alloc, commands::program(alloc), "LOG is missing")),
     }
 }
 

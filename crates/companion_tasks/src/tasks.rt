@@ -1,13 +1,15 @@
 //! From the words of the command line to a status.
 use crate::drawings::drawing;
 use crate::explanations::{explain_run, explain_trace_in};
+use crate::judgements::judgement;
 use crate::rows::reply_table;
 use crate::tables::table;
 use crate::unfinished::Unfinished;
 use apex_drawings::DrawingFault;
 use apex_files::{Opener, Refusal, print, refuse};
+use apex_logs::FaultyLine;
 use apex_texts::Fault;
-use companion_command_line::{Calls, Start, Task, WordsFault, task_of, version_text};
+use companion_command_line::{Calls, Origin, Start, Task, WordsFault, task_of, version_text};
 use std::alloc::Global;
 use std::io::Write;
 use std::sync::Wait;
@@ -19,6 +21,9 @@ const MISUSED: u8 = 2;
 /// The status of a text that is refused.
 const REFUSED: u8 = 1;
 
+/// The status of a log whose replies depart from the standard.
+const DEPARTS: u8 = 4;
+
 /// Does what the words ask for, and answers the status. A refusal writes a line to `errors`, and words that aren't those
 /// of a command what is wrong, with the usage. A run waits for its workers.
 pub fn program<R: Threads + Wait + Sync, O: Opener, W: Write, E: Write>(
@@ -29,15 +34,12 @@ pub fn program<R: Threads + Wait + Sync, O: Opener, W: Write, E: Write>(
     output: &mut W,
     errors: &mut E,
 ) -> u8 {
-    let Start { words, commit } = match start {
+    let Start { words, origin } = match start {
         Ok(start) => start,
         Err(fault) => return misused(&fault, errors),
     };
     match task_of(alloc, words.as_slice()) {
-        Ok(task) => {
-            let commit = commit.as_ref().map(String::as_str);
-            finish(perform(rt, alloc, task, commit, opener), output, errors)
-        }
+        Ok(task) => finish(perform(rt, alloc, task, &origin, opener), output, errors),
         Err(fault) => misused(&fault, errors),
     }
 }
@@ -59,15 +61,17 @@ fn finish<W: Write, E: Write>(
     output: &mut W,
     errors: &mut E,
 ) -> u8 {
-    let (text, refusal) = match done {
-        Ok(text) => (text, None),
-        Err(Unfinished::Told { text, refusal }) => (text, Some(refusal)),
+    let (text, status, refusal) = match done {
+        Ok(text) => (text, 0, None),
+        Err(Unfinished::Departs { text }) => (text, DEPARTS, None),
+        Err(Unfinished::Told { text, refusal }) => (text, REFUSED, Some(refusal)),
         Err(Unfinished::Refused(refusal)) => return refuse(refusal, errors),
         Err(Unfinished::NoService(name)) => return no_service(name, errors),
         Err(Unfinished::TooManyCalls { calls }) => return too_many_calls(calls, errors),
+        Err(Unfinished::FaultyLog(faulty)) => return faulty_log(faulty, errors),
     };
     match (print(output, text.as_slice()), refusal) {
-        (Ok(()), None) => 0,
+        (Ok(()), None) => status,
         (Ok(()), Some(refusal)) => refuse(refusal, errors),
         (Err(refusal), _) => refuse(refusal, errors),
     }
@@ -88,12 +92,18 @@ fn too_many_calls<E: Write>(calls: usize, errors: &mut E) -> u8 {
     REFUSED
 }
 
+/// Says which line of a log is faulty, and answers the status.
+fn faulty_log<E: Write>(faulty: FaultyLine, errors: &mut E) -> u8 {
+    let _ = writeln!(errors, "log {faulty}");
+    REFUSED
+}
+
 /// What the task tells.
 fn perform<'a, R: Threads + Wait + Sync, O: Opener>(
     rt: &R,
     alloc: Global,
     task: Task<'a>,
-    commit: Option<&str>,
+    origin: &Origin,
     opener: &O,
 ) -> Result<Vec<u8>, Unfinished<'a>> {
     match task {
@@ -109,8 +119,14 @@ fn perform<'a, R: Threads + Wait + Sync, O: Opener>(
             }
         },
         Task::Draw { config, trace } => drawing(alloc, opener, config, trace),
+        Task::Judge {
+            config,
+            log,
+            first,
+            form,
+        } => judgement(alloc, opener, config, log, first, form),
         Task::Rows { service, form } => reply_table(alloc, service, form),
-        Task::Version => Ok(version_text(alloc, commit)?.into_bytes()),
+        Task::Version => Ok(version_text(alloc, origin)?.into_bytes()),
         Task::Help(text) => Ok(text.into_bytes()),
     }
 }

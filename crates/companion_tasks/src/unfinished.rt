@@ -1,5 +1,6 @@
 //! Why a task isn't done.
 use apex_files::Refusal;
+use apex_logs::{FaultyLine, LogError};
 use apex_texts::Fault;
 use std::alloc::AllocError;
 
@@ -15,6 +16,25 @@ pub enum Unfinished<'a> {
     NoService(&'a str),
     /// The trace has so many calls, more than are drawn.
     TooManyCalls { calls: usize },
+    /// The log has a faulty line.
+    FaultyLog(FaultyLine),
+    /// This is told of a log, whose replies depart from the standard.
+    Departs { text: Vec<u8> },
+}
+
+impl<'a> From<FaultyLine> for Unfinished<'a> {
+    fn from(faulty: FaultyLine) -> Unfinished<'a> {
+        Unfinished::FaultyLog(faulty)
+    }
+}
+
+impl<'a> From<LogError> for Unfinished<'a> {
+    fn from(error: LogError) -> Unfinished<'a> {
+        match error {
+            LogError::Line(faulty) => Unfinished::from(faulty),
+            LogError::OutOfMemory => Unfinished::from(Fault::Memory),
+        }
+    }
 }
 
 impl<'a> From<Refusal<'a>> for Unfinished<'a> {

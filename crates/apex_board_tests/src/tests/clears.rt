@@ -55,6 +55,31 @@ fn clear_takes_whatever_waits(rt: HostRuntime) -> Result<(), Fail> {
     taken
 }
 
+// Nothing waits, so nothing is taken or told as cleared, before the first message and after it.
+fn takes_nothing<A: Allocator, R: Abort + Wait>(rt: &R, board: &mut Board<A>) -> Result<(), Fail> {
+    answers(rt, board, &queuing_ports()?)?;
+    answers(rt, board, &[(DSP, 5, clear(1), NO_ERROR)])?;
+    has_taken(rt, board, &[]);
+    let rows = [
+        (FMS, 6, send(1, "01")?, NO_ERROR),
+        (DSP, 7, receive(1), received("01")?),
+        (DSP, 8, clear(1), NO_ERROR),
+    ];
+    answers(rt, board, &rows)?;
+    has_taken(rt, board, &[(&[1], false)]);
+    assert!(rt; NAV < board.config().channels());
+    assert_eq!(rt; board.ports().cleared_count(NAV), 0);
+    Ok(())
+}
+
+#[test]
+fn clear_of_an_empty_queue(rt: HostRuntime) -> Result<(), Fail> {
+    let mut board = board_of(&rt, BASE)?;
+    let taken = takes_nothing(&rt, &mut board);
+    board.close(&rt);
+    taken
+}
+
 fn clears_without_memory<A: Allocator, B: Allocator, R: Abort + Wait>(
     rt: &R,
     switch: &Switch<B>,

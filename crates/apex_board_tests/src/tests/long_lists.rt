@@ -1,10 +1,10 @@
 //! Lists of more than 200,000 requests, with room for all of them and without.
-use crate::tests::examples::{Row, entries, run};
+use crate::tests::examples::{Row, run};
 use crate::tests::last_calls::last_rows;
 use crate::tests::limits::{config_of, records_are_whole};
 use crate::tests::module::{Module, creations};
 use crate::tests::rounds::{ROUNDS, round_rows};
-use apex_board::{Board, Request};
+use apex_board::{Board, Entry, Request};
 use apex_types::Moment;
 use refusing::Switch;
 use std::alloc::{AllocError, Allocator, Global};
@@ -34,6 +34,15 @@ fn module_requests(alloc: Global, module: Module) -> Result<Vec<Request>, Fail> 
     Ok(requests)
 }
 
+// Each entry has the partition, the moment and the call of its request.
+fn are_requested(rt: &impl Abort, log: &[Entry], requests: &[Request]) {
+    assert_eq!(rt; log.len(), requests.len());
+    for (entry, request) in log.iter().zip(requests) {
+        assert!(rt; entry.partition == request.partition && entry.at == request.at);
+        assert!(rt; entry.call == request.call);
+    }
+}
+
 fn answers_list<A: Allocator, R: Abort + Wait>(
     rt: &R,
     alloc: Global,
@@ -42,7 +51,7 @@ fn answers_list<A: Allocator, R: Abort + Wait>(
     module: Module,
 ) -> Result<(), Fail> {
     run(rt, board, requests)?;
-    assert_eq!(rt; entries(board), requests.len());
+    are_requested(rt, board.log(), requests);
     records_are_whole(rt, alloc, board, module)
 }
 

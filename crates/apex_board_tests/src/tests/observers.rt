@@ -2,15 +2,18 @@
 ghost use Rattle.std.specs.Prelude.{◌≡◌, map};
 ghost use Rattle.apex_observers.specs.Channels.{AreObservers, books_of};
 
-use crate::tests::examples::{NO_ERROR, Row, answer, ask, create_sampling, write};
+use crate::tests::examples::{
+    NO_ERROR, Row, answer, answers, ask, create_sampling, queuing_ports, read, receive, received,
+    requests_of, run, send, write,
+};
 use crate::tests::refused_memory::config_of;
-use crate::tests::texts::AIR;
+use crate::tests::texts::{AIR, DSP, FMS};
 use apex_board::Board;
 use apex_observers::{Observer, ObserverFault, Sampled};
 use apex_types::Validity::{Invalid, Valid};
-use apex_types::{Message, Moment, Reply, Validity};
+use apex_types::{Message, Moment, Reply, ReturnCode, Validity};
 use refusing::Switch;
-use std::alloc::Allocator;
+use std::alloc::{Allocator, Global};
 use std::process::Abort;
 use std::sync::Wait;
 use std::test::Fail;
@@ -93,6 +96,49 @@ fn observer_learns_receipts_in_turn(rt: HostRuntime) -> Result<(), Fail> {
     shown?;
     shows(&rt, &mut observers, 9, 50, &Sampled::Gone);
     Ok(())
+}
+
+// Calls that publish nothing: writes that are refused, and calls of other services.
+fn other_calls() -> Result<[Row; 8], Fail> {
+    let [fms_port, dsp_port, ..] = queuing_ports()?;
+    let invalid_param = Reply::Code(ReturnCode::InvalidParam);
+    let invalid_config = Reply::Code(ReturnCode::InvalidConfig);
+    let invalid_mode = Reply::Code(ReturnCode::InvalidMode);
+    Ok([
+        fms_port,
+        dsp_port,
+        (AIR, 10, write(1, "-")?, invalid_param.copy()),
+        (AIR, 11, write(1, "0102030405")?, invalid_config),
+        (AIR, 12, write(2, "01")?, invalid_param),
+        (AIR, 13, read(1), invalid_mode),
+        (FMS, 14, send(1, "01")?, NO_ERROR),
+        (DSP, 15, receive(1), received("01")?),
+    ])
+}
+
+// The calls are made one by one, and after a write as a list.
+fn shows_what_it_showed<A: Allocator, R: Abort + Wait>(
+    rt: &R,
+    alloc: Global,
+    board: &mut Board<A>,
+    observers: &mut [Observer<A>],
+) -> Result<(), Fail> {
+    let calls = other_calls()?;
+    answer(rt, board, &creation()?)?;
+    answers(rt, board, &calls)?;
+    shows(rt, observers, 20, 50, &Sampled::Empty);
+    answer(rt, board, &writing(100, "00ff")?)?;
+    run(rt, board, &requests_of(&calls, alloc)?)?;
+    shows(rt, observers, 150, 50, &sample("00ff", 100, Valid)?);
+    Ok(())
+}
+
+#[test]
+fn calls_that_publish_nothing(rt: HostRuntime) -> Result<(), Fail> {
+    let (mut board, mut observers) = Board::with_observers(&rt, rt.alloc(), config_of(&rt)?)?;
+    let shown = shows_what_it_showed(&rt, rt.alloc(), &mut board, &mut observers);
+    board.close(&rt);
+    shown
 }
 
 fn hundred_writes<A: Allocator, B: Allocator, R: Abort + Wait>(

@@ -114,7 +114,7 @@ fn numbered_port(alloc: Global, number: u32) -> Result<String, Fail>
 }
 
 /// The text of 64 channels and of 32 partitions with 32 ports each.
-fn with_greatest_counts(alloc: Global) -> Result<String, Fail> {
+pub(crate) fn with_greatest_counts(alloc: Global) -> Result<String, Fail> {
     let mut text = String::new(alloc);
     for number in 0..64 {
         let kind = if number < 32 {

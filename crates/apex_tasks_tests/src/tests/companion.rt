@@ -1,6 +1,6 @@
 //! The program `dekarino` on files that stand in for the system's.
 use super::program::FakeFiles;
-use companion_command_line::Start;
+use companion_command_line::{Origin, Start};
 use companion_tasks::program;
 use std::alloc::{AllocError, Global};
 use std::process::Abort;
@@ -8,7 +8,7 @@ use std::sync::Wait;
 use std::test::Fail;
 use std::thread::Threads;
 
-/// What the program is started with, where no commit is known.
+/// What the program is started with, where nothing is known of where it comes from.
 fn start_with(alloc: Global, words: &[&str]) -> Result<Start, AllocError> {
     let mut own = Vec::new(alloc);
     for word in words {
@@ -16,7 +16,10 @@ fn start_with(alloc: Global, words: &[&str]) -> Result<Start, AllocError> {
     }
     Ok(Start {
         words: own,
-        commit: None,
+        origin: Origin {
+            toolchain: None,
+            commit: None,
+        },
     })
 }
 

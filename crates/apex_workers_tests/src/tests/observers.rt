@@ -179,3 +179,24 @@ fn observers_show_the_last_samples_until_the_board_is_closed(rt: HostRuntime) ->
     assert_eq!(rt; after, [Sampled::Gone, Sampled::Gone]);
     Ok(())
 }
+
+// One channel was never created, and what is written to the other is refused.
+#[test]
+fn observers_of_a_run_that_publishes_nothing(rt: HostRuntime) -> Result<(), Fail> {
+    let alloc = rt.alloc();
+    let config = config_of(&rt, TWO_SAMPLING)?;
+    let calls = [create_sampling("SPD_OUT")?, write(1, "-")?, write(3, "03")?];
+    let scripts = [script_of(alloc, &calls)?, script_of(alloc, &[])?];
+    let finished = run(&rt, alloc, &config, &scripts, &OpenGate)?;
+    let Finished {
+        board,
+        replies: _,
+        mut observers,
+    } = finished;
+    let entries = board.log().len();
+    let shown = shown_by(&rt, observers.as_mut_slice());
+    board.close(&rt);
+    assert_eq!(rt; entries, 3);
+    assert_eq!(rt; shown, [Sampled::Empty, Sampled::Empty]);
+    Ok(())
+}

@@ -25,6 +25,11 @@ struct Ring {
     period: u32,
 }
 
+// The first call is made at the largest moment, and each at the one before.
+fn moment_of(n: u32) -> Moment {
+    Moment(u64::MAX - u64::from(n))
+}
+
 // The message of a partition's call: the numbers of both.
 fn message_of(partition: usize, n: u32) -> Result<Message, Fail> {
     let [_, _, high, low] = n.to_be_bytes();
@@ -68,7 +73,7 @@ impl Ring {
         for p in 0..self.partitions {
             let mut calls = Vec::with_capacity(alloc, self.calls as usize)?;
             for n in 0..self.calls {
-                calls.push((Moment(u64::from(n)), self.call_of(p, n)?))?;
+                calls.push((moment_of(n), self.call_of(p, n)?))?;
             }
             scripts.push(Script { calls })?;
         }
@@ -104,7 +109,7 @@ impl Model {
         *made = n.wrapping_add(1);
         Ok(Entry {
             partition: p,
-            at: Moment(u64::from(n)),
+            at: moment_of(n),
             call: self.ring.call_of(p, n)?,
             reply: self.reply_to(p, n)?,
         })

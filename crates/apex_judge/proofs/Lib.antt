@@ -1,0 +1,8 @@
+pub mod ChannelSteps
+pub mod Lookups
+pub mod Results
+pub mod PartitionSteps
+pub mod DepartureSteps
+pub mod WaitingLaws
+pub mod ReplyTests
+pub mod JudgedLogs

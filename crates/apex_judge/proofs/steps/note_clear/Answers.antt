@@ -1,0 +1,19 @@
+use Rattle.std.proofs.Common.{◌<◌, length, get_or, sym, ◌∙◌, arith}
+use Rattle.std.proofs.lemmas.Option.{slice_get-get_or}
+use Rattle.apex_judge.proofs.ChannelSteps.{all_stay, clear_elsewhere, clear_refused, cleared_notes}
+use Rattle.apex_judge.proofs.steps.note_clear.Goals as goal
+
+pub returns-in_default-clause-noted : goal.returns-in_default-clause-noted
+returns-in_default-clause-noted g c at log each = all_stay _ _ _ _ each (λ d. clear_elsewhere _ d _ at _ _ (c.in_default.ensures.channel d))
+
+pub returns-then-not-is_no_error-clause-noted : goal.returns-then-not-is_no_error-clause-noted
+returns-then-not-is_no_error-clause-noted g c at log each = all_stay _ _ _ _ each (λ d. clear_refused _ d _ at _ _ (sym c.is_no_error.ensures ∙ c.if-not-is_no_error.true))
+
+pub returns-clause-noted : goal.returns-clause-noted
+returns-clause-noted g c at log each =
+    let linked = c.in-Some.ensures.linked in
+    let inside : c.in-Some.c < length c.args.channels.now = omega (arith, c.requires, linked) in
+    let here = slice_get-get_or c.args.channels.now c.in-Some.c c.index-channels-c.result inside in
+    let old = get_or c.args.channels.now c.in-Some.c c.index-channels-c.result in
+    cleared_notes _ _ at _ _ _ c.in-Some.c old _ here log each c.in-Some.ensures.channel (sym c.is_no_error.ensures ∙ c.if-not-is_no_error.false)
+    c.clear.ensures.waiting c.clear.ensures.sample

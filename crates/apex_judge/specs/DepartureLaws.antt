@@ -1,0 +1,39 @@
+-- What departures say of a log.
+use Rattle.std.specs.Prelude.{ℕ, ◌≡◌, ◌≢◌, ◌<◌, List, [], ◌∷◌, length, take, slice_get, Some}
+use Rattle.apex_config.specs.Configuration.{Configuration, IsConfiguration}
+use Rattle.apex_ports.specs.declared.history.Entry.{Entry}
+use Rattle.apex_ports.specs.Channels.{waiting_on}
+use Rattle.apex_ports.specs.History.{History}
+use Rattle.apex_ports.specs.Lawful.{IsLawful}
+use Rattle.apex_ports.specs.ReplyTable.{reply_to}
+use Rattle.apex_ports.specs.Sound.{IsSound}
+use Rattle.apex_judge.specs.declared.departure.Departure.{Departure}
+use Rattle.apex_judge.specs.Departures.{departures_of}
+use Rattle.apex_judge.specs.Waiting.{waiting_shown}
+
+-- a lawful log shows what waits
+abbrev pub ShowsWhatWaits : Type 0
+ShowsWhatWaits = (config : Configuration) (log : History) (c : ℕ) → IsSound config log → waiting_shown config c log ≡ waiting_on config c log
+
+-- each entry has a partition of the configuration
+abbrev pub HasPartitions : Configuration → History → Type 0
+HasPartitions config log = (k : ℕ) (entry : Entry) → slice_get log k ≡ Some entry → entry.partition < length config.partitions
+
+-- a log of the configuration's partitions is lawful exactly where it has no departure
+pub record IsJudged (config : Configuration) (log : History) : Type 0 where
+  pub none : departures_of config log ≡ [] → IsLawful config log
+  pub lawful : IsLawful config log → departures_of config log ≡ []
+
+abbrev pub NoDepartureIsLawful : Type 0
+NoDepartureIsLawful = (config : Configuration) (log : History) → IsConfiguration config → HasPartitions config log → IsJudged config log
+
+-- the first entry whose reply isn't the table's, after lawful entries
+pub record IsFirst (config : Configuration) (log : History) (departure : Departure) (entry : Entry) : Type 0 where
+  pub here : slice_get log departure.place ≡ Some entry
+  pub lawful : IsLawful config (take departure.place log)
+  pub table : departure.expected.reply ≡ reply_to config (take departure.place log) entry.partition entry.at entry.call
+  pub differs : entry.reply ≢ departure.expected.reply
+
+abbrev pub FirstDeparture : Type 0
+FirstDeparture = (config : Configuration) (log : History) (first : Departure) (rest : List Departure) → IsConfiguration config → HasPartitions config log
+    → departures_of config log ≡ first ∷ rest → (entry : Entry) × IsFirst config log first entry

@@ -1,0 +1,37 @@
+-- Where a log departs from the standard: every entry is judged after the entries before it, as they were logged.
+use Rattle.std.specs.Prelude.{ℕ, if◌then◌else◌, List, [], ◌∷◌, ◌++◌, length, Option, Some, None}
+use Rattle.apex_config.specs.Configuration.{Configuration}
+use Rattle.apex_ports.specs.declared.history.Entry.{Entry}
+use Rattle.apex_ports.specs.History.{History}
+use Rattle.apex_judge.specs.declared.departure.Departure.{Departure}
+use Rattle.apex_judge.specs.declared.departure.Expected.{Expected}
+use Rattle.apex_judge.specs.Replies.{agrees}
+use Rattle.apex_judge.specs.Shown.{row_shown, reply_shown}
+
+-- what the standard has for the call of an entry
+abbrev pub expected_of : Configuration → History → Entry → Expected
+expected_of config before entry = record {
+  row = row_shown config before entry.partition entry.at entry.call;
+  reply = reply_shown config before entry.partition entry.at entry.call;
+}
+
+-- what the standard has in place of the logged reply, where that is another
+abbrev pub instead_of : Configuration → History → Entry → Option Expected
+instead_of config before entry =
+    if agrees (reply_shown config before entry.partition entry.at entry.call) entry.reply then None
+    else Some (expected_of config before entry)
+
+-- the departure of the entry at a place, if it is one
+abbrev pub departure_at : ℕ → Option Expected → List Departure
+departure_at place None = []
+departure_at place (Some expected) = record { place = place; expected = expected } ∷ []
+
+-- the departures of entries that follow a log
+abbrev pub departures_after : Configuration → History → List Entry → List Departure
+departures_after config before [] = []
+departures_after config before (entry ∷ rest) =
+    departure_at (length before) (instead_of config before entry) ++ departures_after config (before ++ entry ∷ []) rest
+
+-- the departures of a log, in order
+abbrev pub departures_of : Configuration → History → List Departure
+departures_of config log = departures_after config [] log

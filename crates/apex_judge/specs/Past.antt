@@ -1,0 +1,10 @@
+-- The log that a `Past` stands for.
+use Rattle.std.specs.Prelude.{[], ◌∷◌, ◌++◌}
+use Rattle.apex_judge.specs.declared.past.Latest.{Latest}
+use Rattle.apex_judge.specs.declared.past.Latest.TheVariants.{Nothing, Entry}
+use Rattle.apex_ports.specs.History.{History, entry_of}
+
+abbrev pub log_of : Latest → History
+log_of Nothing = []
+log_of (Entry before partition at call reply) =
+    before.value ++ entry_of partition.value at.value call.value reply.value ∷ []

@@ -1,0 +1,149 @@
+//! A judge of a recorded log, entry by entry.
+ghost use Rattle.std.specs.Prelude.{◌≡◌, ◌<◌, ◌∷◌, ◌++◌, [], ◌↔◌, length, IfOk, IfErr, IsTrue};
+
+use crate::departure::Expected;
+use crate::state::State;
+use apex_config::Config;
+use apex_ports::Row;
+use apex_types::{Call, Moment, OutOfMemory, Reply};
+use std::alloc::{Allocator, Global};
+use std::marker::Model;
+
+/// Judges the entries of a log one after another, each after what the entries before it show, and keeps of them
+/// what later entries need: no more than the messages that wait, and what the configuration has room for.
+///
+/// To a contract it is its configuration and the log so far, which no run stores. The log may be any, lawful or not.
+#[derive(Drop)]
+pub struct Judge<A: Allocator = Global> {
+    config: Config,
+    state: State<A>,
+}
+
+impl<A: Allocator> Model for Judge<A> {
+    ghost use Rattle.apex_judge.specs.JudgeView.{JudgeView};
+
+    ghost Value = { JudgeView };
+
+    ghost use Rattle.apex_judge.specs.Kept.{IsShown};
+
+    ghost view = { λ judge. record { config = judge.config; log = judge.state.log } };
+
+    ghost invariant = { λ judge. IsShown judge.config judge.state.log judge.state };
+}
+
+impl<A: Allocator + Copy> Judge<A> {
+    /// A judge before the first entry. On want of memory the configuration is dropped.
+    pub fn new(alloc: A, config: Config) -> Result<Judge<A>, OutOfMemory>
+        ensures config { IfOk result (λ judge. judge.config ≡ config) }
+        ensures log { IfOk result (λ judge. judge.log ≡ []) }
+    {
+        let state = State::new(alloc, &config)?;
+        Ok(Judge { config, state })
+    }
+}
+
+impl<A: Allocator> Judge<A> {
+    ghost use Rattle.apex_ports.specs.History.{entry_of};
+    ghost use Rattle.apex_ports.specs.ReplyTable.{reply_of};
+    ghost use Rattle.apex_judge.specs.Departures.{instead_of};
+    ghost use Rattle.apex_judge.specs.Replies.{agrees};
+    ghost use Rattle.apex_judge.specs.Shown.{shown, row_shown, reply_shown};
+
+    /// The configuration.
+    pub fn config(&self) -> &Config
+        ensures { result.now ≡ self.now.config }
+    {
+        &self.config
+    }
+
+    /// The row of the reply table that a call of the partition gets after the log.
+    pub fn row(&self, partition: usize, at: Moment, call: &Call) -> Row
+        requires { partition < length self.now.config.partitions }
+        ensures { result ≡ row_shown self.now.config self.now.log partition at call.now }
+    {
+        self.state.row(&self.config, partition, at, call)
+    }
+
+    /// The reply that the standard has for a call of the partition after the log.
+    pub fn reply(&self, partition: usize, at: Moment, call: &Call) -> Reply
+        requires { partition < length self.now.config.partitions }
+        ensures { result ≡ reply_shown self.now.config self.now.log partition at call.now }
+    {
+        let row = self.state.row(&self.config, partition, at, call);
+        self.state.reply(&self.config, partition, row)
+    }
+
+    /// Whether a logged reply is the standard's. No message is copied.
+    pub fn agrees(&self, partition: usize, at: Moment, call: &Call, reply: &Reply) -> bool
+        requires { partition < length self.now.config.partitions }
+        ensures test { result ≡ agrees
+            (reply_shown self.now.config self.now.log partition at call.now) reply.now }
+        ensures exact { IsTrue result ↔
+            (reply.now ≡ reply_shown self.now.config self.now.log partition at call.now) }
+    {
+        let row = self.state.row(&self.config, partition, at, call);
+        self.state.agrees(&self.config, partition, row, reply)
+    }
+
+    /// What the standard has in place of a logged reply, where that is another.
+    pub fn instead_of(
+        &self,
+        partition: usize,
+        at: Moment,
+        call: &Call,
+        reply: &Reply,
+    ) -> Option<Expected>
+        requires { partition < length self.now.config.partitions }
+        ensures { result ≡ instead_of self.now.config self.now.log
+            (entry_of partition at call.now reply.now) }
+    {
+        let row = self.state.row(&self.config, partition, at, call);
+        if self.state.agrees(&self.config, partition, row, reply) {
+            return None;
+        }
+        Some(Expected {
+            row,
+            reply: self.state.reply(&self.config, partition, row),
+        })
+    }
+
+    /// The log gains an entry, whatever the standard has there. Where there is no memory for its message, it is
+    /// what it was.
+    pub fn add(
+        &mut self,
+        partition: usize,
+        at: Moment,
+        call: &Call,
+        reply: &Reply,
+    ) -> Result<(), OutOfMemory>
+        requires { partition < length self.old.config.partitions }
+        ensures entry { IfOk result (λ _. self.new.log
+            ≡ self.old.log ++ entry_of partition at call.now reply.now ∷ []) }
+        ensures refused { IfErr result (λ _. self.new.log ≡ self.old.log) }
+        ensures config { self.new.config ≡ self.old.config }
+    {
+        self.state.add(&self.config, partition, at, call, reply)
+    }
+
+    /// Judges an entry after the log, which gains it: what the standard has in place of its reply, where that is
+    /// another. Where there is no memory for its message, the log is what it was.
+    pub fn judge(
+        &mut self,
+        partition: usize,
+        at: Moment,
+        call: &Call,
+        reply: &Reply,
+    ) -> Result<Option<Expected>, OutOfMemory>
+        requires { partition < length self.old.config.partitions }
+        ensures judged { let entry = entry_of partition at call.now reply.now in
+            IfOk result (λ instead. instead ≡ instead_of self.old.config self.old.log entry) }
+        ensures entry { IfOk result (λ _. self.new.log
+            ≡ self.old.log ++ entry_of partition at call.now reply.now ∷ []) }
+        ensures refused { IfErr result (λ _. self.new.log ≡ self.old.log) }
+        ensures config { self.new.config ≡ self.old.config }
+    {
+        let instead = self.instead_of(partition, at, call, reply);
+        self.add(partition, at, call, reply)?;
+        Ok(instead)
+    }
+}

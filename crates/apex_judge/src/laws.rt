@@ -1,0 +1,19 @@
+//! What the departures of a log say, whatever the log.
+ghost use Rattle.apex_judge.specs.DepartureLaws.{ShowsWhatWaits, NoDepartureIsLawful, FirstDeparture};
+
+/// The law of lawful logs: what such a log shows of a channel is what waits there. There is nothing to run.
+pub fn shows_what_waits()
+    ensures { ShowsWhatWaits }
+{}
+
+/// The law of logs without departures: a log of the configuration's partitions is lawful exactly where it has none.
+/// There is nothing to run.
+pub fn no_departure_is_lawful()
+    ensures { NoDepartureIsLawful }
+{}
+
+/// The law of the first departure: it is the first reply that isn't the reply table's, and the entries before it are
+/// lawful. There is nothing to run.
+pub fn first_departure()
+    ensures { FirstDeparture }
+{}

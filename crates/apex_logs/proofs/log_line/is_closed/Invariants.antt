@@ -1,0 +1,6 @@
+use Rattle.std.proofs.Common.{◌≡◌, false, drop}
+use Rattle.apex_logs.specs.LogLine.{is_closed}
+use Rattle.apex_logs.proofs.log_line.is_closed.Given as goal
+
+abbrev pub invariant-loop-byte : goal.invariant-loop-byte
+invariant-loop-byte l = is_closed l.closed (drop l.byte-index l.note) ≡ is_closed false l.note

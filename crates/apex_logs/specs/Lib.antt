@@ -1,0 +1,4 @@
+pub mod Log
+pub mod LogFault
+pub mod LogLine
+pub mod ReplyWords

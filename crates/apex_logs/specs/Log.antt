@@ -1,0 +1,60 @@
+-- What a log stands for: the entries of its lines in order, or its first faulty line. Whose log it is, which says how
+-- what its lines ask is read, is a parameter.
+use Rattle.std.specs.Prelude.{◌≡◌, ℕ, ◌+◌, if◌then◌else◌, List, [], ◌∷◌, ◌++◌, codes, decimal, Option, Some, None, Result, Ok, Err}
+use Rattle.std.specs.Global.{Vec}
+use Rattle.std.specs.Str.Lines.{lines}
+use Rattle.apex_config.specs.Configuration.{Configuration}
+use Rattle.apex_ports.specs.declared.history.Entry.{Entry}
+use Rattle.apex_ports.specs.declared.history.Request.{Request}
+use Rattle.apex_texts.specs.declared.line_fault.LineFault.{LineFault}
+use Rattle.apex_texts.specs.Arguments.{◌>>=◌}
+use Rattle.apex_texts.specs.Trace.{request_at}
+use Rattle.apex_logs.specs.declared.log.FaultyLine.{FaultyLine}
+use Rattle.apex_logs.specs.declared.log.LogError.{LogError}
+use Rattle.apex_logs.specs.declared.log.LogError.TheVariants as errors
+use Rattle.apex_logs.specs.declared.log.LoggedEntry.{LoggedEntry}
+use Rattle.apex_logs.specs.declared.log_fault.LogFault.{LogFault}
+use Rattle.apex_logs.specs.LogFault.{number_of, words_of}
+use Rattle.apex_logs.specs.LogLine.{entry_of_line, own_request_at, ends_calls}
+
+-- `line L fault N: WORDS`
+abbrev pub faulty_line_words : FaultyLine → List ℕ
+faulty_line_words faulty = codes "line " ++ decimal faulty.line ++ codes " fault " ++ decimal (number_of faulty.fault) ++ codes ": " ++ words_of faulty.fault
+
+abbrev pub error_words : LogError → List ℕ
+error_words (errors.Line faulty) = faulty_line_words faulty
+error_words errors.OutOfMemory = codes "out of memory"
+
+-- what the line with this number adds in front of what the lines after it stand for
+abbrev pub before : ℕ → Result (Option Entry) LogFault → Result (List LoggedEntry) FaultyLine → Result (List LoggedEntry) FaultyLine
+before number (Err fault) after = Err (record { line = number; fault = fault })
+before number (Ok None) after = after
+before number (Ok (Some entry)) after = do
+  entries ← after
+  Ok (record { line = number; entry = entry } ∷ entries)
+
+-- the entries of lines of which the first has this number, up to the line that ends the calls
+unfoldable pub entries_from : (List ℕ → List (List ℕ) → Result Request LineFault) → ℕ → List (List ℕ) → Result (List LoggedEntry) FaultyLine
+entries_from asked_by number [] = Ok []
+entries_from asked_by number (line ∷ rest) =
+    if ends_calls line then Ok [] else before number (entry_of_line asked_by line) (entries_from asked_by (number + 1) rest)
+
+-- the entries of a module's log, or its first faulty line
+abbrev pub log_of : Configuration → List ℕ → Result (List LoggedEntry) FaultyLine
+log_of config text = entries_from (request_at config) 1 (lines text)
+
+-- the entries of a partition's own log, or its first faulty line
+abbrev pub own_log_of : ℕ → List ℕ → Result (List LoggedEntry) FaultyLine
+own_log_of partition text = entries_from (own_request_at partition) 1 (lines text)
+
+-- the first entry of lines of which the first has this number: found is the number of its line and the lines after it
+abbrev pub IsNext : (List ℕ → List (List ℕ) → Result Request LineFault) → ℕ → List (List ℕ) → Entry → Option (ℕ × List (List ℕ)) → Type 0
+IsNext asked_by number lines entry None = entries_from asked_by number lines ≡ Ok []
+IsNext asked_by number lines entry (Some found) =
+    entries_from asked_by number lines ≡ before found.0 (Ok (Some entry)) (entries_from asked_by (found.0 + 1) found.1)
+
+-- what a reader answered is what the log stands for, unless memory was refused
+abbrev pub IsLogRead : Result (Vec LoggedEntry) LogError → Result (List LoggedEntry) FaultyLine → Type 0
+IsLogRead (Ok read) meaning = meaning ≡ Ok read.items
+IsLogRead (Err (errors.Line faulty)) meaning = meaning ≡ Err faulty
+IsLogRead (Err errors.OutOfMemory) meaning = Unit {0}

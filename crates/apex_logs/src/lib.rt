@@ -1,0 +1,17 @@
+//! The exact reader of recorded logs: the calls of their lines with the replies that were logged, or
+//! what is wrong with a line.
+#![tactic(auto)]
+
+pub mod log;
+pub mod log_fault;
+pub mod log_line;
+pub mod reply_words;
+pub mod round_trip;
+
+pub use crate::log::{
+    FaultyLine, LogError, LogForm, LoggedEntry, ModuleLog, PartitionLog, next_entry, read_log,
+};
+pub use crate::log_fault::LogFault;
+pub use crate::log_line::{ANY_ENTRY, ends_calls, read_log_line, read_partition_log_line};
+pub use crate::reply_words::read_reply;
+pub use crate::round_trip::reads_back;

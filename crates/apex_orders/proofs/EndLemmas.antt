@@ -1,0 +1,97 @@
+-- Ends, and more points than a bound.
+use Rattle.std.proofs.Common.{◌≡◌, ◌⊎◌, inl, inr, ⊎_elim, ℕ, zero, suc, ◌≤◌, List, [], ◌∷◌, ◌++◌, length, map, Some, Err, refl, sym, subst, arith}
+use Rattle.std.specs.List.{slice_get}
+use Rattle.std.proofs.lemmas.List.{length-map}
+use Rattle.apex_config.specs.Configuration.{Configuration, IsConfiguration}
+use Rattle.apex_ports.specs.Counts.{count_of}
+use Rattle.apex_ports.specs.History.{History, entries_of}
+use Rattle.apex_orders.specs.declared.orders_fault.OrdersFault.{OrdersFault}
+use Rattle.apex_orders.specs.declared.orders_fault.OrdersFault.TheVariants.{TooManyStates, OutOfMemory}
+use Rattle.apex_orders.specs.Orders.{Scripts, script_of, calls_of, IsBeginning, history_of}
+use Rattle.apex_orders.specs.Outcomes.{HasMorePoints, IsUndecided}
+use Rattle.apex_orders.specs.Points.{IsSamePoint}
+use Rattle.apex_orders.specs.Possibles.{Has}
+use Rattle.apex_orders.specs.Searching.{HasMadeAll, AreEndsOf, HasMoreOrders, IsGivenUp}
+use Rattle.apex_orders.proofs.Lists.{stays_before, before_or_last, at_seam}
+use Rattle.apex_orders.proofs.Walks.{calls_count, is_beginning}
+use Rattle.apex_orders.proofs.Following.{AreShort}
+use Rattle.apex_orders.proofs.Completing.{good_history}
+
+module _ (config : Configuration) (scripts : Scripts) where
+  -- ---- ends
+
+  has_more : (orders : List (List ℕ)) (order other : List ℕ) → Has orders other → Has (orders ++ order ∷ []) other
+  has_more orders order other has = (has.0, stays_before orders (order ∷ []) has.0 other has.1)
+
+  has_last : (orders : List (List ℕ)) (order : List ℕ) → Has (orders ++ order ∷ []) order
+  has_last orders order = (length orders, at_seam orders order [])
+
+  was_or_is : (orders : List (List ℕ)) (order other : List ℕ) → Has (orders ++ order ∷ []) other → Has orders other ⊎ (order ≡ other)
+  was_or_is orders order other has =
+      ⊎_elim
+      (λ (before : slice_get orders has.0 ≡ Some other). inl (has.0, before))
+      (λ (last : (has.0 ≡ length orders) × (order ≡ other)). inr last.1)
+      (before_or_last orders order has.0 other has.1)
+
+  pub no_ends : AreEndsOf config scripts [] []
+  no_ends = record { each = λ order has. absurd (let at = has.1 in cc); every = λ order has made. absurd (let at = has.1 in cc) }
+
+  pub one_end : (orders ends : List (List ℕ)) (order : List ℕ) → AreEndsOf config scripts orders ends → HasMadeAll config scripts (history_of config scripts order)
+      → AreEndsOf config scripts (orders ++ order ∷ []) (ends ++ order ∷ [])
+  one_end orders ends order are made = record {
+    each = λ other has.
+        ⊎_elim
+        (λ (before : Has ends other). let was = are.each other before in (has_more orders order other was.0, was.1))
+        (λ (same : order ≡ other). subst (λ (o : List ℕ). Has (orders ++ order ∷ []) o × HasMadeAll config scripts (history_of config scripts o)) same (has_last orders order, made))
+        (was_or_is ends order other has);
+    every = λ other has all.
+        ⊎_elim
+        (λ (before : Has orders other). has_more ends order other (are.every other before all))
+        (λ (same : order ≡ other). subst (Has (ends ++ order ∷ [])) same (has_last ends order))
+        (was_or_is orders order other has);
+  }
+
+  pub no_end : (orders ends : List (List ℕ)) (order : List ℕ) → AreEndsOf config scripts orders ends → (HasMadeAll config scripts (history_of config scripts order) → ⊥)
+      → AreEndsOf config scripts (orders ++ order ∷ []) ends
+  no_end orders ends order are unfinished = record {
+    each = λ other has. let was = are.each other has in (has_more orders order other was.0, was.1);
+    every = λ other has all.
+        ⊎_elim
+        (λ (before : Has orders other). are.every other before all)
+        (λ (same : order ≡ other). absurd (unfinished (subst (λ (o : List ℕ). HasMadeAll config scripts (history_of config scripts o)) (sym same) all)))
+        (was_or_is orders order other has);
+  }
+
+  pub full_of_made : (h : History) (p : ℕ) → length (script_of scripts p) ≤ count_of (entries_of p h) → length (script_of scripts p) ≤ length (calls_of p h)
+  full_of_made h p made = let count = calls_count p h in omega (arith, made, count)
+
+  pub made_of_full : AreShort scripts → (h : History) (p : ℕ) → length (script_of scripts p) ≤ length (calls_of p h) → length (script_of scripts p) ≤ count_of (entries_of p h)
+  made_of_full short h p full = let count = calls_count p h in let limit = short p in omega (arith, full, count, limit)
+
+  -- ---- more points than a bound
+
+  of_map : (orders : List (List ℕ)) (k : ℕ) (h : History) → slice_get (map (history_of config scripts) orders) k ≡ Some h
+      → (order : List ℕ) × (slice_get orders k ≡ Some order) × (history_of config scripts order ≡ h)
+  of_map [] k h at = absurd (cc)
+  of_map (order ∷ orders) zero h at = let same : history_of config scripts order ≡ h = cc in (order, refl, same)
+  of_map (order ∷ orders) (suc k) h at = of_map orders k h at
+
+  pub more_points : IsConfiguration config → (bound : ℕ) → HasMoreOrders config scripts bound → HasMorePoints config scripts bound
+  more_points valid bound more = record {
+    histories = map (history_of config scripts) more.orders;
+    many = let count = length-map more.orders (history_of config scripts) in let many = more.many in omega (arith, count, many);
+    beginnings = λ h has.
+        let from = of_map more.orders has.0 h has.1 in
+        subst (IsBeginning config scripts) from.2 (is_beginning config scripts (history_of config scripts from.0) (good_history config scripts valid from.0 (more.valid has.0 from.0 from.1)));
+    apart = λ j k h other below at at_too same.
+        let one = of_map more.orders j h at in
+        let two = of_map more.orders k other at_too in
+        more.apart j k one.0 two.0 below one.1 two.1
+        (subst (λ (both : History × History). IsSamePoint config both.0 both.1) (λ i. (sym two.2 i, sym one.2 i)) same);
+  }
+
+-- where a search is given up, the outcomes are undecided
+pub undecided_of : (X Y : Type 0) (config : Configuration) (scripts : Scripts) → IsConfiguration config → (bound : ℕ) (fault : OrdersFault)
+    → IsGivenUp {X = X} config scripts bound (Err fault) → IsUndecided {X = Y} config scripts bound (Err fault)
+undecided_of X Y config scripts valid bound TooManyStates given_up = more_points config scripts valid bound given_up
+undecided_of X Y config scripts valid bound OutOfMemory given_up = tt

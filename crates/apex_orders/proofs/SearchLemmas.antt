@@ -1,0 +1,141 @@
+-- The steps of a search.
+use Rattle.std.proofs.Common.{◌≡◌, ◌⊎◌, ⊎_elim, ℕ, ◌<◌, List, [], ◌∷◌, ◌++◌, length, Some, sym, ap, ◌∙◌, subst, arith, append-nil}
+use Rattle.std.specs.List.{slice_get}
+use Rattle.std.proofs.lemmas.Option.{slice_get_within, slice_get-get_or}
+use Rattle.apex_types.specs.declared.reply.Reply.{Reply}
+use Rattle.apex_config.specs.Configuration.{Configuration}
+use Rattle.apex_ports.specs.History.{History}
+use Rattle.apex_orders.specs.declared.replies.Possible.{Possible}
+use Rattle.apex_orders.specs.Orders.{Scripts, IsOrder, next_entries, history_of}
+use Rattle.apex_orders.specs.Points.{IsSamePoint}
+use Rattle.apex_orders.specs.Possibles.{Has}
+use Rattle.apex_orders.specs.Searching.{Knows, Keeps, Includes, AreOrders, AreApart, IsTried, HasTried, IsFound, AreFound}
+use Rattle.apex_orders.specs.Steps.{MakesNothing, Makes}
+use Rattle.apex_orders.proofs.Lists.{at_seam, stays_before, before_or_last}
+use Rattle.apex_orders.proofs.Walks.{continued-append, joined, one_ordered}
+use Rattle.apex_orders.proofs.Following.{same_self}
+
+abbrev first_reply : Reply → History → Reply
+first_reply reply [] = reply
+first_reply reply (e ∷ es) = e.reply
+
+module _ (config : Configuration) (scripts : Scripts) where
+  -- ---- one order more
+
+  pub orders_push : (orders : List (List ℕ)) (order : List ℕ) → AreOrders config orders → IsOrder config order → AreOrders config (orders ++ order ∷ [])
+  orders_push orders order valid is k other at =
+      ⊎_elim
+      (λ (before : slice_get orders k ≡ Some other). valid k other before)
+      (λ (last : (k ≡ length orders) × (order ≡ other)). subst (IsOrder config) last.1 is)
+      (before_or_last orders order k other at)
+
+  pub longer_is_order : (order : List ℕ) (p : ℕ) → IsOrder config order → p < length config.partitions → IsOrder config (order ++ p ∷ [])
+  longer_is_order order p is within = joined config scripts order (p ∷ []) is (one_ordered config scripts p within)
+
+  pub keeps_push : (orders : List (List ℕ)) (order : List ℕ) → Keeps orders (orders ++ order ∷ [])
+  keeps_push orders order k other at = stays_before orders (order ∷ []) k other at
+
+  pub apart_push : (orders : List (List ℕ)) (order : List ℕ) (h : History) → h ≡ history_of config scripts order → AreApart config scripts orders
+      → (Knows config scripts orders h → ⊥) → AreApart config scripts (orders ++ order ∷ [])
+  apart_push orders order h is apart unknown j k one other below at at_too same =
+      ⊎_elim
+      (λ (before : slice_get orders k ≡ Some other).
+      let within = slice_get_within orders k other before in
+      ⊎_elim
+      (λ (earlier : slice_get orders j ≡ Some one). apart j k one other below earlier before same)
+      (λ (last : (j ≡ length orders) × (order ≡ one)). absurd (omega (arith, within, last.0)))
+      (before_or_last orders order j one at))
+      (λ (last : (k ≡ length orders) × (order ≡ other)).
+      ⊎_elim
+      (λ (earlier : slice_get orders j ≡ Some one). unknown (record {
+        order = one;
+        here = (j, earlier);
+        same = subst (λ (g : History). IsSamePoint config g (history_of config scripts one)) (ap (history_of config scripts) (sym last.1) ∙ sym is) same;
+      }))
+      (λ (both : (j ≡ length orders) × (order ≡ one)). absurd (omega (arith, below, last.0, both.0)))
+      (before_or_last orders order j one at))
+      (before_or_last orders order k other at_too)
+
+  pub knows_push : (orders : List (List ℕ)) (order : List ℕ) (h : History) → h ≡ history_of config scripts order → Knows config scripts (orders ++ order ∷ []) h
+  knows_push orders order h is = record {
+    order = order;
+    here = (length orders, at_seam orders order []);
+    same = subst (λ (g : History). IsSamePoint config h g) is (same_self config h);
+  }
+
+  -- ---- tries
+
+  pub behind : (order : List ℕ) (p : ℕ) → history_of config scripts (order ++ p ∷ []) ≡ history_of config scripts order ++ next_entries config scripts (history_of config scripts order) p
+  behind order p = continued-append config scripts [] order (p ∷ [])
+
+  pub tried_nothing : (orders : List (List ℕ)) (replies : List Possible) (order : List ℕ) (p : ℕ) → Has orders order → MakesNothing config scripts (history_of config scripts order) p
+      → IsTried config scripts orders replies order p
+  tried_nothing orders replies order p here nothing = record {
+    point = record {
+      order = order;
+      here = here;
+      same =
+          let there : history_of config scripts (order ++ p ∷ []) ≡ history_of config scripts order =
+          behind order p ∙ (ap (λ (es : History). history_of config scripts order ++ es) nothing ∙ append-nil (history_of config scripts order)) in
+          subst (λ (g : History). IsSamePoint config g (history_of config scripts order)) (sym there) (same_self config (history_of config scripts order));
+    };
+    reply = λ one makes. absurd (let both = sym nothing ∙ makes.entry in cc);
+  }
+
+  same_made : (h : History) (p : ℕ) (one other : Possible) → Makes config scripts h p one → Makes config scripts h p other → one ≡ other
+  same_made h p one other makes makes_too =
+      let reply : one.reply ≡ other.reply = ap (first_reply one.reply) (sym makes.entry ∙ makes_too.entry) in
+      let partition : one.partition ≡ other.partition = makes.partition ∙ sym makes_too.partition in
+      let place : one.place ≡ other.place = makes.place ∙ sym makes_too.place in
+      λ i. record { partition = partition i; place = place i; reply = reply i }
+
+  pub tried_one : (orders : List (List ℕ)) (replies : List Possible) (order : List ℕ) (p : ℕ) (one : Possible) → Knows config scripts orders (history_of config scripts (order ++ p ∷ []))
+      → Has replies one → Makes config scripts (history_of config scripts order) p one → IsTried config scripts orders replies order p
+  tried_one orders replies order p one known has makes = record {
+    point = known;
+    reply = λ other makes_too. subst (Has replies) (same_made (history_of config scripts order) p one other makes makes_too) has;
+  }
+
+  pub found_one : (old new : List Possible) (order : List ℕ) (p : ℕ) (one : Possible) → AreFound config scripts old → IsOrder config order → p < length config.partitions
+      → Makes config scripts (history_of config scripts order) p one → ((other : Possible) → Has new other → Has old other ⊎ (other ≡ one)) → AreFound config scripts new
+  found_one old new order p one found is within makes only other has =
+      ⊎_elim
+      (λ (before : Has old other). found other before)
+      (λ (same : other ≡ one). subst (IsFound config scripts) (sym same) (record { order = order; valid = is; partition = p; within = within; makes = makes }))
+      (only other has)
+
+  -- ---- what was tried stays tried
+
+  pub knows_kept : (old new : List (List ℕ)) (h : History) → Keeps old new → Knows config scripts old h → Knows config scripts new h
+  knows_kept old new h keeps known = record {
+    order = known.order;
+    here = (known.here.0, keeps known.here.0 known.order known.here.1);
+    same = known.same;
+  }
+
+  pub tried_kept : (old new : List (List ℕ)) (replies more : List Possible) (order : List ℕ) (p : ℕ) → Keeps old new → Includes replies more
+      → IsTried config scripts old replies order p → IsTried config scripts new more order p
+  tried_kept old new replies more order p keeps includes tried = record {
+    point = knows_kept old new (history_of config scripts (order ++ p ∷ [])) keeps tried.point;
+    reply = λ one makes. includes one (tried.reply one makes);
+  }
+
+  -- the order at a place that was there stands there still
+  same_place : (old new : List (List ℕ)) (k : ℕ) (order : List ℕ) → Keeps old new → k < length old → slice_get new k ≡ Some order → slice_get old k ≡ Some order
+  same_place old new k order keeps within at =
+      let was = slice_get-get_or old k order within in
+      was ∙ (sym (keeps k _ was) ∙ at)
+
+  pub has_tried_kept : (old new : List (List ℕ)) (replies more : List Possible) (k : ℕ) → Keeps old new → Includes replies more → k < length old
+      → HasTried config scripts old replies k → HasTried config scripts new more k
+  has_tried_kept old new replies more k keeps includes within tried order at p inside =
+      tried_kept old new replies more order p keeps includes (tried order (same_place old new k order keeps within at) p inside)
+
+pub keeps_along : {X : Type 0} (a b c : List X) → Keeps a b → Keeps b c → Keeps a c
+keeps_along a b c one two k x at = two k x (one k x at)
+
+pub includes_along : {X : Type 0} (a b c : List X) → Includes a b → Includes b c → Includes a c
+includes_along a b c one two x has = two x (one x has)
+
+pub keeps_within : {X : Type 0} (old new : List X) (k : ℕ) (x : X) → Keeps old new → slice_get old k ≡ Some x → Has new x
+keeps_within old new k x keeps at = (k, keeps k x at)

@@ -1,0 +1,8 @@
+use Rattle.std.proofs.Common.{ℕ, ◌<◌, ◌≤◌, length}
+use Rattle.apex_ports.specs.Counts.{count_of}
+use Rattle.apex_ports.specs.History.{entries_of}
+use Rattle.apex_orders.specs.Orders.{script_of}
+use Rattle.apex_orders.proofs.outcomes.has_made_all.Given as goal
+
+abbrev pub invariant-loop-p : goal.invariant-loop-p
+invariant-loop-p l = (p : ℕ) → p < l.p → length (script_of l.scripts p) ≤ count_of (entries_of p l.ports.history)

@@ -1,0 +1,19 @@
+use Rattle.std.proofs.Common.{ℕ, ◌<◌, ◌≤◌, ◌+◌, ◌-◌, []}
+use Rattle.apex_orders.specs.Possibles.{Has}
+use Rattle.apex_orders.specs.Marks.{AreMarked}
+use Rattle.apex_orders.specs.Searching.{AreOrders, AreApart, AreFound, HasTried}
+use Rattle.apex_orders.proofs.search.search.Given as goal
+
+abbrev pub invariant-loop-i : goal.invariant-loop-i
+invariant-loop-i l = record {
+  within : l.i ≤ l.bound;
+  first : Has l.orders.items [];
+  valid : AreOrders l.config l.orders.items;
+  apart : AreApart l.config l.scripts l.orders.items;
+  marked : AreMarked l.config l.scripts l.orders.items l.marks.items;
+  found : AreFound l.config l.scripts l.replies.items;
+  tried : (k : ℕ) → k < l.i → HasTried l.config l.scripts l.orders.items l.replies.items k;
+}
+
+abbrev pub decreases-loop-i : goal.decreases-loop-i
+decreases-loop-i l = l.bound + 1 - l.i

@@ -1,0 +1,13 @@
+use Rattle.std.proofs.Common.{◌≡◌, List, ℕ, Some, sym, ◌∙◌, subst}
+use Rattle.std.specs.List.{slice_get}
+use Rattle.apex_ports.proofs.Lookups.{place_of}
+use Rattle.apex_orders.specs.Searching.{IsTried}
+use Rattle.apex_orders.proofs.search.try_all.Goals as goal
+
+pub returns-clause-tried : goal.returns-clause-tried
+returns-clause-tried c = λ order at p within.
+    let item = c.index.result.now in
+    let was : slice_get c.args.orders.now.items c.args.i ≡ Some item = place_of c.args.orders.now.items c.args.i item c.requires.place c.index.ensures in
+    let both : Some item ≡ Some order = sym (c.in_ok-try_each.ensures.orders_kept c.args.i item was) ∙ at in
+    let same : item ≡ order = cc in
+    subst (λ (o : List ℕ). IsTried c.args.config.now c.args.scripts.now c.try_each.new.orders.items c.try_each.new.replies.items o p) (c.in_ok-order.ensures ∙ same) (c.in_ok-try_each.ensures.tried p within)

@@ -1,0 +1,44 @@
+-- All that can happen to scripts, over every order of their calls.
+use Rattle.std.specs.Prelude.{ℕ, ◌≡◌, ◌<◌, ◌↔◌, List, length, slice_get, Some, Result, Err}
+use Rattle.apex_config.specs.Configuration.{Configuration}
+use Rattle.apex_ports.specs.History.{History}
+use Rattle.apex_orders.specs.declared.orders_fault.OrdersFault.{OrdersFault}
+use Rattle.apex_orders.specs.declared.orders_fault.OrdersFault.TheVariants.{TooManyStates}
+use Rattle.apex_orders.specs.declared.replies.Possible.{Possible}
+use Rattle.apex_orders.specs.Orders.{Scripts, IsBeginning, IsWay, history_of, replies_of}
+use Rattle.apex_orders.specs.Points.{IsSamePoint}
+use Rattle.apex_orders.specs.Possibles.{Has}
+
+-- some way of all calls gives the partition's call at the place this reply
+pub record CanOccur (config : Configuration) (scripts : Scripts) (one : Possible) : Type 0 where
+  pub way : History
+  pub is_way : IsWay config scripts way
+  pub reply : slice_get (replies_of one.partition way) one.place ≡ Some one.reply
+
+-- these are the replies that calls can get, and no others
+abbrev pub AreReplies : Configuration → Scripts → List Possible → Type 0
+AreReplies config scripts replies = (one : Possible) → Has replies one ↔ CanOccur config scripts one
+
+-- the way comes to the point of one of the orders
+pub record EndsAtOne (config : Configuration) (scripts : Scripts) (ends : List (List ℕ)) (way : History) : Type 0 where
+  pub order : List ℕ
+  pub here : Has ends order
+  pub same : IsSamePoint config way (history_of config scripts order)
+
+-- each order listed makes all calls, and each way comes to the point of one of them
+pub record AreEnds (config : Configuration) (scripts : Scripts) (ends : List (List ℕ)) : Type 0 where
+  pub ways : (order : List ℕ) → Has ends order → IsWay config scripts (history_of config scripts order)
+  pub all : (way : History) → IsWay config scripts way → EndsAtOne config scripts ends way
+
+-- beginnings come to more points than the bound
+pub record HasMorePoints (config : Configuration) (scripts : Scripts) (bound : ℕ) : Type 0 where
+  pub histories : List History
+  pub many : bound < length histories
+  pub beginnings : (history : History) → Has histories history → IsBeginning config scripts history
+  pub apart : (j k : ℕ) (history other : History) → j < k → slice_get histories j ≡ Some history
+      → slice_get histories k ≡ Some other → ¬ IsSamePoint config other history
+
+-- it is undecided only where beginnings come to more points than the bound
+abbrev pub IsUndecided : {X : Type 0} → Configuration → Scripts → ℕ → Result X OrdersFault → Type 0
+IsUndecided config scripts bound (Err TooManyStates) = HasMorePoints config scripts bound
+IsUndecided config scripts bound _ = Unit {0}

@@ -1,0 +1,29 @@
+-- The points that orders lead to.
+use Rattle.std.specs.Prelude.{ℕ, ◌≡◌, ◌<◌, length}
+use Rattle.apex_config.specs.Configuration.{Configuration}
+use Rattle.apex_ports.specs.Channels.{accepted_on, received_on, cleared_on}
+use Rattle.apex_ports.specs.Counts.{count_of}
+use Rattle.apex_ports.specs.History.{History, entries_of}
+use Rattle.apex_states.specs.States.{IsSameState}
+
+-- each partition made as many calls in both
+abbrev pub IsSameCalls : Configuration → History → History → Type 0
+IsSameCalls config history other =
+    (p : ℕ) → p < length config.partitions → count_of (entries_of p history) ≡ count_of (entries_of p other)
+
+-- the channel has the same counts of messages after both
+pub record HasSameCounts (config : Configuration) (history other : History) (c : ℕ) : Type 0 where
+  pub accepted : count_of (accepted_on config c history) ≡ count_of (accepted_on config c other)
+  pub received : count_of (received_on config c history) ≡ count_of (received_on config c other)
+  pub cleared : count_of (cleared_on config c history) ≡ count_of (cleared_on config c other)
+
+-- each channel has
+abbrev pub IsSameCounts : Configuration → History → History → Type 0
+IsSameCounts config history other =
+    (c : ℕ) → c < length config.channels → HasSameCounts config history other c
+
+-- both made as many calls of each partition, and came to one state with the same counts
+pub record IsSamePoint (config : Configuration) (history other : History) : Type 0 where
+  pub calls : IsSameCalls config history other
+  pub counts : IsSameCounts config history other
+  pub state : IsSameState config history other

@@ -1,0 +1,87 @@
+-- What a search has found.
+use Rattle.std.specs.Prelude.{ℕ, ◌≡◌, ◌<◌, ◌≤◌, List, ◌∷◌, [], ◌++◌, length, slice_get, Some, Result, Err}
+use Rattle.apex_config.specs.Configuration.{Configuration}
+use Rattle.apex_ports.specs.Counts.{count_of}
+use Rattle.apex_ports.specs.History.{History, entries_of}
+use Rattle.apex_orders.specs.declared.replies.Possible.{Possible}
+use Rattle.apex_orders.specs.declared.orders_fault.OrdersFault.{OrdersFault}
+use Rattle.apex_orders.specs.declared.orders_fault.OrdersFault.TheVariants.{TooManyStates}
+use Rattle.apex_orders.specs.Orders.{Scripts, script_of, IsOrder, history_of}
+use Rattle.apex_orders.specs.Points.{IsSamePoint}
+use Rattle.apex_orders.specs.Possibles.{Has}
+use Rattle.apex_orders.specs.Steps.{Makes}
+
+-- one of the orders leads to the history's point
+pub record Knows (config : Configuration) (scripts : Scripts) (orders : List (List ℕ)) (history : History) : Type 0 where
+  pub order : List ℕ
+  pub here : Has orders order
+  pub same : IsSamePoint config history (history_of config scripts order)
+
+-- each item of the one list stands at its place in the other
+abbrev pub Keeps : {X : Type 0} → List X → List X → Type 0
+Keeps {X} old new = (k : ℕ) (x : X) → slice_get old k ≡ Some x → slice_get new k ≡ Some x
+
+-- each item of the one list is in the other
+abbrev pub Includes : {X : Type 0} → List X → List X → Type 0
+Includes {X} old new = (x : X) → Has old x → Has new x
+
+-- each is an order
+abbrev pub AreOrders : Configuration → List (List ℕ) → Type 0
+AreOrders config orders = (k : ℕ) (order : List ℕ) → slice_get orders k ≡ Some order → IsOrder config order
+
+-- what the partition's next call behind the order leads to is known, and the reply that it gets
+pub record IsTried (config : Configuration) (scripts : Scripts) (orders : List (List ℕ)) (replies : List Possible) (order : List ℕ) (p : ℕ) : Type 0 where
+  pub point : Knows config scripts orders (history_of config scripts (order ++ p ∷ []))
+  pub reply : (one : Possible) → Makes config scripts (history_of config scripts order) p one → Has replies one
+
+-- each reply is given behind an order
+pub record IsFound (config : Configuration) (scripts : Scripts) (one : Possible) : Type 0 where
+  pub order : List ℕ
+  pub valid : IsOrder config order
+  pub partition : ℕ
+  pub within : partition < length config.partitions
+  pub makes : Makes config scripts (history_of config scripts order) partition one
+
+abbrev pub AreFound : Configuration → Scripts → List Possible → Type 0
+AreFound config scripts replies = (one : Possible) → Has replies one → IsFound config scripts one
+
+-- no two of the orders lead to one point
+abbrev pub AreApart : Configuration → Scripts → List (List ℕ) → Type 0
+AreApart config scripts orders =
+    (j k : ℕ) (order other : List ℕ) → j < k → slice_get orders j ≡ Some order → slice_get orders k ≡ Some other
+    → ¬ IsSamePoint config (history_of config scripts other) (history_of config scripts order)
+
+-- of the order at the place every partition was tried
+abbrev pub HasTried : Configuration → Scripts → List (List ℕ) → List Possible → ℕ → Type 0
+HasTried config scripts orders replies k =
+    (order : List ℕ) → slice_get orders k ≡ Some order
+    → (p : ℕ) → p < length config.partitions → IsTried config scripts orders replies order p
+
+-- the search has come to its end
+pub record IsSearched (config : Configuration) (scripts : Scripts) (orders : List (List ℕ)) (replies : List Possible) : Type 0 where
+  pub first : Has orders []
+  pub valid : AreOrders config orders
+  pub found : AreFound config scripts replies
+  pub tried : (k : ℕ) → k < length orders → HasTried config scripts orders replies k
+
+-- each partition has made all calls of its script
+abbrev pub HasMadeAll : Configuration → Scripts → History → Type 0
+HasMadeAll config scripts history =
+    (p : ℕ) → p < length config.partitions → length (script_of scripts p) ≤ count_of (entries_of p history)
+
+-- the ends are those of the orders that make all calls
+pub record AreEndsOf (config : Configuration) (scripts : Scripts) (orders ends : List (List ℕ)) : Type 0 where
+  pub each : (order : List ℕ) → Has ends order → Has orders order × HasMadeAll config scripts (history_of config scripts order)
+  pub every : (order : List ℕ) → Has orders order → HasMadeAll config scripts (history_of config scripts order) → Has ends order
+
+-- more orders than the bound lead to points of which no two are one
+pub record HasMoreOrders (config : Configuration) (scripts : Scripts) (bound : ℕ) : Type 0 where
+  pub orders : List (List ℕ)
+  pub many : bound < length orders
+  pub valid : AreOrders config orders
+  pub apart : AreApart config scripts orders
+
+-- a search is given up only where there are more points than the bound
+abbrev pub IsGivenUp : {X : Type 0} → Configuration → Scripts → ℕ → Result X OrdersFault → Type 0
+IsGivenUp config scripts bound (Err TooManyStates) = HasMoreOrders config scripts bound
+IsGivenUp config scripts bound _ = Unit {0}

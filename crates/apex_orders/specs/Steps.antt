@@ -1,0 +1,20 @@
+-- One call of a script.
+use Rattle.std.specs.Prelude.{ℕ, ◌≡◌, [], ◌∷◌, length}
+use Rattle.apex_types.specs.declared.call.Call.{Call}
+use Rattle.apex_types.specs.declared.moment.Moment.{Moment}
+use Rattle.apex_config.specs.Configuration.{Configuration}
+use Rattle.apex_ports.specs.History.{History, entry_of, entries_of}
+use Rattle.apex_orders.specs.declared.replies.Possible.{Possible}
+use Rattle.apex_orders.specs.Orders.{Scripts, next_entries}
+
+-- the partition has made all calls of its script
+abbrev pub MakesNothing : Configuration → Scripts → History → ℕ → Type 0
+MakesNothing config scripts history p = next_entries config scripts history p ≡ []
+
+-- the partition's next call is at this place, and gets this reply
+pub record Makes (config : Configuration) (scripts : Scripts) (history : History) (p : ℕ) (one : Possible) : Type 0 where
+  pub partition : one.partition ≡ p
+  pub place : one.place ≡ length (entries_of p history)
+  pub at : Moment
+  pub call : Call
+  pub entry : next_entries config scripts history p ≡ entry_of p at call one.reply ∷ []

@@ -1,0 +1,18 @@
+//! All that can happen to scripts of a module, over every order of their calls.
+#![tactic(auto)]
+
+mod longest;
+mod mark;
+pub mod order;
+pub mod orders_fault;
+pub mod outcomes;
+mod point;
+mod replay;
+mod replies;
+mod search;
+mod step;
+
+pub use crate::order::Order;
+pub use crate::orders_fault::OrdersFault;
+pub use crate::outcomes::{Outcomes, all_outcomes};
+pub use crate::replies::Possible;

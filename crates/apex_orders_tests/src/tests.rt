@@ -1,0 +1,3 @@
+//! Tests from outside: outcomes beside those of every order, tried one by one.
+mod every_order;
+mod texts;

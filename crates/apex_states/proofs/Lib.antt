@@ -1,0 +1,4 @@
+pub mod Comparing
+pub mod GoingOn
+pub mod SeenAlike
+pub mod StateSteps

@@ -1,0 +1,2 @@
+pub mod StateLaw
+pub mod States
