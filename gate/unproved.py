@@ -18,6 +18,8 @@ import progress
 HERE = os.path.dirname(os.path.realpath(__file__))
 ROOT = os.path.dirname(HERE)
 NOTICE = "not proved: this answer is from an unproved build"
+# The commands whose words name no file, those that take words NAME=SCRIPT, and the options with a number behind them.
+NO_PATHS, OF_SCRIPTS, COUNTED = ("rows", "help"), ("run", "explain", "orders"), ("--states",)
 # What the toolchain writes after a program that ended.
 ENDED = re.compile(rb"^run=ended status=(\d+) .*proved=no\n\Z", re.M)
 OF_TOOLCHAIN = re.compile(rb"(^(interpreter|checked|races): .*\n)*\Z", re.M)
@@ -25,15 +27,15 @@ TOO_MUCH = re.compile(rb"^checked: no-answer: .*wrote more than \d+ bytes", re.M
 TOO_LONG = re.compile(rb"^checked: no-answer: .*did not end within the time limit", re.M)
 
 
-def paths_in(name, words):
+def paths_in(words):
     """Returns for each word what stands in it before a path, and the path; or the word and nothing."""
     found = []
     for at, word in enumerate(words):
-        if name == "apexports" and words[0] == "run" and at > 1:
-            before, sign, path = word.partition("=")
-            found.append((before + sign, path))
-        elif at == 0 and name == "apexports" or word.startswith("-"):
+        script = re.match(r"\w+=", word, re.ASCII)
+        if at == 0 or word.startswith("-") or words[0] in NO_PATHS or words[at - 1] in COUNTED:
             found.append((word, ""))
+        elif script and words[0] in OF_SCRIPTS:
+            found.append((script[0], word[script.end():]))
         else:
             found.append(("", word))
     return found
@@ -107,7 +109,7 @@ def answer(name, words, folder):
     """Returns the status of the program, whose output is written; the folder is for copies."""
     kit = crates.toolchain()
     failures.usable_toolchain(name, kit)
-    parts = paths_in(name, words)
+    parts = paths_in(words)
     paths = {readable(path, folder): path for _, path in parts if path}
     whole = {path: it for it, path in paths.items()}
     words = [before + whole.get(path, path) for before, path in parts]

@@ -28,7 +28,11 @@ arguments_text (QueuingStatus id) = spaced id
 arguments_text (ClearQueuing id) = spaced id
 arguments_text (SetMode mode) = spaced mode
 
+-- CALL ARGUMENTS
+abbrev pub call_text : Call → List ℕ
+call_text call = word_of (service_of call) ++ arguments_text call
+
 -- MOMENT PARTITION CALL ARGUMENTS
 unfoldable pub request_text : Configuration → ℕ → Moment → Call → List ℕ
 request_text config p at call =
-    decimal at.0 ++ codes " " ++ name_of_partition config p ++ codes " " ++ word_of (service_of call) ++ arguments_text call
+    decimal at.0 ++ codes " " ++ name_of_partition config p ++ codes " " ++ call_text call

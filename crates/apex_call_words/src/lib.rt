@@ -3,7 +3,7 @@
 
 ghost use Rattle.std.specs.Prelude.{◌≡◌, ◌<◌, ◌++◌, codes, length, decimal, string_bytes, OnOk};
 ghost use Rattle.apex_types.specs.Message.{hex_text_of};
-ghost use Rattle.apex_call_words.specs.CallWords.{spaced, arguments_text, request_text};
+ghost use Rattle.apex_call_words.specs.CallWords.{spaced, arguments_text, call_text, request_text};
 
 use apex_config::Config;
 use apex_texts::Service;
@@ -30,6 +30,13 @@ pub fn push_request(
     push_word(text, " ")?;
     push_word(text, config.partition_name(partition).text())?;
     push_word(text, " ")?;
+    push_call(text, call)
+}
+
+/// `CALL ARGUMENTS`, at the end of a text: what stands in a trace's line behind the partition.
+pub fn push_call(text: &mut String, call: &Call) -> Result<(), AllocError>
+    ensures { OnOk result (string_bytes text.new ≡ string_bytes text.old ++ call_text call.now) }
+{
     push_word(text, Service::of(call).word())?;
     push_arguments(text, call)
 }

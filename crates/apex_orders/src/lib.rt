@@ -10,9 +10,10 @@ mod point;
 mod replay;
 mod replies;
 mod search;
-mod step;
+pub mod step;
 
 pub use crate::order::Order;
 pub use crate::orders_fault::OrdersFault;
 pub use crate::outcomes::{Outcomes, all_outcomes};
 pub use crate::replies::Possible;
+pub use crate::step::step;

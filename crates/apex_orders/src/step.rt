@@ -8,7 +8,7 @@ use crate::replies::Possible;
 use apex_ports::{Ports, Script};
 
 /// The partition makes the next call of its script. `None` where it has made them all, and then nothing is called.
-pub(crate) fn step(ports: &mut Ports, scripts: &[Script], p: usize) -> Option<Possible>
+pub fn step(ports: &mut Ports, scripts: &[Script], p: usize) -> Option<Possible>
     requires partition { p < length ports.old.config.partitions }
     requires scripts { length scripts.now ≡ length ports.old.config.partitions }
     requires sound { IsSound ports.old.config ports.old.history }

@@ -15,6 +15,10 @@ pub(crate) const LOG: &str = "LOG";
 
 pub(crate) const FIRST: &str = "first";
 
+pub(crate) const SCRIPTS: &str = "NAME=SCRIPT";
+
+pub(crate) const STATES: &str = "states";
+
 pub(crate) const JSON: &str = "json";
 
 /// The command of the whole program.
@@ -22,7 +26,7 @@ pub(crate) fn program<'a>(alloc: Global) -> Result<Command<'a>, AllocError> {
     Ok(
         Command::new(alloc, "dekarino")
             .about(
-                "Tells people what a configuration, a trace, a recorded log and the reply table come to",
+                "Tells people what a configuration, a trace, a recorded log, scripts and the reply table come to",
             )
             .after_help(help::PROGRAM)
             .version(crate::VERSION)
@@ -32,6 +36,7 @@ pub(crate) fn program<'a>(alloc: Global) -> Result<Command<'a>, AllocError> {
             .subcommand(explain(alloc)?)?
             .subcommand(draw(alloc)?)?
             .subcommand(judge(alloc)?)?
+            .subcommand(orders(alloc)?)?
             .subcommand(rows(alloc)?)?,
     )
 }
@@ -97,6 +102,29 @@ fn judge<'a>(alloc: Global) -> Result<Command<'a>, AllocError> {
                 .help("The file of a log"),
         )?
         .arg(first)?
+        .arg(json(alloc))
+}
+
+/// The command `orders`, with the name that its usage has.
+pub(crate) fn orders_alone<'a>(alloc: Global) -> Result<Command<'a>, AllocError> {
+    orders(alloc)?.bin_name("dekarino orders")
+}
+
+fn orders<'a>(alloc: Global) -> Result<Command<'a>, AllocError> {
+    let scripts = Arg::new(alloc, SCRIPTS)
+        .required(true)
+        .num_args(1..)
+        .help("The file of a script for each partition that has one");
+    let states = Arg::new(alloc, STATES)
+        .long(STATES)
+        .value_name("N")
+        .help(help::STATES);
+    Command::new(alloc, "orders")
+        .about("Tells what scripts can come to over every order of their calls")
+        .after_help(help::ORDERS)
+        .arg(config(alloc))?
+        .arg(scripts)?
+        .arg(states)?
         .arg(json(alloc))
 }
 

@@ -9,7 +9,8 @@ Example:
     1 NAV_IN queuing destination NAV size 4 depth 2 from FMS.NAV_OUT
 
 The status is 0 where all was done, 1 where a text was refused, 2 where the words are not those of a command, 3 where
-memory, a file or the output was wanting, and 4 where a judged log departs from the standard.";
+memory, a file or the output was wanting, 4 where a judged log departs from the standard, and 5 where what was asked is
+left undecided.";
 
 pub(crate) const TABLE: &str = "\
 A line for each partition, and beneath it one for each of its ports, by its identifier: the name, the kind, the
@@ -61,6 +62,25 @@ Example:
   8 calls, 2 departures";
 
 pub(crate) const FIRST: &str = "Tells the first departure alone, and how many there are";
+
+pub(crate) const ORDERS: &str = "\
+Each partition makes the calls of its script in order, and nothing else says which call comes first: the moments of
+calls of different partitions don't. Of each call, by the line of its script, all replies are told that it gets in some
+order, and no others; of each queuing channel from the lowest to the highest of its counts in the end. Then come the
+number of states that calls can lead to, and that of different ends. Where there are more states than the bound, nothing
+is told, and the status is 5.
+
+Example:
+  $ ./dekarino orders examples/orders/config.toml FMS=examples/orders/fms.script DSP=examples/orders/dsp.script
+  FMS:2 10 create-queuing NAV_OUT 4 1 0 0 -> NO_ERROR id 1
+  FMS:3 30 send 1 0a0b -> NO_ERROR
+  FMS:4 50 send 1 0c0d -> NOT_AVAILABLE | NO_ERROR
+  DSP:2 20 create-queuing NAV_IN 4 1 1 0 -> NO_ERROR id 1
+  DSP:3 40 receive 1 -> NOT_AVAILABLE | NO_ERROR message 0a0b
+  queuing NAV accepted 1..2 received 0..1 waiting 0..1
+  15 states, 3 ends";
+
+pub(crate) const STATES: &str = "Gives up above so many states [default: 100000]";
 
 pub(crate) const ROWS: &str = "\
 Each service with its rows in order: the first whose condition holds gives the reply, and stands behind it in an

@@ -32,6 +32,13 @@ pub enum Task<'a> {
         first: bool,
         form: Form,
     },
+    /// Tells what scripts can come to over every order of their calls, or gives up above so many states.
+    Orders {
+        config: &'a str,
+        scripts: Vec<&'a str>,
+        states: usize,
+        form: Form,
+    },
     /// Tells the reply table: the rows of a service, or of all.
     Rows {
         service: Option<&'a str>,
@@ -105,6 +112,7 @@ fn task_in<'a>(alloc: Global, matches: &ArgMatches<'a>) -> Result<Task<'a>, Word
             first: given.get_flag(commands::FIRST),
             form: form_in(given),
         }),
+        Some(("orders", given)) => orders_in(alloc, given),
         Some(("rows", given)) => Ok(Task::Rows {
             service: given.get_str(commands::SERVICE),
             form: form_in(given),
@@ -125,6 +133,42 @@ fn log_in<'a>(alloc: Global, given: &ArgMatches<'a>) -> Result<&'a str, WordsFau
         Some(log) => Ok(log),
         None => Err(fault_of(alloc, commands::program(alloc), "LOG is missing")),
     }
+}
+
+/// The states above which `orders` gives up, where no number is given.
+const STATES: usize = 100_000;
+
+fn orders_in<'a>(alloc: Global, given: &ArgMatches<'a>) -> Result<Task<'a>, WordsFault> {
+    let Some(states) = states_in(given) else {
+        return Err(orders_fault(alloc, "--states takes a number"));
+    };
+    let words = given.get_strs(commands::SCRIPTS).unwrap_or(&[]);
+    if !words.iter().all(|word| names_script(word)) {
+        return Err(orders_fault(
+            alloc,
+            "each of the words after CONFIG has to be NAME=SCRIPT",
+        ));
+    }
+    let mut scripts = Vec::new(alloc);
+    scripts.extend_from_slice(words)?;
+    Ok(Task::Orders {
+        config: config_in(alloc, given)?,
+        scripts,
+        states,
+        form: form_in(given),
+    })
+}
+
+/// The number of states that is given, or the one where none is; `None` where what is given is no number.
+fn states_in(given: &ArgMatches<'_>) -> Option<usize> {
+    match given.get_str(commands::STATES) {
+        None => Some(STATES),
+        Some(word) => word.parse().ok(),
+    }
+}
+
+fn orders_fault(alloc: Global, message: &str) -> WordsFault {
+    fault_of(alloc, commands::orders_alone(alloc), message)
 }
 
 fn form_in(given: &ArgMatches<'_>) -> Form {

@@ -2,6 +2,7 @@
 use crate::drawings::drawing;
 use crate::explanations::{explain_run, explain_trace_in};
 use crate::judgements::judgement;
+use crate::outcomes::outcomes;
 use crate::rows::reply_table;
 use crate::tables::table;
 use crate::unfinished::Unfinished;
@@ -23,6 +24,9 @@ const REFUSED: u8 = 1;
 
 /// The status of a log whose replies depart from the standard.
 const DEPARTS: u8 = 4;
+
+/// The status of an answer that is left undecided.
+const UNDECIDED: u8 = 5;
 
 /// Does what the words ask for, and answers the status. A refusal writes a line to `errors`, and words that aren't those
 /// of a command what is wrong, with the usage. A run waits for its workers.
@@ -69,6 +73,7 @@ fn finish<W: Write, E: Write>(
         Err(Unfinished::NoService(name)) => return no_service(name, errors),
         Err(Unfinished::TooManyCalls { calls }) => return too_many_calls(calls, errors),
         Err(Unfinished::FaultyLog(faulty)) => return faulty_log(faulty, errors),
+        Err(Unfinished::Undecided { states }) => return undecided(states, errors),
     };
     match (print(output, text.as_slice()), refusal) {
         (Ok(()), None) => status,
@@ -98,6 +103,12 @@ fn faulty_log<E: Write>(faulty: FaultyLine, errors: &mut E) -> u8 {
     REFUSED
 }
 
+/// Says that the orders of scripts lead to more states than the bound, and answers the status.
+fn undecided<E: Write>(states: usize, errors: &mut E) -> u8 {
+    let _ = writeln!(errors, "undecided: more than {states} states");
+    UNDECIDED
+}
+
 /// What the task tells.
 fn perform<'a, R: Threads + Wait + Sync, O: Opener>(
     rt: &R,
@@ -125,6 +136,12 @@ fn perform<'a, R: Threads + Wait + Sync, O: Opener>(
             first,
             form,
         } => judgement(alloc, opener, config, log, first, form),
+        Task::Orders {
+            config,
+            scripts,
+            states,
+            form,
+        } => outcomes(alloc, opener, config, scripts.as_slice(), states, form),
         Task::Rows { service, form } => reply_table(alloc, service, form),
         Task::Version => Ok(version_text(alloc, origin)?.into_bytes()),
         Task::Help(text) => Ok(text.into_bytes()),

@@ -20,6 +20,8 @@ pub enum Unfinished<'a> {
     FaultyLog(FaultyLine),
     /// This is told of a log, whose replies depart from the standard.
     Departs { text: Vec<u8> },
+    /// The orders of scripts lead to more states than these, so nothing is claimed.
+    Undecided { states: usize },
 }
 
 impl<'a> From<FaultyLine> for Unfinished<'a> {
