@@ -19,6 +19,10 @@ pub(crate) const SCRIPTS: &str = "NAME=SCRIPT";
 
 pub(crate) const STATES: &str = "states";
 
+pub(crate) const WHEN: &str = "when";
+
+pub(crate) const NEVER: &str = "never";
+
 pub(crate) const JSON: &str = "json";
 
 /// The command of the whole program.
@@ -119,12 +123,22 @@ fn orders<'a>(alloc: Global) -> Result<Command<'a>, AllocError> {
         .long(STATES)
         .value_name("N")
         .help(help::STATES);
+    let when = Arg::new(alloc, WHEN)
+        .long(WHEN)
+        .value_name("CALL = REPLY")
+        .help(help::WHEN);
+    let never = Arg::new(alloc, NEVER)
+        .long(NEVER)
+        .value_name("CALL = REPLY")
+        .help(help::NEVER);
     Command::new(alloc, "orders")
         .about("Tells what scripts can come to over every order of their calls")
         .after_help(help::ORDERS)
         .arg(config(alloc))?
         .arg(scripts)?
         .arg(states)?
+        .arg(when)?
+        .arg(never)?
         .arg(json(alloc))
 }
 

@@ -9,8 +9,8 @@ Example:
     1 NAV_IN queuing destination NAV size 4 depth 2 from FMS.NAV_OUT
 
 The status is 0 where all was done, 1 where a text was refused, 2 where the words are not those of a command, 3 where
-memory, a file or the output was wanting, 4 where a judged log departs from the standard, and 5 where what was asked is
-left undecided.";
+memory, a file or the output was wanting, 4 where what was asked is not so, as where a
+judged log departs from the standard, and 5 where it is left undecided.";
 
 pub(crate) const TABLE: &str = "\
 A line for each partition, and beneath it one for each of its ports, by its identifier: the name, the kind, the
@@ -81,6 +81,12 @@ Example:
   15 states, 3 ends";
 
 pub(crate) const STATES: &str = "Gives up above so many states [default: 100000]";
+
+pub(crate) const WHEN: &str =
+    "Tells an order in which the call NAME:LINE gets the reply, as a log; status 4 where there is none";
+
+pub(crate) const NEVER: &str =
+    "The status is 0 where the call NAME:LINE gets the reply in no order, and else 4, with such an order";
 
 pub(crate) const ROWS: &str = "\
 Each service with its rows in order: the first whose condition holds gives the reply, and stands behind it in an

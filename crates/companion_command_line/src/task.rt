@@ -32,11 +32,13 @@ pub enum Task<'a> {
         first: bool,
         form: Form,
     },
-    /// Tells what scripts can come to over every order of their calls, or gives up above so many states.
+    /// Tells what scripts can come to over every order of their calls, or answers a question about that; it gives up above
+    /// so many states.
     Orders {
         config: &'a str,
         scripts: Vec<&'a str>,
         states: usize,
+        question: Option<Question<'a>>,
         form: Form,
     },
     /// Tells the reply table: the rows of a service, or of all.
@@ -57,6 +59,15 @@ pub enum Calls<'a> {
     Trace(&'a str),
     /// A run of the scripts that the arguments `NAME=SCRIPT` give to partitions.
     Scripts(Vec<&'a str>),
+}
+
+/// Whether a call gets a reply in some order: `NAME:LINE = REPLY`.
+#[derive(Clone, Copy, Debug, PartialEq, Eq)]
+pub enum Question<'a> {
+    /// It is to get it in some order.
+    When(&'a str),
+    /// It is to get it in none.
+    Never(&'a str),
 }
 
 /// How something is told.
@@ -142,6 +153,18 @@ fn orders_in<'a>(alloc: Global, given: &ArgMatches<'a>) -> Result<Task<'a>, Word
     let Some(states) = states_in(given) else {
         return Err(orders_fault(alloc, "--states takes a number"));
     };
+    let question = match (
+        given.get_str(commands::WHEN),
+        given.get_str(commands::NEVER),
+    ) {
+        (Some(_), Some(_)) => return Err(orders_fault(
+            alloc,
+            "--when and --never don't go together",
+        )),
+        (Some(words), None) => Some(Question::When(words)),
+        (None, Some(words)) => Some(Question::Never(words)),
+        (None, None) => None,
+    };
     let words = given.get_strs(commands::SCRIPTS).unwrap_or(&[]);
     if !words.iter().all(|word| names_script(word)) {
         return Err(orders_fault(
@@ -155,6 +178,7 @@ fn orders_in<'a>(alloc: Global, given: &ArgMatches<'a>) -> Result<Task<'a>, Word
         config: config_in(alloc, given)?,
         scripts,
         states,
+        question,
         form: form_in(given),
     })
 }

@@ -8,8 +8,8 @@ use apex_files::{Opener, read_file};
 use companion_command_line::Form;
 use std::alloc::Global;
 
-/// The departures of the log in a file, on the configuration in a file. Where there is one, the task ends as one that found
-/// departures.
+/// The departures of the log in a file, on the configuration in a file. Where there is one, the task ends as one
+/// where what was asked is not so.
 pub(crate) fn judgement<'a, O: Opener>(
     alloc: Global,
     opener: &O,
@@ -26,7 +26,7 @@ pub(crate) fn judgement<'a, O: Opener>(
     if departures == 0 {
         Ok(text)
     } else {
-        Err(Unfinished::Departs { text })
+        Err(Unfinished::NotSo { text })
     }
 }
 

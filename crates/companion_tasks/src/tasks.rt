@@ -22,8 +22,8 @@ const MISUSED: u8 = 2;
 /// The status of a text that is refused.
 const REFUSED: u8 = 1;
 
-/// The status of a log whose replies depart from the standard.
-const DEPARTS: u8 = 4;
+/// The status where what was asked is not so.
+const NOT_SO: u8 = 4;
 
 /// The status of an answer that is left undecided.
 const UNDECIDED: u8 = 5;
@@ -67,7 +67,7 @@ fn finish<W: Write, E: Write>(
 ) -> u8 {
     let (text, status, refusal) = match done {
         Ok(text) => (text, 0, None),
-        Err(Unfinished::Departs { text }) => (text, DEPARTS, None),
+        Err(Unfinished::NotSo { text }) => (text, NOT_SO, None),
         Err(Unfinished::Told { text, refusal }) => (text, REFUSED, Some(refusal)),
         Err(Unfinished::Refused(refusal)) => return refuse(refusal, errors),
         Err(Unfinished::NoService(name)) => return no_service(name, errors),
@@ -140,8 +140,17 @@ fn perform<'a, R: Threads + Wait + Sync, O: Opener>(
             config,
             scripts,
             states,
+            question,
             form,
-        } => outcomes(alloc, opener, config, scripts.as_slice(), states, form),
+        } => outcomes(
+            alloc,
+            opener,
+            config,
+            scripts.as_slice(),
+            states,
+            question,
+            form,
+        ),
         Task::Rows { service, form } => reply_table(alloc, service, form),
         Task::Version => Ok(version_text(alloc, origin)?.into_bytes()),
         Task::Help(text) => Ok(text.into_bytes()),

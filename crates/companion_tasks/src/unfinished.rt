@@ -18,8 +18,9 @@ pub enum Unfinished<'a> {
     TooManyCalls { calls: usize },
     /// The log has a faulty line.
     FaultyLog(FaultyLine),
-    /// This is told of a log, whose replies depart from the standard.
-    Departs { text: Vec<u8> },
+    /// This is told, and what was asked isn't so: replies of a log depart from the standard, or a call gets no reply that it
+    /// was to get, or one that it was never to get.
+    NotSo { text: Vec<u8> },
     /// The orders of scripts lead to more states than these, so nothing is claimed.
     Undecided { states: usize },
 }

@@ -1,0 +1,122 @@
+//! Whether a call of scripts gets a reply in some order.
+ghost use Rattle.std.specs.Prelude.{◌≡◌, length};
+
+use crate::outcomes::not_found;
+use crate::unfinished::Unfinished;
+use apex_call_words::push_request;
+use apex_config::Config;
+use apex_files::Refusal;
+use apex_logs::read_reply;
+use apex_orders::{Order, Possible, order_giving, step};
+use apex_outcome_lines::LineNumbers;
+use apex_ports::{Ports, Script};
+use apex_texts::push_reply;
+use apex_types::{OutOfMemory, Reply};
+use companion_command_line::Question;
+use std::alloc::{AllocError, Global};
+
+/// What is told where no order gives the reply.
+const NEVER: &[u8] = b"never\n";
+
+/// The answer to a question: an order in which the call gets the reply, as a log, or that there is none.
+pub(crate) fn occurrence<'a>(
+    alloc: Global,
+    config: &Config,
+    scripts: &[Script],
+    lines: &[LineNumbers],
+    states: usize,
+    question: Question<'a>,
+) -> Result<Vec<u8>, Unfinished<'a>>
+    requires { length scripts.now ≡ length config.now.partitions }
+{
+    let (words, wanted) = match question {
+        Question::When(words) => (words, true),
+        Question::Never(words) => (words, false),
+    };
+    let Some(one) = possible_in(config, lines, words) else {
+        return Err(Unfinished::Refused(Refusal::Argument(words)));
+    };
+    let order = match order_giving(alloc, config, scripts, &one, states) {
+        Ok(order) => order,
+        Err(fault) => return Err(not_found(fault, states)),
+    };
+    let occurs = order.is_some();
+    let Ok(text) = answer_text(alloc, config, scripts, order) else {
+        return Err(Unfinished::from(AllocError));
+    };
+    if occurs == wanted {
+        Ok(text)
+    } else {
+        Err(Unfinished::NotSo { text })
+    }
+}
+
+/// The reply that words `NAME:LINE = REPLY` name, to the call of that line of the partition's script.
+fn possible_in(config: &Config, lines: &[LineNumbers], words: &str) -> Option<Possible> {
+    let (call, said) = words.split_once('=')?;
+    let (name, line) = call.trim().split_once(':')?;
+    let partition = config.partition_called(name.as_bytes())?;
+    let line: usize = line.parse().ok()?;
+    let place = place_of(lines.get(partition)?, line)?;
+    let mut reply = Reply::NotMade;
+    match read_reply(said.as_bytes(), &mut reply) {
+        Ok(()) => Some(Possible {
+            partition,
+            place,
+            reply,
+        }),
+        Err(_) => None,
+    }
+}
+
+/// The place of the call that stands on the line.
+fn place_of(lines: &LineNumbers, line: usize) -> Option<usize> {
+    for (place, number) in lines.numbers.iter().enumerate() {
+        if *number == line {
+            return Some(place);
+        }
+    }
+    None
+}
+
+fn answer_text(
+    alloc: Global,
+    config: &Config,
+    scripts: &[Script],
+    order: Option<Order>,
+) -> Result<Vec<u8>, OutOfMemory>
+    requires { length scripts.now ≡ length config.now.partitions }
+{
+    match order {
+        Some(order) => Ok(order_text(alloc, config, scripts, &order)?.into_bytes()),
+        None => Ok(Vec::from_slice(alloc, NEVER)?),
+    }
+}
+
+/// The calls in an order as a log: each with its reply.
+fn order_text(
+    alloc: Global,
+    config: &Config,
+    scripts: &[Script],
+    order: &Order,
+) -> Result<String, OutOfMemory>
+    requires { length scripts.now ≡ length config.now.partitions }
+{
+    let mut text = String::new(alloc);
+    let mut ports = Ports::new(alloc, config.copy()?)?;
+    for p in order.partitions() {
+        if *p >= scripts.len() {
+            continue;
+        }
+        let Some(one) = step(&mut ports, scripts, *p) else {
+            continue;
+        };
+        if let Some((at, call)) = scripts[*p].calls.get(one.place) {
+            push_request(&mut text, config, *p, *at, call)?;
+            text.push_str(" -> ")?;
+            push_reply(&mut text, &one.reply)?;
+            text.push('\n')?;
+        }
+    }
+    Ok(text)
+}
