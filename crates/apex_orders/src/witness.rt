@@ -1,9 +1,8 @@
 //! An order in which a call gets a reply.
 ghost use Rattle.std.specs.Prelude.{◌≡◌, ◌<◌, ◌↔◌, length, IfOk, IfSome, IfNone, MatchOption, IsTrue};
-ghost use Rattle.apex_orders.specs.Orders.{history_of, IsOrder};
+ghost use Rattle.apex_orders.specs.Orders.{IsOrder};
 ghost use Rattle.apex_orders.specs.Outcomes.{CanOccur, IsGivenBy, IsUndecided};
 ghost use Rattle.apex_orders.specs.Searching.{AreOrders, IsGivenBehind, IsGivenByAnOrder};
-ghost use Rattle.apex_orders.specs.Steps.{Makes};
 
 use crate::order::Order;
 use crate::orders_fault::OrdersFault;
