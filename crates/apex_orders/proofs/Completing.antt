@@ -17,7 +17,7 @@ use Rattle.apex_orders.specs.Orders.{Scripts, script_of, calls_of, replies_of, I
 use Rattle.apex_orders.specs.Outcomes.{CanOccur, AreReplies, AreEnds, EndsAtOne}
 use Rattle.apex_orders.specs.Points.{IsSamePoint}
 use Rattle.apex_orders.specs.Possibles.{Has}
-use Rattle.apex_orders.specs.Searching.{Knows, IsTried, IsSearched}
+use Rattle.apex_orders.specs.Searching.{Knows, IsTried, IsSearched, IsGivenByAnOrder}
 use Rattle.apex_orders.specs.Steps.{Makes}
 use Rattle.apex_orders.proofs.Lists.{stays_before, before_or_last, take_whole, none_past, at_seam}
 use Rattle.apex_orders.proofs.Walks.{own_entry, other_entry, calls_of-append, replies_of-append, calls_count, replies_count, IsGood, IsDone, IsNext, answered, next_cases, same_history, one_longer, good_next, first_of, rest_of, none_ordered, first_ordered, joined, good_walk, continued-append, ordered, history_of_order}
@@ -206,28 +206,37 @@ module _ (config : Configuration) (scripts : Scripts) (valid : IsConfiguration c
         subst (Knows config scripts orders) (history_of_order config scripts h begins)
         (knows_on [] (order_of h) (ordered config scripts h begins.lawful) (good_nil config scripts valid) knows_nothing)
 
-    -- a step behind a known point gives a reply that was found
-    found_next : (h : History) (p : ℕ) → p < length config.partitions → IsGood config scripts h → Knows config scripts orders h → (one : Possible) → Makes config scripts h p one → Has replies one
-    found_next h p within good known one makes =
+    -- a step behind a known point gives a reply that one of the orders gives
+    given_next : (h : History) (p : ℕ) → p < length config.partitions → IsGood config scripts h → Knows config scripts orders h → (one : Possible) → Makes config scripts h p one → IsGivenByAnOrder config scripts orders one
+    given_next h p within good known one makes =
         let there = history_of config scripts known.order in
         let good_too = good_known h known in
-        (tried_here h known p within).reply one (record {
+        let own : p ≡ one.partition = sym makes.partition in
+        let made : Makes config scripts there p one = record {
           partition = makes.partition;
           place = makes.place ∙ same_count config scripts short h there p within good good_too known.same;
           at = makes.at;
           call = makes.call;
           entry = sym (same_next config scripts short h there p within good good_too known.same) ∙ makes.entry;
-        })
+        } in
+        record {
+          order = known.order;
+          here = known.here;
+          given = record {
+            within = subst (λ (q : ℕ). q < length config.partitions) own within;
+            makes = subst (λ (q : ℕ). Makes config scripts there q one) own made;
+          };
+        }
 
-    found_on : (h : History) (order : List ℕ) → IsOrder config order → IsGood config scripts h → Knows config scripts orders h → ((one : Possible) → IsAnswered h one → Has replies one)
-        → (one : Possible) → IsAnswered (continued config scripts h order) one → Has replies one
-    found_on h [] is good known before one here = before one here
-    found_on h (p ∷ order) is good known before one here =
+    given_on : (h : History) (order : List ℕ) → IsOrder config order → IsGood config scripts h → Knows config scripts orders h → ((one : Possible) → IsAnswered h one → IsGivenByAnOrder config scripts orders one)
+        → (one : Possible) → IsAnswered (continued config scripts h order) one → IsGivenByAnOrder config scripts orders one
+    given_on h [] is good known before one here = before one here
+    given_on h (p ∷ order) is good known before one here =
         let within = first_of config scripts p order is in
-        found_on (h ++ next_entries config scripts h p) order (rest_of config scripts p order is) (good_next config scripts h p within good) (knows_next h p within good known)
+        given_on (h ++ next_entries config scripts h p) order (rest_of config scripts p order is) (good_next config scripts h p within good) (knows_next h p within good known)
         (λ other at. ⊎_elim
         (λ (earlier : IsAnswered h other). before other earlier)
-        (λ (now : Makes config scripts h p other). found_next h p within good known other now)
+        (λ (now : Makes config scripts h p other). given_next h p within good known other now)
         (answered_by h p other at))
         one here
 
@@ -236,6 +245,18 @@ module _ (config : Configuration) (scripts : Scripts) (valid : IsConfiguration c
       lawful = way.lawful;
       calls = λ p. way.calls p ∙ sym (take_whole (length (calls_of p h)) (script_of scripts p) (let same = ap (λ (calls : List (Moment × Call)). length calls) (way.calls p) in omega (arith, same)));
     }
+
+    -- each reply that can occur is given behind one of the orders
+    pub given_of_occurs : (one : Possible) → CanOccur config scripts one → IsGivenByAnOrder config scripts orders one
+    given_of_occurs one can =
+        let begins = begins_of can.way can.is_way in
+        given_on [] (order_of can.way) (ordered config scripts can.way begins.lawful) (good_nil config scripts valid) knows_nothing (λ other at. absurd (cc)) one
+        (subst (λ (h : History). IsAnswered h one) (sym (history_of_order config scripts can.way begins)) can.reply)
+
+    -- and so was found
+    found_of_given : (one : Possible) → IsGivenByAnOrder config scripts orders one → Has replies one
+    found_of_given one by =
+        (done.tried by.here.0 (slice_get_within orders by.here.0 by.order by.here.1) by.order by.here.1 one.partition by.given.within).reply one by.given.makes
 
     pub are_replies : length scripts ≡ length config.partitions → AreReplies config scripts replies
     are_replies count one = (occurs, found)
@@ -254,10 +275,7 @@ module _ (config : Configuration) (scripts : Scripts) (valid : IsConfiguration c
             }
 
         found : CanOccur config scripts one → Has replies one
-        found can =
-            let begins = begins_of can.way can.is_way in
-            found_on [] (order_of can.way) (ordered config scripts can.way begins.lawful) (good_nil config scripts valid) knows_nothing (λ other at. absurd (cc)) one
-            (subst (λ (h : History). IsAnswered h one) (sym (history_of_order config scripts can.way begins)) can.reply)
+        found can = found_of_given one (given_of_occurs one can)
 
     -- the orders that make all calls are the ends
     pub are_ends : length scripts ≡ length config.partitions → (ends : List (List ℕ))

@@ -6,3 +6,4 @@ pub mod MarkLemmas
 pub mod SearchLemmas
 pub mod StepLemmas
 pub mod Walks
+pub mod WitnessLemmas

@@ -1,11 +1,12 @@
 -- All that can happen to scripts, over every order of their calls.
-use Rattle.std.specs.Prelude.{ℕ, ◌≡◌, ◌<◌, ◌↔◌, List, length, slice_get, Some, Result, Err}
+use Rattle.std.specs.Prelude.{ℕ, ◌≡◌, ◌<◌, ◌↔◌, List, [], ◌∷◌, ◌++◌, length, slice_get, Some, Result, Err}
 use Rattle.apex_config.specs.Configuration.{Configuration}
-use Rattle.apex_ports.specs.History.{History}
+use Rattle.apex_ports.specs.declared.history.Entry.{Entry}
+use Rattle.apex_ports.specs.History.{History, entries_of}
 use Rattle.apex_orders.specs.declared.orders_fault.OrdersFault.{OrdersFault}
 use Rattle.apex_orders.specs.declared.orders_fault.OrdersFault.TheVariants.{TooManyStates}
 use Rattle.apex_orders.specs.declared.replies.Possible.{Possible}
-use Rattle.apex_orders.specs.Orders.{Scripts, IsBeginning, IsWay, history_of, replies_of}
+use Rattle.apex_orders.specs.Orders.{Scripts, IsBeginning, IsWay, IsOrder, history_of, replies_of}
 use Rattle.apex_orders.specs.Points.{IsSamePoint}
 use Rattle.apex_orders.specs.Possibles.{Has}
 
@@ -14,6 +15,22 @@ pub record CanOccur (config : Configuration) (scripts : Scripts) (one : Possible
   pub way : History
   pub is_way : IsWay config scripts way
   pub reply : slice_get (replies_of one.partition way) one.place ≡ Some one.reply
+
+-- the last entry of the history is that of the call at the place, with the reply
+pub record EndsWith (history : History) (one : Possible) : Type 0 where
+  pub before : History
+  pub entry : Entry
+  pub whole : history ≡ before ++ entry ∷ []
+  pub partition : entry.partition ≡ one.partition
+  pub place : one.place ≡ length (entries_of one.partition before)
+  pub reply : entry.reply ≡ one.reply
+
+-- the calls in this order are a beginning, which ends with the call at the place, and gives it the reply
+pub record IsGivenBy (config : Configuration) (scripts : Scripts) (one : Possible) (order : List ℕ) : Type 0 where
+  pub valid : IsOrder config order
+  pub begins : IsBeginning config scripts (history_of config scripts order)
+  pub reply : slice_get (replies_of one.partition (history_of config scripts order)) one.place ≡ Some one.reply
+  pub last : EndsWith (history_of config scripts order) one
 
 -- these are the replies that calls can get, and no others
 abbrev pub AreReplies : Configuration → Scripts → List Possible → Type 0

@@ -45,6 +45,17 @@ pub record IsFound (config : Configuration) (scripts : Scripts) (one : Possible)
 abbrev pub AreFound : Configuration → Scripts → List Possible → Type 0
 AreFound config scripts replies = (one : Possible) → Has replies one → IsFound config scripts one
 
+-- behind the order, the partition's next call is the one at the place, and gets the reply
+pub record IsGivenBehind (config : Configuration) (scripts : Scripts) (order : List ℕ) (one : Possible) : Type 0 where
+  pub within : one.partition < length config.partitions
+  pub makes : Makes config scripts (history_of config scripts order) one.partition one
+
+-- it is so behind one of the orders
+pub record IsGivenByAnOrder (config : Configuration) (scripts : Scripts) (orders : List (List ℕ)) (one : Possible) : Type 0 where
+  pub order : List ℕ
+  pub here : Has orders order
+  pub given : IsGivenBehind config scripts order one
+
 -- no two of the orders lead to one point
 abbrev pub AreApart : Configuration → Scripts → List (List ℕ) → Type 0
 AreApart config scripts orders =

@@ -29,7 +29,8 @@ pub(crate) fn add_reply(replies: &mut Vec<Possible>, one: Possible) -> Result<()
     Ok(())
 }
 
-fn is_same_possible(a: &Possible, b: &Possible) -> bool
+/// Whether they are equal.
+pub(crate) fn is_same_possible(a: &Possible, b: &Possible) -> bool
     ensures { IsTrue result ↔ (a.now ≡ b.now) }
 {
     a.place == b.place && a.partition == b.partition && is_same_reply(&a.reply, &b.reply)
