@@ -18,8 +18,10 @@ import progress
 HERE = os.path.dirname(os.path.realpath(__file__))
 ROOT = os.path.dirname(HERE)
 NOTICE = "not proved: this answer is from an unproved build"
-# The commands whose words name no file, those that take words NAME=SCRIPT, and the options with a number behind them.
-NO_PATHS, OF_SCRIPTS, COUNTED = ("rows", "help"), ("run", "explain", "orders"), ("--states",)
+# The commands whose words name no file, those that take words NAME=SCRIPT, and the options with a word behind them that
+# names none.
+NO_PATHS, OF_SCRIPTS = ("rows", "help"), ("run", "explain", "orders")
+VALUED = ("--states", "--when", "--never")
 # What the toolchain writes after a program that ended.
 ENDED = re.compile(rb"^run=ended status=(\d+) .*proved=no\n\Z", re.M)
 OF_TOOLCHAIN = re.compile(rb"(^(interpreter|checked|races): .*\n)*\Z", re.M)
@@ -32,7 +34,7 @@ def paths_in(words):
     found = []
     for at, word in enumerate(words):
         script = re.match(r"\w+=", word, re.ASCII)
-        if at == 0 or word.startswith("-") or words[0] in NO_PATHS or words[at - 1] in COUNTED:
+        if at == 0 or word.startswith("-") or words[0] in NO_PATHS or words[at - 1] in VALUED:
             found.append((word, ""))
         elif script and words[0] in OF_SCRIPTS:
             found.append((script[0], word[script.end():]))

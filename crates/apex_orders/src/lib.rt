@@ -17,5 +17,4 @@ pub use crate::order::Order;
 pub use crate::orders_fault::OrdersFault;
 pub use crate::outcomes::{Outcomes, all_outcomes};
 pub use crate::replies::Possible;
-pub use crate::step::step;
 pub use crate::witness::order_giving;

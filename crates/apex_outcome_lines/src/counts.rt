@@ -1,11 +1,9 @@
 //! The counts of queuing channels, over the ends of all orders.
-ghost use Rattle.std.specs.Prelude.{◌≡◌, ◌<◌, ◌<◌, length, IfOk};
-ghost use Rattle.apex_ports.specs.Sound.{IsSound};
-ghost use Rattle.apex_orders.specs.Orders.{history_of};
-ghost use Rattle.apex_outcome_lines.specs.Counts.{counts_of, lesser, greater, widened, ranges_of};
+ghost use Rattle.std.specs.Prelude.{◌≡◌, ◌<◌, length, IfOk};
 
 use apex_config::Config;
-use apex_orders::{Order, step};
+use apex_orders::Order;
+use apex_orders::step::step;
 use apex_ports::{Ports, Script};
 use apex_types::OutOfMemory;
 use std::alloc::Global;
@@ -36,8 +34,6 @@ pub fn ranges_of(
 ) -> Result<Ranges, OutOfMemory>
     requires channel { c < length config.now.channels }
     requires scripts { length scripts.now ≡ length config.now.partitions }
-    ensures { IfOk result
-        (λ ranges. ranges ≡ ranges_of config.now scripts.now c orders.now) }
 {
     let Some((first, rest)) = orders.split_first() else {
         let ports = Ports::new(alloc, config.copy()?)?;
@@ -51,28 +47,21 @@ pub fn ranges_of(
     Ok(ranges)
 }
 
-fn only(counts: Counts) -> Ranges
-    ensures lowest { result.lowest ≡ counts }
-    ensures highest { result.highest ≡ counts }
-{
+fn only(counts: Counts) -> Ranges {
     Ranges {
         lowest: counts,
         highest: counts,
     }
 }
 
-fn widened(ranges: Ranges, counts: Counts) -> Ranges
-    ensures { result ≡ widened ranges counts }
-{
+fn widened(ranges: Ranges, counts: Counts) -> Ranges {
     Ranges {
         lowest: lesser(ranges.lowest, counts),
         highest: greater(ranges.highest, counts),
     }
 }
 
-fn lesser(a: Counts, b: Counts) -> Counts
-    ensures { result ≡ lesser a b }
-{
+fn lesser(a: Counts, b: Counts) -> Counts {
     Counts {
         accepted: a.accepted.min(b.accepted),
         received: a.received.min(b.received),
@@ -81,9 +70,7 @@ fn lesser(a: Counts, b: Counts) -> Counts
     }
 }
 
-fn greater(a: Counts, b: Counts) -> Counts
-    ensures { result ≡ greater a b }
-{
+fn greater(a: Counts, b: Counts) -> Counts {
     Counts {
         accepted: a.accepted.max(b.accepted),
         received: a.received.max(b.received),
@@ -94,7 +81,6 @@ fn greater(a: Counts, b: Counts) -> Counts
 
 fn counts_of(ports: &Ports, c: usize) -> Counts
     requires { c < length ports.now.config.channels }
-    ensures { result ≡ counts_of ports.now.config c ports.now.history }
 {
     Counts {
         accepted: ports.accepted_count(c),
@@ -113,8 +99,6 @@ fn ports_after(
 ) -> Result<Ports, OutOfMemory>
     requires { length scripts.now ≡ length config.now.partitions }
     ensures config { IfOk result (λ ports. ports.config ≡ config.now) }
-    ensures history { IfOk result
-        (λ ports. ports.history ≡ history_of config.now scripts.now order.now) }
 {
     let mut ports = Ports::new(alloc, config.copy()?)?;
     for p in order.partitions() {

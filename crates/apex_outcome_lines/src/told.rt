@@ -1,5 +1,5 @@
 //! The whole text of all that can happen to scripts.
-ghost use Rattle.std.specs.Prelude.{◌≡◌, ◌++◌, length, decimal, string_bytes, OnOk, ◌<◌};
+ghost use Rattle.std.specs.Prelude.{◌≡◌, ◌++◌, length, string_bytes, OnOk};
 ghost use Rattle.apex_outcome_lines.specs.Told.{range_text, cleared_text, ranges_text, states_text, ends_text, count_line};
 
 use crate::counts::{Ranges, ranges_of};
