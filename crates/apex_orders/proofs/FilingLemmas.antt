@@ -1,8 +1,9 @@
 -- Places in buckets.
-use Rattle.std.proofs.Common.{◌≡◌, ⊎_elim, ℕ, ◌<◌, ◌%◌, List, [], ◌∷◌, ◌++◌, length, get_or, Some, sym, ap, ◌∙◌, subst, arith}
+use Rattle.std.proofs.Common.{◌≡◌, ⊎_elim, ℕ, ◌<◌, ◌%◌, List, [], ◌∷◌, ◌++◌, length, get_or, Some, refl, sym, ap, ◌∙◌, subst, arith}
 use Rattle.std.specs.List.{slice_get}
 use Rattle.std.proofs.Math.ListN.{set}
 use Rattle.std.proofs.lemmas.Bool.{cases_eq}
+use Rattle.std.proofs.lemmas.Option.{slice_get_read, get_or_from_slice_get}
 use Rattle.std.proofs.lemmas.List.{get_or-set_same, get_or-set_other, length-set}
 use Rattle.apex_orders.specs.Filing.{bucket_for, IsIn, StayIn, AreFiled}
 use Rattle.apex_orders.specs.Possibles.{Has}
@@ -20,7 +21,7 @@ module _ (buckets : List (List ℕ)) (b : ℕ) (new : List ℕ) (within : b < le
       ap (λ (n : ℕ). get_or (set buckets b new) n []) (ap (λ (n : ℕ). mark % n) (length-set buckets b new))
       ∙ get_or-set_other buckets b (mark % length buckets) new [] apart
 
-  pub stay_in : ((k : ℕ) → Has (get_or buckets b []) k → Has new k) → StayIn buckets (set buckets b new)
+  stay_in : ((k : ℕ) → Has (get_or buckets b []) k → Has new k) → StayIn buckets (set buckets b new)
   stay_in kept = record {
     count = length-set buckets b new;
     each = λ mark place here.
@@ -30,6 +31,12 @@ module _ (buckets : List (List ℕ)) (b : ℕ) (new : List ℕ) (within : b < le
         (λ (apart : mark % length buckets ≡ b → ⊥). subst (λ (places : List ℕ). Has places place) (sym (other_bucket mark apart)) here)
         (cases_eq (mark % length buckets) b);
   }
+
+  -- so it is where the bucket was read
+  pub stay_with : (was : List ℕ) → was ≡ get_or buckets b was → ((k : ℕ) → Has was k → Has new k) → StayIn buckets (set buckets b new)
+  stay_with was at kept =
+      let is : get_or buckets b [] ≡ was = get_or_from_slice_get buckets b was [] (slice_get_read buckets (length buckets) b was refl within at) in
+      stay_in (λ k has. kept k (subst (λ (places : List ℕ). Has places k) is has))
 
   pub is_in : (mark place : ℕ) → b ≡ mark % length buckets → Has new place → IsIn (set buckets b new) mark place
   is_in mark place own here = subst (λ (places : List ℕ). Has places place) (sym (own_bucket mark (sym own))) here
