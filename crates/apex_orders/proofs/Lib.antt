@@ -1,5 +1,6 @@
 pub mod Completing
 pub mod EndLemmas
+pub mod FilingLemmas
 pub mod Following
 pub mod Lists
 pub mod MarkLemmas

@@ -1,3 +1,4 @@
+pub mod Filing
 pub mod Marks
 pub mod Orders
 pub mod Outcomes

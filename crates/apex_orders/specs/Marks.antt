@@ -8,7 +8,7 @@ use Rattle.apex_orders.specs.Orders.{Scripts, history_of}
 
 -- a mark with one number more
 abbrev pub mixed : ℕ → ℕ → ℕ
-mixed mark count = ((mark * 31) % 2 ^ 64 + count) % 2 ^ 64
+mixed mark count = ((mark * 1000003) % 2 ^ 64 + count) % 2 ^ 64
 
 -- the counts of calls of the first partitions
 abbrev pub calls_below : ℕ → History → ℕ

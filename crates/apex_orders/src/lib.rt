@@ -3,6 +3,7 @@
 
 mod longest;
 mod mark;
+mod marks;
 pub mod order;
 pub mod orders_fault;
 pub mod outcomes;

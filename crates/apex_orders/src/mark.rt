@@ -11,8 +11,12 @@ pub(crate) fn mark_of(ports: &Ports) -> u64
     let calls = mark_of_calls(ports);
     let mut mark = calls;
     for c in 0..ports.config().channels() {
-        mark = mark.wrapping_mul(31).wrapping_add(ports.accepted_count(c));
-        mark = mark.wrapping_mul(31).wrapping_add(ports.received_count(c));
+        mark = mark
+            .wrapping_mul(1_000_003)
+            .wrapping_add(ports.accepted_count(c));
+        mark = mark
+            .wrapping_mul(1_000_003)
+            .wrapping_add(ports.received_count(c));
     }
     mark
 }
@@ -22,7 +26,7 @@ fn mark_of_calls(ports: &Ports) -> u64
 {
     let mut mark = 0u64;
     for p in 0..ports.config().partitions() {
-        mark = mark.wrapping_mul(31).wrapping_add(ports.calls(p));
+        mark = mark.wrapping_mul(1_000_003).wrapping_add(ports.calls(p));
     }
     mark
 }

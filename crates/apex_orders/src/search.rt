@@ -9,6 +9,7 @@ ghost use Rattle.apex_orders.specs.declared.replies.Possible.{Possible};
 
 use crate::longest::longest_script;
 use crate::mark::mark_of;
+use crate::marks::Marks;
 use crate::order::Order;
 use crate::orders_fault::OrdersFault;
 use crate::point::is_same_point;
@@ -72,11 +73,11 @@ fn first_orders(alloc: Global) -> Result<Vec<Order>, OutOfMemory>
 }
 
 /// The mark of the point before the first call.
-fn first_marks(alloc: Global, config: &Config) -> Result<Vec<u64>, OutOfMemory>
-    ensures { IfOk result (λ marks. marks.items ≡ mark_of config.now [] ∷ []) }
+fn first_marks(alloc: Global, config: &Config) -> Result<Marks, OutOfMemory>
+    ensures { IfOk result (λ marks. marks ≡ mark_of config.now [] ∷ []) }
 {
     let ports = Ports::new(alloc, config.copy()?)?;
-    let mut marks = Vec::new(alloc);
+    let mut marks = Marks::new(alloc)?;
     marks.push(mark_of(&ports))?;
     Ok(marks)
 }
@@ -87,19 +88,19 @@ fn try_all(
     config: &Config,
     scripts: &[Script],
     orders: &mut Vec<Order>,
-    marks: &mut Vec<u64>,
+    marks: &mut Marks,
     replies: &mut Vec<Possible>,
     i: usize,
 ) -> Result<(), OutOfMemory>
     requires scripts { length scripts.now ≡ length config.now.partitions }
     requires place { i < length orders.old.items }
     requires orders { AreOrders config.now orders.old.items }
-    requires marked { AreMarked config.now scripts.now orders.old.items marks.old.items }
+    requires marked { AreMarked config.now scripts.now orders.old.items marks.old }
     requires apart { AreApart config.now scripts.now orders.old.items }
     requires found { AreFound config.now scripts.now replies.old.items }
     ensures orders { OnOk result (AreOrders config.now orders.new.items) }
     ensures marked { OnOk result
-        (AreMarked config.now scripts.now orders.new.items marks.new.items) }
+        (AreMarked config.now scripts.now orders.new.items marks.new) }
     ensures apart { OnOk result (AreApart config.now scripts.now orders.new.items) }
     ensures found { OnOk result (AreFound config.now scripts.now replies.new.items) }
     ensures orders_kept { OnOk result (Keeps orders.old.items orders.new.items) }
@@ -118,19 +119,19 @@ fn try_each(
     config: &Config,
     scripts: &[Script],
     orders: &mut Vec<Order>,
-    marks: &mut Vec<u64>,
+    marks: &mut Marks,
     replies: &mut Vec<Possible>,
     order: &Order,
 ) -> Result<(), OutOfMemory>
     requires scripts { length scripts.now ≡ length config.now.partitions }
     requires here { Has orders.old.items order.now }
     requires orders { AreOrders config.now orders.old.items }
-    requires marked { AreMarked config.now scripts.now orders.old.items marks.old.items }
+    requires marked { AreMarked config.now scripts.now orders.old.items marks.old }
     requires apart { AreApart config.now scripts.now orders.old.items }
     requires found { AreFound config.now scripts.now replies.old.items }
     ensures orders { OnOk result (AreOrders config.now orders.new.items) }
     ensures marked { OnOk result
-        (AreMarked config.now scripts.now orders.new.items marks.new.items) }
+        (AreMarked config.now scripts.now orders.new.items marks.new) }
     ensures apart { OnOk result (AreApart config.now scripts.now orders.new.items) }
     ensures found { OnOk result (AreFound config.now scripts.now replies.new.items) }
     ensures orders_kept { OnOk result (Keeps orders.old.items orders.new.items) }
@@ -150,7 +151,7 @@ fn try_partition(
     config: &Config,
     scripts: &[Script],
     orders: &mut Vec<Order>,
-    marks: &mut Vec<u64>,
+    marks: &mut Marks,
     replies: &mut Vec<Possible>,
     order: &Order,
     p: usize,
@@ -159,12 +160,12 @@ fn try_partition(
     requires partition { p < length config.now.partitions }
     requires here { Has orders.old.items order.now }
     requires orders { AreOrders config.now orders.old.items }
-    requires marked { AreMarked config.now scripts.now orders.old.items marks.old.items }
+    requires marked { AreMarked config.now scripts.now orders.old.items marks.old }
     requires apart { AreApart config.now scripts.now orders.old.items }
     requires found { AreFound config.now scripts.now replies.old.items }
     ensures orders { OnOk result (AreOrders config.now orders.new.items) }
     ensures marked { OnOk result
-        (AreMarked config.now scripts.now orders.new.items marks.new.items) }
+        (AreMarked config.now scripts.now orders.new.items marks.new) }
     ensures apart { OnOk result (AreApart config.now scripts.now orders.new.items) }
     ensures found { OnOk result (AreFound config.now scripts.now replies.new.items) }
     ensures orders_kept { OnOk result (Keeps orders.old.items orders.new.items) }
@@ -188,7 +189,7 @@ fn learn(
     config: &Config,
     scripts: &[Script],
     orders: &mut Vec<Order>,
-    marks: &mut Vec<u64>,
+    marks: &mut Marks,
     ports: &Ports,
     order: &Order,
     p: usize,
@@ -200,11 +201,11 @@ fn learn(
         ≡ history_of config.now scripts.now (order.now ++ p ∷ []) }
     requires order { IsOrder config.now order.now }
     requires orders { AreOrders config.now orders.old.items }
-    requires marked { AreMarked config.now scripts.now orders.old.items marks.old.items }
+    requires marked { AreMarked config.now scripts.now orders.old.items marks.old }
     requires apart { AreApart config.now scripts.now orders.old.items }
     ensures orders { OnOk result (AreOrders config.now orders.new.items) }
     ensures marked { OnOk result
-        (AreMarked config.now scripts.now orders.new.items marks.new.items) }
+        (AreMarked config.now scripts.now orders.new.items marks.new) }
     ensures apart { OnOk result (AreApart config.now scripts.now orders.new.items) }
     ensures kept { OnOk result (Keeps orders.old.items orders.new.items) }
     ensures known { OnOk result
@@ -216,7 +217,7 @@ fn learn(
         config,
         scripts,
         orders.as_slice(),
-        marks.as_slice(),
+        marks,
         ports,
         mark,
     )? {
@@ -234,7 +235,7 @@ fn is_known(
     config: &Config,
     scripts: &[Script],
     orders: &[Order],
-    marks: &[u64],
+    marks: &Marks,
     ports: &Ports,
     mark: u64,
 ) -> Result<bool, OutOfMemory>
@@ -246,8 +247,8 @@ fn is_known(
     ensures { IfOk result (λ known.
         IsTrue known ↔ Knows config.now scripts.now orders.now ports.now.history) }
 {
-    for (k, order) in orders.iter().enumerate() {
-        if marks[k] == mark && leads_to(alloc, config, scripts, order, ports)? {
+    for k in marks.places(mark) {
+        if marks.stands_at(mark, *k) && leads_to(alloc, config, scripts, &orders[*k], ports)? {
             return Ok(true);
         }
     }

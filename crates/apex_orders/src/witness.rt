@@ -37,8 +37,7 @@ pub fn order_giving(
         Err(fault) => return Err(fault),
         Ok(found) => found,
     };
-    let orders = found.orders.as_slice();
-    let answer = order_among(alloc, config, scripts, orders, one)?;
+    let answer = order_among(alloc, config, scripts, found.orders.as_slice(), one)?;
     Ok(answer)
 }
 

@@ -6,5 +6,5 @@ use Rattle.apex_orders.proofs.search.is_known.Given as goal
 
 abbrev pub invariant-loop-k : goal.invariant-loop-k
 invariant-loop-k l =
-    (k : ℕ) (order : List ℕ) → k < l.k → slice_get l.orders k ≡ Some order
+    (j n : ℕ) (order : List ℕ) → j < l.k-index → slice_get l.k-items j ≡ Some n → slice_get l.orders n ≡ Some order
     → IsSamePoint l.config l.ports.history (history_of l.config l.scripts order) → ⊥

@@ -13,8 +13,8 @@ returns-clause-marked c =
     let scripts = c.args.scripts.now in
     let longer = c.in_ok-longer.longer in
     let is = c.requires.history ∙ ap (λ (order : List ℕ). history_of config scripts order) (sym c.in_ok-longer.ensures) in
-    subst (λ (x : List (List ℕ) × List ℕ). AreMarked config scripts x.0 x.1) (λ i. (sym c.in_ok-push.ensures.items i, sym c.in_ok-push-2.ensures.items i))
-    (marked_push config scripts c.args.orders.now.items c.args.marks.now.items longer c.mark_of-mark.result c.requires.marked
+    subst (λ (x : List (List ℕ) × List ℕ). AreMarked config scripts x.0 x.1) (λ i. (sym c.in_ok-push.ensures.items i, sym c.in_ok-push-2.ensures i))
+    (marked_push config scripts c.args.orders.now.items c.args.marks.now longer c.mark_of-mark.result c.requires.marked
     (c.mark_of-mark.ensures ∙ (λ i. mark_of (c.requires.config i) (is i))))
 
 pub returns-clause-apart : goal.returns-clause-apart

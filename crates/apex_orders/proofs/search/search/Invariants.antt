@@ -10,7 +10,7 @@ invariant-loop-i l = record {
   first : Has l.orders.items [];
   valid : AreOrders l.config l.orders.items;
   apart : AreApart l.config l.scripts l.orders.items;
-  marked : AreMarked l.config l.scripts l.orders.items l.marks.items;
+  marked : AreMarked l.config l.scripts l.orders.items l.marks;
   found : AreFound l.config l.scripts l.replies.items;
   tried : (k : ℕ) → k < l.i → HasTried l.config l.scripts l.orders.items l.replies.items k;
 }

@@ -7,7 +7,7 @@ abbrev pub invariant-loop-p : goal.invariant-loop-p
 invariant-loop-p l = record {
   orders : AreOrders l.config l.orders.items;
   apart : AreApart l.config l.scripts l.orders.items;
-  marked : AreMarked l.config l.scripts l.orders.items l.marks.items;
+  marked : AreMarked l.config l.scripts l.orders.items l.marks;
   found : AreFound l.config l.scripts l.replies.items;
   orders_kept : Keeps l.initial.orders.items l.orders.items;
   replies_kept : Includes l.initial.replies.items l.replies.items;

@@ -18,6 +18,6 @@ returns-clause-never c =
     let orders = c.in-Ok.found.orders.items in
     let given : CanOccur config scripts one → IsGivenByAnOrder config scripts orders one =
     given_of_occurs config scripts c.partitions-partitions.ensures.valid c.in-Ok.ensures.short orders c.in-Ok.found.replies.items c.in-Ok.ensures.searched one in
-    none_weaker c.in_ok-answer.answer (IsGivenByAnOrder config scripts c.as_slice-orders.result.now one → ⊥) (CanOccur config scripts one → ⊥) (λ order. IsGivenBy config scripts one order)
-    (λ none occurs. none (subst (λ (os : List (List ℕ)). IsGivenByAnOrder config scripts os one) (sym c.as_slice-orders.ensures.value) (given occurs)))
+    none_weaker c.in_ok-answer.answer (IsGivenByAnOrder config scripts c.as_slice.result.now one → ⊥) (CanOccur config scripts one → ⊥) (λ order. IsGivenBy config scripts one order)
+    (λ none occurs. none (subst (λ (os : List (List ℕ)). IsGivenByAnOrder config scripts os one) (sym c.as_slice.ensures.value) (given occurs)))
     c.in_ok-answer.ensures

@@ -1,0 +1,136 @@
+//! Marks of the points that are known, in buckets by their remainder.
+ghost use Rattle.std.specs.Prelude.{◌≡◌, ◌<◌, ◌++◌, ◌∷◌, [], ◌↔◌, ◌%◌, ℕ, length, slice_get, Some, IfOk, OnOk, IsTrue};
+ghost use Rattle.apex_orders.specs.Filing.{IsIn, StayIn};
+ghost use Rattle.apex_orders.specs.Possibles.{Has};
+
+use apex_types::OutOfMemory;
+use std::alloc::{AllocError, Global};
+use std::marker::Model;
+
+/// How many buckets there are: a prime, so that marks are spread.
+const BUCKETS: usize = 16_381;
+
+/// The places of the marks that have one remainder. To a contract it is the list of them.
+#[derive(Drop)]
+struct Bucket {
+    places: Vec<usize>,
+}
+
+impl Model for Bucket {
+    ghost use Rattle.std.specs.Prelude.{ℕ, List};
+
+    ghost Value = { List ℕ };
+
+    ghost view = { λ bucket. bucket.places.items };
+}
+
+impl Bucket {
+    fn new(alloc: Global) -> Bucket
+        ensures { result ≡ [] }
+    {
+        Bucket {
+            places: Vec::new(alloc),
+        }
+    }
+
+    /// One place more.
+    fn add(&mut self, place: usize) -> Result<(), AllocError>
+        ensures kept { (k : ℕ) → Has self.old k → Has self.new k }
+        ensures added { OnOk result (Has self.new place) }
+    {
+        self.places.push(place)?;
+        Ok(())
+    }
+
+    fn places(&self) -> &[usize]
+        ensures { result.now ≡ self.now }
+    {
+        self.places.as_slice()
+    }
+}
+
+/// The marks of points, in the order in which they were found. To a contract it is the list of them.
+#[derive(Drop)]
+pub(crate) struct Marks {
+    marks: Vec<u64>,
+    buckets: Vec<Bucket>,
+}
+
+impl Model for Marks {
+    ghost use Rattle.std.specs.Prelude.{ℕ, List};
+    ghost use Rattle.apex_orders.specs.Filing.{AreFiled};
+
+    ghost Value = { List ℕ };
+
+    ghost view = { λ marks. marks.marks.items };
+
+    ghost invariant = { λ marks. AreFiled marks.marks.items marks.buckets.items };
+}
+
+impl Marks {
+    /// No marks.
+    pub(crate) fn new(alloc: Global) -> Result<Marks, OutOfMemory>
+        ensures { IfOk result (λ marks. marks ≡ []) }
+    {
+        let buckets = empty_buckets(alloc)?;
+        Ok(Marks {
+            marks: Vec::new(alloc),
+            buckets,
+        })
+    }
+
+    /// One mark more.
+    pub(crate) fn push(&mut self, mark: u64) -> Result<(), OutOfMemory>
+        ensures { OnOk result (self.new ≡ self.old ++ mark ∷ []) }
+    {
+        let place = self.marks.len();
+        file(&mut self.buckets, mark, place)?;
+        self.marks.push(mark)?;
+        Ok(())
+    }
+
+    /// Places at which the mark may stand; it stands at no others.
+    pub(crate) fn places(&self, mark: u64) -> &[usize]
+        ensures { (k : ℕ) → slice_get self.now k ≡ Some mark → Has result.now k }
+    {
+        let b = bucket_of(mark, self.buckets.len());
+        self.buckets[b].places()
+    }
+
+    /// Whether the mark stands at the place.
+    pub(crate) fn stands_at(&self, mark: u64, k: usize) -> bool
+        ensures { IsTrue result ↔ (slice_get self.now k ≡ Some mark) }
+    {
+        k < self.marks.len() && self.marks[k] == mark
+    }
+}
+
+/// Buckets without places.
+fn empty_buckets(alloc: Global) -> Result<Vec<Bucket>, OutOfMemory>
+    ensures { IfOk result (λ buckets. 0 < length buckets.items) }
+{
+    let mut buckets = Vec::with_capacity(alloc, BUCKETS)?;
+    for _ in 0..BUCKETS {
+        buckets.push(Bucket::new(alloc))?;
+    }
+    Ok(buckets)
+}
+
+/// The number of the mark's bucket.
+fn bucket_of(mark: u64, buckets: usize) -> usize
+    requires { 0 < buckets }
+    ensures { result ≡ mark % buckets }
+{
+    (mark as usize) % buckets
+}
+
+/// Puts the place into the bucket of the mark.
+fn file(buckets: &mut Vec<Bucket>, mark: u64, place: usize) -> Result<(), OutOfMemory>
+    requires { 0 < length buckets.old.items }
+    ensures kept { StayIn buckets.old.items buckets.new.items }
+    ensures filed { OnOk result (IsIn buckets.new.items mark place) }
+{
+    let b = bucket_of(mark, buckets.len());
+    buckets[b].add(place)?;
+    Ok(())
+}
