@@ -1,5 +1,6 @@
 //! Whether a call of scripts gets a reply in some order.
-ghost use Rattle.std.specs.Prelude.{◌≡◌, length};
+ghost use Rattle.std.specs.Prelude.{◌≡◌, ◌<◌, length};
+ghost use Rattle.apex_ports.specs.Sound.{IsSound};
 
 use crate::outcomes::not_found;
 use crate::unfinished::Unfinished;
@@ -12,7 +13,7 @@ use apex_orders::{Order, Possible, order_giving};
 use apex_outcome_lines::LineNumbers;
 use apex_ports::{Ports, Script};
 use apex_texts::push_reply;
-use apex_types::{OutOfMemory, Reply};
+use apex_types::{Call, Moment, OutOfMemory, Reply};
 use companion_command_line::Question;
 use std::alloc::{AllocError, Global};
 
@@ -106,18 +107,50 @@ fn order_text(
     let mut text = String::new(alloc);
     let mut ports = Ports::new(alloc, config.copy()?)?;
     for p in order.partitions() {
-        if *p >= scripts.len() {
-            continue;
-        }
-        let Some(one) = step(&mut ports, scripts, *p) else {
-            continue;
-        };
-        if let Some((at, call)) = scripts[*p].calls.get(one.place) {
-            push_request(&mut text, config, *p, *at, call)?;
-            text.push_str(" -> ")?;
-            push_reply(&mut text, &one.reply)?;
-            text.push('\n')?;
-        }
+        push_next(&mut text, config, &mut ports, scripts, *p)?;
     }
     Ok(text)
+}
+
+/// Makes the next call of a partition's script, and tells it with its reply.
+fn push_next(
+    text: &mut String,
+    config: &Config,
+    ports: &mut Ports,
+    scripts: &[Script],
+    p: usize,
+) -> Result<(), AllocError>
+    requires scripts { length scripts.now ≡ length config.now.partitions }
+    requires same { ports.old.config ≡ config.now }
+    requires sound { IsSound ports.old.config ports.old.history }
+    ensures config { ports.new.config ≡ ports.old.config }
+    ensures sound { IsSound ports.new.config ports.new.history }
+{
+    if p >= scripts.len() {
+        return Ok(());
+    }
+    let script = &scripts[p];
+    match step(ports, scripts, p) {
+        None => Ok(()),
+        Some(one) => match script.calls.get(one.place) {
+            None => Ok(()),
+            Some((at, call)) => push_call(text, config, p, *at, call, &one.reply),
+        },
+    }
+}
+
+fn push_call(
+    text: &mut String,
+    config: &Config,
+    p: usize,
+    at: Moment,
+    call: &Call,
+    reply: &Reply,
+) -> Result<(), AllocError>
+    requires { p < length config.now.partitions }
+{
+    push_request(text, config, p, at, call)?;
+    text.push_str(" -> ")?;
+    push_reply(text, reply)?;
+    text.push('\n')
 }

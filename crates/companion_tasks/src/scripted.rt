@@ -10,7 +10,7 @@ use apex_outcome_lines::{LineNumbers, call_lines};
 use apex_ports::Script;
 use apex_tasks::scripts_named;
 use companion_command_line::Form;
-use std::alloc::Global;
+use std::alloc::{AllocError, Global};
 
 /// A configuration with a script for each partition, and the numbers of the lines of their calls.
 #[derive(Drop)]
@@ -62,7 +62,9 @@ fn lines_named<'a, O: Opener>(
             }
             None => call_lines(alloc, &[])?,
         };
-        lines.push_reserved(numbers);
+        if lines.push(numbers).is_err() {
+            return Err(Refusal::from(AllocError));
+        }
     }
     Ok(lines)
 }
