@@ -35,6 +35,11 @@ abbrev pub with_name : (List ℕ → Call) → Result (List ℕ) NameFault → A
 with_name call (Ok name) = Ok (call name)
 with_name call (Err fault) = Err NO_NAME
 
+-- the name that a text is, or the number that says that it is none
+abbrev pub name_asked : Result (List ℕ) NameFault → Result (List ℕ) ℕ
+name_asked (Ok name) = Ok name
+name_asked (Err fault) = Err NO_NAME
+
 abbrev pub create_sampling : List ℕ → ℕ → ℕ → ℕ → Asked
 create_sampling text size direction refresh =
     with_name (λ name. call.CreateSampling name size direction refresh) (name_of text)
@@ -53,6 +58,10 @@ queuing_id text = with_name (λ name. call.QueuingId name) (name_of text)
 
 abbrev pub with_message : (List ℕ → Call) → List ℕ → Asked
 with_message call message = if nat_lt MESSAGE_LIMIT (length message) then Err TOO_LONG else Ok (call message)
+
+-- the message that bytes are, or the number that says that they are too many
+abbrev pub message_asked : List ℕ → Result (List ℕ) ℕ
+message_asked message = if nat_lt MESSAGE_LIMIT (length message) then Err TOO_LONG else Ok message
 
 abbrev pub send : ℕ → List ℕ → Asked
 send id message = with_message (λ bytes. call.SendQueuing id bytes) message

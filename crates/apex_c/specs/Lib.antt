@@ -1,8 +1,12 @@
 pub mod Asked
+pub mod AskedRow
 pub mod Calls
 pub mod Configured
 pub mod Found
 pub mod Held
+pub mod Law
 pub mod Opening
 pub mod Places
 pub mod Readers
+pub mod Rows
+pub mod Told

@@ -33,5 +33,11 @@ pub const UNKNOWN_NAME: u32 = 16;
 /// No message of the index waits on the channel.
 pub const NO_MESSAGE: u32 = 17;
 
+/// No service has the number.
+pub const NO_SERVICE: u32 = 18;
+
+/// Memory was refused (a reader that takes some).
+pub const NO_MEMORY: u32 = 19;
+
 /// A reader has read.
 pub const READ: u32 = 0;

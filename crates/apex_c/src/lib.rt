@@ -2,16 +2,19 @@
 #![tactic(auto)]
 
 pub mod answer;
+pub mod asked;
 mod buffer;
 pub mod configured;
 pub mod counts;
 pub mod handle;
 pub mod held;
+pub mod law;
 pub mod modes;
 pub mod names;
 pub mod opening;
 pub mod queuing;
 pub mod readers;
+mod rows;
 pub mod sampling;
 #[cfg(test)]
 mod tests;
