@@ -46,7 +46,9 @@ enum {
     APEX_NO_SAMPLE = 14,    /* apex_last_sample's answer: a queuing channel, or one that was never written */
     APEX_NO_PORT = 15,      /* a reader's answer: the partition has no port of the identifier */
     APEX_UNKNOWN_NAME = 16, /* a reader's answer: nothing has the name */
-    APEX_NO_MESSAGE = 17    /* apex_waiting_message's answer: no message of the index waits */
+    APEX_NO_MESSAGE = 17,   /* apex_waiting_message's answer: no message of the index waits */
+    APEX_NO_SERVICE = 18,   /* an answer to what is asked of a call: no service has the number */
+    APEX_NO_MEMORY = 19     /* apex_call_words's answer: memory was refused; nothing changed */
 };
 
 /* What apex_open answers beside 0, and 1 to 10 for a fault of the configuration (docs/FORMATS.md). */
@@ -59,6 +61,21 @@ enum {
  * where the answer isn't 0. All memory is taken here, and given back by apex_close.
  * Assumed: `text` points to `text_length` bytes. */
 uint32_t apex_open(struct apex_handle *handle, const uint8_t *text, size_t text_length);
+
+/* Why a configuration is refused, and where: answers what apex_open answers of the text where the handle isn't open.
+ * The path of the fault's first place, such as `partition[0].port[1].kind`, goes into the buffer, and its length into
+ * its place; no zero follows. Indexes count from 0; `configuration` is the text as a whole; of a key that is unknown
+ * the path is that of the partition, port or channel that has it. The buffer stays as it was where it is shorter than
+ * the path. Where the answer is 0 or APEX_OUT_OF_MEMORY, buffer and length stay as they were.
+ * Assumed: `text` points to `text_length` bytes and `buffer` to `buffer_length`. */
+uint32_t apex_configuration_fault(const uint8_t *text, size_t text_length, uint8_t *buffer, size_t buffer_length,
+                                  uint64_t *path_length);
+
+/* Likewise, with a line of ASCII in place of the path for each place that the fault has: what holds it, what is wrong
+ * there, and what must be there (docs/FORMATS.md). Each line ends in a line feed.
+ * Assumed: `text` points to `text_length` bytes and `buffer` to `buffer_length`. */
+uint32_t apex_configuration_mistakes(const uint8_t *text, size_t text_length, uint8_t *buffer, size_t buffer_length,
+                                     uint64_t *lines_length);
 
 /* Closes a handle, which can be opened again. Answers 0, or APEX_NOT_OPEN. Assumed: no more than above. */
 uint32_t apex_close(struct apex_handle *handle);
@@ -211,6 +228,89 @@ uint32_t apex_find_partition(struct apex_handle *handle, const uint8_t *name, si
 uint32_t apex_find_port(struct apex_handle *handle, uint32_t partition, const uint8_t *name, size_t name_length,
                         uint32_t *id);
 uint32_t apex_find_channel(struct apex_handle *handle, const uint8_t *name, size_t name_length, uint32_t *channel);
+
+/* Why a call gets its reply. A call is asked about and not made: nothing changes, and the history doesn't have it. After
+ * a call that wasn't made or was refused the answers are those before it. */
+
+/* The services, by their numbers. */
+enum apex_service {
+    APEX_CREATE_SAMPLING_PORT = 0,
+    APEX_WRITE_SAMPLING_MESSAGE = 1,
+    APEX_READ_SAMPLING_MESSAGE = 2,
+    APEX_GET_SAMPLING_PORT_ID = 3,
+    APEX_GET_SAMPLING_PORT_STATUS = 4,
+    APEX_CREATE_QUEUING_PORT = 5,
+    APEX_SEND_QUEUING_MESSAGE = 6,
+    APEX_RECEIVE_QUEUING_MESSAGE = 7,
+    APEX_GET_QUEUING_PORT_ID = 8,
+    APEX_GET_QUEUING_PORT_STATUS = 9,
+    APEX_CLEAR_QUEUING_PORT = 10,
+    APEX_SET_PARTITION_MODE = 11
+};
+
+/* A call: its service, and the values that it is made with. What the service doesn't take has no effect. */
+struct apex_call {
+    uint64_t refresh;
+    uint32_t service;
+    uint32_t id;
+    uint32_t size;
+    uint32_t depth;
+    uint32_t direction;
+    uint32_t discipline;
+    uint32_t mode;
+};
+
+/* The rows of the reply table (docs/STANDARD.md). A call that isn't made, or the first check of its service that
+ * refuses it; and of each kind of accepted calls its row. */
+enum apex_row {
+    APEX_ROW_IN_IDLE = 0,                   /* not made */
+    APEX_ROW_NOT_CONFIGURED = 1,            /* INVALID_CONFIG */
+    APEX_ROW_ALREADY_CREATED = 2,           /* NO_ACTION */
+    APEX_ROW_SIZE_DIFFERS = 3,              /* INVALID_CONFIG */
+    APEX_ROW_DEPTH_DIFFERS = 4,             /* INVALID_CONFIG */
+    APEX_ROW_DIRECTION_DIFFERS = 5,         /* INVALID_CONFIG */
+    APEX_ROW_REFRESH_PERIOD_DIFFERS = 6,    /* INVALID_CONFIG */
+    APEX_ROW_UNKNOWN_DISCIPLINE = 7,        /* INVALID_CONFIG */
+    APEX_ROW_IN_NORMAL = 8,                 /* INVALID_MODE */
+    APEX_ROW_NOT_CREATED = 9,               /* INVALID_CONFIG */
+    APEX_ROW_NO_SUCH_PORT = 10,             /* INVALID_PARAM */
+    APEX_ROW_EMPTY_MESSAGE = 11,            /* INVALID_PARAM */
+    APEX_ROW_MESSAGE_TOO_LONG = 12,         /* INVALID_CONFIG */
+    APEX_ROW_NOT_A_SOURCE = 13,             /* INVALID_MODE */
+    APEX_ROW_NOT_A_DESTINATION = 14,        /* INVALID_MODE */
+    APEX_ROW_QUEUE_FULL = 15,               /* NOT_AVAILABLE */
+    APEX_ROW_QUEUE_EMPTY = 16,              /* NOT_AVAILABLE */
+    APEX_ROW_NEVER_WRITTEN = 17,            /* NO_ACTION */
+    APEX_ROW_UNKNOWN_MODE = 18,             /* INVALID_PARAM */
+    APEX_ROW_ALREADY_IN_NORMAL = 19,        /* NO_ACTION */
+    APEX_ROW_WARM_START_IN_COLD_START = 20, /* INVALID_MODE */
+    APEX_ROW_CREATED = 21,                  /* this and all below: NO_ERROR */
+    APEX_ROW_IDENTIFIED = 22,
+    APEX_ROW_SENT = 23,
+    APEX_ROW_RECEIVED = 24,
+    APEX_ROW_CLEARED = 25,
+    APEX_ROW_QUEUING_STATUS = 26,
+    APEX_ROW_WRITTEN = 27,
+    APEX_ROW_READ = 28,
+    APEX_ROW_SAMPLING_STATUS = 29,
+    APEX_ROW_MODE_SET = 30
+};
+
+/* The row that a call of the partition would get at the moment `at`. `bytes` are the name of the port that the call is
+ * made with, or its message; other calls take none. Where the answer isn't 0, the row stays as it was. Answers 0,
+ * APEX_NO_SERVICE, APEX_NO_NAME, APEX_TOO_LONG, APEX_NOT_OPEN or APEX_NO_PARTITION, the first that applies.
+ * Assumed: `bytes` points to `bytes_length` bytes. */
+uint32_t apex_call_row(struct apex_handle *handle, uint32_t partition, uint64_t at, const struct apex_call *call,
+                       const uint8_t *bytes, size_t bytes_length, uint32_t *row);
+
+/* The words of that row, in the buffer's first bytes, and their length; no zero follows. They say why the call would not
+ * be made or would be refused; an accepted call has none. Answers as apex_call_row; APEX_SHORT_BUFFER where the buffer
+ * has no room for the words, and then their length is told and the buffer stays as it was; or APEX_NO_MEMORY. Where the
+ * answer is another, buffer and length stay as they were.
+ * Assumed: `bytes` points to `bytes_length` bytes and `buffer` to `buffer_length`. */
+uint32_t apex_call_words(struct apex_handle *handle, uint32_t partition, uint64_t at, const struct apex_call *call,
+                         const uint8_t *bytes, size_t bytes_length, uint8_t *buffer, size_t buffer_length,
+                         uint64_t *words_length);
 
 #ifdef __cplusplus
 }

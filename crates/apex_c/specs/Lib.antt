@@ -2,6 +2,7 @@ pub mod Asked
 pub mod AskedRow
 pub mod Calls
 pub mod Configured
+pub mod Fault
 pub mod Found
 pub mod Held
 pub mod Law

@@ -168,7 +168,15 @@ pub extern "C" fn apex_call_words(
     let Some(ports) = handle.take(alloc) else {
         return NOT_OPEN;
     };
-    let answer = put_words(alloc, &ports, partition, Moment(at), &call, buffer, words_length);
+    let answer = put_words(
+        alloc,
+        &ports,
+        partition,
+        Moment(at),
+        &call,
+        buffer,
+        words_length,
+    );
     *handle = Handle::of(ports);
     answer
 }

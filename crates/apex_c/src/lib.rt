@@ -6,6 +6,7 @@ pub mod asked;
 mod buffer;
 pub mod configured;
 pub mod counts;
+pub mod fault;
 pub mod handle;
 pub mod held;
 pub mod law;

@@ -1,0 +1,36 @@
+-- Where a configuration is refused, told to C.
+use Rattle.std.specs.Prelude.{ℕ, List, length, [], ◌∷◌, ◌++◌, ◌≡◌, codes, Result, Ok, Err}
+use Rattle.apex_config.specs.Configuration.{Configuration}
+use Rattle.apex_config.specs.Meaning.{RefusalData}
+use Rattle.apex_config.specs.Values.{key_word}
+use Rattle.apex_config.specs.declared.place.Part.{Part}
+use Rattle.apex_config.specs.declared.place.Part.TheVariants.{Document}
+use Rattle.apex_config.specs.declared.place.Place.{Place}
+use Rattle.apex_config.specs.declared.place.Spot.{Spot}
+use Rattle.apex_config.specs.declared.place.Spot.TheVariants.{At}
+use Rattle.apex_refusals.specs.Paths.{path_of}
+use Rattle.apex_c.specs.Found.{Found}
+use Rattle.apex_c.specs.Told.{text_after}
+use Rattle.apex_c.specs.declared.opening.TheConstants.{OPENED}
+
+-- the path of a part and a key of it; that of the part where it is meant as a whole, or one of its keys is unknown
+abbrev pub path_at : Part → Spot → List ℕ
+path_at Document (At key) = key_word key
+path_at part (At key) = path_of part ++ (codes "." ++ key_word key)
+path_at part _ = path_of part
+
+-- the path of the first of these places
+abbrev pub first_path : List Place → List ℕ
+first_path [] = []
+first_path (place ∷ places) = path_at place.part place.spot
+
+-- the path of the first place of a refusal
+abbrev pub path_in : Result Configuration RefusalData → Found (List ℕ)
+path_in (Ok config) = Err OPENED
+path_in (Err refusal) = Ok (first_path refusal.places)
+
+-- Some text, which no definition says, is told in the buffer and the place of its length.
+pub record IsSomeText (old_buffer new_buffer : List ℕ) (length_told : ℕ) : Type 0 where
+  pub text : List ℕ
+  pub buffer : new_buffer ≡ text_after (Ok text) old_buffer
+  pub length : length_told ≡ length text

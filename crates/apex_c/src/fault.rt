@@ -1,0 +1,158 @@
+//! Why a configuration is refused, and where.
+ghost use Rattle.std.specs.Prelude.{◌≡◌, ◌≢◌, ◌⊎◌, ◌++◌, Err, string_bytes, IfOk, OnOk, Some};
+ghost use Rattle.apex_config.specs.Meaning.{config_of, read_of};
+ghost use Rattle.apex_config.specs.declared.fault.ConfigFault.TheVariants as fault;
+ghost use Rattle.apex_refusals.specs.Paths.{path_of};
+ghost use Rattle.apex_c.specs.Fault.{IsSomeText, first_path, path_at, path_in};
+ghost use Rattle.apex_c.specs.Opening.{fault_number, opening_number};
+ghost use Rattle.apex_c.specs.Told.{text_after, text_length_after};
+
+use crate::buffer::put_text;
+use crate::opening::{OPENED, OUT_OF_MEMORY};
+use apex_config::{Config, Part, Place, Refusal, Spot};
+use apex_refusals::refusal_lines;
+use std::alloc::{AllocError, Global};
+use std::fmt;
+
+/// Where the text of a configuration is refused. The path of the first place that its fault has, as
+/// `partition[0].port[1].kind`, is in the buffer's first bytes, where the buffer has room for all of it, and its length
+/// in its place. Of a text that is a configuration, nothing is put anywhere. Answers as `apex_open` does with a handle
+/// that isn't open.
+#[unsafe(no_mangle)]
+#[tactic(auto, unfolding(apex_config::specs::Meaning::config_of))]
+pub extern "C" fn apex_configuration_fault(
+    alloc: Global,
+    text: &[u8],
+    buffer: &mut [u8],
+    path_length: &mut u64,
+) -> u32
+    ensures number { result ≢ OUT_OF_MEMORY → result ≡ opening_number (config_of text.now) }
+    ensures path { result ≢ OUT_OF_MEMORY →
+        buffer.new ≡ text_after (path_in (read_of text.now)) buffer.old }
+    ensures path_length { result ≢ OUT_OF_MEMORY →
+        path_length.new ≡ text_length_after (path_in (read_of text.now)) path_length.old }
+    ensures no_memory { result ≡ OUT_OF_MEMORY →
+        (buffer.new ≡ buffer.old) × (path_length.new ≡ path_length.old) }
+{
+    match Config::read_placed(alloc, text) {
+        Ok(_) => OPENED,
+        Err(refusal) => put_path(alloc, &refusal, buffer, path_length),
+    }
+}
+
+// The path of the first place of a refusal, into the buffer. Answers the number of the fault.
+fn put_path(alloc: Global, refusal: &Refusal, buffer: &mut [u8], path_length: &mut u64) -> u32
+    ensures number { result ≢ OUT_OF_MEMORY → result ≡ fault_number refusal.now.fault }
+    ensures fault { result ≢ OUT_OF_MEMORY → refusal.now.fault ≢ fault.OutOfMemory }
+    ensures path { result ≢ OUT_OF_MEMORY →
+        buffer.new ≡ text_after (path_in (Err refusal.now)) buffer.old }
+    ensures path_length { result ≢ OUT_OF_MEMORY →
+        path_length.new ≡ text_length_after (path_in (Err refusal.now)) path_length.old }
+    ensures no_memory { result ≡ OUT_OF_MEMORY →
+        (buffer.new ≡ buffer.old) × (path_length.new ≡ path_length.old) }
+{
+    let Some(number) = refusal.fault.number() else {
+        return OUT_OF_MEMORY;
+    };
+    match first_path(alloc, refusal) {
+        Ok(path) => {
+            let _ = put_text(path.as_bytes(), buffer, path_length);
+            number
+        }
+        Err(_) => OUT_OF_MEMORY,
+    }
+}
+
+/// What is wrong in the text of a configuration. A line for each place that its fault has is in the buffer's first bytes,
+/// where the buffer has room for all of them, and their length in its place. Of a text that is a configuration, nothing
+/// is put anywhere. Answers as `apex_configuration_fault`.
+#[unsafe(no_mangle)]
+#[tactic(auto, unfolding(apex_config::specs::Meaning::config_of))]
+pub extern "C" fn apex_configuration_mistakes(
+    alloc: Global,
+    text: &[u8],
+    buffer: &mut [u8],
+    lines_length: &mut u64,
+) -> u32
+    ensures number { result ≢ OUT_OF_MEMORY → result ≡ opening_number (config_of text.now) }
+    ensures lines { result ≢ OUT_OF_MEMORY → result ≢ OPENED →
+        IsSomeText buffer.old buffer.new lines_length.new }
+    ensures no_lines { (result ≡ OUT_OF_MEMORY) ⊎ (result ≡ OPENED) →
+        (buffer.new ≡ buffer.old) × (lines_length.new ≡ lines_length.old) }
+{
+    match Config::read_placed(alloc, text) {
+        Ok(_) => OPENED,
+        Err(refusal) => put_lines(alloc, text, &refusal, buffer, lines_length),
+    }
+}
+
+// The lines of a refusal, into the buffer. Answers the number of the fault.
+fn put_lines(
+    alloc: Global,
+    text: &[u8],
+    refusal: &Refusal,
+    buffer: &mut [u8],
+    lines_length: &mut u64,
+) -> u32
+    ensures number { result ≢ OUT_OF_MEMORY → result ≡ fault_number refusal.now.fault }
+    ensures fault { result ≢ OUT_OF_MEMORY → refusal.now.fault ≢ fault.OutOfMemory }
+    ensures refused { result ≢ OPENED }
+    ensures lines { result ≢ OUT_OF_MEMORY →
+        IsSomeText buffer.old buffer.new lines_length.new }
+    ensures no_memory { result ≡ OUT_OF_MEMORY →
+        (buffer.new ≡ buffer.old) × (lines_length.new ≡ lines_length.old) }
+{
+    let Some(number) = refusal.fault.number() else {
+        return OUT_OF_MEMORY;
+    };
+    match refusal_lines(alloc, text, refusal) {
+        Ok(lines) => {
+            let _ = put_text(lines.as_bytes(), buffer, lines_length);
+            number
+        }
+        Err(_) => OUT_OF_MEMORY,
+    }
+}
+
+// The path of the first place of a refusal.
+fn first_path(alloc: Global, refusal: &Refusal) -> Result<String, AllocError>
+    ensures { IfOk result (λ path. string_bytes path ≡ first_path refusal.now.places) }
+{
+    match refusal.places.first() {
+        Some(place) => format!(in alloc; "{}", PathOf(*place)),
+        None => Ok(String::new(alloc)),
+    }
+}
+
+/// A place of a configuration, as a path whose indexes count from 0.
+#[derive(Clone, Copy)]
+struct PathOf(Place);
+
+impl fmt::Display for PathOf {
+    ghost output = { λ path. Some (path_at path.0.part path.0.spot) };
+
+    fn fmt<W: fmt::Write>(&self, f: &mut fmt::Formatter<W>) -> fmt::Result {
+        match (self.0.part, self.0.spot) {
+            (Part::Document, Spot::At { key }) => f.write_str(key.word()),
+            (part, Spot::At { key }) => write!(f, "{}.{}", PathOfPart(part), key.word()),
+            (part, _) => write!(f, "{}", PathOfPart(part)),
+        }
+    }
+}
+
+/// A part of a configuration, as a path whose indexes count from 0.
+#[derive(Clone, Copy)]
+struct PathOfPart(Part);
+
+impl fmt::Display for PathOfPart {
+    ghost output = { λ path. Some (path_of path.0) };
+
+    fn fmt<W: fmt::Write>(&self, f: &mut fmt::Formatter<W>) -> fmt::Result {
+        match self.0 {
+            Part::Document => f.write_str("configuration"),
+            Part::Partition { partition } => write!(f, "partition[{partition}]"),
+            Part::Port { partition, port } => write!(f, "partition[{partition}].port[{port}]"),
+            Part::Channel { channel } => write!(f, "channel[{channel}]"),
+        }
+    }
+}
