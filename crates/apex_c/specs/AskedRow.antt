@@ -23,7 +23,8 @@ call_asked asked bytes =
     else if asked.service == 2 then Ok (call.ReadSampling asked.id)
     else if asked.service == 3 then sampling_id bytes
     else if asked.service == 4 then Ok (call.SamplingStatus asked.id)
-    else if asked.service == 5 then create_queuing bytes asked.size asked.depth asked.direction asked.discipline
+    else if asked.service == 5
+    then create_queuing bytes asked.size asked.depth asked.direction asked.discipline
     else if asked.service == 6 then send asked.id bytes
     else if asked.service == 7 then Ok (call.ReceiveQueuing asked.id)
     else if asked.service == 8 then queuing_id bytes

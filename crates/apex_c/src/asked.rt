@@ -3,6 +3,7 @@ ghost use Rattle.std.specs.Prelude.{◌≡◌, ◌≢◌, ◌<◌, Ok, Some, len
 ghost use Rattle.std.specs.Result.{result_unwrap_or};
 ghost use Rattle.apex_row_words.specs.Words.{words_of};
 ghost use Rattle.apex_types.specs.Name.{name_of};
+ghost use Rattle.apex_types.specs.declared.call.Call.TheVariants as call;
 ghost use Rattle.apex_c.specs.Asked.{message_asked, name_asked};
 ghost use Rattle.apex_c.specs.AskedRow.{call_asked, row_in, row_of_ports, words_in};
 ghost use Rattle.apex_c.specs.Calls.{moment_of};
@@ -39,12 +40,7 @@ impl AskedCall {
     {
         let id = self.id;
         let call = match self.service {
-            0 => Call::CreateSampling {
-                name: name_in(bytes)?,
-                size: self.size,
-                direction: self.direction,
-                refresh: self.refresh,
-            },
+            0 => self.create_sampling(name_in(bytes)?),
             1 => Call::WriteSampling {
                 id,
                 message: message_in(bytes)?,
@@ -54,13 +50,7 @@ impl AskedCall {
                 name: name_in(bytes)?,
             },
             4 => Call::SamplingStatus { id },
-            5 => Call::CreateQueuing {
-                name: name_in(bytes)?,
-                size: self.size,
-                depth: self.depth,
-                direction: self.direction,
-                discipline: self.discipline,
-            },
+            5 => self.create_queuing(name_in(bytes)?),
             6 => Call::SendQueuing {
                 id,
                 message: message_in(bytes)?,
@@ -75,6 +65,31 @@ impl AskedCall {
             _ => return Err(NO_SERVICE),
         };
         Ok(call)
+    }
+
+    fn create_sampling(&self, name: Name) -> Call
+        ensures { result ≡ call.CreateSampling name
+            self.now.size self.now.direction self.now.refresh }
+    {
+        Call::CreateSampling {
+            name,
+            size: self.size,
+            direction: self.direction,
+            refresh: self.refresh,
+        }
+    }
+
+    fn create_queuing(&self, name: Name) -> Call
+        ensures { result ≡ call.CreateQueuing name
+            self.now.size self.now.depth self.now.direction self.now.discipline }
+    {
+        Call::CreateQueuing {
+            name,
+            size: self.size,
+            depth: self.depth,
+            direction: self.direction,
+            discipline: self.discipline,
+        }
     }
 }
 
@@ -219,7 +234,8 @@ fn words_of_call(
 ) -> Result<String, AllocError>
     requires { partition < length ports.now.config.partitions }
     ensures { let row = row_of_ports ports.now partition at call.now in
-        IfOk result (λ words. string_bytes words ≡ words_of ports.now.config partition call.now row) }
+        IfOk result (λ words. string_bytes words
+        ≡ words_of ports.now.config partition call.now row) }
 {
     let mut words = String::new(alloc);
     let row = ports.row(partition, at, call);

@@ -1,7 +1,6 @@
 use Rattle.std.proofs.Common.{◌≡◌, Ok, Some, length, ap, ◌∙◌}
 use Rattle.apex_c.specs.AskedRow.{call_asked, words_in}
 use Rattle.apex_c.specs.Calls.{moment_of}
-use Rattle.apex_c.specs.Found.{Found}
 use Rattle.apex_c.specs.Told.{text_after, text_answer, text_length_after}
 use Rattle.apex_c.proofs.asked.apex_call_words.Goals as goal
 
