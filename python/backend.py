@@ -1,5 +1,5 @@
 """By what pip installs the package 'dekarino' from this folder: offline, and with nothing but Python (PEP 517). What is
-installed has the shared object beside it, and the program where that is built."""
+installed has the shared object beside it, and each program where that is built."""
 import base64
 import hashlib
 import pathlib
@@ -9,6 +9,7 @@ import zipfile
 HERE = pathlib.Path(__file__).resolve().parent
 ROOT = HERE.parent
 TAG = "py3-none-linux_x86_64"
+PROGRAMS = ["apexports", "dekarino"]
 
 
 def version():
@@ -29,9 +30,10 @@ def contents():
     found = {f"dekarino/{it.name}": it for it in sorted((HERE / "dekarino").iterdir()) if it.is_file()}
     found["dekarino/libdekarino.so"] = library
     is_package = (ROOT / "BUILT_FROM").exists()
-    program = first_of(ROOT / ("apexports" if is_package else "crates/apexports/out/apexports"))
-    if program:
-        found["dekarino/apexports"] = program
+    for name in PROGRAMS:
+        program = first_of(ROOT / (name if is_package else f"crates/{name}/out/{name}"))
+        if program:
+            found[f"dekarino/{name}"] = program
     return found
 
 
@@ -52,7 +54,7 @@ def build_wheel(wheel_directory, config_settings=None, metadata_directory=None):
     with zipfile.ZipFile(pathlib.Path(wheel_directory) / wheel, "w", zipfile.ZIP_DEFLATED) as packed:
         for it, bytes_of in parts.items():
             entry = zipfile.ZipInfo(it)
-            is_program = it == "dekarino/apexports"
+            is_program = it in [f"dekarino/{program}" for program in PROGRAMS]
             entry.external_attr = (0o100755 if is_program else 0o100644) << 16
             packed.writestr(entry, bytes_of)
     return wheel

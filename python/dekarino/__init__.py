@@ -1,16 +1,18 @@
 """The ports of an ARINC 653 module for benches in Python, over the shared object of Dekarino: docs/PYTHON.md."""
 from ._codes import Code, Direction, Discipline, Mode, Validity
-from ._errors import ApexError, ConfigError, LibraryError, NoCallError, ProgramError, TraceError
+from ._errors import ApexError, ConfigError, LibraryError, LogError, NoCallError, ProgramError, TraceError
 from ._module import Channel, Module, WrittenSample
 from ._ports import ConfiguredPort, Partition, QueuingPort, SamplingPort
-from ._program import Report, ReportedCall, ReportedPartition, ReportedQueuing, ReportedSampling, replay
+from ._program import (Departure, Judgement, Report, ReportedCall, ReportedPartition, ReportedQueuing,
+                       ReportedSampling, judge, replay)
 from ._replies import (IdReply, QueuingStatus, QueuingStatusReply, ReadReply, ReceiveReply, Reply, Sample,
                        SamplingStatus, SamplingStatusReply)
+from ._rows import Row
 
 __all__ = [
-    "ApexError", "Channel", "Code", "ConfigError", "ConfiguredPort", "Direction", "Discipline", "IdReply",
-    "LibraryError", "Mode", "Module", "NoCallError", "Partition", "ProgramError", "QueuingPort", "QueuingStatus",
-    "QueuingStatusReply", "ReadReply", "ReceiveReply", "Reply", "Report", "ReportedCall", "ReportedPartition",
-    "ReportedQueuing", "ReportedSampling", "Sample", "SamplingPort", "SamplingStatus", "SamplingStatusReply",
-    "TraceError", "Validity", "WrittenSample", "replay",
+    "ApexError", "Channel", "Code", "ConfigError", "ConfiguredPort", "Departure", "Direction", "Discipline", "IdReply",
+    "Judgement", "LibraryError", "LogError", "Mode", "Module", "NoCallError", "Partition", "ProgramError",
+    "QueuingPort", "QueuingStatus", "QueuingStatusReply", "ReadReply", "ReceiveReply", "Reply", "Report",
+    "ReportedCall", "ReportedPartition", "ReportedQueuing", "ReportedSampling", "Row", "Sample", "SamplingPort",
+    "SamplingStatus", "SamplingStatusReply", "TraceError", "Validity", "WrittenSample", "judge", "replay",
 ]

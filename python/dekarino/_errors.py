@@ -1,7 +1,8 @@
 """What is raised."""
-from typing import Optional
+from typing import Optional, Tuple
 
 from ._codes import Code
+from ._rows import Row
 
 # The words of a configuration's faults, from number 1.
 FAULTS = ("not TOML", "shape", "name", "name twice", "number out of range", "unknown channel",
@@ -9,18 +10,20 @@ FAULTS = ("not TOML", "shape", "name", "name twice", "number out of range", "unk
 
 
 class ApexError(Exception):
-    """A service answered another code than NO_ERROR."""
+    """A service answered another code than NO_ERROR, by a row of the reply table that says why."""
 
-    def __init__(self, code: Code, partition: str, port: Optional[str], service: str) -> None:
-        super().__init__(code, partition, port, service)
+    def __init__(self, code: Code, partition: str, port: Optional[str], service: str, row: Row, words: str) -> None:
+        super().__init__(code, partition, port, service, row, words)
         self.code = code
         self.partition = partition
         self.port = port
         self.service = service
+        self.row = row
+        self.words = words
 
     def __str__(self) -> str:
         port = "" if self.port is None else f", port {self.port}"
-        return f"partition {self.partition}{port}: {self.service} answered {self.code.name}"
+        return f"partition {self.partition}{port}: {self.service} answered {self.code.name} ({self.words})"
 
 
 class NoCallError(ValueError):
@@ -28,15 +31,19 @@ class NoCallError(ValueError):
 
 
 class ConfigError(ValueError):
-    """The configuration was refused, by a fault with its number."""
+    """The configuration was refused, by a fault with its number. Where a module was to be opened, `place` is the path of
+    the fault's first place, and `lines` tell of each place what holds it, what is wrong, and what must be there."""
 
-    def __init__(self, number: int, words: str) -> None:
-        super().__init__(number, words)
+    def __init__(self, number: int, words: str, place: Optional[str] = None, lines: Tuple[str, ...] = ()) -> None:
+        super().__init__(number, words, place, lines)
         self.number = number
         self.words = words
+        self.place = place
+        self.lines = lines
 
     def __str__(self) -> str:
-        return f"config fault {self.number}: {self.words}"
+        place = "" if self.place is None else f" at {self.place}"
+        return "\n".join([f"config fault {self.number}: {self.words}{place}", *self.lines])
 
 
 class TraceError(ValueError):
@@ -50,6 +57,19 @@ class TraceError(ValueError):
 
     def __str__(self) -> str:
         return f"trace line {self.line} fault {self.number}: {self.words}"
+
+
+class LogError(ValueError):
+    """A recorded log was refused, by a fault with its number, at a line."""
+
+    def __init__(self, line: int, number: int, words: str) -> None:
+        super().__init__(line, number, words)
+        self.line = line
+        self.number = number
+        self.words = words
+
+    def __str__(self) -> str:
+        return f"log line {self.line} fault {self.number}: {self.words}"
 
 
 class LibraryError(OSError):

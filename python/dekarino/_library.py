@@ -49,6 +49,13 @@ class SamplingFields(ctypes.Structure):
     _fields_ = [("refresh", _u64), ("size", _u32), ("direction", _u32), ("last_validity", _u32)]
 
 
+class CallFields(ctypes.Structure):
+    """A call that is asked about: its service, and the numbers that it is made with."""
+
+    _fields_ = [("refresh", _u64), ("service", _u32), ("id", _u32), ("size", _u32), ("depth", _u32),
+                ("direction", _u32), ("discipline", _u32), ("mode", _u32)]
+
+
 class PortFields(ctypes.Structure):
     """What the configuration says of a port."""
 
@@ -65,6 +72,8 @@ class ChannelFields(ctypes.Structure):
 PARAMETERS: Dict[str, Tuple[Any, ...]] = {
     "open": (_handle, _text, _length),
     "close": (_handle,),
+    "configuration_fault": (_text, _length, _place, _length, _place),
+    "configuration_mistakes": (_text, _length, _place, _length, _place),
     "create_sampling_port": (*_caller, _text, _length, _u32, _u32, _u64, _place),
     "write_sampling_message": (*_caller, _u32, _text, _length),
     "read_sampling_message": (*_caller, _u32, _place, _length, _place, _place),
@@ -96,6 +105,8 @@ PARAMETERS: Dict[str, Tuple[Any, ...]] = {
     "find_partition": (_handle, _text, _length, _place),
     "find_port": (_handle, _u32, _text, _length, _place),
     "find_channel": (_handle, _text, _length, _place),
+    "call_row": (*_caller, _place, _text, _length, _place),
+    "call_words": (*_caller, _place, _text, _length, _place, _length, _place),
 }
 
 

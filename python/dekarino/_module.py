@@ -7,10 +7,12 @@ from typing import Any, List, NamedTuple, NoReturn, Optional, Tuple, Type, Union
 
 from . import _library
 from ._codes import Code, Direction, Mode
-from ._errors import FAULTS, ConfigError, NoCallError
+from ._errors import NoCallError
+from ._faults import refused
 from ._library import MOMENT_LIMIT, lock, number
 from ._ports import ConfiguredPort, Partition, named
-from ._replies import AnyValue, Asked, message_word, reply_words
+from ._replies import Answer, AnyValue, Asked, message_word, reply_words
+from ._rows import ACCEPTED, Row
 
 CODES = tuple(Code)
 # A configuration or a trace: the path of a file, or the text itself where it is bytes.
@@ -40,10 +42,8 @@ class Module:
         self._handle = _library.Handle()
         self._lent = ctypes.byref(self._handle)
         fault = self._functions.function("open")(self._lent, text, len(text))
-        if fault == _library.OUT_OF_MEMORY:
-            raise MemoryError("memory was refused")
         if fault != 0:
-            raise ConfigError(fault, FAULTS[fault - 1])
+            raise refused(text, fault)
         finalizer = weakref.finalize(self, self._functions.function("close"), self._lent)
         finalizer.atexit = False
         self._moment = 0
@@ -118,13 +118,22 @@ class Module:
         names = ", ".join(self._names(kind)) or "none"
         raise NoCallError(f"there is no {kind} {name}; the {kind}s are {names}")
 
-    def _note(self, asked: Asked, answer: int, value: AnyValue) -> Code:
-        """Keeps a call that was served. The lock is held."""
+    def _note(self, asked: Asked, answer: int, value: AnyValue, sent: bytes = b"") -> Answer:
+        """Keeps a call that was served, with a name or a message that was sent. The lock is held."""
         if answer >= len(CODES):
             self._refuse(answer)
         code = CODES[answer]
         self._calls.append((self._moment, asked, code, value))
-        return code
+        return Answer(code, ACCEPTED[asked.service], "") if answer == 0 else self._why(code, asked, sent)
+
+    def _why(self, code: Code, asked: Asked, sent: bytes) -> Answer:
+        """Why a call was refused, which may be asked after it as before. The lock is held."""
+        call = (asked.index, self._moment, ctypes.byref(asked.fields), sent, len(sent))
+        self._ask("call_row", *call, self._number_place)
+        has_words = self._ask("call_words", *call, self._buffer, _library.MESSAGE_LIMIT, ctypes.byref(self._count)) == 0
+        # (there are none where memory was refused)
+        words = ctypes.string_at(self._buffer, self._count.value).decode("ascii") if has_words else ""
+        return Answer(code, Row(self._number.value), words)
 
     def _refuse(self, answer: int) -> NoReturn:
         words = {_library.NOT_OPEN: "the module is closed", _library.NO_PARTITION: "there is no such partition",

@@ -3,11 +3,12 @@ import ctypes
 from typing import TYPE_CHECKING, Any, NamedTuple, Optional, Tuple
 
 from . import _library
-from ._codes import Code, Direction, Mode, Validity
+from ._codes import Direction, Mode, Validity
 from ._errors import NoCallError
 from ._library import MOMENT_LIMIT, NUMBER_LIMIT, lock, number
-from ._replies import (AnyValue, Asked, IdReply, QueuingStatus, QueuingStatusReply, ReadReply, ReceiveReply, Reply,
+from ._replies import (Answer, Asked, IdReply, QueuingStatus, QueuingStatusReply, ReadReply, ReceiveReply, Reply,
                        Sample, SamplingStatus, SamplingStatusReply)
+from ._rows import SERVICE_NUMBERS
 
 if TYPE_CHECKING:
     from ._module import Module
@@ -31,24 +32,26 @@ class _Caller:
         self._module, self._index = module, index
         self._who = partition
 
-    def _asked(self, port: Optional[str], service: str, call: str) -> Asked:
-        return Asked(self._who, port, service, call)
+    def _asked(self, port: Optional[str], service: str, call: str, **numbers: int) -> Asked:
+        fields = _library.CallFields(service=SERVICE_NUMBERS[service], **numbers)
+        return Asked(self._who, port, service, call, self._index, fields)
 
-    def _serve(self, asked: Asked, *arguments: Any) -> Code:
+    def _serve(self, asked: Asked, *arguments: Any, sent: bytes = b"") -> Answer:
         """Makes a call that gives a code alone."""
         module = self._module
         function = module._functions.function(asked.service.lower())
         with lock:
-            return module._note(asked, function(module._lent, self._index, module._moment, *arguments), None)
+            answer = function(module._lent, self._index, module._moment, *arguments)
+            return module._note(asked, answer, None, sent)
 
-    def _serve_for_id(self, asked: Asked, *arguments: Any) -> IdReply:
+    def _serve_for_id(self, asked: Asked, name: str, *numbers: int) -> IdReply:
         """Makes a call that gives a port's identifier."""
-        module = self._module
+        module, (word, length) = self._module, named(name)
         function = module._functions.function(asked.service.lower())
         with lock:
-            answer = function(module._lent, self._index, module._moment, *arguments, module._number_place)
+            answer = function(module._lent, self._index, module._moment, word, length, *numbers, module._number_place)
             value = module._number.value if answer == 0 else None
-            return IdReply(module._note(asked, answer, value), value, asked)
+            return IdReply(module._note(asked, answer, value, word), value, asked)
 
 
 def named(name: str) -> Tuple[bytes, int]:
@@ -96,30 +99,31 @@ class Partition(_Caller):
     def create_queuing_port(self, name: str, *, size: int, depth: int, direction: int,
                             discipline: int = 0) -> "QueuingPort":
         """CREATE_QUEUING_PORT. The port, or ApexError is raised."""
-        numbers = [number(it, NUMBER_LIMIT, what) for it, what in
-                   ((size, "size"), (depth, "depth"), (direction, "direction"), (discipline, "discipline"))]
-        asked = self._asked(name, "CREATE_QUEUING_PORT", "create-queuing")
-        return self.queuing_port(self._serve_for_id(asked, *named(name), *numbers).check())
+        given = {"size": size, "depth": depth, "direction": direction, "discipline": discipline}
+        numbers = {what: number(it, NUMBER_LIMIT, what) for what, it in given.items()}
+        asked = self._asked(name, "CREATE_QUEUING_PORT", "create-queuing", **numbers)
+        return self.queuing_port(self._serve_for_id(asked, name, *numbers.values()).check())
 
     def create_sampling_port(self, name: str, *, size: int, direction: int, refresh: int) -> "SamplingPort":
         """CREATE_SAMPLING_PORT, the refresh period in nanoseconds. The port, or ApexError is raised."""
-        numbers = [number(size, NUMBER_LIMIT, "size"), number(direction, NUMBER_LIMIT, "direction"),
-                   number(refresh, MOMENT_LIMIT, "refresh")]
-        asked = self._asked(name, "CREATE_SAMPLING_PORT", "create-sampling")
-        return self.sampling_port(self._serve_for_id(asked, *named(name), *numbers).check())
+        numbers = {"size": number(size, NUMBER_LIMIT, "size"), "direction": number(direction, NUMBER_LIMIT, "direction"),
+                   "refresh": number(refresh, MOMENT_LIMIT, "refresh")}
+        asked = self._asked(name, "CREATE_SAMPLING_PORT", "create-sampling", **numbers)
+        return self.sampling_port(self._serve_for_id(asked, name, *numbers.values()).check())
 
     def get_queuing_port_id(self, name: str) -> IdReply:
         """GET_QUEUING_PORT_ID."""
-        return self._serve_for_id(self._asked(name, "GET_QUEUING_PORT_ID", "queuing-id"), *named(name))
+        return self._serve_for_id(self._asked(name, "GET_QUEUING_PORT_ID", "queuing-id"), name)
 
     def get_sampling_port_id(self, name: str) -> IdReply:
         """GET_SAMPLING_PORT_ID."""
-        return self._serve_for_id(self._asked(name, "GET_SAMPLING_PORT_ID", "sampling-id"), *named(name))
+        return self._serve_for_id(self._asked(name, "GET_SAMPLING_PORT_ID", "sampling-id"), name)
 
     def set_mode(self, mode: int) -> Reply[None]:
         """SET_PARTITION_MODE."""
-        asked = self._asked(None, "SET_PARTITION_MODE", "mode")
-        return Reply(self._serve(asked, number(mode, NUMBER_LIMIT, "mode")), None, asked)
+        wanted = number(mode, NUMBER_LIMIT, "mode")
+        asked = self._asked(None, "SET_PARTITION_MODE", "mode", mode=wanted)
+        return Reply(self._serve(asked, wanted), None, asked)
 
     def queuing_port(self, id: int) -> "QueuingPort":
         """The queuing port of an identifier, whether there is one or not. No service is called."""
@@ -137,6 +141,9 @@ class _Port(_Caller):
         with lock:
             self.name = module._name("port_name", index, self.id) or f"number {self.id}"
 
+    def _asked_of_port(self, service: str, call: str) -> Asked:
+        return self._asked(self.name, service, call, id=self.id)
+
 
 def _message(message: bytes) -> bytes:
     return message if type(message) is bytes else bytes(memoryview(message))
@@ -147,8 +154,8 @@ class QueuingPort(_Port):
 
     def __init__(self, module: "Module", index: int, partition: str, id: int) -> None:
         super().__init__(module, index, partition, id)
-        self._send = self._asked(self.name, "SEND_QUEUING_MESSAGE", "send")
-        self._receive = self._asked(self.name, "RECEIVE_QUEUING_MESSAGE", "receive")
+        self._send = self._asked_of_port("SEND_QUEUING_MESSAGE", "send")
+        self._receive = self._asked_of_port("RECEIVE_QUEUING_MESSAGE", "receive")
         self._send_function = module._functions.function("send_queuing_message")
         self._receive_function = module._functions.function("receive_queuing_message")
 
@@ -157,7 +164,7 @@ class QueuingPort(_Port):
         module, sent = self._module, _message(message)
         with lock:
             answer = self._send_function(module._lent, self._index, module._moment, self.id, sent, len(sent))
-            return Reply(module._note(self._send, answer, None), None, self._send)
+            return Reply(module._note(self._send, answer, None, sent), None, self._send)
 
     def receive(self) -> ReceiveReply:
         """RECEIVE_QUEUING_MESSAGE."""
@@ -170,13 +177,13 @@ class QueuingPort(_Port):
 
     def clear(self) -> Reply[None]:
         """CLEAR_QUEUING_PORT."""
-        asked = self._asked(self.name, "CLEAR_QUEUING_PORT", "clear")
+        asked = self._asked_of_port("CLEAR_QUEUING_PORT", "clear")
         return Reply(self._serve(asked, self.id), None, asked)
 
     def status(self) -> QueuingStatusReply:
         """GET_QUEUING_PORT_STATUS."""
         module, it = self._module, _library.QueuingFields()
-        asked = self._asked(self.name, "GET_QUEUING_PORT_STATUS", "queuing-status")
+        asked = self._asked_of_port("GET_QUEUING_PORT_STATUS", "queuing-status")
         function = module._functions.function("get_queuing_port_status")
         with lock:
             answer = function(module._lent, self._index, module._moment, self.id, ctypes.byref(it))
@@ -189,13 +196,13 @@ class SamplingPort(_Port):
 
     def write(self, message: bytes) -> Reply[None]:
         """WRITE_SAMPLING_MESSAGE."""
-        asked, sent = self._asked(self.name, "WRITE_SAMPLING_MESSAGE", "write"), _message(message)
-        return Reply(self._serve(asked, self.id, sent, len(sent)), None, asked)
+        asked, sent = self._asked_of_port("WRITE_SAMPLING_MESSAGE", "write"), _message(message)
+        return Reply(self._serve(asked, self.id, sent, len(sent), sent=sent), None, asked)
 
     def read(self) -> ReadReply:
         """READ_SAMPLING_MESSAGE."""
         module = self._module
-        asked = self._asked(self.name, "READ_SAMPLING_MESSAGE", "read")
+        asked = self._asked_of_port("READ_SAMPLING_MESSAGE", "read")
         function = module._functions.function("read_sampling_message")
         with lock:
             answer = function(module._lent, self._index, module._moment, self.id, module._buffer,
@@ -206,7 +213,7 @@ class SamplingPort(_Port):
     def status(self) -> SamplingStatusReply:
         """GET_SAMPLING_PORT_STATUS."""
         module, it = self._module, _library.SamplingFields()
-        asked = self._asked(self.name, "GET_SAMPLING_PORT_STATUS", "sampling-status")
+        asked = self._asked_of_port("GET_SAMPLING_PORT_STATUS", "sampling-status")
         function = module._functions.function("get_sampling_port_status")
         with lock:
             answer = function(module._lent, self._index, module._moment, self.id, ctypes.byref(it))

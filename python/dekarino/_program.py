@@ -1,5 +1,6 @@
-"""What the program `apexports` gives: the report of a trace, line by line."""
+"""What the programs give: the report of a trace by `apexports`, line by line, and a judged log by `dekarino`."""
 import contextlib
+import json
 import os
 import pathlib
 import re
@@ -9,10 +10,14 @@ from dataclasses import dataclass
 from typing import Iterator, List, Optional, Tuple, Union
 
 from ._codes import Code, Direction, Mode, Validity
-from ._errors import ConfigError, LibraryError, ProgramError, TraceError
+from ._errors import ConfigError, LibraryError, LogError, ProgramError, TraceError
 from ._library import FOLDER, ROOT
 from ._module import Text
 from ._replies import AnyValue, QueuingStatus, Sample, SamplingStatus
+from ._rows import Row
+
+# The status of `dekarino judge` where replies depart.
+DEPARTS = 4
 
 
 @dataclass(frozen=True)
@@ -107,16 +112,39 @@ def read_report(text: str) -> Report:
               for it in lines if it[0] in ("queuing", "sampling")))
 
 
-def find_program() -> pathlib.Path:
-    """The path of the program: in this folder, built in a checkout, or in an unpacked package."""
-    places = [FOLDER / "apexports", ROOT / "crates/apexports/out/apexports"]
+@dataclass(frozen=True)
+class Departure:
+    """A reply of a log that is not the standard's: its line in the log, from 1, and its call. `logged` and `expected`
+    are replies as a report has them; `row` gives the expected one, and `words` say why where it refuses the call."""
+
+    line: int
+    at: int
+    partition: str
+    call: str
+    logged: str
+    expected: str
+    row: Row
+    words: str
+
+
+@dataclass(frozen=True)
+class Judgement:
+    """A judged log: how many calls it has, and where their replies depart from the standard, in the log's order."""
+
+    calls: int
+    departures: Tuple[Departure, ...]
+
+
+def find_program(name: str) -> pathlib.Path:
+    """The path of a program: in this folder, built in a checkout, or in an unpacked package."""
+    places = [FOLDER / name, ROOT / "crates" / name / "out" / name]
     if (ROOT / "BUILT_FROM").exists():
-        places.append(ROOT / "apexports")
+        places.append(ROOT / name)
     for place in places:
         if place.exists():
             return place
-    raise LibraryError(f"there is no program at {', '.join(map(str, places))}: make it by `./apexports check CONFIG` "
-                       "in a checkout")
+    raise LibraryError(f"there is no program at {', '.join(map(str, places))}: make it by `./{name} --version` in a "
+                       "checkout")
 
 
 @contextlib.contextmanager
@@ -132,17 +160,45 @@ def _file(text: Text) -> Iterator[str]:
         yield path
 
 
+def _run(program: str, *words: str) -> Tuple[int, str, str]:
+    """The status of a program, and what it writes on its two outputs."""
+    ran = subprocess.run([str(find_program(program)), *words], stdin=subprocess.DEVNULL, stdout=subprocess.PIPE,
+                         stderr=subprocess.PIPE)
+    return ran.returncode, ran.stdout.decode("ascii"), ran.stderr.decode(errors="replace").rstrip("\n")
+
+
+def _refusal(status: int, said: str) -> Exception:
+    """What is raised where a program refuses its texts."""
+    fault = re.match(r"(?:config|(trace|log) line (\d+)) fault (\d+): (.*)", said)
+    if fault is None:
+        return ProgramError(f"the program ended with the status {status}: {said}")
+    if fault[1] is None:
+        return ConfigError(int(fault[3]), fault[4])
+    kind = TraceError if fault[1] == "trace" else LogError
+    return kind(int(fault[2]), int(fault[3]), fault[4])
+
+
 def replay(config: Text, trace: Text) -> Report:
     """Replays a trace by the program. Each text is the path of a file, or is given as bytes."""
     with _file(config) as config_path, _file(trace) as trace_path:
-        ran = subprocess.run([str(find_program()), "replay", config_path, trace_path], stdin=subprocess.DEVNULL,
-                             stdout=subprocess.PIPE, stderr=subprocess.PIPE)
-    if ran.returncode == 0:
-        return read_report(ran.stdout.decode("ascii"))
-    said = ran.stderr.decode(errors="replace").rstrip("\n")
-    fault = re.fullmatch(r"(?:config|trace line (\d+)) fault (\d+): (.*)", said)
-    if fault is None:
-        raise ProgramError(f"the program ended with the status {ran.returncode}: {said}")
-    if fault[1] is None:
-        raise ConfigError(int(fault[2]), fault[3])
-    raise TraceError(int(fault[1]), int(fault[2]), fault[3])
+        status, told, said = _run("apexports", "replay", config_path, trace_path)
+    if status != 0:
+        raise _refusal(status, said)
+    return read_report(told)
+
+
+def _departure(line: str) -> Departure:
+    """What a line of a judged log says."""
+    it = json.loads(line)
+    return Departure(it["line"], it["at"], it["partition"], it["service"], it["logged"], it["standard"],
+                     Row[it["row"].upper().replace(" ", "_")], it["words"])
+
+
+def judge(config: Text, log: Text) -> Judgement:
+    """Judges a recorded log by the program. Each text is the path of a file, or is given as bytes."""
+    with _file(config) as config_path, _file(log) as log_path:
+        status, told, said = _run("dekarino", "judge", "--json", config_path, log_path)
+    if status not in (0, DEPARTS):
+        raise _refusal(status, said)
+    *departures, counts = told.splitlines()
+    return Judgement(json.loads(counts)["calls"], tuple(map(_departure, departures)))

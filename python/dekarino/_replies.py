@@ -3,6 +3,8 @@ from typing import Generic, NamedTuple, Optional, TypeVar, Union, cast
 
 from ._codes import Code, Direction, Validity
 from ._errors import ApexError
+from ._library import CallFields
+from ._rows import Row
 
 
 class Sample(NamedTuple):
@@ -37,12 +39,22 @@ Status = TypeVar("Status", QueuingStatus, SamplingStatus)
 
 
 class Asked(NamedTuple):
-    """Who asked what: names, and the word that a trace has for the service."""
+    """Who asked what: names, the word that a trace has for the service, and the call's numbers."""
 
     partition: str
     port: Optional[str]
     service: str
     call: str
+    index: int
+    fields: CallFields
+
+
+class Answer(NamedTuple):
+    """What a service answered, and why: the code, the row of the reply table that gave it, and the row's words."""
+
+    code: Code
+    row: Row
+    words: str
 
 
 def message_word(message: bytes) -> str:
@@ -72,19 +84,34 @@ def reply_words(code: Code, value: AnyValue) -> str:
 class Reply(Generic[Value]):
     """A service's reply. `str` gives it in the words of the program's report."""
 
-    __slots__ = ("code", "value", "_asked")
-    code: Code
+    __slots__ = ("_answer", "value", "_asked")
     value: Optional[Value]
 
-    def __init__(self, code: Code, value: Optional[Value], asked: Asked) -> None:
-        self.code = code
+    def __init__(self, answer: Answer, value: Optional[Value], asked: Asked) -> None:
+        self._answer = answer
         self.value = value
         self._asked = asked
+
+    @property
+    def code(self) -> Code:
+        """The return code."""
+        return self._answer.code
+
+    @property
+    def row(self) -> Row:
+        """The row of the reply table that gave the reply."""
+        return self._answer.row
+
+    @property
+    def words(self) -> str:
+        """The words of that row: why the call wasn't made or was refused. Those of an accepted call are empty."""
+        return self._answer.words
 
     def check(self) -> Value:
         """The value where the code is NO_ERROR; otherwise ApexError is raised."""
         if self.code is not Code.NO_ERROR:
-            raise ApexError(self.code, self._asked.partition, self._asked.port, self._asked.service)
+            asked = self._asked
+            raise ApexError(self.code, asked.partition, asked.port, asked.service, self.row, self.words)
         return cast(Value, self.value)
 
     def __str__(self) -> str:

@@ -91,7 +91,8 @@ class Services(unittest.TestCase):
         with self.assertRaises(dekarino.ApexError) as raised:
             out.send(b"12345").check()
         self.assertEqual(str(raised.exception),
-                         "partition FMS, port NAV_OUT: SEND_QUEUING_MESSAGE answered INVALID_CONFIG")
+                         "partition FMS, port NAV_OUT: SEND_QUEUING_MESSAGE answered INVALID_CONFIG (message of 5 "
+                         "bytes, channel NAV takes 4)")
         with self.assertRaises(dekarino.ApexError) as raised:
             self.queuing()
         self.assertIs(raised.exception.code, Code.NO_ACTION)
@@ -198,7 +199,8 @@ class Texts(unittest.TestCase):
         for config in sorted(ROOT.glob("examples/faults/*.toml")):
             with self.assertRaises(dekarino.ConfigError) as raised:
                 Module.open(config)
-            self.assertEqual(f"# {raised.exception}", config.read_text().splitlines()[0])
+            self.assertEqual(f"# {raised.exception}".splitlines()[0],
+                             f"{config.read_text().splitlines()[0]} at {raised.exception.place}")
         with self.assertRaises(dekarino.TraceError) as raised:
             dekarino.replay(BOTH, b"\n1 FMS nothing\n")
         self.assertEqual(str(raised.exception), "trace line 2 fault 6: unknown call")
