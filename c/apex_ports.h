@@ -12,8 +12,8 @@
  * What is assumed beyond that stands beside the function.
  *
  * All else is tested, and has an answer of its own: a handle that is not open, or is open already; a partition,
- * a channel or an identifier that is not there; a text that is no name; a message that is too long; a buffer that is
- * too short. */
+ * a channel, an identifier or a service that is not there; a text that is no name; a message that is too long; a buffer
+ * that is too short. */
 #ifndef APEX_PORTS_H
 #define APEX_PORTS_H
 

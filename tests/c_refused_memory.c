@@ -1,7 +1,8 @@
 /* c_refused_memory CONFIG: opens with every request for memory refused in turn, and with all refused from each on,
  * until an opening meets no refusal. Each refused opening has to answer want of memory, leave the handle closed and
- * give all memory back. Then come calls with all memory refused, which have to ask for none. Prints the numbers. Linked
- * with --wrap for malloc, calloc, realloc and free. */
+ * give all memory back. The words of a refused call and what is told of a faulty configuration are asked for likewise.
+ * Then come calls with all memory refused, which have to ask for none. Prints the numbers. Linked with --wrap for
+ * malloc, calloc, realloc and free. */
 #include "../c/apex_ports.h"
 #include "c_test.h"
 
@@ -78,6 +79,55 @@ static bool is_opening_refused(const uint8_t *text, size_t length, unsigned long
     return was_refused;
 }
 
+/* What is told in a buffer, with the handle or of a faulty text. */
+typedef uint32_t telling(struct apex_handle *handle, uint8_t *buffer, size_t buffer_length, uint64_t *length);
+
+static uint32_t tell_words(struct apex_handle *handle, uint8_t *buffer, size_t buffer_length, uint64_t *length) {
+    const struct apex_call call = {.service = APEX_SEND_QUEUING_MESSAGE, .id = 99};
+    return apex_call_words(handle, 0, 0, &call, (const uint8_t *)"", 0, buffer, buffer_length, length);
+}
+
+static const uint8_t faulty[] = "partition = [{ name = 'A.B' }, { name = 'A B' }]";
+
+static uint32_t tell_fault(struct apex_handle *handle, uint8_t *buffer, size_t buffer_length, uint64_t *length) {
+    (void)handle;
+    return apex_configuration_fault(faulty, sizeof faulty - 1, buffer, buffer_length, length);
+}
+
+static uint32_t tell_mistakes(struct apex_handle *handle, uint8_t *buffer, size_t buffer_length, uint64_t *length) {
+    (void)handle;
+    return apex_configuration_mistakes(faulty, sizeof faulty - 1, buffer, buffer_length, length);
+}
+
+/* Tells with each request refused in turn, and with all from each on, until none is; how often one was. */
+static unsigned long tell_without_memory(const uint8_t *text, size_t length, telling *tell, uint32_t right,
+                                         uint32_t no_memory) {
+    static uint8_t buffer[512];
+    struct apex_handle handle;
+    unsigned long tried = 0;
+    memset(&handle, 0, sizeof handle);
+    refuse(0, 0);
+    expect(apex_open(&handle, text, length) == 0, "opening");
+    const long held_before = held;
+    for (int all = 0; all < 2; all++) {
+        bool was_refused = true;
+        for (unsigned long from = 1; was_refused; from++) {
+            uint64_t told = 77;
+            memset(buffer, 7, sizeof buffer);
+            refuse(from, all ? -1UL : from + 1);
+            const uint32_t answer = tell(&handle, buffer, sizeof buffer, &told);
+            was_refused = refused > 0;
+            refuse(0, 0);
+            expect(held == held_before, "telling gives all memory back");
+            expect(answer == (was_refused ? no_memory : right), "telling answers want of memory, or what it has to");
+            expect((told == 77 && buffer[0] == 7) == was_refused, "want of memory changes nothing");
+            tried += was_refused;
+        }
+    }
+    expect(apex_close(&handle) == 0 && held == 0, "closing afterwards");
+    return tried;
+}
+
 /* Calls and readers on open ports, which ask for no memory. */
 static void call_without_memory(const uint8_t *text, size_t length) {
     static uint8_t bytes[APEX_MESSAGE_LIMIT];
@@ -101,6 +151,8 @@ static void call_without_memory(const uint8_t *text, size_t length) {
         apex_get_queuing_port_status(&handle, 1, i, 1, &status);
         apex_clear_queuing_port(&handle, 1, i, 1);
         apex_set_partition_mode(&handle, i % 2, i, 1 + i % 3);
+        const struct apex_call call = {.service = i % 12, .id = 1};
+        apex_call_row(&handle, 1, i, &call, (const uint8_t *)"NAV_IN", 6, &count);
     }
     uint64_t calls = 0;
     expect(apex_call_count(&handle, 0, &calls) == 0 && calls == CALLS * 2 + CALLS / 2, "each call was served");
@@ -121,6 +173,9 @@ int main(int count, char **words) {
         all++;
     }
     call_without_memory(text, length);
-    printf("%lu openings with one request refused, %lu with all from one on\n", one, all);
+    const unsigned long told = tell_without_memory(text, length, tell_words, 0, APEX_NO_MEMORY) +
+                               tell_without_memory(text, length, tell_fault, 3, APEX_OUT_OF_MEMORY) +
+                               tell_without_memory(text, length, tell_mistakes, 3, APEX_OUT_OF_MEMORY);
+    printf("%lu openings with one request refused, %lu with all from one on; %lu refused tellings\n", one, all, told);
     return 0;
 }
