@@ -229,8 +229,8 @@ uint32_t apex_find_port(struct apex_handle *handle, uint32_t partition, const ui
                         uint32_t *id);
 uint32_t apex_find_channel(struct apex_handle *handle, const uint8_t *name, size_t name_length, uint32_t *channel);
 
-/* Why a call gets its reply. A call is asked about and not made: nothing changes, and the history doesn't have it. After
- * a call that wasn't made or was refused the answers are those before it. */
+/* Why a call gets its reply. A call is asked about and not made: nothing changes, and the history doesn't have it.
+ * After a call that wasn't made or was refused the answers are those before it. */
 
 /* The services, by their numbers. */
 enum apex_service {
@@ -303,10 +303,10 @@ enum apex_row {
 uint32_t apex_call_row(struct apex_handle *handle, uint32_t partition, uint64_t at, const struct apex_call *call,
                        const uint8_t *bytes, size_t bytes_length, uint32_t *row);
 
-/* The words of that row, in the buffer's first bytes, and their length; no zero follows. They say why the call would not
- * be made or would be refused; an accepted call has none. Answers as apex_call_row; APEX_SHORT_BUFFER where the buffer
- * has no room for the words, and then their length is told and the buffer stays as it was; or APEX_NO_MEMORY. Where the
- * answer is another, buffer and length stay as they were.
+/* The words of that row, in the buffer's first bytes, and their length; no zero follows. They say why the call would
+ * not be made or would be refused; an accepted call has none. Answers as apex_call_row; APEX_SHORT_BUFFER where the
+ * buffer has no room for the words, and then their length is told and the buffer stays as it was; or APEX_NO_MEMORY.
+ * Where the answer is another, buffer and length stay as they were.
  * Assumed: `bytes` points to `bytes_length` bytes and `buffer` to `buffer_length`. */
 uint32_t apex_call_words(struct apex_handle *handle, uint32_t partition, uint64_t at, const struct apex_call *call,
                          const uint8_t *bytes, size_t bytes_length, uint8_t *buffer, size_t buffer_length,

@@ -106,7 +106,8 @@ class Partition(_Caller):
 
     def create_sampling_port(self, name: str, *, size: int, direction: int, refresh: int) -> "SamplingPort":
         """CREATE_SAMPLING_PORT, the refresh period in nanoseconds. The port, or ApexError is raised."""
-        numbers = {"size": number(size, NUMBER_LIMIT, "size"), "direction": number(direction, NUMBER_LIMIT, "direction"),
+        numbers = {"size": number(size, NUMBER_LIMIT, "size"),
+                   "direction": number(direction, NUMBER_LIMIT, "direction"),
                    "refresh": number(refresh, MOMENT_LIMIT, "refresh")}
         asked = self._asked(name, "CREATE_SAMPLING_PORT", "create-sampling", **numbers)
         return self.sampling_port(self._serve_for_id(asked, name, *numbers.values()).check())

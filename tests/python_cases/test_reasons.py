@@ -91,8 +91,8 @@ class Faults(unittest.TestCase):
         with self.assertRaises(dekarino.ConfigError) as raised:
             Module.open(ROOT / "examples/faults/destinations.toml")
         error = raised.exception
-        lines = tuple(f"partition DSP{number}, port NAV_IN: it is one of 2 destination ports of channel NAV; there must "
-                      "be exactly 1" for number in (1, 2))
+        lines = tuple(f"partition DSP{number}, port NAV_IN: it is one of 2 destination ports of channel NAV; there "
+                      "must be exactly 1" for number in (1, 2))
         self.assertEqual((error.number, error.words, error.place, error.lines),
                          (9, "destinations", "partition[1].port[0]", lines))
         self.assertEqual(str(error), "\n".join(["config fault 9: destinations at partition[1].port[0]", *lines]))
