@@ -14,7 +14,7 @@ from ._ports import ConfiguredPort, Partition, named
 from ._replies import Answer, AnyValue, Asked, message_word, reply_words
 from ._rows import ACCEPTED, Row
 
-CODES = tuple(Code)
+CODES, ROWS = tuple(Code), tuple(Row)
 # A configuration or a trace: the path of a file, or the text itself where it is bytes.
 Text = Union[str, "os.PathLike[str]", bytes]
 
@@ -51,7 +51,9 @@ class Module:
         self._buffer = ctypes.create_string_buffer(_library.MESSAGE_LIMIT)
         self._count = ctypes.c_uint64()
         self._number, self._other = ctypes.c_uint32(), ctypes.c_uint32()
-        self._number_place = ctypes.byref(self._number)
+        self._number_place, self._count_place = ctypes.byref(self._number), ctypes.byref(self._count)
+        self._call_row = self._functions.function("call_row")
+        self._call_words = self._functions.function("call_words")
 
     @classmethod
     def open(cls, config: Text) -> "Module":
@@ -128,12 +130,12 @@ class Module:
 
     def _why(self, code: Code, asked: Asked, sent: bytes) -> Answer:
         """Why a call was refused, which may be asked after it as before. The lock is held."""
-        call = (asked.index, self._moment, ctypes.byref(asked.fields), sent, len(sent))
-        self._ask("call_row", *call, self._number_place)
-        has_words = self._ask("call_words", *call, self._buffer, _library.MESSAGE_LIMIT, ctypes.byref(self._count)) == 0
-        # (there are none where memory was refused)
-        words = ctypes.string_at(self._buffer, self._count.value).decode("ascii") if has_words else ""
-        return Answer(code, Row(self._number.value), words)
+        call = (self._lent, asked.index, self._moment, asked.fields, sent, len(sent))
+        self._call_row(*call, self._number_place)
+        is_told = self._call_words(*call, self._buffer, _library.MESSAGE_LIMIT, self._count_place) == 0
+        # (there are no words where memory was refused)
+        words = ctypes.string_at(self._buffer, self._count.value).decode("ascii") if is_told else ""
+        return Answer(code, ROWS[self._number.value], words)
 
     def _refuse(self, answer: int) -> NoReturn:
         words = {_library.NOT_OPEN: "the module is closed", _library.NO_PARTITION: "there is no such partition",

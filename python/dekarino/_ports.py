@@ -33,7 +33,7 @@ class _Caller:
         self._who = partition
 
     def _asked(self, port: Optional[str], service: str, call: str, **numbers: int) -> Asked:
-        fields = _library.CallFields(service=SERVICE_NUMBERS[service], **numbers)
+        fields = ctypes.byref(_library.CallFields(service=SERVICE_NUMBERS[service], **numbers))
         return Asked(self._who, port, service, call, self._index, fields)
 
     def _serve(self, asked: Asked, *arguments: Any, sent: bytes = b"") -> Answer:

@@ -1,9 +1,8 @@
 """What a service answers: a code, and the values that come with it."""
-from typing import Generic, NamedTuple, Optional, TypeVar, Union, cast
+from typing import Any, Generic, NamedTuple, Optional, TypeVar, Union, cast
 
 from ._codes import Code, Direction, Validity
 from ._errors import ApexError
-from ._library import CallFields
 from ._rows import Row
 
 
@@ -39,14 +38,14 @@ Status = TypeVar("Status", QueuingStatus, SamplingStatus)
 
 
 class Asked(NamedTuple):
-    """Who asked what: names, the word that a trace has for the service, and the call's numbers."""
+    """Who asked what: names, the word that a trace has for the service, and the place of the call's numbers."""
 
     partition: str
     port: Optional[str]
     service: str
     call: str
     index: int
-    fields: CallFields
+    fields: Any
 
 
 class Answer(NamedTuple):
