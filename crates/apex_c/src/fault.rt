@@ -1,5 +1,5 @@
 //! Why a configuration is refused, and where.
-ghost use Rattle.std.specs.Prelude.{◌≡◌, ◌≢◌, ◌⊎◌, ◌++◌, Err, string_bytes, IfOk, OnOk, Some};
+ghost use Rattle.std.specs.Prelude.{◌≡◌, ◌≢◌, ◌⊎◌, Err, string_bytes, IfOk, Some};
 ghost use Rattle.apex_config.specs.Meaning.{config_of, read_of};
 ghost use Rattle.apex_config.specs.declared.fault.ConfigFault.TheVariants as fault;
 ghost use Rattle.apex_refusals.specs.Paths.{path_of};
