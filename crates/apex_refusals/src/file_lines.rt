@@ -1,5 +1,5 @@
 //! The lines of a refused configuration's file: each by the file, the line and the path, with what was most likely meant.
-ghost use Rattle.std.specs.Prelude.{◌≡◌, ◌++◌, [], string_bytes, OnOk};
+ghost use Rattle.std.specs.Prelude.{string_bytes, OnOk};
 ghost use Rattle.toml.specs.View.{view};
 ghost use Rattle.apex_refusals.specs.Lines.{IsFileLine, AreFileLines};
 

@@ -3,7 +3,7 @@ ghost use Rattle.std.specs.Prelude.{◌≡◌, ◌++◌, string_bytes, option_ma
 ghost use Rattle.std.specs.Option.{option_copied};
 ghost use Rattle.toml.specs.View.{view};
 ghost use Rattle.apex_refusals.specs.Findings.{finding_data};
-ghost use Rattle.apex_refusals.specs.ValueFindings.{direction_of, ends_of, finding_in};
+ghost use Rattle.apex_refusals.specs.ValueFindings.{direction_of, finding_in};
 ghost use Rattle.apex_refusals.specs.Lines.{name_of, partition_name_of, own_name_of, named_line, named_lines, IsTold, IsRefusalTold};
 
 use crate::file_lines::{File, push_file_lines};
