@@ -1,9 +1,10 @@
 -- The nearest of the known words that were looked at so far.
-use Rattle.std.proofs.Common.{◌≡◌, ◌≤◌, ◌<◌, ℕ, ◌+◌, Bool, true, false, nat_lt, List, length, Option, Some, None, refl, arith}
+use Rattle.std.proofs.Common.{◌≡◌, ◌≤◌, ◌<◌, ℕ, ◌+◌, Bool, true, false, nat_lt, cond, List, ◌∷◌, length, drop, Option, Some, None, refl, ap, ◌∙◌, arith}
 use Rattle.std.specs.Prelude.{slice_get}
 use Rattle.std.proofs.lemmas.Bool.Decides.{nat_tests}
-use Rattle.std.proofs.lemmas.Option.{slice_get_within}
-use Rattle.apex_nearest.specs.Nearest.{edits, most_edits, IsNearest}
+use Rattle.std.proofs.lemmas.List.{at_drop_more, at_drop_all}
+use Rattle.std.proofs.lemmas.Option.{slice_get_within, get_or_from_slice_get}
+use Rattle.apex_nearest.specs.Nearest.{edits, most_edits, IsNearest, nearest_from}
 
 -- so many edits lead to the word found
 abbrev pub IsFound : List ℕ → ℕ → Option (List ℕ) → Type 0
@@ -39,3 +40,30 @@ nearest_of word known index least None all is each =
 nearest_of word known index least (Some found) all is each =
     let near : edits word found ≤ most_edits word = grind (arith, is.0, is.1) in
     (near, λ i other here. let far = each i other (grind (arith, slice_get_within known i other here)) here in grind (arith, is.0, far))
+
+-- ---- the same as a function of the words that are left
+
+module _ (word : List ℕ) (known : List (List ℕ)) (i least : ℕ) (found : Option (List ℕ)) (name : List ℕ) where
+  -- the next of the words
+  next : slice_get known i ≡ Some name
+      → nearest_from word (drop i known) least found
+      ≡ cond (nat_lt (edits word name) least) (nearest_from word (drop (i + 1) known) (edits word name) (Some name)) (nearest_from word (drop (i + 1) known) least found)
+  next here =
+      at_drop_more (λ (rest : List (List ℕ)). nearest_from word rest least found) known i name (slice_get_within known i name here)
+      ∙ ap (λ (first : List ℕ). nearest_from word (first ∷ drop (i + 1) known) least found) (get_or_from_slice_get known i name name here)
+
+  pub taken : (fewer : ℕ) → slice_get known i ≡ Some name → fewer ≡ edits word name → fewer < least
+      → nearest_from word (drop i known) least found ≡ nearest_from word (drop (i + 1) known) fewer (Some name)
+  taken fewer here same less =
+      let test : nat_lt (edits word name) least ≡ true = grind (arith, nat_tests, same, less) in
+      rw (next here, test, same) refl
+
+  pub passed : (more : ℕ) → slice_get known i ≡ Some name → more ≡ edits word name → least ≤ more
+      → nearest_from word (drop i known) least found ≡ nearest_from word (drop (i + 1) known) least found
+  passed more here same not_less =
+      let test : nat_lt (edits word name) least ≡ false = grind (arith, nat_tests, same, not_less) in
+      rw (next here, test) refl
+
+-- no word is left
+pub all_looked_at : (word : List ℕ) (known : List (List ℕ)) (index least : ℕ) (found : Option (List ℕ)) → length known ≤ index → nearest_from word (drop index known) least found ≡ found
+all_looked_at word known index least found all = at_drop_all (λ (rest : List (List ℕ)). nearest_from word rest least found) known index all

@@ -1,6 +1,7 @@
 -- Which of the known words a word is nearest to.
-use Rattle.std.specs.Prelude.{ℕ, ◌≡◌, ◌≤◌, ◌+◌, nat_le, if◌then◌else◌, List, map, length, slice_get, Option, Some, None, nat_eq}
+use Rattle.std.specs.Prelude.{ℕ, ◌≡◌, ◌≤◌, ◌+◌, nat_le, nat_lt, if◌then◌else◌, List, [], ◌∷◌, map, length, slice_get, Option, Some, None, nat_eq}
 use Rattle.std.specs.Char.{to_ascii_lowercase}
+use Rattle.apex_nearest.specs.declared.TheConstants.{WORD_LIMIT}
 use Rattle.strsim.specs.Edits.{levenshtein_row}
 
 -- a word in small letters
@@ -23,3 +24,13 @@ EachIsFrom least word known = (i : ℕ) (other : List ℕ) → slice_get known i
 abbrev pub IsNearest : List ℕ → List (List ℕ) → Option (List ℕ) → Type 0
 IsNearest word known None = EachIsFrom (most_edits word + 1) word known
 IsNearest word known (Some found) = (edits word found ≤ most_edits word) × EachIsFrom (edits word found) word known
+
+-- the first known word to which the fewest edits lead, fewer than this number, or else what was found before
+abbrev pub nearest_from : List ℕ → List (List ℕ) → ℕ → Option (List ℕ) → Option (List ℕ)
+nearest_from word [] least found = found
+nearest_from word (other ∷ others) least found =
+    if nat_lt (edits word other) least then nearest_from word others (edits word other) (Some other) else nearest_from word others least found
+
+-- the known word that is told; none of a word that is too long
+unfoldable pub nearest_of : List ℕ → List (List ℕ) → Option (List ℕ)
+nearest_of word known = if nat_le (length word) WORD_LIMIT then nearest_from word known (most_edits word + 1) None else None

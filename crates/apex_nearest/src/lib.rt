@@ -2,7 +2,7 @@
 #![tactic(auto)]
 
 ghost use Rattle.std.specs.Prelude.{◌≡◌, ◌≤◌, map, length, option_map, IfOk};
-ghost use Rattle.apex_nearest.specs.Nearest.{edits, most_edits, IsNearest};
+ghost use Rattle.apex_nearest.specs.Nearest.{edits, most_edits, IsNearest, nearest_of};
 
 use std::alloc::{AllocError, Global};
 use strsim::generic_levenshtein;
@@ -36,7 +36,9 @@ pub fn nearest<'a>(
     word: &[u8],
     known: &[&'a str],
 ) -> Result<Option<&'a str>, AllocError>
-    ensures { length word.now ≤ WORD_LIMIT → IfOk result (λ found.
+    ensures exact { IfOk result (λ found.
+        option_map (λ name. name.now) found ≡ nearest_of word.now (map (λ name. name.now) known.now)) }
+    ensures nearest { length word.now ≤ WORD_LIMIT → IfOk result (λ found.
         IsNearest word.now (map (λ name. name.now) known.now) (option_map (λ name. name.now) found)) }
 {
     if word.len() > WORD_LIMIT {

@@ -1,1 +1,11 @@
+pub mod Findings
+pub mod FormFindings
+pub mod Heads
+pub mod Hints
+pub mod Lines
+pub mod NotToml
 pub mod Paths
+pub mod Places
+pub mod Printed
+pub mod ValueFindings
+pub mod Words

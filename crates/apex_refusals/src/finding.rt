@@ -1,4 +1,10 @@
 //! What is wrong at a place of a configuration: what stands there, and what is expected.
+ghost use Rattle.std.specs.Prelude.{◌≡◌, Some};
+ghost use Rattle.toml.specs.View.{view};
+ghost use Rattle.apex_refusals.specs.Findings.{found_data, wanted_data, finding_data};
+ghost use Rattle.apex_refusals.specs.FormFindings.{found_of};
+ghost use Rattle.apex_refusals.specs.Words.{found_words, wanted_words, direction_word, finding_words};
+
 use crate::printed::{Quoted, QuotedKey};
 use apex_config::key::Key;
 use apex_types::Direction;
@@ -11,13 +17,16 @@ pub enum Found<'a> {
     Text(&'a str),
     Number(i64),
     Truth(bool),
+    Table,
     /// A value of another type, by the words for that type.
     Other(&'static str),
 }
 
 impl<'a> Found<'a> {
     /// The value, or its type.
-    pub fn of(value: &'a Value) -> Found<'a> {
+    pub fn of(value: &'a Value) -> Found<'a>
+        ensures { found_data result ≡ found_of (view value.now) }
+    {
         match value {
             Value::String(text) => Found::Text(text.as_str()),
             Value::Integer(number) => Found::Number(*number),
@@ -25,17 +34,20 @@ impl<'a> Found<'a> {
             Value::Float(_) => Found::Other("a float"),
             Value::Datetime(_) => Found::Other("a date or time"),
             Value::Array(_) => Found::Other("an array"),
-            Value::Table(_) => Found::Other("a table"),
+            Value::Table(_) => Found::Table,
         }
     }
 }
 
 impl fmt::Display for Found<'_> {
+    ghost output = { λ found. Some (found_words (found_data found)) };
+
     fn fmt<W: fmt::Write>(&self, f: &mut fmt::Formatter<W>) -> fmt::Result {
         match self {
             Found::Text(text) => write!(f, "{}", Quoted(text)),
             Found::Number(number) => write!(f, "{number}"),
             Found::Truth(truth) => write!(f, "{truth}"),
+            Found::Table => f.write_str("a table"),
             Found::Other(words) => f.write_str(words),
         }
     }
@@ -61,6 +73,8 @@ pub enum Wanted<'a> {
 }
 
 impl fmt::Display for Wanted<'_> {
+    ghost output = { λ wanted. Some (wanted_words (wanted_data wanted)) };
+
     fn fmt<W: fmt::Write>(&self, f: &mut fmt::Formatter<W>) -> fmt::Result {
         match self {
             Wanted::Text => f.write_str("a text"),
@@ -125,7 +139,9 @@ pub enum Finding<'a> {
 }
 
 /// The word of a configuration for a direction.
-fn direction_word(direction: Direction) -> &'static str {
+fn direction_word(direction: Direction) -> &'static str
+    ensures { result.now ≡ direction_word direction }
+{
     match direction {
         Direction::Source => "source",
         Direction::Destination => "destination",
@@ -133,6 +149,8 @@ fn direction_word(direction: Direction) -> &'static str {
 }
 
 impl fmt::Display for Finding<'_> {
+    ghost output = { λ finding. Some (finding_words (finding_data finding)) };
+
     fn fmt<W: fmt::Write>(&self, f: &mut fmt::Formatter<W>) -> fmt::Result {
         match self {
             Finding::Missing { key, wanted } => {

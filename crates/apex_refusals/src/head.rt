@@ -1,10 +1,13 @@
 //! The head of a place's line: the file, the line of the text where that is known, and the path of the place.
-ghost use Rattle.std.specs.Prelude.{Some};
+ghost use Rattle.std.specs.Prelude.{ℕ, ◌≡◌, ◌++◌, string_bytes, Option, Some, OnOk};
+ghost use Rattle.std.specs.Option.{option_copied};
+ghost use Rattle.toml.specs.View.{view};
+ghost use Rattle.apex_refusals.specs.Heads.{line_words, path_to, head_of};
 ghost use Rattle.apex_refusals.specs.Paths.{path_of};
 
-use crate::lines::value_of;
+use crate::places::{key_at, stands};
 use crate::printed::Named;
-use apex_config::place::{Part, Place, Spot};
+use apex_config::place::{Part, Place};
 use std::alloc::{AllocError, Global};
 use std::fmt;
 use toml::Value;
@@ -26,27 +29,6 @@ impl fmt::Display for PathOfPart {
             Part::Port { partition, port } => write!(f, "partition[{partition}].port[{port}]"),
             Part::Channel { channel } => write!(f, "channel[{channel}]"),
         }
-    }
-}
-
-/// The word of a key that stands at a place, or must stand there.
-fn key_at<'a>(document: &'a Value, place: Place) -> Option<&'a str> {
-    match place.spot {
-        Spot::Whole => None,
-        Spot::At { key } => Some(key.word()),
-        Spot::Unknown { number } => {
-            let part = value_of(document, place.part)?;
-            Some(part.as_table()?.keys().nth(number)?.as_str())
-        }
-    }
-}
-
-/// Whether a document has something at a key of a part, or the part itself where no key is named.
-fn stands(document: &Value, part: Part, key: Option<&str>) -> bool {
-    match (value_of(document, part), key) {
-        (None, _) => false,
-        (Some(_), None) => true,
-        (Some(value), Some(key)) => value.get(key).is_some(),
     }
 }
 
@@ -115,6 +97,18 @@ fn line_of(
     Ok(Some(with))
 }
 
+/// Writes the path of a part and of a key in it.
+fn push_path(told: &mut String, part: Part, key: Option<&str>) -> Result<(), AllocError>
+    ensures { OnOk result (string_bytes told.new
+        ≡ string_bytes told.old ++ path_to part (option_copied key.entry)) }
+{
+    match (part, key) {
+        (Part::Document, Some(key)) => write!(told, "{}", Named(key)),
+        (part, Some(key)) => write!(told, "{}.{}", PathOfPart(part), Named(key)),
+        (part, None) => write!(told, "{}", PathOfPart(part)),
+    }
+}
+
 /// Writes the head of a place's line.
 pub fn push_head(
     alloc: Global,
@@ -123,19 +117,29 @@ pub fn push_head(
     text: &[u8],
     document: &Value,
     place: Place,
-) -> Result<(), AllocError> {
+) -> Result<(), AllocError>
+    ensures { OnOk result ((number : Option ℕ) × (string_bytes told.new
+        ≡ string_bytes told.old ++ head_of (view document.now) place file.now number)) }
+{
     let key = key_at(document, place);
     let there = match key {
         Some(key) if stands(document, place.part, Some(key)) => Some(key),
         _ => None,
     };
+    let number = line_of(alloc, text, place.part, there)?;
     told.push_str(file)?;
-    if let Some(line) = line_of(alloc, text, place.part, there)? {
-        write!(told, ":{line}")?;
-    }
-    match (place.part, key) {
-        (Part::Document, Some(key)) => write!(told, ": {}: ", Named(key)),
-        (part, Some(key)) => write!(told, ": {}.{}: ", PathOfPart(part), Named(key)),
-        (part, None) => write!(told, ": {}: ", PathOfPart(part)),
+    push_number(told, number)?;
+    told.push_str(": ")?;
+    push_path(told, place.part, key)?;
+    told.push_str(": ")
+}
+
+/// Writes the number of a line, where it is known.
+fn push_number(told: &mut String, number: Option<usize>) -> Result<(), AllocError>
+    ensures { OnOk result (string_bytes told.new ≡ string_bytes told.old ++ line_words number) }
+{
+    match number {
+        Some(number) => write!(told, ":{number}"),
+        None => Ok(()),
     }
 }

@@ -1,4 +1,8 @@
 //! What was most likely meant at a place of a configuration.
+ghost use Rattle.std.specs.Prelude.{◌≡◌, ◌++◌, map, string_bytes, IfOk, OnOk};
+ghost use Rattle.apex_refusals.specs.Findings.{wanted_data, finding_data};
+ghost use Rattle.apex_refusals.specs.Hints.{nearest_hint, text_hint, hint_of};
+
 use crate::finding::{Finding, Found, Wanted};
 use apex_config::config_text::ChannelText;
 use apex_nearest::nearest;
@@ -27,7 +31,10 @@ pub fn push_hint(
     told: &mut String,
     finding: &Finding<'_>,
     channels: &[ChannelText<'_>],
-) -> Result<(), AllocError> {
+) -> Result<(), AllocError>
+    ensures { OnOk result (string_bytes told.new
+        ≡ string_bytes told.old ++ hint_of channels.now (finding_data finding.now)) }
+{
     match finding {
         Finding::UnknownKey { key, .. } => push_nearest(alloc, told, key, &KEYS),
         Finding::Wrong {
@@ -42,7 +49,7 @@ pub fn push_hint(
         } => told.push_str("; a text stands in quotes"),
         Finding::Wrong {
             key,
-            found: Found::Other("a table"),
+            found: Found::Table,
             wanted: Wanted::Tables,
         } => write!(told, "; write `[[{}]]` for each", key.word()),
         _ => Ok(()),
@@ -56,20 +63,32 @@ fn push_text_hint(
     text: &str,
     wanted: Wanted<'_>,
     channels: &[ChannelText<'_>],
-) -> Result<(), AllocError> {
+) -> Result<(), AllocError>
+    ensures { OnOk result (string_bytes told.new ≡ string_bytes told.old
+        ++ text_hint channels.now text.now (wanted_data wanted.entry)) }
+{
     match wanted {
         Wanted::Kind => push_nearest(alloc, told, text, &KINDS),
         Wanted::Direction => push_nearest(alloc, told, text, &DIRECTIONS),
         Wanted::WholeNumber => told.push_str("; a number stands without quotes"),
         Wanted::ChannelName => {
-            let mut names = Vec::with_capacity(alloc, channels.len())?;
-            for channel in channels {
-                names.push(channel.name)?;
-            }
+            let names = names_of(alloc, channels)?;
             push_nearest(alloc, told, text, names.as_slice())
         }
         _ => Ok(()),
     }
+}
+
+/// The names of channels.
+fn names_of<'a>(alloc: Global, channels: &[ChannelText<'a>]) -> Result<Vec<&'a str>, AllocError>
+    ensures { IfOk result (λ names. map (λ name. name.now) names.items
+        ≡ map (λ channel. channel.name) channels.now) }
+{
+    let mut names = Vec::with_capacity(alloc, channels.len())?;
+    for channel in channels {
+        names.push(channel.name)?;
+    }
+    Ok(names)
 }
 
 /// The nearest of the known words.
@@ -78,7 +97,10 @@ fn push_nearest(
     told: &mut String,
     word: &str,
     known: &[&str],
-) -> Result<(), AllocError> {
+) -> Result<(), AllocError>
+    ensures { OnOk result (string_bytes told.new ≡ string_bytes told.old
+        ++ nearest_hint word.now (map (λ name. name.now) known.now)) }
+{
     match nearest(alloc, word.as_bytes(), known)? {
         Some(known) => write!(told, "; did you mean `{known}`?"),
         None => Ok(()),

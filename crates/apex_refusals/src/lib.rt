@@ -1,13 +1,18 @@
 //! The lines that tell a refused configuration: what stands at each place of its fault, and what must stand there.
 #![tactic(auto)]
 
+mod file_lines;
 mod finding;
+mod form_finding;
 mod head;
 mod hint;
 mod lines;
 mod mistakes;
+mod not_toml;
 mod owner;
+mod places;
 mod printed;
+mod value_finding;
 
 pub use crate::lines::refusal_lines;
 pub use crate::mistakes::{MISTAKE_LIMIT, config_mistakes};

@@ -1,5 +1,12 @@
 //! The mistakes of a configuration, told to people by file and line.
-use crate::lines::{Form, line_and_column, write_lines};
+ghost use Rattle.std.specs.Prelude.{◌≡◌, ◌++◌, take, string_bytes, IfOk, OnOk};
+ghost use Rattle.toml.specs.View.{view};
+ghost use Rattle.apex_refusals.specs.Lines.{more_line, AreMistakesIn, AreMistakes};
+
+use crate::file_lines::File;
+use crate::lines::{Form, push_lines};
+use crate::not_toml::line_and_column;
+use apex_config::place::Place;
 use apex_config::refusal::Refusal;
 use std::alloc::{AllocError, Global};
 use toml::Value;
@@ -16,24 +23,69 @@ pub fn config_mistakes(
     file: &str,
     text: &[u8],
     refusal: &Refusal,
-) -> Result<String, AllocError> {
-    let mut told = String::new(alloc);
+) -> Result<String, AllocError>
+    ensures { IfOk result (λ told.
+        AreMistakes file.now text.now refusal.now (string_bytes told)) }
+{
     match toml::table_from_slice(alloc, text) {
         Ok(table) => {
-            let form = Form::File {
-                file,
-                text,
-                most: MISTAKE_LIMIT,
-            };
-            write_lines(alloc, &mut told, &Value::Table(table), refusal, form)?;
-            let more = refusal.places.len().saturating_sub(MISTAKE_LIMIT);
-            if more > 0 {
-                writeln!(told, "and {more} more")?;
-            }
+            let document = Value::Table(table);
+            mistakes_in(alloc, file, text, &document, refusal)
         }
-        Err(error) => push_not_toml(&mut told, file, text, &error)?,
+        Err(error) if error.is_memory() => Err(AllocError),
+        Err(error) => {
+            let mut told = String::new(alloc);
+            push_not_toml(&mut told, file, text, &error)?;
+            Ok(told)
+        }
     }
+}
+
+/// The lines of the mistakes of a text that is TOML.
+fn mistakes_in(
+    alloc: Global,
+    file: &str,
+    text: &[u8],
+    document: &Value,
+    refusal: &Refusal,
+) -> Result<String, AllocError>
+    ensures { IfOk result (λ told.
+        AreMistakesIn (view document.now) file.now refusal.now (string_bytes told)) }
+{
+    let mut told = String::new(alloc);
+    let form = Form::File(File { name: file, text });
+    let places = refusal.places.as_slice();
+    push_lines(
+        alloc,
+        &mut told,
+        document,
+        refusal.fault,
+        first_of(places),
+        form,
+    )?;
+    push_more(&mut told, places.len().saturating_sub(MISTAKE_LIMIT))?;
     Ok(told)
+}
+
+/// The places that are told.
+fn first_of(places: &[Place]) -> &[Place]
+    ensures { result.now ≡ take MISTAKE_LIMIT places.now }
+{
+    if places.len() > MISTAKE_LIMIT {
+        &places[..MISTAKE_LIMIT]
+    } else {
+        places
+    }
+}
+
+/// The line that says how many more there are.
+fn push_more(told: &mut String, more: usize) -> Result<(), AllocError>
+    ensures { OnOk result (string_bytes told.new ≡ string_bytes told.old ++ more_line more) }
+{
+    if more == 0 {
+        return Ok(());
+    }
+    writeln!(told, "and {more} more")
 }
 
 /// The line of a text that is no TOML: where the reader of TOML stopped, and why.

@@ -1,4 +1,8 @@
 //! How a line calls the part of a configuration that holds a fault.
+ghost use Rattle.std.specs.Prelude.{Some};
+ghost use Rattle.std.specs.Option.{option_copied};
+ghost use Rattle.apex_refusals.specs.Words.{label_words, owner_words};
+
 use crate::printed::Named;
 use apex_config::place::Part;
 use std::fmt;
@@ -11,6 +15,8 @@ struct Label<'a> {
 }
 
 impl fmt::Display for Label<'_> {
+    ghost output = { λ label. Some (label_words label.index (option_copied label.name)) };
+
     fn fmt<W: fmt::Write>(&self, f: &mut fmt::Formatter<W>) -> fmt::Result {
         match self.name {
             Some(name) => write!(f, "{}", Named(name)),
@@ -28,6 +34,9 @@ pub struct Owner<'a> {
 }
 
 impl fmt::Display for Owner<'_> {
+    ghost output = { λ owner. Some (owner_words owner.part
+        (option_copied owner.partition) (option_copied owner.name)) };
+
     fn fmt<W: fmt::Write>(&self, f: &mut fmt::Formatter<W>) -> fmt::Result {
         let name = self.name;
         match self.part {

@@ -1,8 +1,9 @@
-use Rattle.std.proofs.Common.{◌≡◌, map, option_map, ℕ, List, [], get_or, sym, ap, ◌∙◌, arith, Bor}
+use Rattle.std.proofs.Common.{◌≡◌, ◌≤◌, map, option_map, ℕ, true, false, nat_le, List, [], length, get_or, refl, sym, ap, ◌∙◌, arith, Bor}
+use Rattle.std.proofs.lemmas.Bool.Decides.{nat_tests}
 use Rattle.std.proofs.lemmas.List.{length-map}
 use Rattle.std.proofs.lemmas.Option.{slice_get-map, slice_get-get_or}
-use Rattle.apex_nearest.specs.Nearest.{edits}
-use Rattle.apex_nearest.proofs.Nearer.{few, one_more, nearest_of}
+use Rattle.apex_nearest.specs.Nearest.{edits, nearest_of}
+use Rattle.apex_nearest.proofs.Nearer.{few, one_more, taken, passed, all_looked_at, nearest_of as nearest_found}
 use Rattle.apex_nearest.proofs.nearest.Goals as goal
 use Rattle.apex_nearest.proofs.nearest.Goals.{then-edits-least, else-edits-least}
 
@@ -19,15 +20,34 @@ loop-name-preserved c =
           rw (w.least-is, w.found-is) (
             (sym same, few c.args.word.now c.loop-name.least c.in_ok-edits.edits _ c.loop-name.invariant.0 w.if-edits-least.true),
             one_more c.args.word.now known i c.loop-name.least c.in_ok-edits.edits name here c.loop-name.invariant.1 (let less = w.if-edits-least.true in omega arith) (grind (arith, same)),
+            sym (taken c.args.word.now known i c.loop-name.least _ name c.in_ok-edits.edits here same w.if-edits-least.true) ∙ c.loop-name.invariant.2,
           )
       | else-edits-least w ↦
           rw (w.least-is, w.found-is) (
             c.loop-name.invariant.0,
             one_more c.args.word.now known i c.loop-name.least c.loop-name.least name here c.loop-name.invariant.1 (omega arith) (let less = w.if-edits-least.false in grind (arith, same, less)),
+            sym (passed c.args.word.now known i c.loop-name.least _ name c.in_ok-edits.edits here same w.if-edits-least.false) ∙ c.loop-name.invariant.2,
           )
     ]
 
-pub returns : goal.returns
-returns c short =
+all_known : (known : List (Bor (List ℕ))) (index : ℕ) → length known ≤ index → length (map (λ (name : Bor (List ℕ)). name.now) known) ≤ index
+all_known known index all = grind (arith, all, length-map known (λ (name : Bor (List ℕ)). name.now))
+
+pub returns-then-word-gt-WORD_LIMIT-clause-exact : goal.returns-then-word-gt-WORD_LIMIT-clause-exact
+unfolding nearest_of
+returns-then-word-gt-WORD_LIMIT-clause-exact c =
+    let test : nat_le (length c.args.word.now) 64 ≡ false = grind (arith, nat_tests) in
+    rw test refl
+
+pub returns-clause-exact : goal.returns-clause-exact
+unfolding nearest_of
+returns-clause-exact c =
+    let test : nat_le (length c.args.word.now) 64 ≡ true = grind (arith, nat_tests) in
     let known : List (List ℕ) = map (λ (name : Bor (List ℕ)). name.now) c.args.known.now in
-    nearest_of c.args.word.now known c.loop-name.name-index c.loop-name.least (option_map (λ name. name.now) c.loop-name.found) (let all = c.loop-name-test.false in grind (arith, all, length-map c.args.known.now (λ (name : Bor (List ℕ)). name.now))) c.loop-name.invariant.0 c.loop-name.invariant.1
+    rw test (sym (all_looked_at c.args.word.now known c.loop-name.name-index c.loop-name.least (option_map (λ name. name.now) c.loop-name.found) (all_known c.args.known.now c.loop-name.name-index c.loop-name-test.false))
+    ∙ c.loop-name.invariant.2)
+
+pub returns-clause-nearest : goal.returns-clause-nearest
+returns-clause-nearest c short =
+    let known : List (List ℕ) = map (λ (name : Bor (List ℕ)). name.now) c.args.known.now in
+    nearest_found c.args.word.now known c.loop-name.name-index c.loop-name.least (option_map (λ name. name.now) c.loop-name.found) (all_known c.args.known.now c.loop-name.name-index c.loop-name-test.false) c.loop-name.invariant.0 c.loop-name.invariant.1

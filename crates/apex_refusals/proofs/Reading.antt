@@ -1,0 +1,36 @@
+-- The document that a text is.
+use Rattle.std.proofs.Common.{◌≡◌, ℕ, Bool, true, false, cond, List, [], ◌++◌, ◌-◌, length, take, Some, None, option_map, refl, ap, ◌∙◌, subst}
+use Rattle.std.specs.Str.{is_utf8, IsUtf8}
+use Rattle.std.proofs.lemmas.Str.{IsUtf8-from_is_utf8, is_utf8-from_IsUtf8}
+use Rattle.toml.specs.Data.{Data, Members, table}
+use Rattle.toml.specs.Parse.{parse_document}
+use Rattle.apex_config.specs.Meaning.{RefusalData}
+use Rattle.apex_config.specs.declared.fault.ConfigFault.{ConfigFault}
+use Rattle.apex_config.specs.declared.place.Place.{Place}
+use Rattle.apex_refusals.specs.Lines.{document_of, named_lines, AreFileLines, more_line, IsRefusalOf, AreMistakesIn}
+use Rattle.apex_refusals.specs.ValueFindings.{ends_of}
+use Rattle.apex_refusals.specs.declared.mistakes.TheConstants.{MISTAKE_LIMIT}
+
+pub is_document : (text : List ℕ) (found : Members) → IsUtf8 text → parse_document text ≡ Some found → document_of text ≡ Some (table found)
+is_document text found utf8 parsed = rw (is_utf8-from_IsUtf8 text utf8, parsed) refl
+
+none_in : (text : List ℕ) (b : Bool) → is_utf8 text ≡ b → (IsUtf8 text → parse_document text ≡ None) → cond b (option_map table (parse_document text)) None ≡ None
+none_in text true is refused = ap (option_map table) (refused (IsUtf8-from_is_utf8 text is))
+none_in text false is refused = refl
+
+pub no_document : (text : List ℕ) → (IsUtf8 text → parse_document text ≡ None) → document_of text ≡ None
+no_document text refused = none_in text (is_utf8 text) refl refused
+
+-- what was told of a refusal, from an empty text on
+module _ (document : Data) (refusal : RefusalData) (fault : ConfigFault) (places : List Place) (old : List ℕ) where
+  pub lines_told : (new : List ℕ) → old ≡ [] → ◌≡◌ {A = RefusalData} (record { fault = fault; places = places }) refusal
+      → new ≡ old ++ named_lines (ends_of fault document) fault document places → IsRefusalOf (Some document) refusal new
+  lines_told new empty same told =
+      subst (λ (r : RefusalData). IsRefusalOf (Some document) r new) same (told ∙ ap (λ (text : List ℕ). text ++ named_lines (ends_of fault document) fault document places) empty)
+
+  pub mistakes_told : (file lines new : List ℕ) → old ≡ [] → ◌≡◌ {A = RefusalData} (record { fault = fault; places = places }) refusal
+      → AreFileLines file (ends_of fault document) fault document old (take MISTAKE_LIMIT places) lines → new ≡ lines ++ more_line (length places - MISTAKE_LIMIT)
+      → AreMistakesIn document file refusal new
+  mistakes_told file lines new empty same told more =
+      subst (λ (r : RefusalData). AreMistakesIn document file r new) same
+      (lines, subst (λ (text : List ℕ). AreFileLines file (ends_of fault document) fault document text (take MISTAKE_LIMIT places) lines) empty told, more)
