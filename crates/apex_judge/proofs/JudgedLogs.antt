@@ -40,7 +40,7 @@ same_seen config h p sound = λ i. record {
   sample = λ id. sample_of config h (port_of config p id);
 }
 
-same_reply : (config : Configuration) (h : History) (p : ℕ) (at : Moment) (call : Call) → IsSound config h → reply_shown config h p at call ≡ reply_to config h p at call
+pub same_reply : (config : Configuration) (h : History) (p : ℕ) (at : Moment) (call : Call) → IsSound config h → reply_shown config h p at call ≡ reply_to config h p at call
 same_reply config h p at call sound = ap (λ (s : Seen). reply_of config s p (row_of config s p at call)) (same_seen config h p sound)
 
 -- ---- lists of departures

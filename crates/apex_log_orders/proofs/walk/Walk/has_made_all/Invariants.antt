@@ -1,0 +1,7 @@
+use Rattle.std.proofs.Common.{◌≡◌, ◌<◌, ℕ, length}
+use Rattle.apex_ports.specs.History.{entries_of}
+use Rattle.apex_log_orders.specs.LogOrders.{log_in}
+use Rattle.apex_log_orders.proofs.walk.Walk.has_made_all.Given as goal
+
+abbrev pub invariant-loop-p : goal.invariant-loop-p
+invariant-loop-p l = (q : ℕ) → q < l.p → length (entries_of q l.self.judge.log) ≡ length (log_in l.logs q)

@@ -1,0 +1,2 @@
+pub mod LogOrders
+pub mod Walking

@@ -1,0 +1,119 @@
+//! Which partition to try first. Nothing rests on it but how soon an order is found.
+use crate::answer::{CallPlace, OwnLog};
+use crate::bounds::{Bound, Bounds, Progress};
+use crate::log_reader::LogReader;
+use crate::messages::sent_messages;
+use apex_config::Config;
+use apex_judge::Judge;
+use std::alloc::{AllocError, Global};
+
+/// What the logs say of the order before any call is tried: how far each call takes an end of a channel, and how far the
+/// other end may be when a call is made that shows it.
+#[derive(Drop)]
+pub(crate) struct Advice {
+    /// Of each partition, what each of its calls does.
+    progress: Vec<Vec<Option<Progress>>>,
+    bounds: Bounds,
+}
+
+impl Advice {
+    /// The advice of these logs.
+    pub(crate) fn new(
+        alloc: Global,
+        config: &Config,
+        logs: &[OwnLog],
+    ) -> Result<Advice, AllocError> {
+        let sent = sent_messages(alloc, config, logs)?;
+        let mut advice = Advice {
+            progress: Vec::new(alloc),
+            bounds: Bounds::new(alloc, config)?,
+        };
+        for p in 0..config.partitions() {
+            advice.read_log(alloc, config, logs, sent.as_slice(), p)?;
+        }
+        Ok(advice)
+    }
+
+    /// Reads the log of the next partition.
+    fn read_log(
+        &mut self,
+        alloc: Global,
+        config: &Config,
+        logs: &[OwnLog],
+        sent: &[Vec<CallPlace>],
+        p: usize,
+    ) -> Result<(), AllocError> {
+        let mut progress = Vec::new(alloc);
+        if let Some(log) = logs.get(p) {
+            let mut reader = LogReader::new(alloc, config, p)?;
+            for (index, entry) in log.entries.iter().enumerate() {
+                let one = reader.read(config, logs, sent, &mut self.bounds, index, entry)?;
+                progress.push(one)?;
+            }
+        }
+        self.progress.push(progress)?;
+        Ok(())
+    }
+
+    /// The partition to try first, after so many calls of each: from the one that made the last call upward, and around,
+    /// the first whose next call gets the reply that was logged and hinders no call to come.
+    pub(crate) fn first(
+        &self,
+        judge: &Judge,
+        logs: &[OwnLog],
+        made: &[usize],
+        last: usize,
+    ) -> usize {
+        let partitions = judge.config().partitions();
+        for p in last..partitions {
+            if self.is_good(judge, logs, made, p) {
+                return p;
+            }
+        }
+        for p in 0..partitions {
+            if self.is_good(judge, logs, made, p) {
+                return p;
+            }
+        }
+        last
+    }
+
+    /// Whether the partition's next call gets the reply that was logged, and hinders no call to come.
+    fn is_good(&self, judge: &Judge, logs: &[OwnLog], made: &[usize], p: usize) -> bool {
+        let Some(index) = made.get(p).copied() else {
+            return false;
+        };
+        if p >= judge.config().partitions() || self.hinders(made, p, index) {
+            return false;
+        }
+        let Some(log) = logs.get(p) else {
+            return false;
+        };
+        let Some(entry) = log.entries.get(index) else {
+            return false;
+        };
+        judge.agrees(p, entry.at, &entry.call, &entry.reply)
+    }
+
+    /// Whether the call takes an end of a channel further than a call to come may find it.
+    fn hinders(&self, made: &[usize], p: usize, index: usize) -> bool {
+        match self.progress_of(p, index) {
+            Some(progress) => hinders_one(self.bounds.on(progress), made, progress),
+            None => false,
+        }
+    }
+
+    fn progress_of(&self, p: usize, index: usize) -> Option<Progress> {
+        *self.progress.get(p)?.get(index)?
+    }
+}
+
+/// Whether what the call takes further hinders one of these.
+fn hinders_one(bounds: &[Bound], made: &[usize], progress: Progress) -> bool {
+    for bound in bounds {
+        if bound.hinders(made, progress) {
+            return true;
+        }
+    }
+    false
+}

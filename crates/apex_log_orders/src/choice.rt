@@ -1,0 +1,30 @@
+//! Which partition goes on.
+ghost use Rattle.std.specs.Prelude.{◌≡◌, ◌<◌, IfSome};
+ghost use Rattle.apex_log_orders.specs.Walking.{candidate};
+
+/// The partitions that are tried where the calls so far have led to: from a first one upward, and around.
+#[derive(Clone, Copy)]
+pub(crate) struct Choice {
+    /// The one to try first.
+    pub(crate) first: usize,
+    /// How many were tried.
+    pub(crate) tried: usize,
+}
+
+impl Choice {
+    /// The partition to try, of so many.
+    pub(crate) fn candidate(&self, partitions: usize) -> Option<usize>
+        ensures exact { result ≡ candidate partitions self.now.first self.now.tried }
+        ensures within { IfSome result (λ p. p < partitions) }
+    {
+        if self.tried >= partitions {
+            return None;
+        }
+        let above = partitions.saturating_sub(self.first);
+        if self.tried < above {
+            Some(self.first + self.tried)
+        } else {
+            Some(self.tried - above)
+        }
+    }
+}

@@ -1,0 +1,15 @@
+//! Orders of the entries of logs that partitions kept apart: whether there is one in which each reply is the standard's.
+#![tactic(auto)]
+
+mod advice;
+pub mod answer;
+mod bounds;
+mod choice;
+mod log_reader;
+mod messages;
+mod replay;
+mod search;
+mod walk;
+
+pub use crate::answer::{Answer, CallPlace, OwnLog};
+pub use crate::search::find_order;

@@ -1,0 +1,239 @@
+//! What the log of one partition says of the ends of its channels.
+use crate::answer::{CallPlace, OwnLog};
+use crate::bounds::{Bounds, Progress};
+use crate::messages::{index_of, is_accepted, received_next};
+use apex_config::Config;
+use apex_ports::Entry;
+use apex_types::{Call, Direction, Reply, ReturnCode};
+use std::alloc::{AllocError, Global};
+
+/// A log that is read, and how far it took the ends of its partition so far.
+#[derive(Drop)]
+pub(crate) struct LogReader {
+    partition: usize,
+    /// Of each channel, how many messages it has accepted.
+    accepted: Vec<usize>,
+    /// Of each channel, how many messages are taken, or the number of the write that was read last; unknown after a clear
+    /// that nothing was received after.
+    taken: Vec<Option<usize>>,
+}
+
+impl LogReader {
+    /// Before the first call.
+    pub(crate) fn new(
+        alloc: Global,
+        config: &Config,
+        partition: usize,
+    ) -> Result<LogReader, AllocError> {
+        let mut accepted = Vec::new(alloc);
+        accepted.resize(config.channels(), 0)?;
+        let mut taken = Vec::new(alloc);
+        taken.resize(config.channels(), Some(0))?;
+        Ok(LogReader {
+            partition,
+            accepted,
+            taken,
+        })
+    }
+
+    /// What the entry at an index does, with the bounds that it sets.
+    pub(crate) fn read(
+        &mut self,
+        config: &Config,
+        logs: &[OwnLog],
+        sent: &[Vec<CallPlace>],
+        bounds: &mut Bounds,
+        index: usize,
+        entry: &Entry,
+    ) -> Result<Option<Progress>, AllocError> {
+        let Some(id) = port_of(&entry.call) else {
+            return Ok(None);
+        };
+        if self.partition >= config.partitions() {
+            return Ok(None);
+        }
+        let Some(port) = config.port(self.partition, id) else {
+            return Ok(None);
+        };
+        let depth = config.channel(port.channel).kind.depth() as usize;
+        match port.direction {
+            Direction::Source => self.read_source(bounds, port.channel, depth, index, entry),
+            Direction::Destination => {
+                self.read_destination(logs, sent, bounds, port.channel, depth, index, entry)
+            }
+        }
+    }
+
+    fn place(&self, index: usize) -> CallPlace {
+        CallPlace {
+            partition: self.partition,
+            index,
+        }
+    }
+
+    /// A call of a source: a message more, or how many wait.
+    fn read_source(
+        &mut self,
+        bounds: &mut Bounds,
+        channel: usize,
+        depth: usize,
+        index: usize,
+        entry: &Entry,
+    ) -> Result<Option<Progress>, AllocError> {
+        let place = self.place(index);
+        let Some(count) = self.accepted.get_mut(channel) else {
+            return Ok(None);
+        };
+        if is_accepted(entry) {
+            *count = count.saturating_add(1);
+            return Ok(Some(Progress {
+                channel,
+                end: Direction::Source,
+                count: *count,
+            }));
+        }
+        if let Some(waiting) = waiting_shown(entry, depth) {
+            bounds.add(
+                Direction::Source,
+                channel,
+                place,
+                count.saturating_sub(waiting),
+            )?;
+        }
+        Ok(None)
+    }
+
+    /// A call of a destination: a message less, how many wait, or which write it shows.
+    fn read_destination(
+        &mut self,
+        logs: &[OwnLog],
+        sent: &[Vec<CallPlace>],
+        bounds: &mut Bounds,
+        channel: usize,
+        depth: usize,
+        index: usize,
+        entry: &Entry,
+    ) -> Result<Option<Progress>, AllocError> {
+        let place = self.place(index);
+        let Some(messages) = sent.get(channel) else {
+            return Ok(None);
+        };
+        let Some(taken) = self.taken.get_mut(channel) else {
+            return Ok(None);
+        };
+        let Some(count) = *taken else {
+            return Ok(None);
+        };
+        let effect = effect_of(logs, messages.as_slice(), place, entry, depth, count);
+        if let Some(most) = effect.most {
+            bounds.add(Direction::Destination, channel, place, most)?;
+        }
+        *taken = effect.taken;
+        Ok(effect.progress(channel, count))
+    }
+}
+
+/// What a call of a destination does: how many messages are taken after it, or which write it shows, and how many the
+/// channel may have accepted when it is made.
+#[derive(Clone, Copy)]
+struct Effect {
+    taken: Option<usize>,
+    most: Option<usize>,
+}
+
+impl Effect {
+    /// What it takes further, of so many messages.
+    fn progress(&self, channel: usize, before: usize) -> Option<Progress> {
+        let count = self.taken?;
+        if count == before {
+            return None;
+        }
+        Some(Progress {
+            channel,
+            end: Direction::Destination,
+            count,
+        })
+    }
+}
+
+fn effect_of(
+    logs: &[OwnLog],
+    messages: &[CallPlace],
+    place: CallPlace,
+    entry: &Entry,
+    depth: usize,
+    count: usize,
+) -> Effect {
+    match &entry.reply {
+        Reply::Received(_) => Effect {
+            taken: Some(count.saturating_add(1)),
+            most: None,
+        },
+        Reply::Read { message, .. } => match index_of(logs, messages, count, message) {
+            Some(shown) => Effect {
+                taken: Some(shown),
+                most: Some(shown.saturating_add(1)),
+            },
+            None => nothing(count),
+        },
+        Reply::Code(ReturnCode::NoError) => match &entry.call {
+            Call::ClearQueuing { id } => clearing(logs, messages, place, *id, count),
+            _ => nothing(count),
+        },
+        _ => Effect {
+            taken: Some(count),
+            most: match waiting_shown(entry, depth) {
+                Some(waiting) => Some(count.saturating_add(waiting)),
+                None => None,
+            },
+        },
+    }
+}
+
+/// A call that shows nothing.
+fn nothing(count: usize) -> Effect {
+    Effect {
+        taken: Some(count),
+        most: None,
+    }
+}
+
+/// A clear takes what was sent before the next message that is received; it is unknown what, where none is.
+fn clearing(
+    logs: &[OwnLog],
+    messages: &[CallPlace],
+    place: CallPlace,
+    id: u32,
+    count: usize,
+) -> Effect {
+    let taken = match received_next(logs, place, id) {
+        Some(message) => index_of(logs, messages, count, message),
+        None => None,
+    };
+    Effect { taken, most: taken }
+}
+/// How many messages the reply shows to wait on a channel of the depth.
+fn waiting_shown(entry: &Entry, depth: usize) -> Option<usize> {
+    match &entry.reply {
+        Reply::QueuingStatus { waiting, .. } => Some(*waiting as usize),
+        Reply::Code(ReturnCode::NotAvailable) => match &entry.call {
+            Call::SendQueuing { .. } => Some(depth),
+            Call::ReceiveQueuing { .. } => Some(0),
+            _ => None,
+        },
+        _ => None,
+    }
+}
+
+/// The identifier of the port that a call names, but for those that create or look up.
+fn port_of(call: &Call) -> Option<u32> {
+    match call {
+        Call::WriteSampling { id, .. } => Some(*id),
+        Call::ReadSampling { id } => Some(*id),
+        Call::SendQueuing { id, .. } => Some(*id),
+        Call::ReceiveQueuing { id } => Some(*id),
+        Call::QueuingStatus { id } => Some(*id),
+        Call::ClearQueuing { id } => Some(*id),
+        _ => None,
+    }
+}

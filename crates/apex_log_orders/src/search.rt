@@ -1,0 +1,94 @@
+//! The search of an order.
+ghost use Rattle.std.specs.Prelude.{◌≡◌, length, IfOk, OnOk};
+ghost use Rattle.apex_log_orders.specs.LogOrders.{IsAnswer};
+ghost use Rattle.apex_log_orders.specs.Walking.{IsWalk, IsStep, IsOneOf};
+
+use crate::advice::Advice;
+use crate::answer::{Answer, CallPlace, OwnLog};
+use crate::walk::Walk;
+use apex_config::Config;
+use apex_types::OutOfMemory;
+use std::alloc::{AllocError, Global};
+
+/// Looks for an order of all entries of the logs in which each reply is the reply table's: each partition's entries stay
+/// in their order, and their moments order nothing. Each call that is tried is a step, and each that is made again
+/// after going back.
+pub fn find_order(
+    alloc: Global,
+    config: &Config,
+    logs: &[OwnLog],
+    steps: u64,
+) -> Result<Answer, OutOfMemory>
+    requires { length logs.now ≡ length config.now.partitions }
+    ensures { IfOk result (λ answer. IsAnswer config.now logs.now answer) }
+{
+    let advice = Advice::new(alloc, config, logs)?;
+    let mut walk = Walk::new(alloc, config, logs, &advice)?;
+    let mut longest = Vec::new(alloc);
+    let mut left = steps;
+    while left > 0 {
+        left -= 1;
+        match try_next(config, logs, &advice, &mut walk)? {
+            Step::On => {}
+            Step::Whole => return Ok(Answer::Order(walk.path)),
+            Step::Back => {
+                keep_longest(alloc, &mut longest, walk.path.as_slice())?;
+                left = left.saturating_sub(walk.path.len() as u64);
+                if !walk.go_back(alloc, config, logs)? {
+                    return Ok(Answer::NoOrder(longest));
+                }
+            }
+        }
+    }
+    keep_longest(alloc, &mut longest, walk.path.as_slice())?;
+    Ok(Answer::Undecided(longest))
+}
+
+/// What one step of a search comes to.
+enum Step {
+    /// The search goes on.
+    On,
+    /// The calls made so far are all calls.
+    Whole,
+    /// No partition has a way on.
+    Back,
+}
+
+/// Tries the next partition.
+fn try_next(
+    config: &Config,
+    logs: &[OwnLog],
+    advice: &Advice,
+    walk: &mut Walk,
+) -> Result<Step, OutOfMemory>
+    requires { IsWalk config.now logs.now walk.old }
+    ensures walk { OnOk result (IsWalk config.now logs.now walk.new) }
+    ensures step { IfOk result (λ step. IsStep config.now logs.now walk.new step) }
+{
+    if walk.has_made_all(config, logs) {
+        return Ok(Step::Whole);
+    }
+    let Some(p) = walk.candidate(config) else {
+        return Ok(Step::Back);
+    };
+    if walk.can_go_on(config, logs, p) {
+        walk.go_on(config, logs, advice, p)?;
+    } else {
+        walk.pass(config, logs)?;
+    }
+    Ok(Step::On)
+}
+
+/// Keeps the calls where they are more than those kept before.
+fn keep_longest(
+    alloc: Global,
+    longest: &mut Vec<CallPlace>,
+    path: &[CallPlace],
+) -> Result<(), AllocError>
+    ensures { OnOk result (IsOneOf longest.old.items path.now longest.new.items) }
+{
+    if path.len() > longest.len() {
+        *longest = Vec::from_slice(alloc, path)?;
+    }
+    Ok(())
+}
