@@ -8,6 +8,7 @@ use Rattle.apex_config.specs.declared.place.Part.TheVariants.{Document}
 use Rattle.apex_config.specs.declared.place.Place.{Place}
 use Rattle.apex_config.specs.declared.place.Spot.{Spot}
 use Rattle.apex_config.specs.declared.place.Spot.TheVariants.{At}
+use Rattle.apex_refusals.specs.Lines.{IsRefusalTold}
 use Rattle.apex_refusals.specs.Paths.{path_of}
 use Rattle.apex_c.specs.Found.{Found}
 use Rattle.apex_c.specs.Told.{text_after}
@@ -29,8 +30,14 @@ abbrev pub path_in : Result Configuration RefusalData → Found (List ℕ)
 path_in (Ok config) = Err OPENED
 path_in (Err refusal) = Ok (first_path refusal.places)
 
--- Some text, which no definition says, is told in the buffer and the place of its length.
-pub record IsSomeText (old_buffer new_buffer : List ℕ) (length_told : ℕ) : Type 0 where
-  pub text : List ℕ
-  pub buffer : new_buffer ≡ text_after (Ok text) old_buffer
-  pub length : length_told ≡ length text
+-- the lines of a refused text are told in the buffer and the place of their length
+pub record AreLinesTold (text : List ℕ) (refusal : RefusalData) (old_buffer new_buffer : List ℕ) (length_told : ℕ) : Type 0 where
+  pub lines : List ℕ
+  pub told : IsRefusalTold text refusal lines
+  pub buffer : new_buffer ≡ text_after (Ok lines) old_buffer
+  pub length : length_told ≡ length lines
+
+-- it is so where a text is refused
+abbrev pub AreLinesOf : List ℕ → Result Configuration RefusalData → List ℕ → List ℕ → ℕ → Type 0
+AreLinesOf text (Ok config) old_buffer new_buffer length_told = Unit {0}
+AreLinesOf text (Err refusal) old_buffer new_buffer length_told = AreLinesTold text refusal old_buffer new_buffer length_told

@@ -3,7 +3,7 @@ ghost use Rattle.std.specs.Prelude.{◌≡◌, ◌≢◌, ◌⊎◌, Err, string
 ghost use Rattle.apex_config.specs.Meaning.{config_of, read_of};
 ghost use Rattle.apex_config.specs.declared.fault.ConfigFault.TheVariants as fault;
 ghost use Rattle.apex_refusals.specs.Paths.{path_of};
-ghost use Rattle.apex_c.specs.Fault.{IsSomeText, first_path, path_at, path_in};
+ghost use Rattle.apex_c.specs.Fault.{AreLinesOf, AreLinesTold, first_path, path_at, path_in};
 ghost use Rattle.apex_c.specs.Opening.{fault_number, opening_number};
 ghost use Rattle.apex_c.specs.Told.{text_after, text_length_after};
 
@@ -75,8 +75,8 @@ pub extern "C" fn apex_configuration_mistakes(
     lines_length: &mut u64,
 ) -> u32
     ensures number { result ≢ OUT_OF_MEMORY → result ≡ opening_number (config_of text.now) }
-    ensures lines { result ≢ OUT_OF_MEMORY → result ≢ OPENED →
-        IsSomeText buffer.old buffer.new lines_length.new }
+    ensures lines { result ≢ OUT_OF_MEMORY →
+        AreLinesOf text.now (read_of text.now) buffer.old buffer.new lines_length.new }
     ensures no_lines { (result ≡ OUT_OF_MEMORY) ⊎ (result ≡ OPENED) →
         (buffer.new ≡ buffer.old) × (lines_length.new ≡ lines_length.old) }
 {
@@ -98,7 +98,7 @@ fn put_lines(
     ensures fault { result ≢ OUT_OF_MEMORY → refusal.now.fault ≢ fault.OutOfMemory }
     ensures refused { result ≢ OPENED }
     ensures lines { result ≢ OUT_OF_MEMORY →
-        IsSomeText buffer.old buffer.new lines_length.new }
+        AreLinesTold text.now refusal.now buffer.old buffer.new lines_length.new }
     ensures no_memory { result ≡ OUT_OF_MEMORY →
         (buffer.new ≡ buffer.old) × (lines_length.new ≡ lines_length.old) }
 {
