@@ -46,30 +46,32 @@ class ConfigError(ValueError):
         return "\n".join([f"config fault {self.number}: {self.words}{place}", *self.lines])
 
 
-class TraceError(ValueError):
+class _FaultyLine(ValueError):
+    """A text of lines was refused, by a fault with its number, at a line."""
+
+    # What the text is.
+    _text = ""
+
+    def __init__(self, line: int, number: int, words: str) -> None:
+        super().__init__(line, number, words)
+        self.line = line
+        self.number = number
+        self.words = words
+
+    def __str__(self) -> str:
+        return f"{self._text} line {self.line} fault {self.number}: {self.words}"
+
+
+class TraceError(_FaultyLine):
     """A trace was refused, by a fault with its number, at a line."""
 
-    def __init__(self, line: int, number: int, words: str) -> None:
-        super().__init__(line, number, words)
-        self.line = line
-        self.number = number
-        self.words = words
-
-    def __str__(self) -> str:
-        return f"trace line {self.line} fault {self.number}: {self.words}"
+    _text = "trace"
 
 
-class LogError(ValueError):
+class LogError(_FaultyLine):
     """A recorded log was refused, by a fault with its number, at a line."""
 
-    def __init__(self, line: int, number: int, words: str) -> None:
-        super().__init__(line, number, words)
-        self.line = line
-        self.number = number
-        self.words = words
-
-    def __str__(self) -> str:
-        return f"log line {self.line} fault {self.number}: {self.words}"
+    _text = "log"
 
 
 class LibraryError(OSError):

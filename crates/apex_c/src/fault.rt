@@ -2,7 +2,6 @@
 ghost use Rattle.std.specs.Prelude.{◌≡◌, ◌≢◌, ◌⊎◌, Err, string_bytes, IfOk, Some};
 ghost use Rattle.apex_config.specs.Meaning.{config_of, read_of};
 ghost use Rattle.apex_config.specs.declared.fault.ConfigFault.TheVariants as fault;
-ghost use Rattle.apex_refusals.specs.Paths.{path_of};
 ghost use Rattle.apex_c.specs.Fault.{AreLinesOf, AreLinesTold, first_path, path_at, path_in};
 ghost use Rattle.apex_c.specs.Opening.{fault_number, opening_number};
 ghost use Rattle.apex_c.specs.Told.{text_after, text_length_after};
@@ -10,7 +9,7 @@ ghost use Rattle.apex_c.specs.Told.{text_after, text_length_after};
 use crate::buffer::put_text;
 use crate::opening::{OPENED, OUT_OF_MEMORY};
 use apex_config::{Config, Part, Place, Refusal, Spot};
-use apex_refusals::refusal_lines;
+use apex_refusals::{PathOfPart, refusal_lines};
 use std::alloc::{AllocError, Global};
 use std::fmt;
 
@@ -136,23 +135,6 @@ impl fmt::Display for PathOf {
             (Part::Document, Spot::At { key }) => f.write_str(key.word()),
             (part, Spot::At { key }) => write!(f, "{}.{}", PathOfPart(part), key.word()),
             (part, _) => write!(f, "{}", PathOfPart(part)),
-        }
-    }
-}
-
-/// A part of a configuration, as a path whose indexes count from 0.
-#[derive(Clone, Copy)]
-struct PathOfPart(Part);
-
-impl fmt::Display for PathOfPart {
-    ghost output = { λ path. Some (path_of path.0) };
-
-    fn fmt<W: fmt::Write>(&self, f: &mut fmt::Formatter<W>) -> fmt::Result {
-        match self.0 {
-            Part::Document => f.write_str("configuration"),
-            Part::Partition { partition } => write!(f, "partition[{partition}]"),
-            Part::Port { partition, port } => write!(f, "partition[{partition}].port[{port}]"),
-            Part::Channel { channel } => write!(f, "channel[{channel}]"),
         }
     }
 }

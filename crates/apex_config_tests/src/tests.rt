@@ -8,6 +8,7 @@ mod large;
 mod largest;
 mod lines;
 mod places;
+mod same;
 mod texts;
 
 use crate::tests::texts::{BASE, INLINE, TWO_SOURCES};
@@ -54,7 +55,7 @@ fn read_cut(alloc: Global) -> Result<Config, ConfigFault>
 #[test]
 fn computed_answers(rt: HostRuntime) -> Result<(), Fail> {
     let alloc = rt.alloc();
-    assert_eq!(rt; read_base(alloc)?.partitions(), 3);
+    same::same(&rt, read_base(alloc)?.partitions(), 3);
     let refused = [
         (read_two_sources(alloc), ConfigFault::Sources),
         (read_nothing(alloc), ConfigFault::Shape),
@@ -62,7 +63,7 @@ fn computed_answers(rt: HostRuntime) -> Result<(), Fail> {
         (read_cut(alloc), ConfigFault::NotToml),
     ];
     for (answer, fault) in refused {
-        assert!(rt; answer.is_err_and(|found| found == fault));
+        same::holds(&rt, answer.is_err_and(|found| found == fault));
     }
     Ok(())
 }
@@ -84,32 +85,32 @@ fn fault_of(alloc: Global, text: &str) -> Option<u32> {
 #[test]
 fn base_is_read(rt: HostRuntime) -> Result<(), Fail> {
     let config = Config::read(rt.alloc(), BASE.as_bytes())?;
-    assert_eq!(rt; config.partitions(), 3);
-    assert_eq!(rt; config.channels(), 2);
+    same::same(&rt, config.partitions(), 3);
+    same::same(&rt, config.channels(), 2);
     let dsp = Name::read("DSP")?;
-    assert_eq!(rt; config.partition(&dsp), Some(1));
-    assert_eq!(rt; config.partition(&Name::read("dsp")?), None);
+    same::same(&rt, config.partition(&dsp), Some(1));
+    same::same(&rt, config.partition(&Name::read("dsp")?), None);
     assert!(rt; config.partitions() == 3);
-    assert_eq!(rt; config.partition_name(1).text(), "DSP");
-    assert_eq!(rt; config.ports(0), 1);
-    assert_eq!(rt; config.ports(1), 2);
-    assert_eq!(rt; config.ports(2), 1);
+    same::same(&rt, config.partition_name(1).text(), "DSP");
+    same::same(&rt, config.ports(0), 1);
+    same::same(&rt, config.ports(1), 2);
+    same::same(&rt, config.ports(2), 1);
     let port = config.port(1, 2).ok_or("DSP has a second port")?;
-    assert_eq!(rt; port.name.text(), "SPD_IN");
-    assert_eq!(rt; port.kind, PortKind::Sampling { refresh: 50 });
-    assert_eq!(rt; port.direction, Direction::Destination);
-    assert_eq!(rt; port.channel, 1);
-    assert!(rt; config.port(1, 0).is_none());
-    assert!(rt; config.port(1, 3).is_none());
-    assert!(rt; config.port(3, 1).is_none());
-    assert_eq!(rt; config.port_named(1, &Name::read("SPD_IN")?), Some(2));
-    assert_eq!(rt; config.port_named(1, &Name::read("SPD_OUT")?), None);
+    same::same(&rt, port.name.text(), "SPD_IN");
+    same::same(&rt, port.kind, PortKind::Sampling { refresh: 50 });
+    same::same(&rt, port.direction, Direction::Destination);
+    same::same(&rt, port.channel, 1);
+    same::holds(&rt, config.port(1, 0).is_none());
+    same::holds(&rt, config.port(1, 3).is_none());
+    same::holds(&rt, config.port(3, 1).is_none());
+    same::same(&rt, config.port_named(1, &Name::read("SPD_IN")?), Some(2));
+    same::same(&rt, config.port_named(1, &Name::read("SPD_OUT")?), None);
     assert!(rt; config.channels() == 2);
     let channel = config.channel(0);
-    assert_eq!(rt; channel.name.text(), "NAV");
-    assert_eq!(rt; channel.size, 4);
-    assert_eq!(rt; channel.kind, ChannelKind::Queuing { depth: 2 });
-    assert_eq!(rt; config.channel(1).kind, ChannelKind::Sampling);
+    same::same(&rt, channel.name.text(), "NAV");
+    same::same(&rt, channel.size, 4);
+    same::same(&rt, channel.kind, ChannelKind::Queuing { depth: 2 });
+    same::same(&rt, config.channel(1).kind, ChannelKind::Sampling);
     Ok(())
 }
 
@@ -117,20 +118,20 @@ fn base_is_read(rt: HostRuntime) -> Result<(), Fail> {
 fn kinds_have_their_numbers(rt: HostRuntime) {
     let queue = ChannelKind::Queuing { depth: 2 };
     let port = PortKind::Sampling { refresh: 50 };
-    assert_eq!(rt; (queue.is_queuing(), queue.depth()), (true, 2));
-    assert_eq!(rt; (port.is_queuing(), port.refresh()), (false, 50));
-    assert_eq!(rt; ChannelKind::Sampling.depth(), 0);
-    assert_eq!(rt; PortKind::Queuing.refresh(), 0);
+    same::same(&rt, (queue.is_queuing(), queue.depth()), (true, 2));
+    same::same(&rt, (port.is_queuing(), port.refresh()), (false, 50));
+    same::same(&rt, ChannelKind::Sampling.depth(), 0);
+    same::same(&rt, PortKind::Queuing.refresh(), 0);
 }
 
 #[test]
 fn copy_is_equal(rt: HostRuntime) -> Result<(), Fail> {
     let config = Config::read(rt.alloc(), BASE.as_bytes())?;
     let copy = config.copy()?;
-    assert!(rt; copy == config);
+    same::holds(&rt, copy == config);
     let text = changed(rt.alloc(), "depth = 2", "depth = 3")?;
     let other = Config::read(rt.alloc(), text.as_bytes())?;
-    assert!(rt; other != config);
+    same::holds(&rt, other != config);
     Ok(())
 }
 
@@ -138,7 +139,7 @@ fn copy_is_equal(rt: HostRuntime) -> Result<(), Fail> {
 fn inline_tables_mean_the_same(rt: HostRuntime) -> Result<(), Fail> {
     let config = Config::read(rt.alloc(), BASE.as_bytes())?;
     let inline = Config::read(rt.alloc(), INLINE.as_bytes())?;
-    assert!(rt; inline == config);
+    same::holds(&rt, inline == config);
     Ok(())
 }
 
@@ -231,11 +232,8 @@ const CHANGES: [(&str, &str, u32); 41] = [
 fn changes_have_their_faults(rt: HostRuntime) -> Result<(), Fail> {
     for (old, new, number) in CHANGES {
         let text = changed(rt.alloc(), old, new)?;
-        assert_eq!(rt;
-            fault_of(rt.alloc(), text.as_str()),
-            Some(number),
-            "{old} as {new}"
-        );
+        let found = fault_of(rt.alloc(), text.as_str());
+        same::same_of_change(&rt, found, Some(number), old, new);
     }
     Ok(())
 }
@@ -269,7 +267,7 @@ fn whole_texts_have_their_faults(rt: HostRuntime) {
         ),
     ];
     for (text, number) in texts {
-        assert_eq!(rt; fault_of(rt.alloc(), text), Some(number), "{text}");
+        same::same_at(&rt, fault_of(rt.alloc(), text), Some(number), text);
     }
 }
 
@@ -281,7 +279,10 @@ fn bytes_are_utf8(rt: HostRuntime) {
         b"\xed\xa0\x80".as_slice(),
     ] {
         let refused = Config::read(rt.alloc(), bytes);
-        assert!(rt; refused.is_err_and(|fault| fault == ConfigFault::NotToml));
+        same::holds(
+            &rt,
+            refused.is_err_and(|fault| fault == ConfigFault::NotToml),
+        );
     }
 }
 
@@ -297,11 +298,11 @@ fn every_prefix_is_read_or_refused(rt: HostRuntime) -> Result<(), Fail> {
                 let named = fault != ConfigFault::OutOfMemory
                     && fault != ConfigFault::NameTwice
                     && fault != ConfigFault::Counts;
-                assert!(rt; named, "the first {end} bytes");
+                same::holds_at(&rt, named, end);
             }
         }
     }
-    assert_eq!(rt; read.len(), 3);
+    same::same(&rt, read.len(), 3);
     Ok(())
 }
 
@@ -325,8 +326,8 @@ fn faults_print_their_words(rt: HostRuntime) -> Result<(), Fail> {
         (ConfigFault::OutOfMemory, None, "out of memory"),
     ];
     for (fault, number, word) in words {
-        assert_eq!(rt; fault.number(), number);
-        assert_eq!(rt; fault.to_string(rt.alloc())?.as_str(), word);
+        same::same(&rt, fault.number(), number);
+        same::same(&rt, fault.to_string(rt.alloc())?.as_str(), word);
     }
     Ok(())
 }

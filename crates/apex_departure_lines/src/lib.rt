@@ -5,4 +5,4 @@ pub mod told;
 pub mod words;
 
 pub use crate::told::{ToldLog, tell_departures};
-pub use crate::words::{push_count, push_departure};
+pub use crate::words::{push_calls, push_count, push_departure};

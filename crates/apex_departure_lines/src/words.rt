@@ -51,7 +51,8 @@ pub fn push_count(text: &mut String, calls: usize, departures: usize) -> Result<
     push_word(text, "\n")
 }
 
-fn push_calls(text: &mut String, count: usize) -> Result<(), AllocError>
+/// `N calls`, at the end of a text: `1 call` where it is one.
+pub fn push_calls(text: &mut String, count: usize) -> Result<(), AllocError>
     ensures { OnOk result (string_bytes text.new ≡ string_bytes text.old ++ calls_text count) }
 {
     if count == 1 {

@@ -73,7 +73,7 @@ module _ (config : Configuration) (s : Seen) (p : ℕ) where
           let shown : is_code_not_available (oldest_reply (x ∷ rest)) ≡ true = subst (λ (ws : List (List ℕ)). is_code_not_available (oldest_reply ws) ≡ true) is h in
           absurd (cc)
 
-none_waits : (config : Configuration) (h : History) (p : ℕ) (at : Moment) (id : ℕ) (reply : Reply) (c : ℕ) → reply ≡ reply_to config h p at (ReceiveQueuing id) → is_code_not_available reply ≡ true → is_destination_of c (port_of config p id) ≡ true → waiting_on config c h ≡ []
+pub none_waits : (config : Configuration) (h : History) (p : ℕ) (at : Moment) (id : ℕ) (reply : Reply) (c : ℕ) → reply ≡ reply_to config h p at (ReceiveQueuing id) → is_code_not_available reply ≡ true → is_destination_of c (port_of config p id) ≡ true → waiting_on config c h ≡ []
 none_waits config h p at id reply c is none destination =
     let here = seen config h p in
     let found = finding_none config here p id (queuing_port config here p id) (served config here p (is_idle (mode_of p h)) _ (ap is_code_not_available (sym is) ∙ none)) in

@@ -4,5 +4,6 @@ pub mod JudgeView
 pub mod Kept
 pub mod Past
 pub mod Replies
+pub mod Rows
 pub mod Shown
 pub mod Waiting

@@ -1,32 +1,32 @@
 //! SEND_QUEUING_MESSAGE, RECEIVE_QUEUING_MESSAGE and CLEAR_QUEUING_PORT.
 ghost use Rattle.std.specs.Prelude.{◌≡◌, ◌<◌, length};
 ghost use Rattle.apex_ports.specs.declared.rows.Row.TheVariants as row;
-ghost use Rattle.apex_ports.specs.Decisions.{Decides};
 ghost use Rattle.apex_ports.specs.ReplyTable.{send_row, receive_row, clear_row, status_row};
 ghost use Rattle.apex_ports.specs.Seen.{queuing_port};
 ghost use Rattle.apex_judge.specs.Kept.{IsShown};
+ghost use Rattle.apex_judge.specs.Rows.{IsDecided};
 ghost use Rattle.apex_judge.specs.Shown.{shown};
 
 use crate::state::State;
 use apex_config::Config;
-use apex_ports::Refusal;
+use apex_ports::{Refusal, Row};
 use apex_types::{Direction, Message};
 use std::alloc::Allocator;
 
 impl<A: Allocator> State<A> {
-    /// Why a send is refused, if it is.
+    /// The row of a send, or why it is refused.
     pub(crate) fn send_decided(
         &self,
         config: &Config,
         partition: usize,
         id: u32,
         message: &Message,
-    ) -> Result<(), Refusal>
+    ) -> Result<Row, Refusal>
         requires partition { partition < length config.now.partitions }
         requires shown { IsShown config.now self.now.log self.now }
         ensures { let here = shown config.now self.now.log partition in
             let port = queuing_port config.now here partition id in
-            Decides (send_row config.now here id port message.now) (λ _. row.Sent) result }
+            IsDecided (send_row config.now here id port message.now) result }
     {
         let Some(port) = self.queuing_port(config, partition, id) else {
             return Err(Refusal::NoSuchPort);
@@ -45,21 +45,21 @@ impl<A: Allocator> State<A> {
         if self.waiting_count(config, port.channel) == channel.kind.depth() as usize {
             return Err(Refusal::QueueFull);
         }
-        Ok(())
+        Ok(Row::Sent)
     }
 
-    /// Why a receive is refused, if it is.
+    /// The row of a receive, or why it is refused.
     pub(crate) fn receive_decided(
         &self,
         config: &Config,
         partition: usize,
         id: u32,
-    ) -> Result<(), Refusal>
+    ) -> Result<Row, Refusal>
         requires partition { partition < length config.now.partitions }
         requires shown { IsShown config.now self.now.log self.now }
         ensures { let here = shown config.now self.now.log partition in
             let port = queuing_port config.now here partition id in
-            Decides (receive_row here id port) (λ _. row.OldestReceived id) result }
+            IsDecided (receive_row here id port) result }
     {
         let Some(port) = self.queuing_port(config, partition, id) else {
             return Err(Refusal::NoSuchPort);
@@ -68,47 +68,48 @@ impl<A: Allocator> State<A> {
             return Err(Refusal::NotDestination);
         }
         match self.oldest(config, port.channel) {
-            Some(_) => Ok(()),
+            Some(_) => Ok(Row::OldestReceived { id }),
             None => Err(Refusal::QueueEmpty),
         }
     }
 
-    /// Why a clear is refused, if it is.
+    /// The row of a clear, or why it is refused.
     pub(crate) fn clear_decided(
         &self,
         config: &Config,
         partition: usize,
         id: u32,
-    ) -> Result<(), Refusal>
+    ) -> Result<Row, Refusal>
         requires partition { partition < length config.now.partitions }
         requires shown { IsShown config.now self.now.log self.now }
         ensures { let here = shown config.now self.now.log partition in
-            Decides (clear_row (queuing_port config.now here partition id)) (λ _. row.Cleared) result }
+            let port = queuing_port config.now here partition id in
+            IsDecided (clear_row port) result }
     {
         let Some(port) = self.queuing_port(config, partition, id) else {
             return Err(Refusal::NoSuchPort);
         };
         match port.direction {
             Direction::Source => Err(Refusal::NotDestination),
-            Direction::Destination => Ok(()),
+            Direction::Destination => Ok(Row::Cleared),
         }
     }
 
-    /// Why the status of a queuing port is refused, if it is.
+    /// The row of GET_QUEUING_PORT_STATUS, or why it is refused.
     pub(crate) fn queuing_status_decided(
         &self,
         config: &Config,
         partition: usize,
         id: u32,
-    ) -> Result<(), Refusal>
+    ) -> Result<Row, Refusal>
         requires partition { partition < length config.now.partitions }
         requires shown { IsShown config.now self.now.log self.now }
         ensures { let here = shown config.now self.now.log partition in
             let port = queuing_port config.now here partition id in
-            Decides (status_row (row.QueuingStatus id) port) (λ _. row.QueuingStatus id) result }
+            IsDecided (status_row (row.QueuingStatus id) port) result }
     {
         match self.queuing_port(config, partition, id) {
-            Some(_) => Ok(()),
+            Some(_) => Ok(Row::QueuingStatus { id }),
             None => Err(Refusal::NoSuchPort),
         }
     }

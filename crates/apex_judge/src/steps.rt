@@ -229,7 +229,8 @@ fn note_write<A: Allocator>(
     reply: &Reply,
 )
     requires { length channels.old ≡ length config.now.channels }
-    ensures noted { let entry = entry_of partition at (call.WriteSampling id message.now) reply.now in
+    ensures noted { let written = call.WriteSampling id message.now in
+        let entry = entry_of partition at written reply.now in
         ChannelsNote config.now entry channels.old channels.new }
     ensures count { length channels.new ≡ length channels.old }
 {

@@ -1,11 +1,10 @@
 //! The row of the reply table that a call gets. A partition in IDLE gets no service.
 ghost use Rattle.std.specs.Prelude.{◌≡◌, ◌<◌, length};
-ghost use Rattle.apex_ports.specs.Decisions.{Decides};
 ghost use Rattle.apex_ports.specs.ReplyTable.{service_row};
 ghost use Rattle.apex_judge.specs.Kept.{IsShown};
+ghost use Rattle.apex_judge.specs.Rows.{IsDecided};
 ghost use Rattle.apex_judge.specs.Shown.{shown, row_shown};
 
-use crate::creation::{QueuingAttributes, SamplingAttributes};
 use crate::modes::{is_idle, mode_decided};
 use crate::state::State;
 use apex_config::Config;
@@ -40,80 +39,44 @@ impl<A: Allocator> State<A> {
         requires partition { partition < length config.now.partitions }
         requires shown { IsShown config.now self.now.log self.now }
         ensures { let here = shown config.now self.now.log partition in
-            Decides (service_row config.now here partition at call.now) (λ row. row) result }
+            IsDecided (service_row config.now here partition at call.now) result }
     {
-        let row = match call {
+        match call {
             Call::CreateSampling {
                 name,
                 size,
                 direction,
                 refresh,
-            } => {
-                let asked = SamplingAttributes {
-                    size: *size,
-                    direction: *direction,
-                    refresh: *refresh,
-                };
-                let id = self.sampling_to_create(config, partition, name, asked)?;
-                Row::Created { id }
-            }
+            } => self.sampling_creation(config, partition, name, *size, *direction, *refresh),
             Call::WriteSampling { id, message } => {
-                self.write_decided(config, partition, *id, message)?;
-                Row::Written
+                self.write_decided(config, partition, *id, message)
             }
-            Call::ReadSampling { id } => {
-                let validity = self.validity_decided(config, partition, at, *id)?;
-                Row::LastRead { id: *id, validity }
-            }
-            Call::SamplingId { name } => {
-                let id = self.sampling_id(config, partition, name)?;
-                Row::Identified { id }
-            }
-            Call::SamplingStatus { id } => {
-                self.sampling_status_decided(config, partition, *id)?;
-                Row::SamplingStatus { id: *id }
-            }
+            Call::ReadSampling { id } => self.read_decided(config, partition, at, *id),
+            Call::SamplingId { name } => self.sampling_id(config, partition, name),
+            Call::SamplingStatus { id } => self.sampling_status_decided(config, partition, *id),
             Call::CreateQueuing {
                 name,
                 size,
                 depth,
                 direction,
                 discipline,
-            } => {
-                let asked = QueuingAttributes {
-                    size: *size,
-                    depth: *depth,
-                    direction: *direction,
-                    discipline: *discipline,
-                };
-                let id = self.queuing_to_create(config, partition, name, asked)?;
-                Row::Created { id }
-            }
+            } => self.queuing_creation(
+                config,
+                partition,
+                name,
+                *size,
+                *depth,
+                *direction,
+                *discipline,
+            ),
             Call::SendQueuing { id, message } => {
-                self.send_decided(config, partition, *id, message)?;
-                Row::Sent
+                self.send_decided(config, partition, *id, message)
             }
-            Call::ReceiveQueuing { id } => {
-                self.receive_decided(config, partition, *id)?;
-                Row::OldestReceived { id: *id }
-            }
-            Call::QueuingId { name } => {
-                let id = self.queuing_id(config, partition, name)?;
-                Row::Identified { id }
-            }
-            Call::QueuingStatus { id } => {
-                self.queuing_status_decided(config, partition, *id)?;
-                Row::QueuingStatus { id: *id }
-            }
-            Call::ClearQueuing { id } => {
-                self.clear_decided(config, partition, *id)?;
-                Row::Cleared
-            }
-            Call::SetMode { mode } => {
-                mode_decided(self.mode(config, partition), *mode)?;
-                Row::ModeSet
-            }
-        };
-        Ok(row)
+            Call::ReceiveQueuing { id } => self.receive_decided(config, partition, *id),
+            Call::QueuingId { name } => self.queuing_id(config, partition, name),
+            Call::QueuingStatus { id } => self.queuing_status_decided(config, partition, *id),
+            Call::ClearQueuing { id } => self.clear_decided(config, partition, *id),
+            Call::SetMode { mode } => mode_decided(self.mode(config, partition), *mode),
+        }
     }
 }

@@ -3,3 +3,10 @@ pub mod Tries
 pub mod Counts
 pub mod Places
 pub mod Back
+pub mod Fronts
+pub mod OwnEntries
+pub mod NextReplies
+pub mod NeverNexts
+pub mod EndCounts
+pub mod OwnReplies
+pub mod ReadLemmas

@@ -1,2 +1,3 @@
 pub mod LogOrders
 pub mod Walking
+pub mod Stuck

@@ -1,6 +1,6 @@
 //! Which partition to try first. Nothing rests on it but how soon an order is found.
 use crate::answer::{CallPlace, OwnLog};
-use crate::bounds::{Bound, Bounds, Progress};
+use crate::bounds::{Bounds, Progress};
 use crate::log_reader::LogReader;
 use crate::messages::sent_messages;
 use apex_config::Config;
@@ -79,11 +79,11 @@ impl Advice {
     }
 
     /// Whether the partition's next call gets the reply that was logged, and hinders no call to come.
-    fn is_good(&self, judge: &Judge, logs: &[OwnLog], made: &[usize], p: usize) -> bool {
+    pub(crate) fn is_good(&self, judge: &Judge, logs: &[OwnLog], made: &[usize], p: usize) -> bool {
         let Some(index) = made.get(p).copied() else {
             return false;
         };
-        if p >= judge.config().partitions() || self.hinders(made, p, index) {
+        if p >= judge.config().partitions() || self.hindered(made, p).is_some() {
             return false;
         }
         let Some(log) = logs.get(p) else {
@@ -95,25 +95,18 @@ impl Advice {
         judge.agrees(p, entry.at, &entry.call, &entry.reply)
     }
 
-    /// Whether the call takes an end of a channel further than a call to come may find it.
-    fn hinders(&self, made: &[usize], p: usize, index: usize) -> bool {
-        match self.progress_of(p, index) {
-            Some(progress) => hinders_one(self.bounds.on(progress), made, progress),
-            None => false,
+    /// The first call to come that the partition's next call hinders.
+    pub(crate) fn hindered(&self, made: &[usize], p: usize) -> Option<CallPlace> {
+        let progress = self.progress_of(p, *made.get(p)?)?;
+        for bound in self.bounds.on(progress) {
+            if bound.hinders(made, progress) {
+                return Some(bound.place);
+            }
         }
+        None
     }
 
     fn progress_of(&self, p: usize, index: usize) -> Option<Progress> {
         *self.progress.get(p)?.get(index)?
     }
-}
-
-/// Whether what the call takes further hinders one of these.
-fn hinders_one(bounds: &[Bound], made: &[usize], progress: Progress) -> bool {
-    for bound in bounds {
-        if bound.hinders(made, progress) {
-            return true;
-        }
-    }
-    false
 }

@@ -16,16 +16,15 @@ pub(crate) struct Progress {
 /// A call that may be made only while an end of its channel is no further than this.
 #[derive(Clone, Copy)]
 pub(crate) struct Bound {
-    partition: usize,
-    index: usize,
+    pub(crate) place: CallPlace,
     most: usize,
 }
 
 impl Bound {
     /// Whether the call isn't made yet, and could not be made after the other one.
     pub(crate) fn hinders(&self, made: &[usize], progress: Progress) -> bool {
-        match made.get(self.partition) {
-            Some(made) => *made <= self.index && self.most < progress.count,
+        match made.get(self.place.partition) {
+            Some(made) => *made <= self.place.index && self.most < progress.count,
             None => false,
         }
     }
@@ -67,11 +66,7 @@ impl Bounds {
         place: CallPlace,
         most: usize,
     ) -> Result<(), AllocError> {
-        let bound = Bound {
-            partition: place.partition,
-            index: place.index,
-            most,
-        };
+        let bound = Bound { place, most };
         match end {
             Direction::Source => add_bound(self.on_destinations.as_mut_slice(), channel, bound),
             Direction::Destination => add_bound(self.on_sources.as_mut_slice(), channel, bound),

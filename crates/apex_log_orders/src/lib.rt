@@ -5,10 +5,14 @@ mod advice;
 pub mod answer;
 mod bounds;
 mod choice;
+mod ends;
 mod log_reader;
 mod messages;
+mod reads;
 mod replay;
 mod search;
+mod stuck;
+mod too_soon;
 mod walk;
 
 pub use crate::answer::{Answer, CallPlace, OwnLog};

@@ -5,14 +5,15 @@ ghost use Rattle.apex_log_orders.specs.Walking.{IsWalk, IsStep, IsOneOf};
 
 use crate::advice::Advice;
 use crate::answer::{Answer, CallPlace, OwnLog};
+use crate::stuck::{have_no_clear, is_stuck};
 use crate::walk::Walk;
 use apex_config::Config;
 use apex_types::OutOfMemory;
 use std::alloc::{AllocError, Global};
 
 /// Looks for an order of all entries of the logs in which each reply is the reply table's: each partition's entries stay
-/// in their order, and their moments order nothing. Each call that is tried is a step, and each that is made again
-/// after going back.
+/// in their order, and their moments order nothing. Each call that is tried is a step, and each that is looked at again
+/// where no call is advised, or after going back.
 pub fn find_order(
     alloc: Global,
     config: &Config,
@@ -25,9 +26,17 @@ pub fn find_order(
     let advice = Advice::new(alloc, config, logs)?;
     let mut walk = Walk::new(alloc, config, logs, &advice)?;
     let mut longest = Vec::new(alloc);
+    let is_clear_free = have_no_clear(logs);
     let mut left = steps;
     while left > 0 {
         left -= 1;
+        if is_clear_free && !walk.follows(&advice, logs) {
+            left = left.saturating_sub(walk.path.len() as u64);
+            if is_stuck(config, logs, &advice, &walk) {
+                keep_longest(alloc, &mut longest, walk.path.as_slice())?;
+                return Ok(Answer::NoOrder(longest));
+            }
+        }
         match try_next(config, logs, &advice, &mut walk)? {
             Step::On => {}
             Step::Whole => return Ok(Answer::Order(walk.path)),

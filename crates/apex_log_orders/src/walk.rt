@@ -18,9 +18,9 @@ use std::alloc::Global;
 #[derive(Drop)]
 pub(crate) struct Walk {
     /// The judge after them.
-    judge: Judge,
+    pub(crate) judge: Judge,
     /// How many of them each partition made.
-    made: Vec<usize>,
+    pub(crate) made: Vec<usize>,
     /// Their places in the logs, in order.
     pub(crate) path: Vec<CallPlace>,
     /// The partitions tried before each of them, and after the last.
@@ -64,6 +64,16 @@ impl Walk {
         true
     }
 
+    /// Whether a call was tried here already, or the advice is for the next one.
+    pub(crate) fn follows(&self, advice: &Advice, logs: &[OwnLog]) -> bool {
+        match self.choices.get(self.choices.len().saturating_sub(1)) {
+            Some(choice) if choice.tried == 0 => {
+                advice.is_good(&self.judge, logs, self.made.as_slice(), choice.first)
+            }
+            _ => true,
+        }
+    }
+
     /// The partition to try next.
     pub(crate) fn candidate(&self, config: &Config) -> Option<usize>
         ensures exact { result ≡ candidate_of config.now self.now.choices.items }
@@ -74,7 +84,12 @@ impl Walk {
     }
 
     /// The partition's next entry.
-    fn next<'a>(&self, config: &Config, logs: &'a [OwnLog], p: usize) -> Option<&'a Entry>
+    pub(crate) fn next<'a>(
+        &self,
+        config: &Config,
+        logs: &'a [OwnLog],
+        p: usize,
+    ) -> Option<&'a Entry>
         requires walk { IsWalk config.now logs.now self.now }
         requires partition { p < length config.now.partitions }
         ensures { option_copied result ≡ next_of logs.now self.now.judge.log p }

@@ -36,10 +36,11 @@ pub fn nearest<'a>(
     word: &[u8],
     known: &[&'a str],
 ) -> Result<Option<&'a str>, AllocError>
-    ensures exact { IfOk result (λ found.
-        option_map (λ name. name.now) found ≡ nearest_of word.now (map (λ name. name.now) known.now)) }
-    ensures nearest { length word.now ≤ WORD_LIMIT → IfOk result (λ found.
-        IsNearest word.now (map (λ name. name.now) known.now) (option_map (λ name. name.now) found)) }
+    ensures exact { let words = map (λ name. name.now) known.now in
+        IfOk result (λ found. option_map (λ name. name.now) found ≡ nearest_of word.now words) }
+    ensures nearest { let words = map (λ name. name.now) known.now in
+        length word.now ≤ WORD_LIMIT
+        → IfOk result (λ found. IsNearest word.now words (option_map (λ name. name.now) found)) }
 {
     if word.len() > WORD_LIMIT {
         return Ok(None);

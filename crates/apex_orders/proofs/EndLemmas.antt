@@ -1,19 +1,21 @@
 -- Ends, and more points than a bound.
-use Rattle.std.proofs.Common.{◌≡◌, ◌⊎◌, inl, inr, ⊎_elim, ℕ, zero, suc, ◌≤◌, List, [], ◌∷◌, ◌++◌, length, map, Some, Err, refl, sym, subst, arith}
+use Rattle.std.proofs.Common.{◌≡◌, ◌⊎◌, inl, inr, ⊎_elim, ℕ, zero, suc, ◌+◌, ◌<◌, ◌≤◌, ◌==◌, Bool, true, false, cond, if◌then◌else◌, List, [], ◌∷◌, ◌++◌, length, map, Some, Ok, Err, Result, IsErrAnd, refl, sym, ap, subst, arith, length-append}
 use Rattle.std.specs.List.{slice_get}
 use Rattle.std.proofs.lemmas.List.{length-map}
+use Rattle.std.proofs.lemmas.List.Sums.{sum_by-cons}
 use Rattle.apex_config.specs.Configuration.{Configuration, IsConfiguration}
+use Rattle.apex_ports.specs.declared.history.Entry.{Entry}
 use Rattle.apex_ports.specs.Counts.{count_of}
 use Rattle.apex_ports.specs.History.{History, entries_of}
 use Rattle.apex_orders.specs.declared.orders_fault.OrdersFault.{OrdersFault}
 use Rattle.apex_orders.specs.declared.orders_fault.OrdersFault.TheVariants.{TooManyStates, OutOfMemory}
-use Rattle.apex_orders.specs.Orders.{Scripts, script_of, calls_of, IsBeginning, history_of}
+use Rattle.apex_orders.specs.Orders.{Scripts, script_of, calls_of, IsBeginning, next_entries, continued, history_of, times}
 use Rattle.apex_orders.specs.Outcomes.{HasMorePoints, IsUndecided}
 use Rattle.apex_orders.specs.Points.{IsSamePoint}
 use Rattle.apex_orders.specs.Possibles.{Has}
 use Rattle.apex_orders.specs.Searching.{HasMadeAll, AreEndsOf, HasMoreOrders, IsGivenUp}
 use Rattle.apex_orders.proofs.Lists.{stays_before, before_or_last, at_seam}
-use Rattle.apex_orders.proofs.Walks.{calls_count, is_beginning}
+use Rattle.apex_orders.proofs.Walks.{entries_of-append, calls_count, IsDone, IsNext, next_cases, answered, is_beginning}
 use Rattle.apex_orders.proofs.Following.{AreShort}
 use Rattle.apex_orders.proofs.Completing.{good_history}
 
@@ -68,6 +70,37 @@ module _ (config : Configuration) (scripts : Scripts) where
   pub made_of_full : AreShort scripts → (h : History) (p : ℕ) → length (script_of scripts p) ≤ length (calls_of p h) → length (script_of scripts p) ≤ count_of (entries_of p h)
   made_of_full short h p full = let count = calls_count p h in let limit = short p in omega (arith, full, count, limit)
 
+  -- ---- how many calls an order names
+
+  entries_few : (e : Entry) (p : ℕ) → length (entries_of p (e ∷ [])) ≤ cond (e.partition == p) 1 0
+  entries_few e p = by_test (e.partition == p)
+    where
+      by_test : (b : Bool) → length (if b then e ∷ [] else []) ≤ cond b 1 0
+      by_test true = omega arith
+      by_test false = omega arith
+
+  next_few : (h : History) (q p : ℕ) → length (entries_of p (next_entries config scripts h q)) ≤ cond (q == p) 1 0
+  next_few h q p =
+      ⊎_elim
+      (λ (done : IsDone config scripts h q). subst (λ (es : History). length (entries_of p es) ≤ cond (q == p) 1 0) (sym done.entry) (omega arith))
+      (λ (next : IsNext config scripts h q). subst (λ (es : History). length (entries_of p es) ≤ cond (q == p) 1 0) (sym next.entry) (entries_few (answered config scripts h q next.timed) p))
+      (next_cases config scripts h q)
+
+  -- no partition makes more calls than the order names
+  made_few : (h : History) (order : List ℕ) (p : ℕ) → length (entries_of p (continued config scripts h order)) ≤ length (entries_of p h) + times p order
+  made_few h [] p = omega arith
+  made_few h (q ∷ order) p =
+      let next = next_entries config scripts h q in
+      let rest : length (entries_of p (continued config scripts h (q ∷ order))) ≤ length (entries_of p (h ++ next)) + times p order = made_few (h ++ next) order p in
+      let named : times p (q ∷ order) ≡ cond (q == p) 1 0 + times p order = sum_by-cons (λ (partition : ℕ). cond (partition == p) 1 0) q order in
+      let step = next_few h q p in
+      let split = ap (λ (es : History). length es) (entries_of-append p h next) in
+      omega (arith, rest, named, step, split, length-append (entries_of p h) (entries_of p next))
+
+  -- an order that makes all calls names them all
+  pub names_all : (order : List ℕ) → HasMadeAll config scripts (history_of config scripts order) → (p : ℕ) → p < length config.partitions → length (script_of scripts p) ≤ times p order
+  names_all order made p within = let few = made_few [] order p in let all = made p within in omega (arith, few, all)
+
   -- ---- more points than a bound
 
   of_map : (orders : List (List ℕ)) (k : ℕ) (h : History) → slice_get (map (history_of config scripts) orders) k ≡ Some h
@@ -89,6 +122,13 @@ module _ (config : Configuration) (scripts : Scripts) where
         more.apart j k one.0 two.0 below one.1 two.1
         (subst (λ (both : History × History). IsSamePoint config both.0 both.1) (λ i. (sym two.2 i, sym one.2 i)) same);
   }
+
+-- want of memory gives up nothing
+pub given_up_none : {X : Type 0} (config : Configuration) (scripts : Scripts) (bound : ℕ) (r : Result X OrdersFault) → IsErrAnd r (λ fault. fault ≡ OutOfMemory)
+    → IsGivenUp config scripts bound r
+given_up_none config scripts bound (Ok x) is = tt
+given_up_none config scripts bound (Err OutOfMemory) is = tt
+given_up_none config scripts bound (Err TooManyStates) is = absurd (cc)
 
 -- where a search is given up, the outcomes are undecided
 pub undecided_of : (X Y : Type 0) (config : Configuration) (scripts : Scripts) → IsConfiguration config → (bound : ℕ) (fault : OrdersFault)

@@ -2,6 +2,7 @@ pub mod Completing
 pub mod EndLemmas
 pub mod FilingLemmas
 pub mod Following
+pub mod KnownLemmas
 pub mod Lists
 pub mod MarkLemmas
 pub mod SearchLemmas

@@ -1,5 +1,5 @@
 -- The steps of a search.
-use Rattle.std.proofs.Common.{◌≡◌, ◌⊎◌, ⊎_elim, ℕ, ◌<◌, List, [], ◌∷◌, ◌++◌, length, Some, sym, ap, ◌∙◌, subst, arith, append-nil}
+use Rattle.std.proofs.Common.{◌≡◌, ◌⊎◌, ⊎_elim, ℕ, ◌<◌, List, [], ◌∷◌, ◌++◌, length, Some, refl, sym, ap, ◌∙◌, subst, arith, append-nil}
 use Rattle.std.specs.List.{slice_get}
 use Rattle.std.proofs.lemmas.Option.{slice_get_within, slice_get-get_or}
 use Rattle.apex_types.specs.declared.reply.Reply.{Reply}
@@ -12,7 +12,7 @@ use Rattle.apex_orders.specs.Possibles.{Has}
 use Rattle.apex_orders.specs.Searching.{Knows, Keeps, Includes, AreOrders, AreApart, IsTried, HasTried, IsFound, AreFound}
 use Rattle.apex_orders.specs.Steps.{MakesNothing, Makes}
 use Rattle.apex_orders.proofs.Lists.{at_seam, stays_before, before_or_last}
-use Rattle.apex_orders.proofs.Walks.{continued-append, joined, one_ordered}
+use Rattle.apex_orders.proofs.Walks.{continued-append, none_ordered, joined, one_ordered}
 use Rattle.apex_orders.proofs.Following.{same_self}
 
 abbrev first_reply : Reply → History → Reply
@@ -62,6 +62,17 @@ module _ (config : Configuration) (scripts : Scripts) where
     here = (length orders, at_seam orders order []);
     same = subst (λ (g : History). IsSamePoint config h g) is (same_self config h);
   }
+
+  -- ---- the order of no calls alone
+
+  pub first_valid : AreOrders config ([] ∷ [])
+  first_valid = orders_push [] [] (λ k order at. absurd (cc)) (none_ordered config scripts)
+
+  pub first_apart : AreApart config scripts ([] ∷ [])
+  first_apart = apart_push [] [] [] refl (λ j k order other below at listed. absurd (cc)) (λ known. absurd (let at = known.here.1 in cc))
+
+  pub none_found : AreFound config scripts []
+  none_found one has = absurd (let at = has.1 in cc)
 
   -- ---- tries
 

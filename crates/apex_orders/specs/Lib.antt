@@ -1,4 +1,5 @@
 pub mod Filing
+pub mod Known
 pub mod Marks
 pub mod Orders
 pub mod Outcomes

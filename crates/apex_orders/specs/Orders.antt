@@ -1,5 +1,5 @@
 -- Orders of the calls of scripts, and the histories that they lead to.
-use Rattle.std.specs.Prelude.{ℕ, ◌≡◌, ◌<◌, List, [], ◌∷◌, ◌++◌, length, map, take, slice_get, unwrap_or, Option, Some, None}
+use Rattle.std.specs.Prelude.{ℕ, ◌≡◌, ◌<◌, List, [], ◌∷◌, ◌++◌, length, map, take, count_by, ◌==◌, slice_get, unwrap_or, Option, Some, None}
 use Rattle.apex_types.specs.declared.call.Call.{Call}
 use Rattle.apex_types.specs.declared.moment.Moment.{Moment}
 use Rattle.apex_types.specs.declared.reply.Reply.{Reply}
@@ -46,6 +46,10 @@ order_of history = map (λ entry. entry.partition) history
 -- each number is a partition of the configuration
 abbrev pub IsOrder : Configuration → List ℕ → Type 0
 IsOrder config order = (k p : ℕ) → slice_get order k ≡ Some p → p < length config.partitions
+
+-- how many of the calls are the partition's
+abbrev pub times : ℕ → List ℕ → ℕ
+times p order = count_by (λ partition. partition == p) order
 
 abbrev pub entries_for : Configuration → History → ℕ → Option (Moment × Call) → List Entry
 entries_for config history p None = []

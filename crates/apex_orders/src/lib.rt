@@ -8,10 +8,12 @@ pub mod order;
 pub mod orders_fault;
 pub mod outcomes;
 mod point;
+mod points;
 mod replay;
 mod replies;
 mod search;
 pub mod step;
+mod trial;
 pub mod witness;
 
 pub use crate::order::Order;

@@ -7,9 +7,6 @@ use apex_types::OutOfMemory;
 use std::alloc::{AllocError, Global};
 use std::marker::Model;
 
-/// How many buckets there are: a prime, so that marks are spread.
-const BUCKETS: usize = 16_381;
-
 /// The places of the marks that have one remainder. To a contract it is the list of them.
 #[derive(Drop)]
 struct Bucket {
@@ -68,11 +65,12 @@ impl Model for Marks {
 }
 
 impl Marks {
-    /// No marks.
-    pub(crate) fn new(alloc: Global) -> Result<Marks, OutOfMemory>
+    /// No marks, in so many buckets. Where that is a prime, marks are spread.
+    pub(crate) fn new(alloc: Global, buckets: usize) -> Result<Marks, OutOfMemory>
+        requires { 0 < buckets }
         ensures { IfOk result (λ marks. marks ≡ []) }
     {
-        let buckets = empty_buckets(alloc)?;
+        let buckets = empty_buckets(alloc, buckets)?;
         Ok(Marks {
             marks: Vec::new(alloc),
             buckets,
@@ -106,11 +104,11 @@ impl Marks {
 }
 
 /// Buckets without places.
-fn empty_buckets(alloc: Global) -> Result<Vec<Bucket>, OutOfMemory>
-    ensures { IfOk result (λ buckets. 0 < length buckets.items) }
+fn empty_buckets(alloc: Global, count: usize) -> Result<Vec<Bucket>, OutOfMemory>
+    ensures { IfOk result (λ buckets. length buckets.items ≡ count) }
 {
-    let mut buckets = Vec::with_capacity(alloc, BUCKETS)?;
-    for _ in 0..BUCKETS {
+    let mut buckets = Vec::with_capacity(alloc, count)?;
+    for _ in 0..count {
         buckets.push(Bucket::new(alloc))?;
     }
     Ok(buckets)

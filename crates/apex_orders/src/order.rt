@@ -1,5 +1,6 @@
 //! Orders of calls.
-ghost use Rattle.std.specs.Prelude.{◌≡◌, ◌++◌, ◌∷◌, [], IfOk};
+ghost use Rattle.std.specs.Prelude.{◌≡◌, ◌++◌, ◌∷◌, [], ◌<◌, IfOk};
+ghost use Rattle.apex_orders.specs.Orders.{times};
 
 use std::alloc::{AllocError, Global};
 use std::marker::Model;
@@ -19,36 +20,85 @@ impl Model for Order {
 }
 
 impl Order {
-    /// The order of no calls.
-    pub(crate) fn new(alloc: Global) -> Order
-        ensures { result ≡ [] }
-    {
-        Order {
-            partitions: Vec::new(alloc),
-        }
-    }
-
     /// The numbers of the partitions.
     pub fn partitions(&self) -> &[usize]
         ensures { result.now ≡ self.now }
     {
         self.partitions.as_slice()
     }
+}
+
+/// An order with one byte for each call. To a contract it is the list of the partitions' numbers.
+#[derive(Drop)]
+pub(crate) struct PackedOrder {
+    partitions: Vec<u8>,
+}
+
+impl Model for PackedOrder {
+    ghost use Rattle.std.specs.Prelude.{ℕ, List};
+
+    ghost Value = { List ℕ };
+
+    ghost view = { λ order. order.partitions.items };
+}
+
+impl PackedOrder {
+    /// The order of no calls.
+    pub(crate) fn new(alloc: Global) -> PackedOrder
+        ensures { result ≡ [] }
+    {
+        PackedOrder {
+            partitions: Vec::new(alloc),
+        }
+    }
+
+    /// The numbers of the partitions.
+    pub(crate) fn partitions(&self) -> &[u8]
+        ensures { result.now ≡ self.now }
+    {
+        self.partitions.as_slice()
+    }
+
+    /// How many of the calls are the partition's.
+    pub(crate) fn calls_of(&self, p: usize) -> usize
+        ensures { result ≡ times p self.now }
+    {
+        let mut count = 0;
+        for partition in self.partitions.as_slice() {
+            if *partition as usize == p {
+                count += 1;
+            }
+        }
+        count
+    }
 
     /// An equal order.
-    pub(crate) fn copy(&self, alloc: Global) -> Result<Order, AllocError>
+    pub(crate) fn copy(&self, alloc: Global) -> Result<PackedOrder, AllocError>
         ensures { IfOk result (λ order. order ≡ self.now) }
     {
         let partitions = Vec::from_slice(alloc, self.partitions.as_slice())?;
-        Ok(Order { partitions })
+        Ok(PackedOrder { partitions })
     }
 
     /// The order with one call more at its end.
-    pub(crate) fn followed_by(&self, alloc: Global, p: usize) -> Result<Order, AllocError>
+    pub(crate) fn followed_by(&self, alloc: Global, p: usize) -> Result<PackedOrder, AllocError>
+        requires { p < 256 }
         ensures { IfOk result (λ order. order ≡ self.now ++ p ∷ []) }
     {
-        let mut partitions = Vec::from_slice(alloc, self.partitions.as_slice())?;
-        partitions.push(p)?;
+        let mut partitions = Vec::with_capacity(alloc, self.partitions.len() + 1)?;
+        partitions.extend_from_slice(self.partitions.as_slice())?;
+        partitions.push(p as u8)?;
+        Ok(PackedOrder { partitions })
+    }
+
+    /// The order with whole numbers.
+    pub(crate) fn unpacked(&self, alloc: Global) -> Result<Order, AllocError>
+        ensures { IfOk result (λ order. order ≡ self.now) }
+    {
+        let mut partitions = Vec::with_capacity(alloc, self.partitions.len())?;
+        for p in self.partitions.as_slice() {
+            partitions.push(*p as usize)?;
+        }
         Ok(Order { partitions })
     }
 }

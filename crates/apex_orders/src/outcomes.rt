@@ -1,9 +1,11 @@
 //! All that can happen to scripts.
 ghost use Rattle.std.specs.Prelude.{◌≡◌, length, IfOk, IsTrue, ◌↔◌};
+ghost use Rattle.apex_config.specs.Configuration.{Configuration};
+ghost use Rattle.apex_orders.specs.Orders.{IsOrder, history_of};
 ghost use Rattle.apex_orders.specs.Outcomes.{AreReplies, AreEnds, IsUndecided};
 ghost use Rattle.apex_orders.specs.Searching.{AreOrders, AreEndsOf, HasMadeAll};
 
-use crate::order::Order;
+use crate::order::{Order, PackedOrder};
 use crate::orders_fault::OrdersFault;
 use crate::replay::replay;
 use crate::replies::Possible;
@@ -58,7 +60,7 @@ fn ends_of(
     alloc: Global,
     config: &Config,
     scripts: &[Script],
-    orders: &[Order],
+    orders: &[PackedOrder],
 ) -> Result<Vec<Order>, OutOfMemory>
     requires scripts { length scripts.now ≡ length config.now.partitions }
     requires orders { AreOrders config.now orders.now }
@@ -67,13 +69,44 @@ fn ends_of(
 {
     let mut ends = Vec::new(alloc);
     for order in orders {
-        let ports = replay(alloc, config, scripts, order)?;
-        if has_made_all(&ports, scripts) {
-            let end = order.copy(alloc)?;
+        if is_end(alloc, config, scripts, order)? {
+            let end = order.unpacked(alloc)?;
             ends.push(end)?;
         }
     }
     Ok(ends)
+}
+
+/// Whether the order makes all calls. One that names a partition fewer times than it has calls isn't run for that.
+fn is_end(
+    alloc: Global,
+    config: &Config,
+    scripts: &[Script],
+    order: &PackedOrder,
+) -> Result<bool, OutOfMemory>
+    requires scripts { length scripts.now ≡ length config.now.partitions }
+    requires order { IsOrder config.now order.now }
+    ensures { IfOk result (λ all. IsTrue all
+        ↔ HasMadeAll config.now scripts.now (history_of config.now scripts.now order.now)) }
+{
+    if !has_calls_for(order, scripts) {
+        return Ok(false);
+    }
+    let ports = replay(alloc, config, scripts, order)?;
+    Ok(has_made_all(&ports, scripts))
+}
+
+/// Whether the order names each partition as many times as it has calls.
+fn has_calls_for(order: &PackedOrder, scripts: &[Script]) -> bool
+    ensures { (config : Configuration) → length scripts.now ≡ length config.partitions →
+        HasMadeAll config scripts.now (history_of config scripts.now order.now) → IsTrue result }
+{
+    for (p, script) in scripts.iter().enumerate() {
+        if order.calls_of(p) < script.calls.len() {
+            return false;
+        }
+    }
+    true
 }
 
 /// Whether each partition has made all calls of its script.

@@ -3,7 +3,7 @@ ghost use Rattle.std.specs.Prelude.{◌≡◌, length, IfOk};
 ghost use Rattle.apex_ports.specs.Sound.{IsSound};
 ghost use Rattle.apex_orders.specs.Orders.{history_of, IsOrder};
 
-use crate::order::Order;
+use crate::order::PackedOrder;
 use crate::step::step;
 use apex_config::Config;
 use apex_ports::{Ports, Script};
@@ -15,7 +15,7 @@ pub(crate) fn replay(
     alloc: Global,
     config: &Config,
     scripts: &[Script],
-    order: &Order,
+    order: &PackedOrder,
 ) -> Result<Ports, OutOfMemory>
     requires scripts { length scripts.now ≡ length config.now.partitions }
     requires order { IsOrder config.now order.now }
@@ -26,7 +26,7 @@ pub(crate) fn replay(
 {
     let mut ports = Ports::new(alloc, config.copy()?)?;
     for p in order.partitions() {
-        let _ = step(&mut ports, scripts, *p);
+        let _ = step(&mut ports, scripts, *p as usize);
     }
     Ok(ports)
 }

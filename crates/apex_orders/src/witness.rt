@@ -4,7 +4,7 @@ ghost use Rattle.apex_orders.specs.Orders.{IsOrder};
 ghost use Rattle.apex_orders.specs.Outcomes.{CanOccur, IsGivenBy, IsUndecided};
 ghost use Rattle.apex_orders.specs.Searching.{AreOrders, IsGivenBehind, IsGivenByAnOrder};
 
-use crate::order::Order;
+use crate::order::{Order, PackedOrder};
 use crate::orders_fault::OrdersFault;
 use crate::replay::replay;
 use crate::replies::{Possible, is_same_possible};
@@ -46,7 +46,7 @@ fn order_among(
     alloc: Global,
     config: &Config,
     scripts: &[Script],
-    orders: &[Order],
+    orders: &[PackedOrder],
     one: &Possible,
 ) -> Result<Option<Order>, OutOfMemory>
     requires scripts { length scripts.now ≡ length config.now.partitions }
@@ -61,7 +61,8 @@ fn order_among(
     for order in orders {
         if gives(alloc, config, scripts, order, one)? {
             let longer = order.followed_by(alloc, one.partition)?;
-            return Ok(Some(longer));
+            let given = longer.unpacked(alloc)?;
+            return Ok(Some(given));
         }
     }
     Ok(None)
@@ -72,7 +73,7 @@ fn gives(
     alloc: Global,
     config: &Config,
     scripts: &[Script],
-    order: &Order,
+    order: &PackedOrder,
     one: &Possible,
 ) -> Result<bool, OutOfMemory>
     requires scripts { length scripts.now ≡ length config.now.partitions }

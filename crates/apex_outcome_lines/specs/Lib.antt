@@ -1,1 +1,4 @@
+pub mod Calls
+pub mod Counts
+pub mod ScriptLines
 pub mod Told

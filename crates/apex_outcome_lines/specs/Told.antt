@@ -1,6 +1,16 @@
--- What is told of all orders of scripts: the ranges of a queuing channel's counts, and how many states and ends there are.
-use Rattle.std.specs.Prelude.{ℕ, ◌==◌, if◌then◌else◌, List, [], ◌++◌, codes, decimal}
+-- What is told of all orders of scripts: each call with its replies, each queuing channel with the ranges of its counts,
+-- and how many states and ends there are.
+use Rattle.std.specs.Prelude.{ℕ, ◌+◌, ◌==◌, if◌then◌else◌, List, [], ◌∷◌, ◌++◌, length, codes, decimal}
+use Rattle.apex_config.specs.Configuration.{Configuration}
+use Rattle.apex_config.specs.declared.channel.Channel.{Channel}
+use Rattle.apex_config.specs.declared.channel.ChannelKind.{ChannelKind}
+use Rattle.apex_config.specs.declared.channel.ChannelKind.TheVariants as kinds
+use Rattle.apex_orders.specs.Orders.{Scripts}
+use Rattle.apex_orders.specs.declared.outcomes.Outcomes.{Outcomes}
 use Rattle.apex_outcome_lines.specs.declared.counts.Ranges.{Ranges}
+use Rattle.apex_outcome_lines.specs.declared.script_lines.LineNumbers.{LineNumbers}
+use Rattle.apex_outcome_lines.specs.Calls.{scripts_lines}
+use Rattle.apex_outcome_lines.specs.Counts.{ranges_over}
 
 -- ---- channels
 
@@ -15,7 +25,23 @@ cleared_text low high = if high == 0 then [] else codes " cleared " ++ range_tex
 -- the ranges of a queuing channel's counts
 unfoldable pub ranges_text : Ranges → List ℕ
 ranges_text ranges =
-    codes " accepted " ++ range_text ranges.lowest.accepted ranges.highest.accepted ++ codes " received " ++ range_text ranges.lowest.received ranges.highest.received ++ cleared_text ranges.lowest.cleared ranges.highest.cleared ++ codes " waiting " ++ range_text ranges.lowest.waiting ranges.highest.waiting
+    let low = ranges.lowest in
+    let high = ranges.highest in
+    codes " accepted " ++ range_text low.accepted high.accepted
+    ++ codes " received " ++ range_text low.received high.received ++ cleared_text low.cleared high.cleared
+    ++ codes " waiting " ++ range_text low.waiting high.waiting
+
+-- the line of a queuing channel with the ranges of its counts over the orders; a sampling channel has none
+unfoldable pub channel_line : Configuration → Scripts → List (List ℕ) → ℕ → List ℕ → ChannelKind → List ℕ
+channel_line config scripts ends c name (kinds.Queuing depth) =
+    codes "queuing " ++ name ++ ranges_text (ranges_over config scripts ends c) ++ codes "\n"
+channel_line config scripts ends c name kinds.Sampling = []
+
+-- the lines of channels of which the first has this number
+unfoldable pub channel_lines : Configuration → Scripts → List (List ℕ) → ℕ → List Channel → List ℕ
+channel_lines config scripts ends c [] = []
+channel_lines config scripts ends c (channel ∷ rest) =
+    channel_line config scripts ends c channel.name channel.kind ++ channel_lines config scripts ends (c + 1) rest
 
 -- ---- the last line
 
@@ -30,3 +56,12 @@ states_text count = if count == 1 then codes "1 state" else decimal count ++ cod
 -- `N states, M ends`
 unfoldable pub count_line : ℕ → ℕ → List ℕ
 count_line states ends = states_text states ++ codes ", " ++ ends_text ends ++ codes "\n"
+
+-- ---- the whole
+
+-- the lines of all calls, of all queuing channels, and of the counts
+unfoldable pub text_of : Configuration → Scripts → List LineNumbers → Outcomes → List ℕ
+text_of config scripts lines outcomes =
+    scripts_lines config lines outcomes.replies.items 0 scripts
+    ++ channel_lines config scripts outcomes.ends.items 0 config.channels
+    ++ count_line outcomes.states (length outcomes.ends.items)

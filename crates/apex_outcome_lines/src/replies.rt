@@ -1,5 +1,7 @@
 //! The lines of calls, each with the replies that it can get.
-ghost use Rattle.std.specs.Prelude.{◌<◌, length};
+ghost use Rattle.std.specs.Prelude.{◌≡◌, ◌<◌, ◌++◌, codes, length, string_bytes, OnOk};
+ghost use Rattle.apex_texts.specs.Report.{reply_text};
+ghost use Rattle.apex_outcome_lines.specs.Calls.{is_to, line_at, replies_to, replies_behind, call_line, script_lines};
 
 use crate::words::{push_number, push_word};
 use apex_call_words::push_call;
@@ -7,11 +9,12 @@ use apex_config::Config;
 use apex_orders::Possible;
 use apex_ports::Script;
 use apex_texts::push_reply;
-use apex_types::{Call, Moment};
+use apex_types::{Call, Moment, Reply};
 use std::alloc::AllocError;
 
 /// The lines of a partition's calls, `NAME:LINE MOMENT CALL ARGUMENTS -> REPLY | REPLY`, at the end of a text. The numbers
 /// are those of the lines that the calls have in the script's text, from 1.
+#[tactic(auto, unfolding(crate::specs::Calls::script_lines))]
 pub fn push_script(
     text: &mut String,
     config: &Config,
@@ -21,14 +24,24 @@ pub fn push_script(
     replies: &[Possible],
 ) -> Result<(), AllocError>
     requires { p < length config.now.partitions }
+    ensures { OnOk result (string_bytes text.new ≡ string_bytes text.old
+        ++ script_lines config.now p numbers.now replies.now 0 script.now) }
 {
     for (place, (at, call)) in script.calls.iter().enumerate() {
-        let line = numbers.get(place).copied().unwrap_or(0);
+        let line = line_at(numbers, place);
         push_call_line(text, config, p, place, line, *at, call, replies)?;
     }
     Ok(())
 }
 
+/// The number at a place, 0 where there is none.
+fn line_at(numbers: &[usize], place: usize) -> usize
+    ensures { result ≡ line_at numbers.now place }
+{
+    numbers.get(place).copied().unwrap_or(0)
+}
+
+#[tactic(auto, unfolding(crate::specs::Calls::call_line))]
 fn push_call_line(
     text: &mut String,
     config: &Config,
@@ -40,6 +53,9 @@ fn push_call_line(
     replies: &[Possible],
 ) -> Result<(), AllocError>
     requires { p < length config.now.partitions }
+    ensures { let given = replies_to p place replies.now in
+        OnOk result (string_bytes text.new
+        ≡ string_bytes text.old ++ call_line config.now p line at call.now given) }
 {
     let Moment(nanoseconds) = at;
     push_word(text, config.partition_name(p).text())?;
@@ -54,19 +70,39 @@ fn push_call_line(
 }
 
 /// The replies to the call at a place, the first behind an arrow and each other one behind a bar.
+#[tactic(auto, unfolding(crate::specs::Calls::replies_behind))]
 fn push_replies(
     text: &mut String,
     p: usize,
     place: usize,
     replies: &[Possible],
-) -> Result<(), AllocError> {
+) -> Result<(), AllocError>
+    ensures { let given = replies_to p place replies.now in
+        OnOk result (string_bytes text.new
+        ≡ string_bytes text.old ++ replies_behind (codes " -> ") given) }
+{
     let mut word = " -> ";
     for one in replies {
-        if one.partition == p && one.place == place {
-            push_word(text, word)?;
-            push_reply(text, &one.reply)?;
+        if is_to(one, p, place) {
+            push_behind(text, word, &one.reply)?;
             word = " | ";
         }
     }
     Ok(())
+}
+
+/// Whether it is a reply to the call at a place of the partition's script.
+fn is_to(one: &Possible, p: usize, place: usize) -> bool
+    ensures { result ≡ is_to p place one.now }
+{
+    one.partition == p && one.place == place
+}
+
+/// A reply behind a word.
+fn push_behind(text: &mut String, word: &str, reply: &Reply) -> Result<(), AllocError>
+    ensures { OnOk result (string_bytes text.new
+        ≡ string_bytes text.old ++ word.now ++ reply_text reply.now) }
+{
+    push_word(text, word)?;
+    push_reply(text, reply)
 }

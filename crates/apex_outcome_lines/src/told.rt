@@ -1,19 +1,21 @@
 //! The whole text of all that can happen to scripts.
-ghost use Rattle.std.specs.Prelude.{◌≡◌, ◌++◌, length, string_bytes, OnOk};
-ghost use Rattle.apex_outcome_lines.specs.Told.{range_text, cleared_text, ranges_text, states_text, ends_text, count_line};
+ghost use Rattle.std.specs.Prelude.{◌≡◌, ◌<◌, ◌++◌, length, slice_get, Some, string_bytes, IfOk, OnOk};
+ghost use Rattle.apex_outcome_lines.specs.Calls.{numbers_of, scripts_lines};
+ghost use Rattle.apex_outcome_lines.specs.Told.{range_text, cleared_text, ranges_text, channel_line, channel_lines, states_text, ends_text, count_line, text_of};
 
 use crate::counts::{Ranges, ranges_of};
 use crate::replies::push_script;
 use crate::script_lines::LineNumbers;
 use crate::words::{push_number, push_word};
-use apex_config::{ChannelKind, Config};
-use apex_orders::{Order, Outcomes};
+use apex_config::{Channel, ChannelKind, Config};
+use apex_orders::{Order, Outcomes, Possible};
 use apex_ports::Script;
 use apex_types::OutOfMemory;
 use std::alloc::{AllocError, Global};
 
 /// A line for each call with the replies that it can get, a line for each queuing channel with the ranges of its counts,
 /// and how many states and ends there are. `lines` has the numbers of the lines of each partition's calls.
+#[tactic(auto, unfolding(crate::specs::Told::text_of))]
 pub fn outcomes_text(
     alloc: Global,
     config: &Config,
@@ -22,30 +24,49 @@ pub fn outcomes_text(
     outcomes: &Outcomes,
 ) -> Result<String, OutOfMemory>
     requires { length scripts.now ≡ length config.now.partitions }
+    ensures { let told = text_of config.now scripts.now lines.now outcomes.now in
+        IfOk result (λ text. string_bytes text ≡ told) }
 {
     let mut text = String::new(alloc);
-    let partitions = config.partitions();
-    prove!(scripts.len() == partitions);
-    for (p, script) in scripts.iter().enumerate() {
-        let numbers = match lines.get(p) {
-            Some(of) => of.numbers.as_slice(),
-            None => &[],
-        };
-        push_script(
-            &mut text,
-            config,
-            p,
-            script,
-            numbers,
-            outcomes.replies.as_slice(),
-        )?;
-    }
-    push_channels(alloc, &mut text, config, scripts, outcomes.ends.as_slice())?;
-    push_count(&mut text, outcomes.states, outcomes.ends.len())?;
+    let replies = outcomes.replies.as_slice();
+    let ends = outcomes.ends.as_slice();
+    push_scripts(&mut text, config, scripts, lines, replies)?;
+    push_channels(alloc, &mut text, config, scripts, ends)?;
+    push_count(&mut text, outcomes.states, ends.len())?;
     Ok(text)
 }
 
+/// The lines of each partition's calls.
+#[tactic(auto, unfolding(crate::specs::Calls::scripts_lines))]
+fn push_scripts(
+    text: &mut String,
+    config: &Config,
+    scripts: &[Script],
+    lines: &[LineNumbers],
+    replies: &[Possible],
+) -> Result<(), AllocError>
+    requires { length scripts.now ≡ length config.now.partitions }
+    ensures { OnOk result (string_bytes text.new ≡ string_bytes text.old
+        ++ scripts_lines config.now lines.now replies.now 0 scripts.now) }
+{
+    for (p, script) in scripts.iter().enumerate() {
+        push_script(text, config, p, script, numbers_of(lines, p), replies)?;
+    }
+    Ok(())
+}
+
+/// The numbers of the lines of a partition's calls; none where there are none for it.
+fn numbers_of(lines: &[LineNumbers], p: usize) -> &[usize]
+    ensures { result.now ≡ numbers_of lines.now p }
+{
+    match lines.get(p) {
+        Some(of) => of.numbers.as_slice(),
+        None => &[],
+    }
+}
+
 /// A line for each queuing channel.
+#[tactic(auto, unfolding(crate::specs::Told::channel_lines))]
 fn push_channels(
     alloc: Global,
     text: &mut String,
@@ -54,15 +75,38 @@ fn push_channels(
     ends: &[Order],
 ) -> Result<(), OutOfMemory>
     requires { length scripts.now ≡ length config.now.partitions }
+    ensures { let lines = channel_lines config.now scripts.now ends.now 0 config.now.channels in
+        OnOk result (string_bytes text.new ≡ string_bytes text.old ++ lines) }
 {
     for c in 0..config.channels() {
-        let channel = config.channel(c);
-        if let ChannelKind::Queuing { .. } = channel.kind {
-            push_word(text, "queuing ")?;
-            push_word(text, channel.name.text())?;
-            push_ranges(text, &ranges_of(alloc, config, scripts, ends, c)?)?;
-            push_word(text, "\n")?;
-        }
+        push_channel(alloc, text, config, scripts, ends, c, config.channel(c))?;
+    }
+    Ok(())
+}
+
+/// `queuing NAME`, and the ranges of its counts; nothing of a sampling channel.
+#[tactic(auto, unfolding(crate::specs::Told::channel_line))]
+fn push_channel(
+    alloc: Global,
+    text: &mut String,
+    config: &Config,
+    scripts: &[Script],
+    ends: &[Order],
+    c: usize,
+    channel: &Channel,
+) -> Result<(), OutOfMemory>
+    requires channel { c < length config.now.channels }
+    requires scripts { length scripts.now ≡ length config.now.partitions }
+    ensures { let found = channel.now in
+        let line = channel_line config.now scripts.now ends.now c found.name found.kind in
+        OnOk result (string_bytes text.new ≡ string_bytes text.old ++ line) }
+{
+    if let ChannelKind::Queuing { .. } = channel.kind {
+        let ranges = ranges_of(alloc, config, scripts, ends, c)?;
+        push_word(text, "queuing ")?;
+        push_word(text, channel.name.text())?;
+        push_ranges(text, &ranges)?;
+        push_word(text, "\n")?;
     }
     Ok(())
 }
@@ -70,7 +114,8 @@ fn push_channels(
 /// ` accepted A received B cleared C waiting W`, where each is a count or a range.
 #[tactic(auto, unfolding(crate::specs::Told::ranges_text))]
 fn push_ranges(text: &mut String, ranges: &Ranges) -> Result<(), AllocError>
-    ensures { OnOk result (string_bytes text.new ≡ string_bytes text.old ++ ranges_text ranges.now) }
+    ensures { OnOk result (string_bytes text.new
+        ≡ string_bytes text.old ++ ranges_text ranges.now) }
 {
     let Ranges { lowest, highest } = *ranges;
     push_word(text, " accepted ")?;
@@ -83,7 +128,8 @@ fn push_ranges(text: &mut String, ranges: &Ranges) -> Result<(), AllocError>
 }
 
 fn push_range(text: &mut String, low: u64, high: u64) -> Result<(), AllocError>
-    ensures { OnOk result (string_bytes text.new ≡ string_bytes text.old ++ range_text low high) }
+    ensures { OnOk result (string_bytes text.new
+        ≡ string_bytes text.old ++ range_text low high) }
 {
     push_number(text, low)?;
     if low == high {

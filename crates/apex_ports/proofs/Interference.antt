@@ -31,7 +31,7 @@ use Rattle.apex_ports.proofs.Stays.{LeavesPartition, LeavesChannel, IsElsewhere,
 
 -- ---- what is filtered out of a history, without the entries outside
 
-filter_map-inside : {Y : Type 0} (f : Entry → Option Y) (inside : ℕ → Bool) (h : History) → ((e : Entry) → inside e.partition ≡ false → f e ≡ None) → filter_map f (entries_inside inside h) ≡ filter_map f h
+pub filter_map-inside : {Y : Type 0} (f : Entry → Option Y) (inside : ℕ → Bool) (h : History) → ((e : Entry) → inside e.partition ≡ false → f e ≡ None) → filter_map f (entries_inside inside h) ≡ filter_map f h
 filter_map-inside f inside [] none = refl
 filter_map-inside f inside (e ∷ h) none = by_test (inside e.partition) refl (filter_map-inside f inside h none)
   where
@@ -39,7 +39,7 @@ filter_map-inside f inside (e ∷ h) none = by_test (inside e.partition) refl (f
     by_test true here rest = ap (cons_option (f e)) rest
     by_test false outside rest = rest ∙ ap (λ o. cons_option o (filter_map f h)) (sym (none e outside))
 
-fold-inside : {B : Type 0} (f : B → Entry → B) (inside : ℕ → Bool) (h : History) (b : B) → ((b : B) (e : Entry) → inside e.partition ≡ false → f b e ≡ b) → fold f b (entries_inside inside h) ≡ fold f b h
+pub fold-inside : {B : Type 0} (f : B → Entry → B) (inside : ℕ → Bool) (h : History) (b : B) → ((b : B) (e : Entry) → inside e.partition ≡ false → f b e ≡ b) → fold f b (entries_inside inside h) ≡ fold f b h
 fold-inside {B} f inside [] b stays = refl
 fold-inside {B} f inside (e ∷ h) b stays = by_test (inside e.partition) refl (λ c. fold-inside f inside h c stays)
   where

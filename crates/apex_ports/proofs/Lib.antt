@@ -5,11 +5,13 @@ pub mod Counts
 pub mod Crossing
 pub mod Histories
 pub mod Idle
+pub mod InPlace
 pub mod Interference
 pub mod LawfulSteps
 pub mod Lookups
 pub mod OneChannel
 pub mod PartitionSteps
 pub mod Refused
+pub mod Saving
 pub mod Stays
 pub mod WithoutClears

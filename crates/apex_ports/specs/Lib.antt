@@ -18,7 +18,9 @@ pub mod ReplyTable
 pub mod Rows
 pub mod Rules
 pub mod RunFault
+pub mod Saved
 pub mod Seen
 pub mod Sound
+pub mod TrailView
 pub mod WithoutClears
 pub mod Writes

@@ -16,12 +16,14 @@ pub mod rows;
 pub mod rules;
 pub mod run_fault;
 mod sampling;
+mod saved_channel;
 pub mod script;
 mod service;
 mod state;
 
 pub use crate::history::{Entry, Request};
 pub use crate::ports::Ports;
+pub use crate::ports::saved::SavedPorts;
 pub use crate::rows::{Refusal, Row};
 pub use crate::run_fault::RunFault;
 pub use crate::script::Script;

@@ -1,11 +1,11 @@
 //! The state of a partition: its mode and its table of ports.
-ghost use Rattle.std.specs.Prelude.{◌≡◌, ℕ, ◌-◌, ◌<◌, ◌≤◌, ◌==◌, if◌then◌else◌, true, false, length, Some};
+ghost use Rattle.std.specs.Prelude.{◌≡◌, ℕ, ◌-◌, ◌<◌, ◌≤◌, ◌==◌, if◌then◌else◌, true, false, length, Some, IfOk};
 ghost use Rattle.apex_types.specs.declared.validity.Validity.TheVariants.{Invalid};
 ghost use Rattle.apex_ports.specs.Kept.{state_at, created_in, last_in};
 ghost use Rattle.apex_ports.specs.Modes.{is_start};
 
 use apex_types::{Mode, Validity};
-use std::alloc::Allocator;
+use std::alloc::{AllocError, Allocator};
 
 /// Whether a port is created, and what its last read showed.
 #[derive(Clone, Copy, Debug)]
@@ -22,6 +22,30 @@ pub(crate) struct PartitionState<A: Allocator> {
 }
 
 impl<A: Allocator> PartitionState<A> {
+    ghost use Rattle.apex_ports.specs.Saved.{IsSameTable, HasAsManyPorts};
+
+    /// An equal state.
+    pub(crate) fn copy(&self, alloc: A) -> Result<PartitionState<A>, AllocError>
+        ensures { IfOk result (λ copy. IsSameTable self.now copy) }
+    {
+        let ports = Vec::from_slice(alloc, self.ports.as_slice())?;
+        Ok(PartitionState {
+            mode: self.mode,
+            ports,
+        })
+    }
+
+    /// Makes the state equal to another with as many ports.
+    pub(crate) fn restore(&mut self, saved: &PartitionState<A>)
+        requires { HasAsManyPorts self.old saved.now }
+        ensures { IsSameTable saved.now self.new }
+    {
+        self.mode = saved.mode;
+        self.ports
+            .as_mut_slice()
+            .copy_from_slice(saved.ports.as_slice());
+    }
+
     /// The state of the port of an identifier, which is its place, counted from 1.
     pub(crate) fn port(&self, id: u32) -> Option<PortState>
         ensures { result ≡ state_at self.now.ports.items id }

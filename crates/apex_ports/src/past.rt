@@ -6,40 +6,57 @@ use std::marker::Model;
 use std::snapshot::Snapshot;
 
 /// A history. It takes no memory and no time; a contract sees the entries, oldest first.
-#[cycle(past)]
 #[derive(Drop)]
 pub(crate) struct Past {
+    trail: Trail,
+}
+
+// How the history was put together.
+#[cycle(trail)]
+#[derive(Drop)]
+struct Trail {
     latest: Latest,
 }
 
-// The latest entry, after the entries before it.
-#[cycle(past)]
+// The latest step: an entry after the entries before it, or the entries of another trail.
+#[cycle(trail)]
 #[derive(Drop)]
 enum Latest {
     Nothing,
     Entry {
-        before: Snapshot<Past>,
+        before: Snapshot<Trail>,
         partition: Snapshot<usize>,
         at: Snapshot<Moment>,
         call: Snapshot<Call>,
         reply: Snapshot<Reply>,
     },
+    Same {
+        trail: Snapshot<Trail>,
+    },
 }
 
 impl Model for Past {
-    ghost use Rattle.std.specs.Prelude.{List, length};
+    ghost use Rattle.std.specs.Prelude.{List};
     ghost use Rattle.apex_ports.specs.declared.history.Entry.{Entry};
 
     ghost Value = { List Entry };
 
-    ghost use Rattle.apex_ports.specs.Past.{history_of};
-    ghost use Rattle.std.proofs.Common.{arith, length-append};
+    ghost view = { λ past. past.trail.entries };
+}
 
-    ghost view = { λ past. history_of past.latest };
+impl Model for Trail {
+    ghost use Rattle.apex_ports.specs.TrailView.{TrailView};
 
-    ghost size = { length };
+    ghost Value = { TrailView };
 
-    ghost size_decreases = { λ past sound. Prim.grind (arith, length-append) };
+    ghost use Rattle.apex_ports.specs.Past.{trail_of};
+    ghost use Rattle.std.proofs.Common.{arith};
+
+    ghost view = { λ trail. trail_of trail.latest };
+
+    ghost size = { λ trail. trail.steps };
+
+    ghost size_decreases = { λ trail sound. Prim.grind (arith) };
 }
 
 impl Past {
@@ -50,7 +67,21 @@ impl Past {
         ensures { result ≡ [] }
     {
         Past {
-            latest: Latest::Nothing,
+            trail: Trail {
+                latest: Latest::Nothing,
+            },
+        }
+    }
+
+    /// An equal history.
+    pub(crate) fn copy(&self) -> Past
+        ensures { result ≡ self.now }
+    {
+        let trail = Snapshot::of(&self.trail);
+        Past {
+            trail: Trail {
+                latest: Latest::Same { trail },
+            },
         }
     }
 
@@ -58,12 +89,13 @@ impl Past {
     pub(crate) fn push(&mut self, partition: usize, at: Moment, call: &Call, reply: &Reply)
         ensures { self.new ≡ self.old ++ entry_of partition at call.now reply.now ∷ [] }
     {
-        self.latest = Latest::Entry {
-            before: Snapshot::of(self),
+        let latest = Latest::Entry {
+            before: Snapshot::of(&self.trail),
             partition: Snapshot::of(&partition),
             at: Snapshot::of(&at),
             call: Snapshot::of(call),
             reply: Snapshot::of(reply),
         };
+        self.trail = Trail { latest };
     }
 }

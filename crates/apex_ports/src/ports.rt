@@ -9,6 +9,7 @@ use std::alloc::{Allocator, Global};
 use std::marker::Model;
 
 mod readers;
+pub mod saved;
 
 /// The ports of a module: they answer the calls of all partitions, and keep of them what later calls
 /// need and how many there were. All their memory is made by `new`.

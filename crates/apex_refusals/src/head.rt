@@ -1,36 +1,18 @@
 //! The head of a place's line: the file, the line of the text where that is known, and the path of the place.
-ghost use Rattle.std.specs.Prelude.{ℕ, ◌≡◌, ◌++◌, string_bytes, Option, Some, OnOk};
+ghost use Rattle.std.specs.Prelude.{ℕ, ◌≡◌, ◌++◌, string_bytes, Option, OnOk};
 ghost use Rattle.std.specs.Option.{option_copied};
 ghost use Rattle.toml.specs.View.{view};
 ghost use Rattle.apex_refusals.specs.Heads.{line_words, path_to, head_of};
-ghost use Rattle.apex_refusals.specs.Paths.{path_of};
 
+use crate::path::PathOfPart;
 use crate::places::{key_at, stands};
 use crate::printed::Named;
 use apex_config::place::{Part, Place};
 use std::alloc::{AllocError, Global};
-use std::fmt;
 use toml::Value;
 
 /// The most bytes of a text in which the lines of places are looked for, since each look reads the text up to a line.
 const LOOKED_THROUGH: usize = 65_536;
-
-/// A part of a configuration, as a path whose indexes count from 0.
-#[derive(Clone, Copy)]
-struct PathOfPart(Part);
-
-impl fmt::Display for PathOfPart {
-    ghost output = { λ path. Some (path_of path.0) };
-
-    fn fmt<W: fmt::Write>(&self, f: &mut fmt::Formatter<W>) -> fmt::Result {
-        match self.0 {
-            Part::Document => f.write_str("configuration"),
-            Part::Partition { partition } => write!(f, "partition[{partition}]"),
-            Part::Port { partition, port } => write!(f, "partition[{partition}].port[{port}]"),
-            Part::Channel { channel } => write!(f, "channel[{channel}]"),
-        }
-    }
-}
 
 /// What ends the arrays that are open at the end of a line: none, one of tables, or one within a table of another.
 const ENDINGS: [&'static [u8]; 3] = [b"", b"\n]", b"\n]}]"];

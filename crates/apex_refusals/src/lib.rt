@@ -10,9 +10,11 @@ mod lines;
 mod mistakes;
 mod not_toml;
 mod owner;
+mod path;
 mod places;
 mod printed;
 mod value_finding;
 
 pub use crate::lines::refusal_lines;
 pub use crate::mistakes::{MISTAKE_LIMIT, config_mistakes};
+pub use crate::path::PathOfPart;

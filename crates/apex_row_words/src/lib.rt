@@ -8,6 +8,7 @@ pub mod law;
 mod names;
 mod piece;
 mod port_values;
+mod refusals;
 mod services;
 mod table;
 mod words;

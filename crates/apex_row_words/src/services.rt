@@ -25,59 +25,75 @@ pub fn standard_name(service: Service) -> &'static str
     }
 }
 
+// The checks of the services that make several, in the order in which they are made.
+
+const CREATE_SAMPLING: &[Refusal] = &[
+    Refusal::NotConfigured,
+    Refusal::AlreadyCreated,
+    Refusal::SizeDiffers,
+    Refusal::DirectionDiffers,
+    Refusal::RefreshDiffers,
+    Refusal::InNormal,
+];
+
+const CREATE_QUEUING: &[Refusal] = &[
+    Refusal::NotConfigured,
+    Refusal::AlreadyCreated,
+    Refusal::SizeDiffers,
+    Refusal::DepthDiffers,
+    Refusal::DirectionDiffers,
+    Refusal::UnknownDiscipline,
+    Refusal::InNormal,
+];
+
+const WRITE_SAMPLING: &[Refusal] = &[
+    Refusal::NoSuchPort,
+    Refusal::EmptyMessage,
+    Refusal::MessageTooLong,
+    Refusal::NotSource,
+];
+
+const SEND_QUEUING: &[Refusal] = &[
+    Refusal::NoSuchPort,
+    Refusal::EmptyMessage,
+    Refusal::MessageTooLong,
+    Refusal::NotSource,
+    Refusal::QueueFull,
+];
+
+const READ_SAMPLING: &[Refusal] = &[
+    Refusal::NoSuchPort,
+    Refusal::NotDestination,
+    Refusal::NeverWritten,
+];
+
+const RECEIVE_QUEUING: &[Refusal] = &[
+    Refusal::NoSuchPort,
+    Refusal::NotDestination,
+    Refusal::QueueEmpty,
+];
+
+const SET_MODE: &[Refusal] = &[
+    Refusal::UnknownMode,
+    Refusal::AlreadyNormal,
+    Refusal::WarmStartInColdStart,
+];
+
 /// The checks of a service, in the order in which they are made.
 pub fn refusals_of(service: Service) -> &'static [Refusal]
     ensures { result.now ≡ refusals_of service }
 {
     match service {
-        Service::CreateSampling => &[
-            Refusal::NotConfigured,
-            Refusal::AlreadyCreated,
-            Refusal::SizeDiffers,
-            Refusal::DirectionDiffers,
-            Refusal::RefreshDiffers,
-            Refusal::InNormal,
-        ],
-        Service::CreateQueuing => &[
-            Refusal::NotConfigured,
-            Refusal::AlreadyCreated,
-            Refusal::SizeDiffers,
-            Refusal::DepthDiffers,
-            Refusal::DirectionDiffers,
-            Refusal::UnknownDiscipline,
-            Refusal::InNormal,
-        ],
-        Service::WriteSampling => &[
-            Refusal::NoSuchPort,
-            Refusal::EmptyMessage,
-            Refusal::MessageTooLong,
-            Refusal::NotSource,
-        ],
-        Service::SendQueuing => &[
-            Refusal::NoSuchPort,
-            Refusal::EmptyMessage,
-            Refusal::MessageTooLong,
-            Refusal::NotSource,
-            Refusal::QueueFull,
-        ],
-        Service::ReadSampling => &[
-            Refusal::NoSuchPort,
-            Refusal::NotDestination,
-            Refusal::NeverWritten,
-        ],
-        Service::ReceiveQueuing => &[
-            Refusal::NoSuchPort,
-            Refusal::NotDestination,
-            Refusal::QueueEmpty,
-        ],
+        Service::CreateSampling => CREATE_SAMPLING,
+        Service::CreateQueuing => CREATE_QUEUING,
+        Service::WriteSampling => WRITE_SAMPLING,
+        Service::SendQueuing => SEND_QUEUING,
+        Service::ReadSampling => READ_SAMPLING,
+        Service::ReceiveQueuing => RECEIVE_QUEUING,
         Service::ClearQueuing => &[Refusal::NoSuchPort, Refusal::NotDestination],
         Service::SamplingId | Service::QueuingId => &[Refusal::NotCreated],
         Service::SamplingStatus | Service::QueuingStatus => &[Refusal::NoSuchPort],
-        Service::SetMode => &[
-            Refusal::UnknownMode,
-            Refusal::AlreadyNormal,
-            Refusal::WarmStartInColdStart,
-        ],
+        Service::SetMode => SET_MODE,
     }
 }
 

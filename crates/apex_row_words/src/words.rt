@@ -1,13 +1,14 @@
 //! The words of the rows of the reply table.
 ghost use Rattle.std.specs.Prelude.{◌≡◌, ◌<◌, ◌++◌, length, string_bytes, OnOk};
 ghost use Rattle.apex_row_words.specs.Pieces.{Values, piece_text, filled, values_of};
-ghost use Rattle.apex_row_words.specs.Words.{refusal_words, row_words, words_of, has_words, note_of};
+ghost use Rattle.apex_row_words.specs.Words.{row_words, words_of, has_words, note_of};
 
 use crate::call_values::push_call_value;
-use crate::piece::{CallValue, Piece, PortValue};
+use crate::piece::Piece;
 use crate::port_values::push_port_value;
+use crate::refusals::refusal_pieces;
 use apex_config::Config;
-use apex_ports::{Refusal, Row};
+use apex_ports::Row;
 use apex_types::Call;
 use std::alloc::AllocError;
 
@@ -103,110 +104,5 @@ pub(crate) fn row_pieces(row: Row) -> &'static [Piece]
         Row::Idle => &[Piece::Text("partition is in IDLE")],
         Row::Refused(refusal) => refusal_pieces(refusal),
         _ => &[],
-    }
-}
-
-/// The words of a refusal.
-fn refusal_pieces(refusal: Refusal) -> &'static [Piece]
-    ensures { (values : Values) → filled values result.now ≡ refusal_words values refusal }
-{
-    match refusal {
-        Refusal::NotConfigured => &[
-            Piece::Partition,
-            Piece::Text(" has no "),
-            Piece::OfCall(CallValue::Kind),
-            Piece::Text(" port "),
-            Piece::OfCall(CallValue::Name),
-            Piece::Text(" configured"),
-        ],
-        Refusal::AlreadyCreated => &[
-            Piece::OfCall(CallValue::Name),
-            Piece::Text(" is created already"),
-        ],
-        Refusal::SizeDiffers => &[
-            Piece::Text("size "),
-            Piece::OfCall(CallValue::Size),
-            Piece::Text(", configured "),
-            Piece::OfPort(PortValue::Size),
-        ],
-        Refusal::DepthDiffers => &[
-            Piece::Text("depth "),
-            Piece::OfCall(CallValue::Depth),
-            Piece::Text(", configured "),
-            Piece::OfPort(PortValue::Depth),
-        ],
-        Refusal::DirectionDiffers => &[
-            Piece::Text("direction "),
-            Piece::OfCall(CallValue::Direction),
-            Piece::Text(", configured "),
-            Piece::OfPort(PortValue::Direction),
-        ],
-        Refusal::RefreshDiffers => &[
-            Piece::Text("refresh period "),
-            Piece::OfCall(CallValue::Refresh),
-            Piece::Text(", configured "),
-            Piece::OfPort(PortValue::Refresh),
-        ],
-        Refusal::UnknownDiscipline => &[
-            Piece::Text("discipline "),
-            Piece::OfCall(CallValue::Discipline),
-            Piece::Text(" is neither 0 nor 1"),
-        ],
-        Refusal::InNormal => &[Piece::Text("partition is in NORMAL")],
-        Refusal::NotCreated => &[
-            Piece::Text("no "),
-            Piece::OfCall(CallValue::Kind),
-            Piece::Text(" port "),
-            Piece::OfCall(CallValue::Name),
-            Piece::Text(" is created"),
-        ],
-        Refusal::NoSuchPort => &[
-            Piece::Text("no "),
-            Piece::OfCall(CallValue::Kind),
-            Piece::Text(" port of identifier "),
-            Piece::OfCall(CallValue::Identifier),
-            Piece::Text(" is created"),
-        ],
-        Refusal::EmptyMessage => &[Piece::Text("message of 0 bytes")],
-        Refusal::MessageTooLong => &[
-            Piece::Text("message of "),
-            Piece::OfCall(CallValue::Length),
-            Piece::Text(" bytes, channel "),
-            Piece::OfPort(PortValue::Channel),
-            Piece::Text(" takes "),
-            Piece::OfPort(PortValue::Size),
-        ],
-        Refusal::NotSource => &[
-            Piece::Text("port "),
-            Piece::OfPort(PortValue::Name),
-            Piece::Text(" is a destination"),
-        ],
-        Refusal::NotDestination => &[
-            Piece::Text("port "),
-            Piece::OfPort(PortValue::Name),
-            Piece::Text(" is a source"),
-        ],
-        Refusal::QueueFull => &[
-            Piece::OfPort(PortValue::Waiting),
-            Piece::Text(" on "),
-            Piece::OfPort(PortValue::Channel),
-            Piece::Text(", its depth"),
-        ],
-        Refusal::QueueEmpty => &[
-            Piece::Text("no message waits on "),
-            Piece::OfPort(PortValue::Channel),
-        ],
-        Refusal::NeverWritten => &[
-            Piece::Text("channel "),
-            Piece::OfPort(PortValue::Channel),
-            Piece::Text(" was never written"),
-        ],
-        Refusal::UnknownMode => &[
-            Piece::Text("mode "),
-            Piece::OfCall(CallValue::Mode),
-            Piece::Text(" is none of 0 to 3"),
-        ],
-        Refusal::AlreadyNormal => &[Piece::Text("partition is in NORMAL already")],
-        Refusal::WarmStartInColdStart => &[Piece::Text("no WARM_START while in COLD_START")],
     }
 }

@@ -2,6 +2,7 @@
 ghost use Rattle.std.specs.Prelude.{◌<◌};
 
 use crate::tests::fault_of;
+use crate::tests::same::{holds, same};
 use apex_config::{ChannelKind, Config, PortKind};
 use apex_types::Direction;
 use std::alloc::Global;
@@ -65,23 +66,35 @@ fn with_channels(alloc: Global, channels: u32) -> Result<String, Fail> {
 #[test]
 fn counts_have_limits(rt: HostRuntime) -> Result<(), Fail> {
     let alloc = rt.alloc();
-    assert_eq!(rt; fault_of(alloc, with_ports(alloc, 32)?.as_str()), Some(0));
-    assert_eq!(rt; fault_of(alloc, with_ports(alloc, 33)?.as_str()), Some(10));
-    assert_eq!(rt;
+    same(
+        &rt,
+        fault_of(alloc, with_ports(alloc, 32)?.as_str()),
+        Some(0),
+    );
+    same(
+        &rt,
+        fault_of(alloc, with_ports(alloc, 33)?.as_str()),
+        Some(10),
+    );
+    same(
+        &rt,
         fault_of(alloc, with_partitions(alloc, 32)?.as_str()),
-        Some(0)
+        Some(0),
     );
-    assert_eq!(rt;
+    same(
+        &rt,
         fault_of(alloc, with_partitions(alloc, 33)?.as_str()),
-        Some(10)
+        Some(10),
     );
-    assert_eq!(rt;
+    same(
+        &rt,
         fault_of(alloc, with_channels(alloc, 64)?.as_str()),
-        Some(0)
+        Some(0),
     );
-    assert_eq!(rt;
+    same(
+        &rt,
         fault_of(alloc, with_channels(alloc, 65)?.as_str()),
-        Some(10)
+        Some(10),
     );
     Ok(())
 }
@@ -145,24 +158,26 @@ fn greatest_counts_are_read_and_copied(rt: HostRuntime) -> Result<(), Fail> {
     assert!(rt; config.partitions() == 32);
     assert!(rt; config.channels() == 64);
     for p in 0..32 {
-        assert_eq!(rt; config.ports(p), 32);
+        same(&rt, config.ports(p), 32);
     }
-    assert_eq!(rt; config.partition_name(31).text(), "P31");
+    same(&rt, config.partition_name(31).text(), "P31");
     let last = config
         .port(31, 32)
         .ok_or("the last partition has 32 ports")?;
-    assert_eq!(rt; last.name.text(), "P1023");
-    assert_eq!(rt; last.kind, PortKind::Sampling { refresh: 1023 });
-    assert_eq!(rt;
+    same(&rt, last.name.text(), "P1023");
+    same(&rt, last.kind, PortKind::Sampling { refresh: 1023 });
+    same(
+        &rt,
         (last.direction, last.channel),
-        (Direction::Destination, 63)
+        (Direction::Destination, 63),
     );
-    assert_eq!(rt;
+    same(
+        &rt,
         config.channel(31).kind,
-        ChannelKind::Queuing { depth: 512 }
+        ChannelKind::Queuing { depth: 512 },
     );
-    assert_eq!(rt; config.channel(63).kind, ChannelKind::Sampling);
+    same(&rt, config.channel(63).kind, ChannelKind::Sampling);
     let copy = config.copy()?;
-    assert!(rt; copy == config);
+    holds(&rt, copy == config);
     Ok(())
 }

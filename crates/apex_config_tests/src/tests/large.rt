@@ -1,5 +1,6 @@
 //! Large and hostile texts.
 use crate::tests::lines::{explained, number_of};
+use crate::tests::same::{holds, same};
 use std::alloc::Global;
 use std::test::Fail;
 
@@ -42,17 +43,17 @@ fn every_port_has_its_line(rt: HostRuntime) -> Result<(), Fail> {
     let alloc = rt.alloc();
     let mut text = with_ports(alloc)?;
     let unknown = explained(alloc, text.as_bytes())?;
-    assert_eq!(rt; lines_in(unknown.as_str()), 1024);
-    assert!(rt; is_plain(unknown.as_str()));
+    same(&rt, lines_in(unknown.as_str()), 1024);
+    holds(&rt, is_plain(unknown.as_str()));
     let last = "partition P31, port Q31: `channel` is \"C\"; it must be the name of a channel\n";
-    assert!(rt; unknown.as_str().ends_with(last));
+    holds(&rt, unknown.as_str().ends_with(last));
     text.push_str("[[channel]]\nname = \"C\"\nkind = \"queuing\"\nsize = 1\ndepth = 1\n")?;
-    assert_eq!(rt; number_of(alloc, text.as_bytes()), Some(8));
+    same(&rt, number_of(alloc, text.as_bytes()), Some(8));
     let sources = explained(alloc, text.as_bytes())?;
-    assert_eq!(rt; lines_in(sources.as_str()), 1024);
+    same(&rt, lines_in(sources.as_str()), 1024);
     let first =
         "partition P0, port Q0: it is one of 1024 source ports of channel C; there must be exactly 1\n";
-    assert!(rt; sources.as_str().starts_with(first));
+    holds(&rt, sources.as_str().starts_with(first));
     Ok(())
 }
 
@@ -72,7 +73,11 @@ fn long_names_are_cut(rt: HostRuntime) -> Result<(), Fail> {
     let line = format!(in alloc;
         "partition \"{shown}\"..: `name` is \"{shown}\"..; it must be 1 to 30 ASCII letters, digits and `_`\n"
     )?;
-    assert_eq!(rt; explained(alloc, text.as_bytes())?.as_str(), line.as_str());
+    same(
+        &rt,
+        explained(alloc, text.as_bytes())?.as_str(),
+        line.as_str(),
+    );
     Ok(())
 }
 
@@ -84,10 +89,10 @@ fn nesting_is_one_line(rt: HostRuntime) -> Result<(), Fail> {
     for _ in 0..200 {
         text.push('[')?;
     }
-    assert_eq!(rt; number_of(alloc, text.as_bytes()), Some(1));
+    same(&rt, number_of(alloc, text.as_bytes()), Some(1));
     let line = explained(alloc, text.as_bytes())?;
-    assert_eq!(rt; lines_in(line.as_str()), 1);
-    assert!(rt; line.as_str().starts_with("line 1, column "));
+    same(&rt, lines_in(line.as_str()), 1);
+    holds(&rt, line.as_str().starts_with("line 1, column "));
     Ok(())
 }
 
@@ -100,8 +105,8 @@ fn all_counts_have_their_lines(rt: HostRuntime) -> Result<(), Fail> {
         let heading = format!(in alloc; "[[partition]]\nname = \"P{partition}\"\n")?;
         text.push_str(heading.as_str())?;
     }
-    assert_eq!(rt; number_of(alloc, text.as_bytes()), Some(10));
+    same(&rt, number_of(alloc, text.as_bytes()), Some(10));
     let line = "configuration: it has 33 partitions; it must have 1 to 32\n";
-    assert_eq!(rt; explained(alloc, text.as_bytes())?.as_str(), line);
+    same(&rt, explained(alloc, text.as_bytes())?.as_str(), line);
     Ok(())
 }

@@ -1,5 +1,6 @@
 //! Configurations of as many bytes as a file may have: the greatest counts, and what fills each line behind its value.
 use crate::tests::counts::with_greatest_counts;
+use crate::tests::same::{holds, same};
 use apex_config::{Config, ConfigFault, Key, Part, Place, PortKind, Spot};
 use apex_refusals::config_mistakes;
 use std::alloc::{AllocError, Global};
@@ -43,7 +44,7 @@ fn filled(rt: &impl Abort, alloc: Global, text: &str, filler: char) -> Result<St
     }
     let rest = LARGEST.saturating_sub(filled.len());
     filled.push_str(filling(alloc, filler, rest)?.as_str())?;
-    assert_eq!(rt; filled.len(), LARGEST);
+    same(rt, filled.len(), LARGEST);
     Ok(filled)
 }
 
@@ -56,10 +57,10 @@ fn a_largest_configuration_is_read(rt: HostRuntime) -> Result<(), Fail> {
     for filler in ['#', ' ', '\n'] {
         let filled = filled(&rt, alloc, text.as_str(), filler)?;
         let config = Config::read(alloc, filled.as_bytes())?;
-        assert!(rt; config == wanted);
+        holds(&rt, config == wanted);
         let last = config.port(31, 32).ok_or("the last port")?;
-        assert_eq!(rt; last.name.text(), "P1023");
-        assert_eq!(rt; last.kind, PortKind::Sampling { refresh: 1023 });
+        same(&rt, last.name.text(), "P1023");
+        same(&rt, last.kind, PortKind::Sampling { refresh: 1023 });
     }
     Ok(())
 }
@@ -81,9 +82,9 @@ fn is_refused(
         panic!(rt; "{end} is accepted");
     };
     assert!(rt; refusal.fault == fault && refusal.places.len() == 1);
-    assert!(rt; refusal.places[0] == place);
+    holds(rt, refusal.places[0] == place);
     let mistakes = config_mistakes(alloc, "F", filled.as_bytes(), &refusal)?;
-    assert_eq!(rt; mistakes.as_str(), told);
+    same(rt, mistakes.as_str(), told);
     Ok(())
 }
 

@@ -1,4 +1,5 @@
 //! Texts of configurations with the lines that are wanted, which were worked out by hand.
+use crate::tests::same::{same, same_at, same_of_change};
 use crate::tests::texts::BASE;
 use apex_config::Config;
 use apex_refusals::refusal_lines;
@@ -206,16 +207,9 @@ fn changes_have_their_places(rt: HostRuntime) -> Result<(), Fail> {
     for (old, new, number, lines) in CHANGES {
         let (before, after) = BASE.split_once(old).ok_or("the base has no such text")?;
         let text = format!(in alloc; "{before}{new}{after}")?;
-        assert_eq!(rt;
-            number_of(alloc, text.as_bytes()),
-            Some(number),
-            "{old} as {new}"
-        );
-        assert_eq!(rt;
-            explained(alloc, text.as_bytes())?.as_str(),
-            lines,
-            "{old} as {new}"
-        );
+        let text = text.as_bytes();
+        same_of_change(&rt, number_of(alloc, text), Some(number), old, new);
+        same_of_change(&rt, explained(alloc, text)?.as_str(), lines, old, new);
     }
     Ok(())
 }
@@ -278,8 +272,8 @@ fn whole_texts_have_their_places(rt: HostRuntime) -> Result<(), Fail> {
         ),
     ];
     for (text, number, lines) in texts {
-        assert_eq!(rt; number_of(alloc, text), Some(number), "{lines}");
-        assert_eq!(rt; explained(alloc, text)?.as_str(), lines);
+        same_at(&rt, number_of(alloc, text), Some(number), lines);
+        same(&rt, explained(alloc, text)?.as_str(), lines);
     }
     Ok(())
 }
@@ -292,6 +286,10 @@ fn places_of_another_text(rt: HostRuntime) -> Result<(), Fail> {
     let Err(refusal) = Config::read_placed(alloc, text) else {
         return Err("the name stands twice".into());
     };
-    assert_eq!(rt; refusal_lines(alloc, b"partition = []", &refusal)?.len(), 0);
+    same(
+        &rt,
+        refusal_lines(alloc, b"partition = []", &refusal)?.len(),
+        0,
+    );
     Ok(())
 }

@@ -1,4 +1,5 @@
 //! Refused texts with the places that are wanted.
+use crate::tests::same::{holds, same};
 use apex_config::{Config, ConfigFault, Key, Part, Place, Spot};
 use std::alloc::Global;
 use std::test::Fail;
@@ -14,9 +15,9 @@ fn refused(alloc: Global, text: &[u8]) -> Result<(ConfigFault, Vec<Place>), Fail
 #[test]
 fn no_toml_is_one_place(rt: HostRuntime) -> Result<(), Fail> {
     let (fault, places) = refused(rt.alloc(), b"a")?;
-    assert_eq!(rt; fault, ConfigFault::NotToml);
-    assert_eq!(rt; places.len(), 1);
-    assert!(rt; places[0] == Part::Document.whole());
+    same(&rt, fault, ConfigFault::NotToml);
+    assert!(rt; places.len() == 1);
+    holds(&rt, places[0] == Part::Document.whole());
     Ok(())
 }
 
@@ -25,22 +26,23 @@ fn no_toml_is_one_place(rt: HostRuntime) -> Result<(), Fail> {
 fn form_has_all_its_places(rt: HostRuntime) -> Result<(), Fail> {
     let text = b"partition = [{ name = 'P', port = [1], a = 1 }]\nchannel = 2".as_slice();
     let (fault, places) = refused(rt.alloc(), text)?;
-    assert_eq!(rt; fault, ConfigFault::Shape);
-    assert_eq!(rt; places.len(), 3);
-    assert!(rt; places[0] == Part::Document.at(Key::Channel));
+    same(&rt, fault, ConfigFault::Shape);
+    assert!(rt; places.len() == 3);
+    holds(&rt, places[0] == Part::Document.at(Key::Channel));
     let partition = Part::Partition { partition: 0 };
     let spot = Spot::Unknown { number: 0 };
-    assert!(rt;
+    holds(
+        &rt,
         places[1]
             == Place {
                 part: partition,
-                spot
-            }
+                spot,
+            },
     );
     let part = Part::Port {
         partition: 0,
         port: 0,
     };
-    assert!(rt; places[2] == part.whole());
+    holds(&rt, places[2] == part.whole());
     Ok(())
 }

@@ -3,6 +3,7 @@ ghost use Rattle.std.specs.Prelude.{◌≡◌, Some, IfOk, length, option_map};
 ghost use Rattle.apex_texts.specs.Arguments.{value_of};
 ghost use Rattle.apex_texts.specs.Script.{script_of};
 
+use crate::tests::same::same;
 use apex_texts::{TraceFault, read_script};
 use std::alloc::Global;
 use std::test::Fail;
@@ -18,6 +19,6 @@ fn count_calls(alloc: Global, text: &[u8]) -> Result<usize, TraceFault>
 
 #[test]
 fn calls_of_a_script_are_counted(rt: HostRuntime) -> Result<(), Fail> {
-    assert_eq!(rt; count_calls(rt.alloc(), b"1 mode 3\n2 receive 1\n")?, 2);
+    same(&rt, count_calls(rt.alloc(), b"1 mode 3\n2 receive 1\n")?, 2);
     Ok(())
 }

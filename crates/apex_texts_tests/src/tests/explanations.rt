@@ -1,5 +1,6 @@
 //! Explanations of traces.
 use super::texts::MODULE;
+use crate::tests::same::same;
 use apex_config::Config;
 use apex_explanations::explain_trace;
 use apex_texts::TraceFault;
@@ -17,8 +18,8 @@ fn explains<R: Abort + AllocGlobal>(
     let alloc: Global = rt.alloc();
     let config = Config::read(alloc, MODULE)?;
     let told = explain_trace(alloc, config, trace)?;
-    assert_eq!(rt; told.text.as_slice(), wanted);
-    assert_eq!(rt; told.fault, fault);
+    same(rt, told.text.as_slice(), wanted);
+    same(rt, told.fault, fault);
     Ok(())
 }
 

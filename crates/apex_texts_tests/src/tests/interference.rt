@@ -1,4 +1,5 @@
 //! A module of six partitions in two groups that share no channel.
+use crate::tests::same::same;
 use apex_texts::replay_text;
 use std::alloc::{AllocError, Global};
 use std::test::Fail;
@@ -152,7 +153,7 @@ fn report(alloc: Global, cabin: &[&str], times: usize) -> Result<(String, String
 #[test]
 fn the_cabin_does_not_interfere_with_the_flight(rt: HostRuntime) -> Result<(), Fail> {
     let (alone, _) = report(rt.alloc(), &[], 1)?;
-    assert_eq!(rt; alone.as_str(), FLIGHT_REPORT);
+    same(&rt, alone.as_str(), FLIGHT_REPORT);
     let nothing = "ORD accepted 0 received 0 waiting 0\nLUM empty\n";
     for (cabin, times, channels) in [
         (
@@ -169,8 +170,8 @@ fn the_cabin_does_not_interfere_with_the_flight(rt: HostRuntime) -> Result<(), F
         (&CABIN_IDLE[..], 1, nothing),
     ] {
         let (flight, of_cabin) = report(rt.alloc(), cabin, times)?;
-        assert_eq!(rt; of_cabin.as_str(), channels);
-        assert_eq!(rt; flight.as_str(), alone.as_str());
+        same(&rt, of_cabin.as_str(), channels);
+        same(&rt, flight.as_str(), alone.as_str());
     }
     Ok(())
 }

@@ -1,4 +1,5 @@
 //! Texts of as many bytes as a file may have: rounds of a send and a receive, whose message is the round's number.
+use crate::tests::same::{holds, same};
 use apex_config::Config;
 use apex_explanations::explain_trace;
 use apex_texts::{read_script, read_trace, replay_text};
@@ -126,7 +127,7 @@ fn largest_trace(rt: &impl Abort, alloc: Global, form: Form) -> Result<(String, 
         text.push('\n')?;
     }
     let rounds = form.fill(alloc, &mut text)?;
-    assert_eq!(rt; text.len(), LARGEST);
+    same(rt, text.len(), LARGEST);
     Ok((text, rounds))
 }
 
@@ -160,11 +161,11 @@ fn reads_trace(rt: &impl Abort, alloc: Global, form: Form) -> Result<(), Fail> {
     let requests = read_trace(alloc, &config, text.as_bytes())?;
     let mut number = 0u32;
     for request in requests.iter().skip(OPENING.len()) {
-        assert_eq!(rt; request.partition, (number % 2) as usize);
+        same(rt, request.partition, (number % 2) as usize);
         is_call_of(rt, alloc, form, number, request.at, &request.call)?;
         number = number.wrapping_add(1);
     }
-    assert_eq!(rt; number / 2, rounds);
+    same(rt, number / 2, rounds);
     Ok(())
 }
 
@@ -183,14 +184,14 @@ fn a_largest_script_is_read(rt: HostRuntime) -> Result<(), Fail> {
     let form = script_of(16);
     let mut text = String::with_capacity(alloc, LARGEST)?;
     let rounds = form.fill(alloc, &mut text)?;
-    assert_eq!(rt; text.len(), LARGEST);
+    same(&rt, text.len(), LARGEST);
     let script = read_script(alloc, text.as_bytes())?;
     let mut number = 0u32;
     for (at, call) in script.calls.iter() {
         is_call_of(&rt, alloc, form, number, *at, call)?;
         number = number.wrapping_add(1);
     }
-    assert_eq!(rt; number / 2, rounds);
+    same(&rt, number / 2, rounds);
     Ok(())
 }
 
@@ -239,7 +240,7 @@ fn a_largest_trace_is_replayed(rt: HostRuntime) -> Result<(), Fail> {
         wanted.push_str(round_report(alloc, form, round)?.as_str())?;
     }
     wanted.push_str(totals(alloc, rounds)?.as_str())?;
-    assert!(rt; report.as_str() == wanted.as_str());
+    holds(&rt, report.as_str() == wanted.as_str());
     Ok(())
 }
 
@@ -279,6 +280,9 @@ fn a_largest_trace_is_explained(rt: HostRuntime) -> Result<(), Fail> {
     for round in 0..rounds {
         wanted.push_str(remark(alloc, round)?.as_str())?;
     }
-    assert!(rt; told.fault.is_none() && told.text.as_slice() == wanted.as_str().as_bytes());
+    holds(
+        &rt,
+        told.fault.is_none() && told.text.as_slice() == wanted.as_str().as_bytes(),
+    );
     Ok(())
 }

@@ -1,6 +1,7 @@
 //! Faults in texts of as many bytes as a file may have, each of 1,048,576 lines of 16 bytes.
 use super::largest::LARGEST;
 use super::texts::BASE;
+use crate::tests::same::{holds, same};
 use apex_config::Config;
 use apex_explanations::explain_trace;
 use apex_line_faults::{
@@ -33,7 +34,7 @@ fn text_of(
         text.push_str(if number % 2 == 0 { even } else { odd })?;
     }
     text.push_str(last)?;
-    assert_eq!(rt; text.len(), LARGEST);
+    same(rt, text.len(), LARGEST);
     Ok(text)
 }
 
@@ -58,17 +59,21 @@ fn the_last_line_of_a_largest_trace(rt: HostRuntime) -> Result<(), Fail> {
         fault: 6,
     };
     let found = find_trace_fault(&config, text.as_bytes());
-    assert_eq!(rt; found, Some(place(LINES as usize, 3)));
-    assert_eq!(rt;
+    same(&rt, found, Some(place(LINES as usize, 3)));
+    same(
+        &rt,
         read_trace(alloc, &config, text.as_bytes()).err(),
-        Some(fault)
+        Some(fault),
     );
     let replayed = replay_text(alloc, BASE.as_bytes(), text.as_bytes()).err();
-    assert_eq!(rt; replayed, Some(Fault::Trace(fault)));
+    same(&rt, &replayed, &Some(Fault::Trace(fault)));
     let told = explain_trace(alloc, config, text.as_bytes())?;
     let behind = " -> line 1048576 fault 6: unknown call\n";
     let wanted = format!(in alloc; "{}{behind}", text.as_str().trim_end())?;
-    assert!(rt; told.fault == Some(fault) && told.text.as_slice() == wanted.as_str().as_bytes());
+    holds(
+        &rt,
+        told.fault == Some(fault) && told.text.as_slice() == wanted.as_str().as_bytes(),
+    );
     Ok(())
 }
 
@@ -81,19 +86,19 @@ fn the_last_line_of_a_largest_script(rt: HostRuntime) -> Result<(), Fail> {
         fault: 6,
     };
     let found = find_script_fault(text.as_bytes());
-    assert_eq!(rt; found, Some(place(LINES as usize, 2)));
-    assert_eq!(rt; read_script(alloc, text.as_bytes()).err(), Some(fault));
+    same(&rt, found, Some(place(LINES as usize, 2)));
+    same(&rt, read_script(alloc, text.as_bytes()).err(), Some(fault));
     Ok(())
 }
 
 // Each second line is faulty, from the second on.
 fn are_even_lines(rt: &impl Abort, found: &FaultyLines, word: usize) {
-    assert_eq!(rt; found.count, LINES as usize / 2);
-    assert_eq!(rt; found.first.len(), LINES as usize / 2);
+    same(rt, found.count, LINES as usize / 2);
+    same(rt, found.first.len(), LINES as usize / 2);
     let mut line = 0usize;
     for one in found.first.as_slice() {
         line = line.wrapping_add(2);
-        assert!(rt; *one == place(line, word));
+        holds(rt, *one == place(line, word));
     }
 }
 

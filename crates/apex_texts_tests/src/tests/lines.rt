@@ -1,5 +1,6 @@
 //! Lines of a trace that are read, and lines that are refused.
 use super::texts::{BASE, REDUCED};
+use crate::tests::same::{same, same_at};
 use apex_config::Config;
 use apex_texts::{TraceFault, read_trace};
 use std::alloc::Global;
@@ -43,10 +44,10 @@ fn each_fault_alone_and_as_a_third_line(rt: HostRuntime) -> Result<(), Fail> {
     let config = Config::read(alloc, REDUCED.as_bytes())?;
     for (line, fault) in FAULTY {
         let alone = outcome(alloc, &config, line.as_bytes());
-        assert_eq!(rt; alone, Err(TraceFault::Line { line: 1, fault }), "{line}");
+        same_at(&rt, alone, Err(TraceFault::Line { line: 1, fault }), line);
         let text = format!(in alloc; "1 FMS mode 3\n\n{line}\n20 FMX sned\n")?;
         let third = outcome(alloc, &config, text.as_bytes());
-        assert_eq!(rt; third, Err(TraceFault::Line { line: 3, fault }), "{line}");
+        same_at(&rt, third, Err(TraceFault::Line { line: 3, fault }), line);
     }
     Ok(())
 }
@@ -77,22 +78,24 @@ fn blanks_comments_and_line_ends(rt: HostRuntime) -> Result<(), Fail> {
     let alloc = rt.alloc();
     let config = Config::read(alloc, BASE.as_bytes())?;
     for (text, requests) in READ {
-        assert_eq!(rt;
+        same_at(
+            &rt,
             outcome(alloc, &config, text.as_bytes()),
             Ok(requests),
-            "{text}"
+            text,
         );
     }
     for text in ["5 FMS receive 1\r\r\n", "5 FMS receive 1\r"] {
         let fault = TraceFault::Line { line: 1, fault: 7 };
-        assert_eq!(rt;
+        same_at(
+            &rt,
             outcome(alloc, &config, text.as_bytes()),
             Err(fault),
-            "{text}"
+            text,
         );
     }
     let zero = outcome(alloc, &config, b"5 FMS send 1 0a\0");
-    assert_eq!(rt; zero, Err(TraceFault::Line { line: 1, fault: 9 }));
+    same(&rt, zero, Err(TraceFault::Line { line: 1, fault: 9 }));
     Ok(())
 }
 
@@ -114,7 +117,7 @@ fn long_outcome<R: Abort + AllocGlobal>(
 ) -> Result<(), Fail> {
     let config = Config::read(rt.alloc(), BASE.as_bytes())?;
     let text = long_text(rt.alloc(), start, byte, count)?;
-    assert_eq!(rt; outcome(rt.alloc(), &config, text.as_slice()), expected);
+    same(rt, outcome(rt.alloc(), &config, text.as_slice()), expected);
     Ok(())
 }
 

@@ -1,5 +1,6 @@
 //! A trace of a hundred thousand lines.
 use super::texts::REDUCED;
+use crate::tests::same::holds;
 use apex_texts::replay_text;
 use std::alloc::{AllocError, Global};
 use std::test::Fail;
@@ -56,8 +57,8 @@ fn hundred_thousand_calls(rt: HostRuntime) -> Result<(), Fail> {
     let trace = trace(rt.alloc())?;
     let wanted = report(rt.alloc())?;
     match replay_text(rt.alloc(), REDUCED.as_bytes(), trace.as_str().as_bytes()) {
-        Ok(text) => assert!(rt; text.as_str() == wanted.as_str()),
-        Err(_) => assert!(rt; false),
+        Ok(text) => holds(&rt, text.as_str() == wanted.as_str()),
+        Err(_) => holds(&rt, false),
     }
     Ok(())
 }

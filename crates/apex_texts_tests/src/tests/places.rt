@@ -1,5 +1,6 @@
 //! Where the faults of traces and scripts stand, and what is expected there.
 use super::texts::BASE;
+use crate::tests::same::{same, same_at};
 use apex_config::Config;
 use apex_line_faults::{
     LinePlace, find_script_fault, find_trace_fault, script_faults, trace_faults,
@@ -234,7 +235,7 @@ fn each_fault_of_a_line_has_its_place(rt: HostRuntime) -> Result<(), Fail> {
     let config = Config::read(rt.alloc(), BASE.as_bytes())?;
     for row in TRACE_LINES {
         let found = find_trace_fault(&config, row.0.as_bytes());
-        assert_eq!(rt; found, Some(place_of(1, row)), "{}", row.0);
+        same_at(&rt, found, Some(place_of(1, row)), row.0);
     }
     Ok(())
 }
@@ -245,7 +246,7 @@ fn each_faulty_argument_has_its_place(rt: HostRuntime) -> Result<(), Fail> {
     for row in ARGUMENTS {
         let text = format!(in rt.alloc(); "1 FMS mode 3\r\n\n{}\r\n20 FMX\n", row.0)?;
         let found = find_trace_fault(&config, text.as_bytes());
-        assert_eq!(rt; found, Some(place_of(3, row)), "{}", row.0);
+        same_at(&rt, found, Some(place_of(3, row)), row.0);
     }
     Ok(())
 }
@@ -255,7 +256,7 @@ fn each_fault_of_a_script_has_its_place(rt: HostRuntime) -> Result<(), Fail> {
     for row in SCRIPT_LINES {
         let text = format!(in rt.alloc(); "# mode\n1 mode 3\n{}\nx\n", row.0)?;
         let found = find_script_fault(text.as_bytes());
-        assert_eq!(rt; found, Some(place_of(3, row)), "{}", row.0);
+        same_at(&rt, found, Some(place_of(3, row)), row.0);
     }
     Ok(())
 }
@@ -273,8 +274,8 @@ fn all_faulty_lines_are_counted(rt: HostRuntime) -> Result<(), Fail> {
     ];
     for (most, kept) in [(0, 0), (2, 2), (3, 3), (usize::MAX, 3)] {
         let found = trace_faults(rt.alloc(), &config, MIXED.as_bytes(), most)?;
-        assert_eq!(rt; found.count, 3);
-        assert_eq!(rt; found.first.as_slice(), &places[..kept]);
+        same(&rt, found.count, 3);
+        same(&rt, found.first.as_slice(), &places[..kept]);
     }
     Ok(())
 }
@@ -283,18 +284,18 @@ fn all_faulty_lines_are_counted(rt: HostRuntime) -> Result<(), Fail> {
 fn all_faulty_lines_of_a_script_are_counted(rt: HostRuntime) -> Result<(), Fail> {
     let found = script_faults(rt.alloc(), b"1 mode 3\n2 mode\n# x\nx mode 3", 1)?;
     let place = place_of(2, ("", LineFault::TooFewWords, 3, 7, Expected::Mode));
-    assert_eq!(rt; found.count, 2);
-    assert_eq!(rt; found.first.as_slice(), [place].as_slice());
+    same(&rt, found.count, 2);
+    same(&rt, found.first.as_slice(), [place].as_slice());
     Ok(())
 }
 
 #[test]
 fn a_text_that_is_read_has_no_faulty_line(rt: HostRuntime) -> Result<(), Fail> {
     let config = Config::read(rt.alloc(), BASE.as_bytes())?;
-    assert_eq!(rt; find_trace_fault(&config, b"# x\n\n1 FMS mode 3"), None);
-    assert_eq!(rt; find_script_fault(b"1 send 1 -\r\n"), None);
-    assert_eq!(rt; trace_faults(rt.alloc(), &config, b"", 5)?.count, 0);
-    assert_eq!(rt; script_faults(rt.alloc(), b"\n", 5)?.count, 0);
+    same(&rt, find_trace_fault(&config, b"# x\n\n1 FMS mode 3"), None);
+    same(&rt, find_script_fault(b"1 send 1 -\r\n"), None);
+    same(&rt, trace_faults(rt.alloc(), &config, b"", 5)?.count, 0);
+    same(&rt, script_faults(rt.alloc(), b"\n", 5)?.count, 0);
     Ok(())
 }
 
@@ -306,10 +307,11 @@ fn the_services_are_listed_by_their_words(rt: HostRuntime) -> Result<(), Fail> {
         words.push_str(service.word())?;
         words.push_str(" ")?;
     }
-    assert_eq!(rt;
+    same(
+        &rt,
         words.as_str(),
         "create-sampling write read sampling-id sampling-status create-queuing send receive \
-         queuing-id queuing-status clear mode "
+         queuing-id queuing-status clear mode ",
     );
     Ok(())
 }

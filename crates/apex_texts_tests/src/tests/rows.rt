@@ -1,5 +1,6 @@
 //! The words of each row of the reply table, beside the calls that get it.
 use super::texts::MODULE;
+use crate::tests::same::{holds, same};
 use apex_config::Config;
 use apex_explanations::explain_trace;
 use apex_ports::Row;
@@ -46,7 +47,7 @@ fn answers<R: Abort + AllocGlobal>(rt: &R, module: &[u8], lines: &str) -> Result
     }
     let config = Config::read(alloc, module)?;
     let told = explain_trace(alloc, config, trace.as_bytes())?;
-    assert!(rt; told.text.starts_with(lines.as_bytes()));
+    holds(rt, told.text.starts_with(lines.as_bytes()));
     Ok(())
 }
 
@@ -154,7 +155,7 @@ fn the_rows_of_a_service_stand_in_their_order(rt: HostRuntime) -> Result<(), Fai
     let alloc: Global = rt.alloc();
     let mut text = String::new(alloc);
     push_service_rows(&mut text, Service::SendQueuing)?;
-    assert_eq!(&rt; text.as_str(), SEND_ROWS);
+    same(&rt, text.as_str(), SEND_ROWS);
     Ok(())
 }
 
@@ -164,13 +165,13 @@ fn the_table_has_every_service(rt: HostRuntime) -> Result<(), Fail> {
     let mut text = String::new(alloc);
     push_rows(&mut text)?;
     for service in SERVICES.as_slice() {
-        assert!(&rt; text.as_str().contains(standard_name(*service)));
+        holds(&rt, text.as_str().contains(standard_name(*service)));
     }
     Ok(())
 }
 
 #[test]
 fn a_row_has_a_name(rt: HostRuntime) -> Result<(), Fail> {
-    assert_eq!(&rt; row_name(Row::Sent), "sent");
+    same(&rt, row_name(Row::Sent), "sent");
     Ok(())
 }

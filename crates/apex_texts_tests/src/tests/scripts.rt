@@ -1,4 +1,5 @@
 //! Scripts that are read, and lines of scripts that are refused.
+use crate::tests::same::{same, same_at};
 use apex_texts::{TraceFault, read_script};
 use apex_types::{Call, Message, Moment, Name};
 use std::test::Fail;
@@ -29,10 +30,10 @@ fn each_fault_of_a_script_alone_and_as_a_third_line(rt: HostRuntime) -> Result<(
     let alloc = rt.alloc();
     for (line, fault) in FAULTY {
         let alone = read_script(alloc, line.as_bytes()).err();
-        assert_eq!(rt; alone, Some(TraceFault::Line { line: 1, fault }), "{line}");
+        same_at(&rt, alone, Some(TraceFault::Line { line: 1, fault }), line);
         let text = format!(in alloc; "1 mode 3\n\n{line}\n20 sned\n")?;
         let third = read_script(alloc, text.as_bytes()).err();
-        assert_eq!(rt; third, Some(TraceFault::Line { line: 3, fault }), "{line}");
+        same_at(&rt, third, Some(TraceFault::Line { line: 3, fault }), line);
     }
     Ok(())
 }
@@ -82,7 +83,7 @@ fn calls_of_a_script_with_their_moments(rt: HostRuntime) -> Result<(), Fail> {
             },
         ),
     ];
-    assert_eq!(rt; script.calls.as_slice(), calls.as_slice());
-    assert_eq!(rt; read_script(rt.alloc(), b"")?.calls.len(), 0);
+    same(&rt, script.calls.as_slice(), calls.as_slice());
+    same(&rt, read_script(rt.alloc(), b"")?.calls.len(), 0);
     Ok(())
 }

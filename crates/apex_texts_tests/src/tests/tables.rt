@@ -1,5 +1,6 @@
 //! Tables of ports.
 use super::texts::MODULE;
+use crate::tests::same::same;
 use apex_config::Config;
 use apex_explanations::port_table;
 use std::process::Abort;
@@ -9,7 +10,8 @@ use std::test::Fail;
 fn a_port_has_all_its_partners(rt: HostRuntime) -> Result<(), Fail> {
     let config = Config::read(rt.alloc(), MODULE)?;
     let table = port_table(rt.alloc(), &config)?;
-    assert_eq!(rt;
+    same(
+        &rt,
         table.as_str(),
         "partition FMS
   1 NAV_OUT queuing source NAV size 4 depth 2 to DSP.NAV_IN
@@ -20,7 +22,7 @@ partition DSP
 partition IDLE_ONE
 partition AIR
   1 ALT_OUT sampling source ALT size 8 refresh 10 to FMS.ALT_IN DSP.ALT_IN
-"
+",
     );
     Ok(())
 }

@@ -1,4 +1,5 @@
 //! The configurations of the worked examples and of the explanations, and what compares a replay with its report.
+use crate::tests::same::same;
 use apex_texts::replay_text;
 use std::process::Abort;
 use std::test::Fail;
@@ -115,7 +116,7 @@ pub fn shows<R: Abort + AllocGlobal>(
     report: &str,
 ) -> Result<(), Fail> {
     let text = replay_text(rt.alloc(), config.as_bytes(), calls.as_bytes())?;
-    assert_eq!(rt; text.as_str(), report);
+    same(rt, text.as_str(), report);
     Ok(())
 }
 

@@ -1,4 +1,5 @@
 //! The printed words of every fault.
+use crate::tests::same::same;
 use apex_config::ConfigFault;
 use apex_ports::RunFault;
 use apex_texts::{Fault, LineFault, TraceFault};
@@ -21,16 +22,16 @@ const LINE_FAULTS: [(u32, LineFault, &str); 9] = [
 #[test]
 fn faults_of_a_line(rt: HostRuntime) -> Result<(), Fail> {
     for (number, fault, words) in LINE_FAULTS {
-        assert_eq!(rt; fault.number(), number);
+        same(&rt, fault.number(), number);
         let printed = format!(in rt.alloc(); "{fault}")?;
-        assert_eq!(rt; printed.as_str(), words);
+        same(&rt, printed.as_str(), words);
         let refused = Fault::from(TraceFault::Line {
             line: 41,
             fault: number,
         });
         let printed = format!(in rt.alloc(); "{refused}")?;
         let line = format!(in rt.alloc(); "trace line 41 fault {number}: {words}")?;
-        assert_eq!(rt; printed.as_str(), line.as_str());
+        same(&rt, printed.as_str(), line.as_str());
     }
     Ok(())
 }
@@ -81,10 +82,10 @@ const CONFIG_FAULTS: [(ConfigFault, &str, &str); 10] = [
 fn faults_of_a_configuration(rt: HostRuntime) -> Result<(), Fail> {
     for (fault, words, line) in CONFIG_FAULTS {
         let printed = format!(in rt.alloc(); "{fault}")?;
-        assert_eq!(rt; printed.as_bytes(), words.as_bytes());
+        same(&rt, printed.as_bytes(), words.as_bytes());
         let refused = Fault::from(fault);
         let printed = format!(in rt.alloc(); "{refused}")?;
-        assert_eq!(rt; printed.as_bytes(), line.as_bytes());
+        same(&rt, printed.as_bytes(), line.as_bytes());
     }
     Ok(())
 }
@@ -100,11 +101,11 @@ fn want_of_memory_has_one_line(rt: HostRuntime) -> Result<(), Fail> {
     ];
     for fault in faults {
         let printed = format!(in rt.alloc(); "{fault}")?;
-        assert_eq!(rt; printed.as_str(), "out of memory");
+        same(&rt, printed.as_str(), "out of memory");
     }
     let refused = OutOfMemory;
     let printed = format!(in rt.alloc(); "{refused}")?;
-    assert_eq!(rt; printed.as_str(), "out of memory");
+    same(&rt, printed.as_str(), "out of memory");
     Ok(())
 }
 
@@ -118,7 +119,7 @@ fn faults_of_a_script(rt: HostRuntime) -> Result<(), Fail> {
         };
         let printed = format!(in rt.alloc(); "{}", Fault::Script { partition, fault })?;
         let line = format!(in rt.alloc(); "script DSP line 41 fault {number}: {words}")?;
-        assert_eq!(rt; printed.as_str(), line.as_str());
+        same(&rt, printed.as_str(), line.as_str());
     }
     Ok(())
 }
@@ -143,7 +144,7 @@ fn faults_of_a_run(rt: HostRuntime) -> Result<(), Fail> {
         (Fault::Gone, "observer gone"),
     ] {
         let printed = format!(in rt.alloc(); "{fault}")?;
-        assert_eq!(rt; printed.as_str(), line);
+        same(&rt, printed.as_str(), line);
     }
     Ok(())
 }

@@ -1,13 +1,11 @@
 use Rattle.std.proofs.Common.{◌≡◌, ◌+◌, ◌++◌, ◌∷◌, [], List, ℕ, take, sym, ap, ◌∙◌, subst}
 use Rattle.std.proofs.lemmas.List.{take_more}
 use Rattle.std.proofs.lemmas.Bool.{false≢true}
-use Rattle.apex_config.specs.Configuration.{Configuration}
-use Rattle.apex_ports.specs.History.{History}
 use Rattle.apex_orders.specs.Orders.{history_of}
 use Rattle.apex_orders.specs.Searching.{HasMadeAll, AreEndsOf}
 use Rattle.apex_orders.proofs.EndLemmas.{one_end, no_end}
 use Rattle.apex_orders.proofs.outcomes.ends_of.Goals as goal
-use Rattle.apex_orders.proofs.outcomes.ends_of.Goals.{then-has_made_all+in_ok-end+in_ok-push, else-has_made_all}
+use Rattle.apex_orders.proofs.outcomes.ends_of.Goals.{then-branch+in_ok-end+in_ok-push, else-branch}
 
 pub loop-order-preserved : goal.loop-order-preserved
 loop-order-preserved c =
@@ -18,19 +16,17 @@ loop-order-preserved c =
     let item = c.order-item.result in
     let longer : take (i + 1) orders ≡ take i orders ++ item ∷ [] =
     take_more orders i item c.loop-order-test.true ∙ ap (λ (o : List ℕ). take i orders ++ o ∷ []) (sym c.order-item.is) in
-    elim c.if-has_made_all.branch [
-      | then-has_made_all+in_ok-end+in_ok-push w ↦
-          let made : HasMadeAll config scripts (history_of config scripts item) =
-          subst (λ (x : Configuration × History). HasMadeAll x.0 scripts x.1) (λ j. (c.in_ok-ports.ensures.config j, c.in_ok-ports.ensures.history j)) (c.has_made_all.ensures.0 w.if-has_made_all.true) in
-          let pushed : c.if-has_made_all.ends.items ≡ c.loop-order.ends.items ++ item ∷ [] =
+    elim c.if-branch.branch [
+      | then-branch+in_ok-end+in_ok-push w ↦
+          let made : HasMadeAll config scripts (history_of config scripts item) = c.in_ok-is_end.ensures.0 w.if-branch.true in
+          let pushed : c.if-branch.ends.items ≡ c.loop-order.ends.items ++ item ∷ [] =
           ap (λ v. v.items) w.ends-is ∙ (w.in_ok-push.ensures.items ∙ ap (λ (o : List ℕ). c.loop-order.ends.items ++ o ∷ []) w.in_ok-end.ensures) in
           subst (λ (x : List (List ℕ) × List (List ℕ)). AreEndsOf config scripts x.0 x.1) (λ j. (sym longer j, sym pushed j))
           (one_end config scripts (take i orders) c.loop-order.ends.items item c.loop-order.invariant made)
-      | else-has_made_all w ↦
+      | else-branch w ↦
           let unfinished : HasMadeAll config scripts (history_of config scripts item) → ⊥ =
-          λ made. false≢true (sym w.if-has_made_all.false ∙ c.has_made_all.ensures.1
-          (subst (λ (x : Configuration × History). HasMadeAll x.0 scripts x.1) (λ j. (sym c.in_ok-ports.ensures.config j, sym c.in_ok-ports.ensures.history j)) made)) in
-          let kept : c.if-has_made_all.ends.items ≡ c.loop-order.ends.items = ap (λ v. v.items) w.ends-is in
+          λ made. false≢true (sym w.if-branch.false ∙ c.in_ok-is_end.ensures.1 made) in
+          let kept : c.if-branch.ends.items ≡ c.loop-order.ends.items = ap (λ v. v.items) w.ends-is in
           subst (λ (x : List (List ℕ) × List (List ℕ)). AreEndsOf config scripts x.0 x.1) (λ j. (sym longer j, sym kept j))
           (no_end config scripts (take i orders) c.loop-order.ends.items item c.loop-order.invariant unfinished)
     ]

@@ -1,6 +1,6 @@
 use Rattle.std.proofs.Common.{ℕ, ◌<◌, ◌≤◌, ◌+◌, ◌-◌, []}
 use Rattle.apex_orders.specs.Possibles.{Has}
-use Rattle.apex_orders.specs.Marks.{AreMarked}
+use Rattle.apex_orders.specs.Known.{ArePoints, IsTrialOf}
 use Rattle.apex_orders.specs.Searching.{AreOrders, AreApart, AreFound, HasTried}
 use Rattle.apex_orders.proofs.search.search.Given as goal
 
@@ -10,9 +10,10 @@ invariant-loop-i l = record {
   first : Has l.orders.items [];
   valid : AreOrders l.config l.orders.items;
   apart : AreApart l.config l.scripts l.orders.items;
-  marked : AreMarked l.config l.scripts l.orders.items l.marks;
-  found : AreFound l.config l.scripts l.replies.items;
-  tried : (k : ℕ) → k < l.i → HasTried l.config l.scripts l.orders.items l.replies.items k;
+  points : ArePoints l.config l.scripts l.orders.items l.points;
+  trial : IsTrialOf l.config l.trial;
+  found : AreFound l.config l.scripts l.replies;
+  tried : (k : ℕ) → k < l.i → HasTried l.config l.scripts l.orders.items l.replies k;
 }
 
 abbrev pub decreases-loop-i : goal.decreases-loop-i

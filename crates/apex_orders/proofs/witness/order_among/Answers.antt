@@ -33,5 +33,5 @@ returns-then-branch c =
     let i = c.loop-order.order-index in
     let item = c.order-item.result in
     let at : slice_get orders i ≡ Some item = place_of orders i item c.loop-order-test.true c.order-item.is in
-    subst (IsGivenBy config scripts one) (sym c.in_ok-longer.ensures)
+    subst (IsGivenBy config scripts one) (sym (c.in_ok-given.ensures ∙ c.in_ok-longer.ensures))
     (longer_gives config scripts c.partitions.ensures.valid item one (c.requires.orders i item at) (c.in_ok-gives.ensures.0 c.if-branch.true))

@@ -1,0 +1,6 @@
+use Rattle.std.proofs.Common.{take}
+use Rattle.apex_ports.specs.WithoutClears.{HasNoClear}
+use Rattle.apex_log_orders.proofs.stuck.has_no_clear.Given as goal
+
+abbrev pub invariant-loop-entry : goal.invariant-loop-entry
+invariant-loop-entry l = HasNoClear (take l.entry-index l.entry-items)

@@ -1,0 +1,159 @@
+//! The known points: their marks, and what the ports were at those that the search has yet to go on from.
+ghost use Rattle.std.specs.Prelude.{◌≡◌, ◌-◌, ◌<◌, ◌≤◌, ◌↔◌, ◌++◌, [], ◌∷◌, ℕ, List, length, IfOk, OnOk, IfSome, MatchOption, IsTrue, slice_get, Some};
+ghost use Rattle.apex_ports.specs.Sound.{IsSound};
+ghost use Rattle.apex_orders.specs.Known.{ArePoints, IsAfter, IsTrialOf, IsLeft, IsTaken};
+ghost use Rattle.apex_orders.specs.Marks.{mark_of};
+ghost use Rattle.apex_orders.specs.Orders.{Scripts, IsOrder, history_of};
+ghost use Rattle.apex_orders.specs.Points.{IsSamePoint};
+ghost use Rattle.apex_orders.specs.Searching.{Knows, AreOrders};
+
+use crate::mark::mark_of;
+use crate::marks::Marks;
+use crate::order::PackedOrder;
+use crate::point::is_same_point;
+use crate::replay::replay;
+use crate::trial::Trial;
+use apex_config::Config;
+use apex_ports::{Ports, SavedPorts, Script};
+use apex_types::OutOfMemory;
+use std::alloc::Global;
+use std::collections::VecDeque;
+
+/// How many buckets the marks of points have: a prime.
+const BUCKETS: usize = 131_071;
+
+/// The marks of all known points, and what the ports were at those from the place `first` on.
+#[derive(Drop)]
+pub(crate) struct Points {
+    pub(crate) marks: Marks,
+    pub(crate) first: usize,
+    pub(crate) saved: VecDeque<SavedPorts>,
+}
+
+impl Points {
+    /// The point before the first call alone.
+    pub(crate) fn new(alloc: Global, config: &Config) -> Result<Points, OutOfMemory>
+        ensures first { IfOk result (λ points. points.first ≡ 0) }
+        ensures points { IfOk result (λ points. (scripts : Scripts) →
+            ArePoints config.now scripts ([] ∷ []) points) }
+    {
+        let ports = Ports::new(alloc, config.copy()?)?;
+        let mut marks = Marks::new(alloc, BUCKETS)?;
+        marks.push(mark_of(&ports))?;
+        let mut saved = VecDeque::new(alloc);
+        saved.push_back(ports.save(alloc)?)?;
+        Ok(Points {
+            marks,
+            first: 0,
+            saved,
+        })
+    }
+
+    /// Takes out what the ports were at the place, where that is the first of which it is saved.
+    pub(crate) fn take(&mut self, k: usize) -> Option<SavedPorts>
+        requires { k < usize.MAX }
+        ensures { MatchOption result (IsLeft self.old self.new)
+            (λ ports. IsTaken self.old self.new k ports) }
+    {
+        if k != self.first {
+            return None;
+        }
+        match self.saved.pop_front() {
+            None => None,
+            Some(ports) => {
+                self.first += 1;
+                Some(ports)
+            }
+        }
+    }
+
+    /// One point more.
+    pub(crate) fn push(
+        &mut self,
+        alloc: Global,
+        ports: &Ports,
+        mark: u64,
+    ) -> Result<(), OutOfMemory>
+        ensures first { self.new.first ≡ self.old.first }
+        ensures marks { OnOk result (self.new.marks ≡ self.old.marks ++ mark ∷ []) }
+        ensures saved { OnOk result (self.new.saved.items ≡ self.old.saved.items ++ ports.now ∷ []) }
+    {
+        self.marks.push(mark)?;
+        self.saved.push_back(ports.save(alloc)?)?;
+        Ok(())
+    }
+
+    /// What the ports were at the place, where it is saved.
+    fn saved_at(&self, k: usize) -> Option<&SavedPorts>
+        ensures place { IfSome result (λ _. self.now.first ≤ k) }
+        ensures ports { IfSome result (λ ports.
+            slice_get self.now.saved.items (k - self.now.first) ≡ Some ports.now) }
+    {
+        if k < self.first {
+            return None;
+        }
+        self.saved.get(k - self.first)
+    }
+}
+
+/// Whether one of the orders leads to the point of the trial's ports.
+pub(crate) fn is_known(
+    alloc: Global,
+    config: &Config,
+    scripts: &[Script],
+    orders: &[PackedOrder],
+    points: &Points,
+    trial: &mut Trial,
+    mark: u64,
+) -> Result<bool, OutOfMemory>
+    requires scripts { length scripts.now ≡ length config.now.partitions }
+    requires trial { IsTrialOf config.now trial.old }
+    requires orders { AreOrders config.now orders.now }
+    requires points { ArePoints config.now scripts.now orders.now points.now }
+    requires mark { mark ≡ mark_of config.now trial.old.ports.history }
+    ensures known { IfOk result (λ known.
+        IsTrue known ↔ Knows config.now scripts.now orders.now trial.old.ports.history) }
+    ensures ports { trial.new.ports ≡ trial.old.ports }
+    ensures trial { IsTrialOf config.now trial.new }
+{
+    for k in points.marks.places(mark) {
+        if points.marks.stands_at(mark, *k) {
+            go_to(
+                alloc,
+                config,
+                scripts,
+                &orders[*k],
+                points.saved_at(*k),
+                &mut trial.other,
+            )?;
+            if is_same_point(&trial.ports, &trial.other) {
+                return Ok(true);
+            }
+        }
+    }
+    Ok(false)
+}
+
+/// Makes the ports what the order leads to: what was saved, or else new ports on which the order is run.
+pub(crate) fn go_to(
+    alloc: Global,
+    config: &Config,
+    scripts: &[Script],
+    order: &PackedOrder,
+    saved: Option<&SavedPorts>,
+    ports: &mut Ports,
+) -> Result<(), OutOfMemory>
+    requires scripts { length scripts.now ≡ length config.now.partitions }
+    requires order { IsOrder config.now order.now }
+    requires saved { IfSome saved (λ one. IsAfter config.now scripts.now order.now one.now) }
+    requires config { ports.old.config ≡ config.now }
+    ensures after { OnOk result (IsAfter config.now scripts.now order.now ports.new) }
+    ensures sound { OnOk result (IsSound ports.new.config ports.new.history) }
+    ensures config { ports.new.config ≡ config.now }
+{
+    match saved {
+        Some(saved) => ports.restore(saved),
+        None => *ports = replay(alloc, config, scripts, order)?,
+    }
+    Ok(())
+}

@@ -1,0 +1,26 @@
+//! Ports for trying calls.
+ghost use Rattle.std.specs.Prelude.{IfOk};
+ghost use Rattle.apex_orders.specs.Known.{IsTrialOf};
+
+use apex_config::Config;
+use apex_ports::Ports;
+use apex_types::OutOfMemory;
+use std::alloc::Global;
+
+/// Ports on which a call is tried, and others with which they are compared.
+#[derive(Drop)]
+pub(crate) struct Trial {
+    pub(crate) ports: Ports,
+    pub(crate) other: Ports,
+}
+
+impl Trial {
+    /// New ports of the configuration.
+    pub(crate) fn new(alloc: Global, config: &Config) -> Result<Trial, OutOfMemory>
+        ensures { IfOk result (λ trial. IsTrialOf config.now trial) }
+    {
+        let ports = Ports::new(alloc, config.copy()?)?;
+        let other = Ports::new(alloc, config.copy()?)?;
+        Ok(Trial { ports, other })
+    }
+}

@@ -1,0 +1,134 @@
+//! What ports came to, saved in as little memory as that takes, and ports made so again.
+ghost use Rattle.std.specs.Prelude.{◌≡◌, length, IfOk};
+ghost use Rattle.apex_ports.specs.Kept.{EachAt};
+ghost use Rattle.apex_ports.specs.Saved.{EachPair, IsSameTable, HasAsManyPorts, IsSavedFrom, HasRoomFor, AreRestored};
+
+use crate::channel::ChannelState;
+use crate::partition::PartitionState;
+use crate::past::Past;
+use crate::ports::Ports;
+use crate::saved_channel::SavedChannel;
+use apex_config::Config;
+use apex_types::OutOfMemory;
+use std::alloc::{AllocError, Allocator, Global};
+use std::marker::Model;
+use std::snapshot::Snapshot;
+
+/// What ports came to: their modes, created ports, messages, samples and counts, without the places that stand
+/// empty and without the configuration. To a contract they are what the ports were, the configuration and the history.
+#[derive(Drop)]
+pub struct SavedPorts<A: Allocator = Global> {
+    config: Snapshot<Config>,
+    history: Past,
+    partitions: Vec<PartitionState<A>, A>,
+    channels: Vec<SavedChannel<A>, A>,
+    calls: Vec<u64, A>,
+}
+
+impl<A: Allocator> Model for SavedPorts<A> {
+    ghost use Rattle.apex_ports.specs.PortsView.{PortsView};
+
+    ghost Value = { PortsView };
+
+    ghost use Rattle.apex_ports.specs.Saved.{IsSavedKept};
+
+    ghost view = { λ saved. record { config = saved.config.value; history = saved.history } };
+
+    ghost invariant = { λ saved. IsSavedKept saved.config.value saved.history
+        saved.partitions.items saved.channels.items saved.calls.items };
+}
+
+impl<A: Allocator + Copy> Ports<A> {
+    /// What the ports came to.
+    pub fn save(&self, alloc: A) -> Result<SavedPorts<A>, OutOfMemory>
+        ensures { IfOk result (λ saved. saved ≡ self.now) }
+    {
+        let partitions = saved_partitions(alloc, self.state.partitions.as_slice())?;
+        let channels = saved_channels(alloc, self.state.channels.as_slice())?;
+        let calls = Vec::from_slice(alloc, self.calls.as_slice())?;
+        Ok(SavedPorts {
+            config: Snapshot::of(&self.config),
+            history: self.state.history.copy(),
+            partitions,
+            channels,
+            calls,
+        })
+    }
+}
+
+impl<A: Allocator> Ports<A> {
+    ghost use Rattle.apex_ports.specs.Sound.{IsSound};
+
+    /// Makes the ports what was saved of ports of the same configuration. It takes no memory.
+    pub fn restore(&mut self, saved: &SavedPorts<A>)
+        requires { saved.now.config ≡ self.old.config }
+        ensures restored { self.new ≡ saved.now }
+        ensures sound { IsSound self.new.config self.new.history }
+    {
+        restore_partitions(
+            self.state.partitions.as_mut_slice(),
+            saved.partitions.as_slice(),
+        );
+        restore_channels(
+            self.state.channels.as_mut_slice(),
+            saved.channels.as_slice(),
+        );
+        self.calls
+            .as_mut_slice()
+            .copy_from_slice(saved.calls.as_slice());
+        self.state.history = saved.history.copy();
+    }
+}
+
+fn saved_partitions<A: Allocator + Copy>(
+    alloc: A,
+    partitions: &[PartitionState<A>],
+) -> Result<Vec<PartitionState<A>, A>, AllocError>
+    ensures count { IfOk result (λ saved. length saved.items ≡ length partitions.now) }
+    ensures same { IfOk result (λ saved. EachPair IsSameTable partitions.now saved.items) }
+{
+    let mut saved = Vec::with_capacity(alloc, partitions.len())?;
+    for partition in partitions {
+        let copy = partition.copy(alloc)?;
+        saved.push(copy)?;
+    }
+    Ok(saved)
+}
+
+fn saved_channels<A: Allocator + Copy>(
+    alloc: A,
+    channels: &[ChannelState<A>],
+) -> Result<Vec<SavedChannel<A>, A>, AllocError>
+    ensures count { IfOk result (λ saved. length saved.items ≡ length channels.now) }
+    ensures same { IfOk result (λ saved. EachPair IsSavedFrom channels.now saved.items) }
+{
+    let mut saved = Vec::with_capacity(alloc, channels.len())?;
+    for channel in channels {
+        let one = channel.save(alloc)?;
+        saved.push(one)?;
+    }
+    Ok(saved)
+}
+
+fn restore_partitions<A: Allocator>(
+    partitions: &mut [PartitionState<A>],
+    saved: &[PartitionState<A>],
+)
+    requires count { length partitions.old ≡ length saved.now }
+    requires ports { EachPair HasAsManyPorts partitions.old saved.now }
+    ensures { EachPair IsSameTable saved.now partitions.new }
+{
+    for p in 0..saved.len() {
+        partitions[p].restore(&saved[p]);
+    }
+}
+
+fn restore_channels<A: Allocator>(channels: &mut [ChannelState<A>], saved: &[SavedChannel<A>])
+    requires count { length channels.old ≡ length saved.now }
+    requires room { EachPair HasRoomFor channels.old saved.now }
+    ensures { AreRestored channels.old saved.now channels.new }
+{
+    for c in 0..saved.len() {
+        channels[c].restore(&saved[c]);
+    }
+}

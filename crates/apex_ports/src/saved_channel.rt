@@ -1,0 +1,215 @@
+//! What a channel came to, in as little memory as that takes: a message is kept without the room of the longest.
+ghost use Rattle.std.specs.Prelude.{◌≡◌, ◌≤◌, ◌++◌, length, option_copied, IfOk, OnOk};
+ghost use Rattle.circular_buffer.specs.Buffer.{buffer};
+ghost use Rattle.apex_ports.specs.ChannelStates.{places_in};
+ghost use Rattle.apex_ports.specs.Saved.{restored, IsSavedFrom, HasRoomFor};
+
+use crate::channel::{ChannelState, Queue};
+use apex_types::{Message, Moment, Sample};
+use circular_buffer::HeapCircularBuffer;
+use std::alloc::{AllocError, Allocator};
+use std::marker::Model;
+
+/// A message's bytes alone. To a contract it is the list of them.
+#[derive(Drop)]
+pub(crate) struct SavedMessage<A: Allocator> {
+    bytes: Vec<u8, A>,
+}
+
+impl<A: Allocator> Model for SavedMessage<A> {
+    ghost use Rattle.std.specs.Prelude.{ℕ, List, ◌≤◌, length};
+    ghost use Rattle.apex_types.specs.declared.message.TheConstants.{MESSAGE_LIMIT};
+
+    ghost Value = { List ℕ };
+
+    ghost view = { λ message. message.bytes.items };
+
+    ghost invariant = { λ message. length message.bytes.items ≤ MESSAGE_LIMIT };
+}
+
+impl<A: Allocator> SavedMessage<A> {
+    fn of(alloc: A, message: &Message) -> Result<SavedMessage<A>, AllocError>
+        ensures { IfOk result (λ saved. saved ≡ message.now) }
+    {
+        let bytes = Vec::from_slice(alloc, message.bytes())?;
+        Ok(SavedMessage { bytes })
+    }
+
+    fn message(&self) -> Message
+        ensures { result ≡ self.now }
+    {
+        Message::from_bytes(self.bytes.as_slice()).unwrap()
+    }
+}
+
+/// A sample with its message's bytes alone. To a contract it is the sample.
+#[derive(Drop)]
+pub(crate) struct SavedSample<A: Allocator> {
+    message: SavedMessage<A>,
+    at: Moment,
+}
+
+impl<A: Allocator> Model for SavedSample<A> {
+    ghost use Rattle.apex_types.specs.declared.sample.Sample.{Sample};
+
+    ghost Value = { Sample };
+
+    ghost view = { λ sample. record { message = sample.message; at = sample.at } };
+}
+
+impl<A: Allocator> SavedSample<A> {
+    fn of(alloc: A, sample: &Sample) -> Result<SavedSample<A>, AllocError>
+        ensures { IfOk result (λ saved. saved ≡ sample.now) }
+    {
+        let message = SavedMessage::of(alloc, &sample.message)?;
+        Ok(SavedSample {
+            message,
+            at: sample.at,
+        })
+    }
+
+    fn sample(&self) -> Sample
+        ensures { result ≡ self.now }
+    {
+        Sample {
+            message: self.message.message(),
+            at: self.at,
+        }
+    }
+}
+
+/// The messages that wait on a queuing channel, and its counts.
+#[derive(Drop)]
+pub(crate) struct SavedQueue<A: Allocator> {
+    pub(crate) waiting: Vec<SavedMessage<A>, A>,
+    pub(crate) accepted: u64,
+    pub(crate) received: u64,
+    pub(crate) cleared: u64,
+}
+
+impl<A: Allocator + Copy> SavedQueue<A> {
+    fn of(alloc: A, queue: &Queue<A>) -> Result<SavedQueue<A>, AllocError>
+        ensures waiting { IfOk result
+            (λ saved. saved.waiting.items ≡ queue.now.waiting.items) }
+        ensures accepted { IfOk result (λ saved. saved.accepted ≡ queue.now.accepted) }
+        ensures received { IfOk result (λ saved. saved.received ≡ queue.now.received) }
+        ensures cleared { IfOk result (λ saved. saved.cleared ≡ queue.now.cleared) }
+    {
+        let waiting = saved_messages(alloc, &queue.waiting)?;
+        Ok(SavedQueue {
+            waiting,
+            accepted: queue.accepted,
+            received: queue.received,
+            cleared: queue.cleared,
+        })
+    }
+}
+
+/// What a channel of either kind came to.
+#[derive(Drop)]
+pub(crate) enum SavedChannel<A: Allocator> {
+    Queuing(SavedQueue<A>),
+    Sampling(Option<SavedSample<A>>),
+}
+
+impl<A: Allocator + Copy> ChannelState<A> {
+    /// What the channel came to.
+    pub(crate) fn save(&self, alloc: A) -> Result<SavedChannel<A>, AllocError>
+        ensures { IfOk result (λ saved. IsSavedFrom self.now saved) }
+    {
+        match self {
+            ChannelState::Queuing(queue) => {
+                let queue = SavedQueue::of(alloc, queue)?;
+                Ok(SavedChannel::Queuing(queue))
+            }
+            ChannelState::Sampling(None) => Ok(SavedChannel::Sampling(None)),
+            ChannelState::Sampling(Some(sample)) => {
+                let sample = SavedSample::of(alloc, sample)?;
+                Ok(SavedChannel::Sampling(Some(sample)))
+            }
+        }
+    }
+}
+
+impl<A: Allocator> ChannelState<A> {
+    /// Makes the channel what was saved. Its places stay.
+    pub(crate) fn restore(&mut self, saved: &SavedChannel<A>)
+        requires { HasRoomFor self.old saved.now }
+        ensures { self.new ≡ restored (places_in self.old) saved.now }
+    {
+        match (self, saved) {
+            (ChannelState::Queuing(queue), SavedChannel::Queuing(saved)) => queue.restore(saved),
+            (ChannelState::Sampling(sample), SavedChannel::Sampling(saved)) => {
+                *sample = restored_sample(saved.as_ref());
+            }
+            _ => unreachable!(),
+        }
+    }
+}
+
+impl<A: Allocator> Queue<A> {
+    fn restore(&mut self, saved: &SavedQueue<A>)
+        requires { length saved.now.waiting.items ≤ self.old.waiting.capacity }
+        ensures waiting { self.new.waiting
+            ≡ buffer saved.now.waiting.items self.old.waiting.capacity }
+        ensures accepted { self.new.accepted ≡ saved.now.accepted }
+        ensures received { self.new.received ≡ saved.now.received }
+        ensures cleared { self.new.cleared ≡ saved.now.cleared }
+    {
+        put_messages(&mut self.waiting, saved.waiting.as_slice());
+        self.accepted = saved.accepted;
+        self.received = saved.received;
+        self.cleared = saved.cleared;
+    }
+}
+
+// Saves all messages that wait.
+fn saved_messages<A: Allocator + Copy>(
+    alloc: A,
+    messages: &HeapCircularBuffer<Message, A>,
+) -> Result<Vec<SavedMessage<A>, A>, AllocError>
+    ensures { IfOk result (λ saved. saved.items ≡ messages.now.items) }
+{
+    let (first, second) = messages.as_slices();
+    let mut saved = Vec::with_capacity(alloc, messages.len())?;
+    push_saved(alloc, &mut saved, first)?;
+    push_saved(alloc, &mut saved, second)?;
+    Ok(saved)
+}
+
+fn push_saved<A: Allocator + Copy>(
+    alloc: A,
+    saved: &mut Vec<SavedMessage<A>, A>,
+    messages: &[Message],
+) -> Result<(), AllocError>
+    ensures { OnOk result (saved.new.items ≡ saved.old.items ++ messages.now) }
+{
+    for message in messages {
+        let one = SavedMessage::of(alloc, message)?;
+        saved.push(one)?;
+    }
+    Ok(())
+}
+
+// Only the saved messages wait then.
+fn put_messages<A: Allocator>(
+    waiting: &mut HeapCircularBuffer<Message, A>,
+    saved: &[SavedMessage<A>],
+)
+    requires { length saved.now ≤ waiting.old.capacity }
+    ensures { waiting.new ≡ buffer saved.now waiting.old.capacity }
+{
+    waiting.clear();
+    for message in saved {
+        let _ = waiting.push_back(message.message());
+    }
+}
+
+fn restored_sample<A: Allocator>(saved: Option<&SavedSample<A>>) -> Option<Sample>
+    ensures { result ≡ option_copied saved.entry }
+{
+    match saved {
+        Some(sample) => Some(sample.sample()),
+        None => None,
+    }
+}

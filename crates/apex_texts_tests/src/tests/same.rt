@@ -1,0 +1,29 @@
+//! What the tests compare. Each test calls these, since the prover takes a call in a tenth of the time of an assertion in
+//! place.
+use std::fmt::{Debug, Display};
+use std::process::Abort;
+
+/// Both are equal.
+pub fn same<T: Debug + PartialEq + Copy>(rt: &impl Abort, found: T, wanted: T) {
+    assert_eq!(rt; found, wanted);
+}
+
+/// Both are equal, and where they aren't, the place is told.
+pub fn same_at<T: Debug + PartialEq + Copy, P: Display + Copy>(
+    rt: &impl Abort,
+    found: T,
+    wanted: T,
+    place: P,
+) {
+    assert_eq!(rt; found, wanted, "at {place}");
+}
+
+/// This is so.
+pub fn holds(rt: &impl Abort, is: bool) {
+    assert!(rt; is);
+}
+
+/// This is so, and where it isn't, the place is told.
+pub fn holds_at<P: Display + Copy>(rt: &impl Abort, is: bool, place: P) {
+    assert!(rt; is, "at {place}");
+}
