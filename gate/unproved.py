@@ -18,10 +18,10 @@ import progress
 HERE = os.path.dirname(os.path.realpath(__file__))
 ROOT = os.path.dirname(HERE)
 NOTICE = "not proved: this answer is from an unproved build"
-# The commands whose words name no file, those that take words NAME=SCRIPT, and the options with a word behind them that
+# The commands whose words name no file, those that take words NAME=FILE, and the options with a word behind them that
 # names none.
-NO_PATHS, OF_SCRIPTS = ("rows", "help"), ("run", "explain", "orders")
-VALUED = ("--states", "--when", "--never")
+NO_PATHS, OF_SCRIPTS = ("rows", "help"), ("run", "explain", "orders", "judge")
+VALUED = ("--states", "--when", "--never", "--steps")
 # What the toolchain writes after a program that ended.
 ENDED = re.compile(rb"^run=ended status=(\d+) .*proved=no\n\Z", re.M)
 OF_TOOLCHAIN = re.compile(rb"(^(interpreter|checked|races): .*\n)*\Z", re.M)

@@ -1,13 +1,13 @@
-//! Calls in the words of a trace's line.
+//! Calls in the words of a trace's line, and with their replies in those of a log's.
 #![tactic(auto)]
 
 ghost use Rattle.std.specs.Prelude.{◌≡◌, ◌<◌, ◌++◌, codes, length, decimal, string_bytes, OnOk};
 ghost use Rattle.apex_types.specs.Message.{hex_text_of};
-ghost use Rattle.apex_call_words.specs.CallWords.{spaced, arguments_text, call_text, request_text};
+ghost use Rattle.apex_call_words.specs.CallWords.{spaced, arguments_text, call_text, request_text, logged_line};
 
 use apex_config::Config;
-use apex_texts::Service;
-use apex_types::{Call, HEX_LIMIT, Message, Moment, Name};
+use apex_texts::{Service, push_reply};
+use apex_types::{Call, HEX_LIMIT, Message, Moment, Name, Reply};
 use itoa::Buffer;
 use std::alloc::AllocError;
 
@@ -31,6 +31,26 @@ pub fn push_request(
     push_word(text, config.partition_name(partition).text())?;
     push_word(text, " ")?;
     push_call(text, call)
+}
+
+/// `MOMENT PARTITION CALL ARGUMENTS -> REPLY` and a line feed, at the end of a text: a line of a log.
+#[tactic(auto, unfolding(crate::specs::CallWords::logged_line))]
+pub fn push_logged(
+    text: &mut String,
+    config: &Config,
+    partition: usize,
+    at: Moment,
+    call: &Call,
+    reply: &Reply,
+) -> Result<(), AllocError>
+    requires { partition < length config.now.partitions }
+    ensures { OnOk result (string_bytes text.new ≡ string_bytes text.old
+        ++ logged_line config.now partition at call.now reply.now) }
+{
+    push_request(text, config, partition, at, call)?;
+    push_word(text, " -> ")?;
+    push_reply(text, reply)?;
+    push_word(text, "\n")
 }
 
 /// `CALL ARGUMENTS`, at the end of a text: what stands in a trace's line behind the partition.

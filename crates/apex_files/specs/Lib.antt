@@ -2,3 +2,4 @@ pub mod Files
 pub mod Limits
 pub mod Reading
 pub mod Refusal
+pub mod Scripts

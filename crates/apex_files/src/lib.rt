@@ -3,11 +3,13 @@
 #![tactic(auto)]
 
 pub mod files;
+pub mod named_scripts;
 mod outputs;
 mod reading;
 pub mod refusal;
 
 pub use crate::files::{Opener, SystemFiles};
+pub use crate::named_scripts::{partition_and_path, scripts_named};
 pub use crate::outputs::{print, refuse};
 pub use crate::reading::{read_config, read_file};
 pub use crate::refusal::Refusal;

@@ -1,2 +1,1 @@
-pub mod ScriptLemmas
 pub mod TaskLemmas

@@ -2,9 +2,7 @@
 //! refusal is told by its line and its status.
 #![tactic(auto)]
 
-pub mod named_scripts;
 pub mod tasks;
 
-pub use crate::named_scripts::scripts_named;
 pub use crate::tasks::program;
 pub use apex_files::{Opener, Refusal, SystemFiles, print, read_file, refuse};

@@ -2,9 +2,8 @@
 ghost use Rattle.std.specs.Prelude.{IfSome};
 ghost use Rattle.apex_tasks.specs.Task.{IsCheck, IsFileReplay, IsFileRun};
 
-use crate::named_scripts::scripts_named;
 use apex_command_line::{Task, task_of};
-use apex_files::{Opener, Refusal, print, read_config, read_file, refuse};
+use apex_files::{Opener, Refusal, print, read_config, read_file, refuse, scripts_named};
 use apex_runs::run_text;
 use apex_texts::{check_line, replay_trace};
 use apex_workers::OpenGate;

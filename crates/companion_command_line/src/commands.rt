@@ -11,9 +11,13 @@ pub(crate) const TRACE: &str = "TRACE";
 
 pub(crate) const SERVICE: &str = "NAME";
 
-pub(crate) const LOG: &str = "LOG";
+pub(crate) const LOGS: &str = "LOG|NAME=LOG";
 
 pub(crate) const FIRST: &str = "first";
+
+pub(crate) const ORDER: &str = "order";
+
+pub(crate) const STEPS: &str = "steps";
 
 pub(crate) const SCRIPTS: &str = "NAME=SCRIPT";
 
@@ -91,21 +95,35 @@ fn draw<'a>(alloc: Global) -> Result<Command<'a>, AllocError> {
         .arg(Arg::new(alloc, TRACE).help("The file of a trace"))
 }
 
+/// The command `judge`, with the name that its usage has.
+pub(crate) fn judge_alone<'a>(alloc: Global) -> Result<Command<'a>, AllocError> {
+    judge(alloc)?.bin_name("dekarino judge")
+}
+
 fn judge<'a>(alloc: Global) -> Result<Command<'a>, AllocError> {
+    let logs = Arg::new(alloc, LOGS).required(true).num_args(1..).help(
+        "The file of a log, or the file of a log for each partition that has one",
+    );
     let first = Arg::new(alloc, FIRST)
         .long(FIRST)
         .action(ArgAction::SetTrue)
         .help(help::FIRST);
+    let order = Arg::new(alloc, ORDER)
+        .long(ORDER)
+        .value_name("FILE")
+        .help(help::ORDER);
+    let steps = Arg::new(alloc, STEPS)
+        .long(STEPS)
+        .value_name("N")
+        .help(help::STEPS);
     Command::new(alloc, "judge")
-        .about("Tells where the replies of a recorded log depart from the standard")
+        .about("Tells where the replies of recorded logs depart from the standard")
         .after_help(help::JUDGE)
         .arg(config(alloc))?
-        .arg(
-            Arg::new(alloc, LOG)
-                .required(true)
-                .help("The file of a log"),
-        )?
+        .arg(logs)?
         .arg(first)?
+        .arg(order)?
+        .arg(steps)?
         .arg(json(alloc))
 }
 

@@ -55,13 +55,25 @@ standard's has a line: the call, what was logged, what the standard has, and the
 call is judged after what the log itself shows to have happened before it, so that a departure has no consequences. The
 last line counts. The status is 4 where a reply departs.
 
+A word NAME=LOG gives the log that the partition NAME kept for itself: its lines lack the partition, and nothing says which
+call of another partition came before. Where there is an order of all calls in which each reply is the standard's, the
+status is 0, and --order writes it as a log. Where there is none, the status is 4; where neither is found, it is 5, and
+nothing is claimed.
+
 Example:
   $ ./dekarino judge examples/recorded/config.toml examples/recorded/log.txt
   examples/recorded/log.txt:6: 50 DSP receive 1: logged NO_ERROR message 0c0d, the standard has NO_ERROR message 0a0b
   examples/recorded/log.txt:8: 70 FMS send 1 0102030405: logged NO_ERROR, the standard has INVALID_CONFIG (message of 5 bytes, channel NAV takes 4)
-  8 calls, 2 departures";
+  8 calls, 2 departures
+  $ ./dekarino judge examples/apart/config.toml FMS=examples/apart/fms.log DSP=examples/apart/dsp.log
+  9 calls, as the standard says in some order";
 
 pub(crate) const FIRST: &str = "Tells the first departure alone, and how many there are";
+
+pub(crate) const ORDER: &str = "Writes the order of logs NAME=LOG that is found to FILE, as a log";
+
+pub(crate) const STEPS: &str =
+    "Gives up the search of an order after so many steps [default: 50000000]";
 
 pub(crate) const ORDERS: &str = "\
 Each partition makes the calls of its script in order, and nothing else says which call comes first: the moments of

@@ -10,5 +10,5 @@ pub mod version;
 
 pub use crate::fault::WordsFault;
 pub use crate::start::{Origin, Start, start_given};
-pub use crate::task::{Calls, Form, Question, Task, not_text, task_of};
+pub use crate::task::{Files, Form, Question, Task, not_text, task_of};
 pub use crate::version::{VERSION, version_text};

@@ -17,7 +17,7 @@ pub enum Task<'a> {
     /// Tells each call beside its reply.
     Explain {
         config: &'a str,
-        calls: Calls<'a>,
+        calls: Files<'a>,
         form: Form,
     },
     /// Draws a configuration, or the calls of a trace on it.
@@ -30,6 +30,15 @@ pub enum Task<'a> {
         config: &'a str,
         log: &'a str,
         first: bool,
+        form: Form,
+    },
+    /// Tells whether the logs that the arguments `NAME=LOG` give to partitions have an order in which each reply is the
+    /// standard's, and writes it to a file if that is given; it gives up above so many steps.
+    JudgeApart {
+        config: &'a str,
+        logs: Vec<&'a str>,
+        order: Option<&'a str>,
+        steps: u64,
         form: Form,
     },
     /// Tells what scripts can come to over every order of their calls, or answers a question about that; it gives up above
@@ -52,13 +61,13 @@ pub enum Task<'a> {
     Help(String),
 }
 
-/// Where the calls are from that are explained.
+/// The files that calls are from.
 #[derive(Debug, Drop, PartialEq, Eq)]
-pub enum Calls<'a> {
-    /// The trace in a file.
-    Trace(&'a str),
-    /// A run of the scripts that the arguments `NAME=SCRIPT` give to partitions.
-    Scripts(Vec<&'a str>),
+pub enum Files<'a> {
+    /// One file, with the calls of all partitions.
+    One(&'a str),
+    /// The files that the arguments `NAME=FILE` give to partitions.
+    OfPartitions(Vec<&'a str>),
 }
 
 /// Whether a call gets a reply in some order: `NAME:LINE = REPLY`.
@@ -108,21 +117,12 @@ fn task_in<'a>(alloc: Global, matches: &ArgMatches<'a>) -> Result<Task<'a>, Word
             config: config_in(alloc, given)?,
             form: form_in(given),
         }),
-        Some(("explain", given)) => Ok(Task::Explain {
-            config: config_in(alloc, given)?,
-            calls: calls_in(alloc, given)?,
-            form: form_in(given),
-        }),
+        Some(("explain", given)) => explain_in(alloc, given),
         Some(("draw", given)) => Ok(Task::Draw {
             config: config_in(alloc, given)?,
             trace: given.get_str(commands::TRACE),
         }),
-        Some(("judge", given)) => Ok(Task::Judge {
-            config: config_in(alloc, given)?,
-            log: log_in(alloc, given)?,
-            first: given.get_flag(commands::FIRST),
-            form: form_in(given),
-        }),
+        Some(("judge", given)) => judge_in(alloc, given),
         Some(("orders", given)) => orders_in(alloc, given),
         Some(("rows", given)) => Ok(Task::Rows {
             service: given.get_str(commands::SERVICE),
@@ -139,18 +139,74 @@ fn config_in<'a>(alloc: Global, given: &ArgMatches<'a>) -> Result<&'a str, Words
     }
 }
 
-fn log_in<'a>(alloc: Global, given: &ArgMatches<'a>) -> Result<&'a str, WordsFault> {
-    match given.get_str(commands::LOG) {
-        Some(log) => Ok(log),
-        None => Err(fault_of(alloc, commands::program(alloc), "LOG is missing")),
+fn explain_in<'a>(alloc: Global, given: &ArgMatches<'a>) -> Result<Task<'a>, WordsFault> {
+    let Some(calls) = files_in(alloc, given, commands::CALLS)? else {
+        return Err(fault_of(
+            alloc,
+            commands::explain_alone(alloc),
+            "a trace stands alone, and each of several words has to be NAME=SCRIPT",
+        ));
+    };
+    Ok(Task::Explain {
+        config: config_in(alloc, given)?,
+        calls,
+        form: form_in(given),
+    })
+}
+
+/// The steps above which `judge` gives up, where no number is given.
+const STEPS: u64 = 50_000_000;
+
+fn judge_in<'a>(alloc: Global, given: &ArgMatches<'a>) -> Result<Task<'a>, WordsFault> {
+    let Some(steps) = number_in(given, commands::STEPS, STEPS) else {
+        return Err(judge_fault(alloc, "--steps takes a number"));
+    };
+    let Some(logs) = files_in(alloc, given, commands::LOGS)? else {
+        return Err(judge_fault(
+            alloc,
+            "a log stands alone, and each of several words has to be NAME=LOG",
+        ));
+    };
+    let (config, first, form) = (
+        config_in(alloc, given)?,
+        given.get_flag(commands::FIRST),
+        form_in(given),
+    );
+    let (order, is_bounded) = (
+        given.get_str(commands::ORDER),
+        given.get_str(commands::STEPS).is_some(),
+    );
+    match logs {
+        Files::One(_) if order.is_some() || is_bounded => Err(judge_fault(
+            alloc,
+            "--order and --steps go with words NAME=LOG",
+        )),
+        Files::OfPartitions(_) if first => Err(judge_fault(alloc, "--first goes with one log")),
+        Files::One(log) => Ok(Task::Judge {
+            config,
+            log,
+            first,
+            form,
+        }),
+        Files::OfPartitions(logs) => Ok(Task::JudgeApart {
+            config,
+            logs,
+            order,
+            steps,
+            form,
+        }),
     }
 }
 
+fn judge_fault(alloc: Global, message: &str) -> WordsFault {
+    fault_of(alloc, commands::judge_alone(alloc), message)
+}
+
 /// The states above which `orders` gives up, where no number is given.
-const STATES: usize = 100_000;
+const STATES: u64 = 100_000;
 
 fn orders_in<'a>(alloc: Global, given: &ArgMatches<'a>) -> Result<Task<'a>, WordsFault> {
-    let Some(states) = states_in(given) else {
+    let Some(states) = number_in(given, commands::STATES, STATES) else {
         return Err(orders_fault(alloc, "--states takes a number"));
     };
     let question = match (
@@ -166,7 +222,7 @@ fn orders_in<'a>(alloc: Global, given: &ArgMatches<'a>) -> Result<Task<'a>, Word
         (None, None) => None,
     };
     let words = given.get_strs(commands::SCRIPTS).unwrap_or(&[]);
-    if !words.iter().all(|word| names_script(word)) {
+    if !words.iter().all(|word| names_partition(word)) {
         return Err(orders_fault(
             alloc,
             "each of the words after CONFIG has to be NAME=SCRIPT",
@@ -177,16 +233,16 @@ fn orders_in<'a>(alloc: Global, given: &ArgMatches<'a>) -> Result<Task<'a>, Word
     Ok(Task::Orders {
         config: config_in(alloc, given)?,
         scripts,
-        states,
+        states: states as usize,
         question,
         form: form_in(given),
     })
 }
 
-/// The number of states that is given, or the one where none is; `None` where what is given is no number.
-fn states_in(given: &ArgMatches<'_>) -> Option<usize> {
-    match given.get_str(commands::STATES) {
-        None => Some(STATES),
+/// The number that an option gives, or the one where it isn't given; `None` where what is given is no number.
+fn number_in(given: &ArgMatches<'_>, option: &str, usual: u64) -> Option<u64> {
+    match given.get_str(option) {
+        None => Some(usual),
         Some(word) => word.parse().ok(),
     }
 }
@@ -203,26 +259,27 @@ fn form_in(given: &ArgMatches<'_>) -> Form {
     }
 }
 
-/// A trace where one word is no script, or else the scripts.
-fn calls_in<'a>(alloc: Global, given: &ArgMatches<'a>) -> Result<Calls<'a>, WordsFault> {
-    let words = given.get_strs(commands::CALLS).unwrap_or(&[]);
+/// The files that the words of an argument name: one where one word names no partition, or else those of partitions;
+/// `None` where words are of both kinds.
+fn files_in<'a>(
+    alloc: Global,
+    given: &ArgMatches<'a>,
+    argument: &str,
+) -> Result<Option<Files<'a>>, AllocError> {
+    let words = given.get_strs(argument).unwrap_or(&[]);
     match words {
-        [trace] if !names_script(trace) => Ok(Calls::Trace(trace)),
-        _ if words.iter().all(|word| names_script(word)) => {
-            let mut scripts = Vec::new(alloc);
-            scripts.extend_from_slice(words)?;
-            Ok(Calls::Scripts(scripts))
+        [file] if !names_partition(file) => Ok(Some(Files::One(file))),
+        _ if words.iter().all(|word| names_partition(word)) => {
+            let mut named = Vec::new(alloc);
+            named.extend_from_slice(words)?;
+            Ok(Some(Files::OfPartitions(named)))
         }
-        _ => Err(fault_of(
-            alloc,
-            commands::explain_alone(alloc),
-            "a trace stands alone, and each of several words has to be NAME=SCRIPT",
-        )),
+        _ => Ok(None),
     }
 }
 
 /// Whether a name and `=` begin the word.
-fn names_script(word: &str) -> bool {
+fn names_partition(word: &str) -> bool {
     match word.split_once('=') {
         Some((name, _)) => !name.is_empty() && name.bytes().all(is_in_name),
         None => false,

@@ -1,9 +1,8 @@
 //! The drawing of a configuration, or of the calls of a trace.
-use crate::configuration::read_config;
-use crate::unfinished::Unfinished;
 use apex_drawings::{DrawingFault, draw_chart, draw_module};
 use apex_files::{Opener, Refusal, read_file};
 use companion_command_line::Form;
+use companion_common::{Unfinished, read_config};
 use std::alloc::Global;
 
 /// The drawing of the configuration in a file, or of the calls of the trace in another.

@@ -2,19 +2,16 @@
 ghost use Rattle.std.specs.Prelude.{IfOk, IfSome};
 ghost use Rattle.companion_tasks.specs.Told.{IsExplanationOf};
 
-use crate::configuration::read_config;
 use crate::json_calls::explain_as_json;
-use crate::mistakes::{push_mistakes, with_mistakes};
 use crate::runs::trace_of_run;
-use crate::unfinished::Unfinished;
 use apex_config::Config;
 use apex_explanations::{Explanation, explain_trace};
-use apex_files::{Opener, Refusal, read_file};
+use apex_files::{Opener, Refusal, read_file, scripts_named};
 use apex_mistakes::trace_mistakes;
-use apex_tasks::scripts_named;
 use apex_texts::{Fault, TraceFault};
 use companion_command_line::Form;
-use std::alloc::Global;
+use companion_common::{Unfinished, read_config, with_mistakes};
+use std::alloc::{AllocError, Global};
 use std::sync::Wait;
 use std::thread::Threads;
 
@@ -105,4 +102,13 @@ fn up_to_fault<'a>(text: Vec<u8>, fault: Option<TraceFault>) -> Result<Vec<u8>, 
             refusal: Refusal::Text(Fault::from(fault)),
         }),
     }
+}
+
+/// Adds the mistakes behind an explanation, after an empty line.
+fn push_mistakes(text: &mut Vec<u8>, mistakes: &str) -> Result<(), AllocError> {
+    if !mistakes.is_empty() {
+        text.push(b'\n')?;
+        text.extend_from_slice(mistakes.as_bytes())?;
+    }
+    Ok(())
 }

@@ -1,7 +1,6 @@
 //! The explanation of a trace as JSON lines.
 ghost use Rattle.std.specs.Prelude.{◌<◌, length};
 
-use crate::json::push_object;
 use crate::json_remarks::push_ending;
 use apex_config::Config;
 use apex_explanations::explain_trace;
@@ -10,6 +9,7 @@ use apex_row_words::{push_words, row_name};
 use apex_texts::trace::{ANY_REQUEST, read_trace_line};
 use apex_texts::{Fault, LineFault, Service, TraceFault, next_line};
 use apex_types::{HEX_LIMIT, Message, Moment, Reply};
+use companion_common::push_object;
 use serde::Serialize;
 use std::alloc::{AllocError, Global};
 use std::str;

@@ -1,7 +1,7 @@
 //! The end of an explanation as JSON lines.
-use crate::json::push_object;
 use apex_explanations::Remark;
 use apex_types::Moment;
+use companion_common::push_object;
 use serde::Serialize;
 use std::alloc::{AllocError, Global};
 

@@ -1,11 +1,11 @@
 //! The rows of the reply table as JSON lines.
-use crate::json::push_object;
 use apex_ports::{Refusal, Row};
 use apex_row_words::{
     accepted_words, push_condition, push_row_pattern, refusals_of, row_name, standard_name,
 };
 use apex_texts::Service;
 use apex_types::Validity;
+use companion_common::push_object;
 use serde::Serialize;
 use std::alloc::{AllocError, Global};
 

@@ -1,9 +1,9 @@
 //! The table of a configuration's ports as JSON lines.
 ghost use Rattle.std.specs.Prelude.{◌<◌, length};
 
-use crate::json::push_object;
 use apex_config::{Channel, ChannelKind, Config, Port, PortKind};
 use apex_types::Direction;
+use companion_common::push_object;
 use serde::Serialize;
 use std::alloc::{AllocError, Global};
 

@@ -4,10 +4,10 @@ ghost use Rattle.apex_row_words.specs.Table.{service_rows, all_rows};
 ghost use Rattle.companion_command_line.specs.declared.task.Form.TheVariants.{Text};
 
 use crate::json_rows::push_row_lines;
-use crate::unfinished::Unfinished;
 use apex_row_words::{push_rows, push_service_rows, standard_name};
 use apex_texts::{SERVICES, Service};
 use companion_command_line::Form;
+use companion_common::Unfinished;
 use std::alloc::{AllocError, Global};
 
 /// The rows of the service of a name, its call word or the standard's name, or of all services.

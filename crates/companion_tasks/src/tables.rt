@@ -2,12 +2,11 @@
 ghost use Rattle.std.specs.Prelude.{IfOk, IfSome, string_bytes};
 ghost use Rattle.companion_tasks.specs.Told.{IsTableOf};
 
-use crate::configuration::read_config;
 use crate::json_table::table_lines;
-use crate::unfinished::Unfinished;
 use apex_explanations::port_table;
 use apex_files::Opener;
 use companion_command_line::Form;
+use companion_common::{Unfinished, read_config};
 use std::alloc::Global;
 
 /// The ports of the configuration in a file.

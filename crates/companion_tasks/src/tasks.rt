@@ -1,16 +1,16 @@
 //! From the words of the command line to a status.
 use crate::drawings::drawing;
 use crate::explanations::{explain_run, explain_trace_in};
-use crate::judgements::judgement;
-use crate::outcomes::outcomes;
 use crate::rows::reply_table;
 use crate::tables::table;
-use crate::unfinished::Unfinished;
 use apex_drawings::DrawingFault;
 use apex_files::{Opener, Refusal, print, refuse};
 use apex_logs::FaultyLine;
 use apex_texts::Fault;
-use companion_command_line::{Calls, Origin, Start, Task, WordsFault, task_of, version_text};
+use companion_command_line::{Files, Origin, Start, Task, WordsFault, task_of, version_text};
+use companion_common::Unfinished;
+use companion_judge::{FileWriter, departures_of_log, order_of_logs};
+use companion_orders::outcomes_of_scripts;
 use std::alloc::Global;
 use std::io::Write;
 use std::sync::Wait;
@@ -28,9 +28,12 @@ const NOT_SO: u8 = 4;
 /// The status of an answer that is left undecided.
 const UNDECIDED: u8 = 5;
 
+/// The status where a file can't be written.
+const NOT_WRITTEN: u8 = 3;
+
 /// Does what the words ask for, and answers the status. A refusal writes a line to `errors`, and words that aren't those
 /// of a command what is wrong, with the usage. A run waits for its workers.
-pub fn program<R: Threads + Wait + Sync, O: Opener, W: Write, E: Write>(
+pub fn program<R: Threads + Wait + Sync, O: Opener + FileWriter, W: Write, E: Write>(
     rt: &R,
     alloc: Global,
     start: Result<Start, WordsFault>,
@@ -68,12 +71,17 @@ fn finish<W: Write, E: Write>(
     let (text, status, refusal) = match done {
         Ok(text) => (text, 0, None),
         Err(Unfinished::NotSo { text }) => (text, NOT_SO, None),
+        Err(Unfinished::NotDecided { text }) => (text, UNDECIDED, None),
         Err(Unfinished::Told { text, refusal }) => (text, REFUSED, Some(refusal)),
         Err(Unfinished::Refused(refusal)) => return refuse(refusal, errors),
         Err(Unfinished::NoService(name)) => return no_service(name, errors),
         Err(Unfinished::TooManyCalls { calls }) => return too_many_calls(calls, errors),
         Err(Unfinished::FaultyLog(faulty)) => return faulty_log(faulty, errors),
-        Err(Unfinished::Undecided { states }) => return undecided(states, errors),
+        Err(Unfinished::FaultyOwnLog { file, faulty }) => {
+            return faulty_own_log(file, faulty, errors);
+        }
+        Err(Unfinished::NotWritten(file)) => return not_written(file, errors),
+        Err(Unfinished::TooManyStates { states }) => return too_many_states(states, errors),
     };
     match (print(output, text.as_slice()), refusal) {
         (Ok(()), None) => status,
@@ -103,14 +111,26 @@ fn faulty_log<E: Write>(faulty: FaultyLine, errors: &mut E) -> u8 {
     REFUSED
 }
 
+/// Says which line of a partition's own log is faulty, and answers the status.
+fn faulty_own_log<E: Write>(file: &str, faulty: FaultyLine, errors: &mut E) -> u8 {
+    let _ = writeln!(errors, "log {file} {faulty}");
+    REFUSED
+}
+
+/// Says which file can't be written, and answers the status.
+fn not_written<E: Write>(file: &str, errors: &mut E) -> u8 {
+    let _ = writeln!(errors, "cannot write {file}");
+    NOT_WRITTEN
+}
+
 /// Says that the orders of scripts lead to more states than the bound, and answers the status.
-fn undecided<E: Write>(states: usize, errors: &mut E) -> u8 {
+fn too_many_states<E: Write>(states: usize, errors: &mut E) -> u8 {
     let _ = writeln!(errors, "undecided: more than {states} states");
     UNDECIDED
 }
 
 /// What the task tells.
-fn perform<'a, R: Threads + Wait + Sync, O: Opener>(
+fn perform<'a, R: Threads + Wait + Sync, O: Opener + FileWriter>(
     rt: &R,
     alloc: Global,
     task: Task<'a>,
@@ -124,8 +144,8 @@ fn perform<'a, R: Threads + Wait + Sync, O: Opener>(
             calls,
             form,
         } => match calls {
-            Calls::Trace(trace) => explain_trace_in(alloc, opener, config, trace, form),
-            Calls::Scripts(scripts) => {
+            Files::One(trace) => explain_trace_in(alloc, opener, config, trace, form),
+            Files::OfPartitions(scripts) => {
                 explain_run(rt, alloc, opener, config, scripts.as_slice(), form)
             }
         },
@@ -135,14 +155,21 @@ fn perform<'a, R: Threads + Wait + Sync, O: Opener>(
             log,
             first,
             form,
-        } => judgement(alloc, opener, config, log, first, form),
+        } => departures_of_log(alloc, opener, config, log, first, form),
+        Task::JudgeApart {
+            config,
+            logs,
+            order,
+            steps,
+            form,
+        } => order_of_logs(alloc, opener, config, logs.as_slice(), order, steps, form),
         Task::Orders {
             config,
             scripts,
             states,
             question,
             form,
-        } => outcomes(
+        } => outcomes_of_scripts(
             alloc,
             opener,
             config,

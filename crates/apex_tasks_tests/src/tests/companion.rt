@@ -1,12 +1,26 @@
 //! The program `dekarino` on files that stand in for the system's.
 use super::program::FakeFiles;
+use super::texts::ORDER;
 use companion_command_line::{Origin, Start};
-use companion_tasks::program;
+use companion_tasks::{FileWriter, program};
 use std::alloc::{AllocError, Global};
+use std::io;
+use std::io::ErrorKind;
 use std::process::Abort;
 use std::sync::Wait;
 use std::test::Fail;
 use std::thread::Threads;
+
+/// The file of the order in `ORDER` can be written, with its text, and no other.
+impl FileWriter for FakeFiles {
+    fn write_file(&self, path: &str, bytes: &[u8]) -> io::Result<()> {
+        if path == "order.log" && bytes == ORDER.as_bytes() {
+            Ok(())
+        } else {
+            Err(io::Error::from(ErrorKind::PermissionDenied))
+        }
+    }
+}
 
 /// What the program is started with, where nothing is known of where it comes from.
 fn start_with(alloc: Global, words: &[&str]) -> Result<Start, AllocError> {
@@ -66,4 +80,27 @@ faulty.txt:3:15: message: \"0a0\"; expected a message of at most 1,024 bytes: tw
 ";
     let words = ["dekarino", "explain", "base.toml", "faulty.txt"];
     tells(&rt, &words, 1, explained, "trace line 3 fault 9: message\n")
+}
+
+#[test]
+fn an_order_of_logs_is_written(rt: HostRuntime) -> Result<(), Fail> {
+    let words = [
+        "dekarino",
+        "judge",
+        "reduced.toml",
+        "FMS=own.log",
+        "--order",
+        "order.log",
+    ];
+    let told = "3 calls, as the standard says in some order\n";
+    tells(&rt, &words, 0, told, "")?;
+    let elsewhere = [
+        "dekarino",
+        "judge",
+        "reduced.toml",
+        "FMS=own.log",
+        "--order",
+        "elsewhere",
+    ];
+    tells(&rt, &elsewhere, 3, "", "cannot write elsewhere\n")
 }

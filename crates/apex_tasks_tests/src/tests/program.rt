@@ -1,5 +1,5 @@
 //! The whole program on files and writers that stand in for the system's.
-use super::texts::{BASE, REDUCED, SENDER, SHARED, WRITER};
+use super::texts::{BASE, OWN_LOG, REDUCED, SENDER, SHARED, WRITER};
 use apex_tasks::{Opener, program};
 use std::alloc::Global;
 use std::io;
@@ -109,6 +109,7 @@ impl Opener for FakeFiles {
             "opening_wants_memory" => return Err(io::Error::from(ErrorKind::OutOfMemory)),
             "shared.toml" => Content::Text(SHARED),
             "sender.txt" => Content::Text(SENDER),
+            "own.log" => Content::Text(OWN_LOG),
             "writer.txt" => Content::Text(WRITER),
             "faulty_script.txt" => Content::Text("1 mode 3\n# no call\n2 sned 1\n"),
             "named=file.txt" => Content::Text("7 mode 3\n"),

@@ -104,6 +104,18 @@ pub const SENDER: &str = "1 create-queuing NAV_OUT 4 2 0 0
 3 send 1 01
 ";
 
+/// What FMS logged of these calls.
+pub const OWN_LOG: &str = "1 create-queuing NAV_OUT 4 2 0 0 -> NO_ERROR id 1
+2 mode 3 -> NO_ERROR
+3 send 1 01 -> NO_ERROR
+";
+
+/// The log of an order of these calls alone.
+pub const ORDER: &str = "1 FMS create-queuing NAV_OUT 4 2 0 0 -> NO_ERROR id 1
+2 FMS mode 3 -> NO_ERROR
+3 FMS send 1 01 -> NO_ERROR
+";
+
 /// AIR creates its port and writes a message.
 pub const WRITER: &str = "1 create-sampling SPD_OUT 4 0 50
 2 write 1 00ff

@@ -1,0 +1,9 @@
+//! The task `dekarino orders`: what scripts can come to over every order of their calls.
+#![tactic(auto)]
+
+mod json_outcomes;
+mod occurrences;
+mod outcomes;
+mod scripted;
+
+pub use crate::outcomes::outcomes_of_scripts;
