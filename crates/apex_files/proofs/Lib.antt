@@ -1,1 +1,1 @@
-pub mod ScriptLemmas
+pub mod ArgumentLemmas

@@ -1,63 +1,25 @@
 -- Which scripts the arguments NAME=SCRIPT give to the partitions.
-use Rattle.std.specs.Prelude.{◌≡◌, ℕ, ◌==◌, Bool, false, if◌then◌else◌, List, [], ◌∷◌, length, take, Option, Some, None, Result, Ok, Err, IfSome, MatchOption, All}
-use Rattle.std.specs.List.{slice_get, filter, list_any, before_first, after_first}
+use Rattle.std.specs.Prelude.{◌≡◌, ℕ, List, [], ◌∷◌, take, Option, Some, None, Result, Ok, Err, IfSome, MatchOption}
+use Rattle.std.specs.List.{slice_get}
 use Rattle.std.specs.Borrow.{Bor}
 use Rattle.std.specs.Global.{Vec}
 use Rattle.apex_types.specs.declared.call.Call.{Call}
 use Rattle.apex_types.specs.declared.moment.Moment.{Moment}
-use Rattle.apex_config.specs.Configuration.{Configuration, partition_name_of, partition_named}
+use Rattle.apex_config.specs.Configuration.{Configuration, partition_name_of}
 use Rattle.apex_texts.specs.Script.{IsScriptRead, script_of}
 use Rattle.apex_texts.specs.declared.fault.Fault.TheVariants as faults
+use Rattle.apex_files.specs.Arguments.{Arguments, AreGiven, arguments_for, partition_in, path_in}
 use Rattle.apex_files.specs.Reading.{FileBytes}
 use Rattle.apex_files.specs.declared.refusal.Refusal.{Refusal}
 use Rattle.apex_files.specs.declared.refusal.Refusal.TheVariants.{Argument, Text, File}
 
--- ---- one argument
+-- the calls of a script's text, whichever partition's it is
+abbrev pub SaysScript : ℕ → List ℕ → List (Moment × Call) → Type 0
+SaysScript p bytes script = script_of bytes ≡ Ok script
 
--- the sign that ends the name; 61 is its ASCII number
-abbrev pub is_equals_sign : ℕ → Bool
-is_equals_sign byte = byte == 61
-
--- the name before the first equals sign
-abbrev pub name_in : List ℕ → List ℕ
-name_in argument = before_first is_equals_sign argument
-
--- the path after the first equals sign, in which there may be more of them
-abbrev pub path_in : List ℕ → List ℕ
-path_in argument = after_first is_equals_sign argument
-
--- the partition that an argument names; none where it has no equals sign, or no partition's name before it
-abbrev pub partition_in : Configuration → List ℕ → Option ℕ
-partition_in config argument =
-    if list_any is_equals_sign argument then partition_named config (name_in argument) else None
-
--- ---- the arguments of a run
-
-abbrev pub Arguments : Type 0
-Arguments = List (Bor (List ℕ))
-
-abbrev pub is_partition : ℕ → Option ℕ → Bool
-is_partition p None = false
-is_partition p (Some q) = q == p
-
--- the arguments that name partition p
-abbrev pub arguments_for : Configuration → ℕ → Arguments → Arguments
-arguments_for config p arguments = filter (λ argument. is_partition p (partition_in config argument.now)) arguments
-
-abbrev pub NamesPartition : Configuration → Bor (List ℕ) → Type 0
-NamesPartition config argument = (p : ℕ) × (partition_in config argument.now ≡ Some p)
-
--- the script of a partition that these arguments name: no call without one, the calls of the file with one, and two are refused
-abbrev pub IsScriptFor : FileBytes → Arguments → List (Moment × Call) → Type 0
-IsScriptFor files [] script = script ≡ []
-IsScriptFor files (argument ∷ []) script = IfSome (files (path_in argument.now)) (λ bytes. script_of bytes ≡ Ok script)
-IsScriptFor files (argument ∷ other ∷ more) script = ⊥
-
--- a script for each partition: that of the one argument that names it, or the empty one. Each argument names a partition.
-pub record AreScripts (files : FileBytes) (config : Configuration) (arguments : Arguments) (scripts : List (List (Moment × Call))) : Type 0 where
-  pub count : length scripts ≡ length config.partitions
-  pub named : All (NamesPartition config) arguments
-  pub each : (p : ℕ) (script : List (Moment × Call)) → slice_get scripts p ≡ Some script → IsScriptFor files (arguments_for config p arguments) script
+-- a script for each partition: that of the one argument that names it, or the empty one
+abbrev pub AreScripts : FileBytes → Configuration → Arguments → List (List (Moment × Call)) → Type 0
+AreScripts files config arguments scripts = AreGiven SaysScript [] files config arguments scripts
 
 -- ---- refusals
 

@@ -1,7 +1,8 @@
 //! The scripts that arguments `NAME=SCRIPT` give to partitions.
 ghost use Rattle.std.specs.Prelude.{◌≡◌, ◌<◌, [], length, replicate, IfOk, IfSome};
 ghost use Rattle.std.specs.Option.{option_map};
-ghost use Rattle.apex_files.specs.Scripts.{AreArgumentsRead, IsScriptFile, partition_in, path_in};
+ghost use Rattle.apex_files.specs.Arguments.{partition_in, path_in};
+ghost use Rattle.apex_files.specs.Scripts.{AreArgumentsRead, IsScriptFile};
 
 use crate::files::Opener;
 use crate::reading::read_file;

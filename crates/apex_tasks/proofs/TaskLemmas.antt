@@ -14,7 +14,8 @@ use Rattle.apex_texts.proofs.ReplayLemmas.{config_read}
 use Rattle.apex_files.specs.declared.refusal.Refusal.{Refusal}
 use Rattle.apex_files.specs.declared.refusal.Refusal.TheVariants.{Usage, Argument, Text, File, Output}
 use Rattle.apex_files.specs.Reading.{FileBytes}
-use Rattle.apex_files.specs.Scripts.{Arguments, AreScripts, AreArgumentsRefused, new_partition_in}
+use Rattle.apex_files.specs.Arguments.{Arguments}
+use Rattle.apex_files.specs.Scripts.{AreScripts, AreArgumentsRefused, new_partition_in}
 use Rattle.apex_tasks.specs.Task.{IsFileReplay, IsFileRun}
 
 -- a fault of the replay or of the run is the refusal

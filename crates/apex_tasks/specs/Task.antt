@@ -12,7 +12,8 @@ use Rattle.apex_texts.specs.declared.fault.Fault.TheVariants as faults
 use Rattle.apex_files.specs.declared.refusal.Refusal.{Refusal}
 use Rattle.apex_files.specs.declared.refusal.Refusal.TheVariants.{Text, File}
 use Rattle.apex_files.specs.Reading.{FileBytes}
-use Rattle.apex_files.specs.Scripts.{Arguments, AreScripts, AreArgumentsRefused}
+use Rattle.apex_files.specs.Arguments.{Arguments}
+use Rattle.apex_files.specs.Scripts.{AreScripts, AreArgumentsRefused}
 
 -- the line of the configuration that the bytes are, or the fault of the bytes
 abbrev pub IsCheck : Result (String Global) Refusal → List ℕ → Type 0

@@ -1,5 +1,6 @@
 //! Whether logs that partitions kept apart have an order in which each reply is the standard's.
-ghost use Rattle.std.specs.Prelude.{◌≡◌, length};
+ghost use Rattle.std.specs.Prelude.{◌≡◌, length, IfOk, IfSome};
+ghost use Rattle.companion_judge.specs.Found.{IsFound};
 
 use crate::file_writer::FileWriter;
 use crate::found::{Found, found_text};
@@ -24,52 +25,52 @@ pub fn order_of_logs<'a, O: Opener + FileWriter>(
     steps: u64,
     form: Form,
 ) -> Result<Vec<u8>, Unfinished<'a>> {
-    let config = read_config(alloc, files, config, form)?;
-    let all = read_own_logs(alloc, files, &config, arguments)?;
-    match find_order(alloc, &config, all.logs.as_slice(), steps)? {
-        Answer::Order(places) => {
-            let places = places.as_slice();
-            write_order(alloc, files, &config, &all, places, order)?;
-            Ok(found_text(alloc, &config, &all, Found::Some, places, form)?.into_bytes())
-        }
-        Answer::NoOrder(longest) => Err(Unfinished::NotSo {
-            text: found_text(
-                alloc,
-                &config,
-                &all,
-                Found::None,
-                longest.as_slice(),
-                form,
-            )?.into_bytes(),
-        }),
-        Answer::Undecided(longest) => Err(Unfinished::NotDecided {
-            text: found_text(
-                alloc,
-                &config,
-                &all,
-                Found::Undecided { steps },
-                longest.as_slice(),
-                form,
-            )?
-            .into_bytes(),
-        }),
+    let (found, text) = search(alloc, files, config, arguments, order, steps, form)?;
+    match found {
+        Found::Some => Ok(text),
+        Found::None => Err(Unfinished::NotSo { text }),
+        Found::Undecided { .. } => Err(Unfinished::NotDecided { text }),
     }
 }
 
-/// Writes an order as a log to the file that is given, if there is one.
+/// Whether there is an order, and what is told of it.
+fn search<'a, O: Opener + FileWriter>(
+    alloc: Global,
+    files: &O,
+    config: &'a str,
+    arguments: &[&'a str],
+    order: Option<&'a str>,
+    steps: u64,
+    form: Form,
+) -> Result<(Found, Vec<u8>), Unfinished<'a>>
+    ensures { IfOk result (λ told. IfSome (O.bytes_at files.now config.now)
+        (IsFound (O.bytes_at files.now) arguments.now told.0)) }
+{
+    let config = read_config(alloc, files, config, form)?;
+    let all = read_own_logs(alloc, files, &config, arguments)?;
+    let (found, longest) = match find_order(alloc, &config, all.logs.as_slice(), steps)? {
+        Answer::Order(places) => (Found::Some, places),
+        Answer::NoOrder(longest) => (Found::None, longest),
+        Answer::Undecided(longest) => (Found::Undecided { steps }, longest),
+    };
+    if let (Found::Some, Some(file)) = (found, order) {
+        write_order(alloc, files, &config, &all, longest.as_slice(), file)?;
+    }
+    let text = found_text(alloc, &config, &all, found, longest.as_slice(), form)?;
+    Ok((found, text.into_bytes()))
+}
+
+/// Writes an order as a log to a file.
 fn write_order<'a, O: FileWriter>(
     alloc: Global,
     files: &O,
     config: &Config,
     all: &OwnLogs<'a>,
     order: &[CallPlace],
-    file: Option<&'a str>,
+    file: &'a str,
 ) -> Result<(), Unfinished<'a>>
     requires { length all.now.logs.items ≡ length config.now.partitions }
 {
-    let Some(file) = file else {
-        return Ok(());
-    };
     let text = order_log(alloc, config, all.logs.as_slice(), order)?;
     match files.write_file(file, text.as_bytes()) {
         Ok(()) => Ok(()),

@@ -24,7 +24,8 @@ pub(crate) fn order_log(
         if p >= logs.len() {
             continue;
         }
-        if let Some(entry) = logs[p].entries.get(place.index) {
+        let log = &logs[p];
+        if let Some(entry) = log.entries.get(place.index) {
             push_logged(&mut text, config, p, entry.at, &entry.call, &entry.reply)?;
         }
     }

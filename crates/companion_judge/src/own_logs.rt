@@ -1,5 +1,6 @@
 //! The logs that partitions kept apart, as files give them.
-ghost use Rattle.std.specs.Prelude.{◌≡◌, ◌<◌, length, IfOk};
+ghost use Rattle.std.specs.Prelude.{◌≡◌, ◌<◌, [], length, replicate, IfOk, IfSome};
+ghost use Rattle.companion_judge.specs.OwnLogs.{AreOwnLogs, SaysOwnLog};
 
 use apex_config::Config;
 use apex_files::{Opener, Refusal, partition_and_path, read_file};
@@ -22,79 +23,72 @@ pub(crate) struct LogFile<'a> {
     pub(crate) lines: Vec<usize>,
 }
 
-/// The logs in the files that the arguments `NAME=LOG` name; a partition without an argument has an empty one.
+/// The log of each partition, in the file that the argument `NAME=LOG` with its name names, or the empty one.
 pub(crate) fn read_own_logs<'a, O: Opener>(
     alloc: Global,
     opener: &O,
     config: &Config,
     arguments: &[&'a str],
 ) -> Result<OwnLogs<'a>, Unfinished<'a>>
-    ensures { IfOk result (λ all. length all.logs.items ≡ length config.now.partitions) }
+    ensures { IfOk result (λ all.
+        AreOwnLogs (O.bytes_at opener.now) config.now arguments.now all.logs.items) }
 {
-    for (i, argument) in arguments.iter().enumerate() {
-        if !names_first(config, arguments, i) {
-            return Err(Unfinished::Refused(Refusal::Argument(argument)));
-        }
+    let mut all = no_logs(alloc, config.partitions())?;
+    let mut named = vec![in alloc; false; config.partitions()]?;
+    for argument in arguments {
+        let (p, path) = match partition_and_path(config, argument) {
+            Some((p, path)) if !named[p] => (p, path),
+            _ => return Err(Unfinished::Refused(Refusal::Argument(argument))),
+        };
+        let (log, file) = read_own_log(alloc, opener, p, path)?;
+        all.logs[p] = log;
+        all.files[p] = file;
+        named[p] = true;
     }
-    let mut logs = Vec::with_capacity(alloc, config.partitions())?;
-    let mut files = Vec::with_capacity(alloc, config.partitions())?;
-    for p in 0..config.partitions() {
-        let (log, file) = read_own_log(alloc, opener, config, arguments, p)?;
-        if logs.push(log).is_err() || files.push(file).is_err() {
-            return Err(Unfinished::from(AllocError));
-        }
+    Ok(all)
+}
+
+/// So many logs without an entry.
+fn no_logs<'a>(alloc: Global, count: usize) -> Result<OwnLogs<'a>, AllocError>
+    ensures logs { IfOk result (λ all. all.logs.items ≡ replicate count []) }
+    ensures files { IfOk result (λ all. length all.files.items ≡ count) }
+{
+    let mut logs = Vec::with_capacity(alloc, count)?;
+    let mut files = Vec::with_capacity(alloc, count)?;
+    for _ in 0..count {
+        logs.push_reserved(OwnLog {
+            entries: Vec::new(alloc),
+        });
+        files.push_reserved(LogFile {
+            path: "",
+            lines: Vec::new(alloc),
+        });
     }
     Ok(OwnLogs { logs, files })
 }
 
-/// Whether the argument at a place names a partition that no argument before it names.
-fn names_first(config: &Config, arguments: &[&str], place: usize) -> bool {
-    let Some((p, _)) = arguments
-        .get(place)
-        .and_then(|word| partition_and_path(config, word))
-    else {
-        return false;
-    };
-    !arguments
-        .iter()
-        .take(place)
-        .any(|word| names(config, word, p))
-}
-
-fn names(config: &Config, argument: &str, p: usize) -> bool {
-    match partition_and_path(config, argument) {
-        Some((q, _)) => q == p,
-        None => false,
-    }
-}
-
-/// The log of partition `p` in the file of the argument that names it.
+/// The log of partition `p` in a file.
 fn read_own_log<'a, O: Opener>(
     alloc: Global,
     opener: &O,
-    config: &Config,
-    arguments: &[&'a str],
-    p: usize,
-) -> Result<(OwnLog, LogFile<'a>), Unfinished<'a>> {
-    for argument in arguments {
-        match partition_and_path(config, argument) {
-            Some((q, path)) if q == p => {
-                let text = read_file(alloc, opener, path)?;
-                return entries_in(alloc, p, path, text.as_slice());
-            }
-            _ => {}
-        }
-    }
-    entries_in(alloc, p, "", &[])
-}
-
-/// The entries of partition `p` that the text of a file has.
-fn entries_in<'a>(
-    alloc: Global,
     p: usize,
     path: &'a str,
-    text: &[u8],
-) -> Result<(OwnLog, LogFile<'a>), Unfinished<'a>> {
+) -> Result<(OwnLog, LogFile<'a>), Unfinished<'a>>
+    ensures { IfOk result
+        (λ read. IfSome (O.bytes_at opener.now path.now) (λ bytes. SaysOwnLog p bytes read.0)) }
+{
+    let text = read_file(alloc, opener, path)?;
+    match entries_in(alloc, p, text.as_slice()) {
+        Ok((log, lines)) => Ok((log, LogFile { path, lines })),
+        Err(LogError::Line(faulty)) => Err(Unfinished::FaultyOwnLog { file: path, faulty }),
+        Err(LogError::OutOfMemory) => Err(Unfinished::from(AllocError)),
+    }
+}
+
+/// The entries of partition `p` that a text has, and their lines, from 1.
+fn entries_in(alloc: Global, p: usize, text: &[u8]) -> Result<(OwnLog, Vec<usize>), LogError>
+    ensures { IfOk result (λ read. SaysOwnLog p text.now read.0) }
+{
     let form = PartitionLog { partition: p };
     let mut entries = Vec::new(alloc);
     let mut lines = Vec::new(alloc);
@@ -102,17 +96,14 @@ fn entries_in<'a>(
     let mut number = 0;
     loop {
         let mut entry = ANY_ENTRY;
-        match next_entry(&form, number, rest, &mut entry) {
-            Ok(Some((line, after))) => {
-                if entries.push(entry).is_err() || lines.push(line).is_err() {
-                    return Err(Unfinished::from(AllocError));
-                }
+        match next_entry(&form, number, rest, &mut entry)? {
+            Some((line, after)) => {
+                entries.push(entry)?;
+                lines.push(line)?;
                 number = line;
                 rest = after;
             }
-            Ok(None) => break,
-            Err(faulty) => return Err(Unfinished::FaultyOwnLog { file: path, faulty }),
+            None => return Ok((OwnLog { entries }, lines)),
         }
     }
-    Ok((OwnLog { entries }, LogFile { path, lines }))
 }

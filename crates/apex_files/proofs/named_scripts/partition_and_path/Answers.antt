@@ -1,4 +1,4 @@
-use Rattle.apex_files.proofs.ScriptLemmas.{uncut}
+use Rattle.apex_files.proofs.ArgumentLemmas.{uncut}
 use Rattle.apex_files.proofs.named_scripts.partition_and_path.Goals as goal
 
 pub returns-in_err-name-clause-partition : goal.returns-in_err-name-clause-partition

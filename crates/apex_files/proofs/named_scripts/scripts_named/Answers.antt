@@ -4,8 +4,9 @@ use Rattle.std.specs.List.{slice_get}
 use Rattle.std.proofs.lemmas.Option.{slice_get-get_or}
 use Rattle.std.proofs.Math.Seq.{take-suc}
 use Rattle.apex_texts.specs.Script.{script_of}
-use Rattle.apex_files.specs.Scripts.{Arguments, AreScripts, IsScriptFile, partition_in, arguments_for}
-use Rattle.apex_files.proofs.ScriptLemmas.{AreFlags, has_argument, flag_read, scripts_more, flags_more, is_new, named_before, not_new, given_refusal, refused_itself, refused_file}
+use Rattle.apex_files.specs.Arguments.{Arguments, partition_in, arguments_for}
+use Rattle.apex_files.specs.Scripts.{AreScripts, IsScriptFile, SaysScript}
+use Rattle.apex_files.proofs.ArgumentLemmas.{AreFlags, has_argument, flag_read, given_more, flags_more, is_new, named_before, not_new, given_refusal, refused_itself, refused_file}
 use Rattle.apex_files.proofs.named_scripts.scripts_named.Goals as goal
 use Rattle.apex_files.proofs.named_scripts.scripts_named.Goals.{in_default-via-in-Some+else-not-index, in_default-via-in_default}
 
@@ -38,7 +39,7 @@ loop-argument-preserved g c =
     let read = subst (λ (path : List ℕ). IfSome (files path) (λ bytes. script_of bytes ≡ Ok c.in_ok-scripts-2.field-0)) c.in-Some.ensures.path c.in_ok-scripts-2.ensures in
     record {
       scripts = subst (λ (done : Arguments). AreScripts files config done (set scripts p c.in_ok-scripts-2.field-0)) (sym one_more)
-          (scripts_more files config (take i arguments) argument p scripts c.in_ok-scripts-2.field-0 names (omega arith) first read before.scripts);
+          (given_more SaysScript [] files config (take i arguments) argument p scripts c.in_ok-scripts-2.field-0 names (omega arith) first read before.scripts);
       flags = subst (λ (done : Arguments). AreFlags config done (set named p true)) (sym one_more)
           (flags_more config (take i arguments) argument p named names i_named before.flags);
       count = before.count;

@@ -1,6 +1,6 @@
 use Rattle.std.proofs.Common.{◌≡◌, length, take, vec_len}
 use Rattle.apex_files.specs.Scripts.{AreScripts}
-use Rattle.apex_files.proofs.ScriptLemmas.{AreFlags}
+use Rattle.apex_files.proofs.ArgumentLemmas.{AreFlags}
 use Rattle.apex_files.proofs.named_scripts.scripts_named.Given as goal
 
 abbrev pub invariant-loop-argument : goal.invariant-loop-argument

@@ -1,4 +1,4 @@
--- The arguments of a run, one after the other: what one of them names, and the scripts after one more.
+-- Arguments NAME=FILE, one after the other: what one of them names, and what the files give after one more.
 use Rattle.std.proofs.Common.{◌≡◌, ◌≢◌, ℕ, ◌<◌, ◌==◌, Bool, true, false, List, [], ◌∷◌, ◌++◌, length, take, set, get_or, replicate, Some, None, Result, Ok, Err, Vec, Global, Bor, refl, sym, ap, ◌∙◌, subst, arith, length-set, get_or-set_same, get_or-set_other, append-nil}
 use Rattle.std.specs.Prelude.{IfSome}
 use Rattle.std.specs.Result.{IsErr, IsErrAnd}
@@ -14,12 +14,12 @@ use Rattle.std.proofs.lemmas.Str.Pattern.{IsSplitOnceResult, split_once_first}
 use Rattle.apex_types.specs.declared.call.Call.{Call}
 use Rattle.apex_types.specs.declared.moment.Moment.{Moment}
 use Rattle.apex_config.specs.Configuration.{Configuration}
-use Rattle.apex_texts.specs.Script.{script_of}
 use Rattle.apex_texts.specs.declared.fault.Fault.TheVariants as faults
 use Rattle.apex_files.specs.declared.refusal.Refusal.{Refusal}
 use Rattle.apex_files.specs.declared.refusal.Refusal.TheVariants.{Usage, Argument, Text, File, Output}
 use Rattle.apex_files.specs.Reading.{FileBytes}
-use Rattle.apex_files.specs.Scripts.{Arguments, AreScripts, AreArgumentsRefused, AreArgumentsRead, IsFirstRefused, IsScriptFile, IsScriptFor, NamesPartition, is_equals_sign, is_partition, path_in, partition_in, arguments_for, if_first, new_partition_in}
+use Rattle.apex_files.specs.Arguments.{Arguments, AreGiven, IsGivenBy, NamesPartition, is_equals_sign, is_partition, path_in, partition_in, arguments_for}
+use Rattle.apex_files.specs.Scripts.{AreScripts, AreArgumentsRefused, AreArgumentsRead, IsFirstRefused, IsScriptFile, if_first, new_partition_in}
 
 -- an argument without an equals sign names no partition
 pub uncut : (config : Configuration) (argument : List ℕ) → IsSplitOnceResult 61 argument None → partition_in config argument ≡ None
@@ -91,45 +91,46 @@ flags_more config done argument p named names within flags q inside = by_test (p
         let before : q < length named = omega (arith, length-set named p true) in
         get_or-set_other named p q true false (λ h. apart (sym h)) ∙ (flags q before ∙ sym (ap has_argument (for_other config done argument p names q apart)))
 
--- ---- the scripts
+-- ---- what the files give
 
-pub scripts_none : (files : FileBytes) (config : Configuration) (n : ℕ) → n ≡ length config.partitions → AreScripts files config [] (replicate n [])
-scripts_none files config n all = record {
-  count = length-replicate {A = List (Moment × Call)} n [] ∙ all;
-  named = All-nil (NamesPartition config);
-  each = λ p script here.
-      let within = slice_get_within (replicate n []) p script here in
-      sym (get_or_from_slice_get (replicate n []) p script [] here) ∙ get_or-replicate n p [] [] (omega (arith, length-replicate {A = List (Moment × Call)} n []));
-}
+module _ {X : Type 0} (Says : ℕ → List ℕ → X → Type 0) (nothing : X) (files : FileBytes) (config : Configuration) where
+  pub given_none : (n : ℕ) → n ≡ length config.partitions → AreGiven Says nothing files config [] (replicate n nothing)
+  given_none n all = record {
+    count = length-replicate {A = X} n nothing ∙ all;
+    named = All-nil (NamesPartition config);
+    each = λ p given here.
+        let within = slice_get_within (replicate n nothing) p given here in
+        sym (get_or_from_slice_get (replicate n nothing) p given nothing here) ∙ get_or-replicate n p nothing nothing (omega (arith, length-replicate {A = X} n nothing));
+  }
 
-pub scripts_more : (files : FileBytes) (config : Configuration) (done : Arguments) (argument : Bor (List ℕ)) (p : ℕ) (scripts : List (List (Moment × Call))) (script : List (Moment × Call))
-    → partition_in config argument.now ≡ Some p → p < length scripts → has_argument (arguments_for config p done) ≡ false → IfSome (files (path_in argument.now)) (λ bytes. script_of bytes ≡ Ok script)
-    → AreScripts files config done scripts → AreScripts files config (done ++ argument ∷ []) (set scripts p script)
-scripts_more files config done argument p scripts script names within first read known = record {
-  count = length-set scripts p script ∙ known.count;
-  named = All-push (NamesPartition config) done argument known.named (p, names);
-  each = λ q other here. by_test q other here (p == q) refl;
-}
-  where
-    own : arguments_for config p (done ++ argument ∷ []) ≡ argument ∷ []
-    own = for_own config done argument p names ∙ ap (λ (xs : Arguments). xs ++ argument ∷ []) (has_none (arguments_for config p done) first)
+  pub given_more : (done : Arguments) (argument : Bor (List ℕ)) (p : ℕ) (all : List X) (given : X)
+      → partition_in config argument.now ≡ Some p → p < length all → has_argument (arguments_for config p done) ≡ false → IfSome (files (path_in argument.now)) (λ bytes. Says p bytes given)
+      → AreGiven Says nothing files config done all → AreGiven Says nothing files config (done ++ argument ∷ []) (set all p given)
+  given_more done argument p all given names within first read known = record {
+    count = length-set all p given ∙ known.count;
+    named = All-push (NamesPartition config) done argument known.named (p, names);
+    each = λ q other here. by_test q other here (p == q) refl;
+  }
+    where
+      own : arguments_for config p (done ++ argument ∷ []) ≡ argument ∷ []
+      own = for_own config done argument p names ∙ ap (λ (xs : Arguments). xs ++ argument ∷ []) (has_none (arguments_for config p done) first)
 
-    for_p : (other : List (Moment × Call)) → slice_get (set scripts p script) p ≡ Some other → IsScriptFor files (arguments_for config p (done ++ argument ∷ [])) other
-    for_p other here =
-        let same : script ≡ other = sym (get_or-set_same scripts p script [] within) ∙ get_or_from_slice_get (set scripts p script) p other [] here in
-        subst (λ (xs : Arguments). IsScriptFor files xs other) (sym own) (subst (λ calls. IfSome (files (path_in argument.now)) (λ bytes. script_of bytes ≡ Ok calls)) same read)
+      for_p : (other : X) → slice_get (set all p given) p ≡ Some other → IsGivenBy Says nothing files p (arguments_for config p (done ++ argument ∷ [])) other
+      for_p other here =
+          let same : given ≡ other = sym (get_or-set_same all p given nothing within) ∙ get_or_from_slice_get (set all p given) p other nothing here in
+          subst (λ (xs : Arguments). IsGivenBy Says nothing files p xs other) (sym own) (subst (λ (x : X). IfSome (files (path_in argument.now)) (λ bytes. Says p bytes x)) same read)
 
-    by_test : (q : ℕ) (other : List (Moment × Call)) → slice_get (set scripts p script) q ≡ Some other → (b : Bool) → (p == q) ≡ b → IsScriptFor files (arguments_for config q (done ++ argument ∷ [])) other
-    by_test q other here true is =
-        let same : p ≡ q = grind (arith, nat_tests) in
-        subst (λ (r : ℕ). slice_get (set scripts p script) r ≡ Some other → IsScriptFor files (arguments_for config r (done ++ argument ∷ [])) other) same (for_p other) here
-    by_test q other here false is =
-        let apart : p ≢ q = grind (arith, nat_tests) in
-        let place = slice_get_within (set scripts p script) q other here in
-        let before : q < length scripts = omega (arith, length-set scripts p script) in
-        let kept : get_or scripts q [] ≡ other = sym (get_or-set_other scripts p q script [] (λ h. apart (sym h))) ∙ get_or_from_slice_get (set scripts p script) q other [] here in
-        let here_before : slice_get scripts q ≡ Some other = slice_get-get_or scripts q [] before ∙ ap Some kept in
-        subst (λ (xs : Arguments). IsScriptFor files xs other) (sym (for_other config done argument p names q apart)) (known.each q other here_before)
+      by_test : (q : ℕ) (other : X) → slice_get (set all p given) q ≡ Some other → (b : Bool) → (p == q) ≡ b → IsGivenBy Says nothing files q (arguments_for config q (done ++ argument ∷ [])) other
+      by_test q other here true is =
+          let same : p ≡ q = grind (arith, nat_tests) in
+          subst (λ (r : ℕ). slice_get (set all p given) r ≡ Some other → IsGivenBy Says nothing files r (arguments_for config r (done ++ argument ∷ [])) other) same (for_p other) here
+      by_test q other here false is =
+          let apart : p ≢ q = grind (arith, nat_tests) in
+          let place = slice_get_within (set all p given) q other here in
+          let before : q < length all = omega (arith, length-set all p given) in
+          let kept : get_or all q nothing ≡ other = sym (get_or-set_other all p q given nothing (λ h. apart (sym h))) ∙ get_or_from_slice_get (set all p given) q other nothing here in
+          let here_before : slice_get all q ≡ Some other = slice_get-get_or all q nothing before ∙ ap Some kept in
+          subst (λ (xs : Arguments). IsGivenBy Says nothing files q xs other) (sym (for_other config done argument p names q apart)) (known.each q other here_before)
 
 -- ---- refusals
 
