@@ -65,7 +65,7 @@ Example:
   examples/recorded/log.txt:6: 50 DSP receive 1: logged NO_ERROR message 0c0d, the standard has NO_ERROR message 0a0b
   examples/recorded/log.txt:8: 70 FMS send 1 0102030405: logged NO_ERROR, the standard has INVALID_CONFIG (message of 5 bytes, channel NAV takes 4)
   8 calls, 2 departures
-  $ ./dekarino judge examples/apart/config.toml FMS=examples/apart/fms.log DSP=examples/apart/dsp.log
+  $ ./dekarino judge examples/recorded/config.toml FMS=examples/recorded/fms.log DSP=examples/recorded/dsp.log
   9 calls, as the standard says in some order";
 
 pub(crate) const FIRST: &str = "Tells the first departure alone, and how many there are";
@@ -73,7 +73,7 @@ pub(crate) const FIRST: &str = "Tells the first departure alone, and how many th
 pub(crate) const ORDER: &str = "Writes the order of logs NAME=LOG that is found to FILE, as a log";
 
 pub(crate) const STEPS: &str =
-    "Gives up the search of an order after so many steps [default: 50000000]";
+    "Gives up the search of an order after so many steps [default: 1000000000]";
 
 pub(crate) const ORDERS: &str = "\
 Each partition makes the calls of its script in order, and nothing else says which call comes first: the moments of

@@ -155,7 +155,7 @@ fn explain_in<'a>(alloc: Global, given: &ArgMatches<'a>) -> Result<Task<'a>, Wor
 }
 
 /// The steps above which `judge` gives up, where no number is given.
-const STEPS: u64 = 50_000_000;
+const STEPS: u64 = 1_000_000_000;
 
 fn judge_in<'a>(alloc: Global, given: &ArgMatches<'a>) -> Result<Task<'a>, WordsFault> {
     let Some(steps) = number_in(given, commands::STEPS, STEPS) else {
