@@ -58,17 +58,15 @@ pub(crate) fn judge_as_json<'a>(
         let Some((line, after)) = next_entry(&form, number, rest, &mut entry)? else {
             break;
         };
-        let judged = judge.judge(entry.partition, entry.at, &entry.call, &entry.reply);
-        let Ok(departs) = judged else {
-            return Err(Unfinished::from(AllocError));
-        };
-        counted.calls = counted.calls.saturating_add(1);
-        if let Some(expected) = departs {
-            if counted.departures < most {
-                push_departure_object(alloc, &mut text, judge.config(), line, &entry, &expected)?;
-            }
-            counted.departures = counted.departures.saturating_add(1);
-        }
+        push_judged(
+            alloc,
+            &mut text,
+            &mut judge,
+            line,
+            &entry,
+            most,
+            &mut counted,
+        )?;
         number = line;
         rest = after;
     }
@@ -77,6 +75,31 @@ pub(crate) fn judge_as_json<'a>(
         text,
         departures: counted.departures,
     })
+}
+
+/// Judges an entry and counts it; a departure has its object, but for those after the first `most`.
+fn push_judged(
+    alloc: Global,
+    text: &mut String,
+    judge: &mut Judge,
+    line: usize,
+    entry: &Entry,
+    most: usize,
+    counted: &mut CountLine,
+) -> Result<(), AllocError>
+    requires { entry.now.partition < length judge.old.config.partitions }
+{
+    let Ok(departs) = judge.judge(entry.partition, entry.at, &entry.call, &entry.reply) else {
+        return Err(AllocError);
+    };
+    counted.calls = counted.calls.saturating_add(1);
+    if let Some(expected) = departs {
+        if counted.departures < most {
+            push_departure_object(alloc, text, judge.config(), line, entry, &expected)?;
+        }
+        counted.departures = counted.departures.saturating_add(1);
+    }
+    Ok(())
 }
 
 pub(crate) fn push_departure_object(

@@ -45,8 +45,44 @@ pub(crate) fn push_ending(
 }
 
 fn remark_line<'a>(remark: &'a Remark, words: &'a str) -> RemarkLine<'a> {
-    let line = RemarkLine {
-        remark: "",
+    match remark {
+        Remark::MomentBefore {
+            line,
+            at: Moment(at),
+            last: Moment(last),
+        } => RemarkLine {
+            line: Some(*line),
+            at: Some(*at),
+            last: Some(*last),
+            ..line_of("moment before", words)
+        },
+        Remark::CallNotMade { line, partition } => RemarkLine {
+            line: Some(*line),
+            partition: Some(partition.text()),
+            ..line_of("not made", words)
+        },
+        Remark::PortNotCreated { partition, port } => RemarkLine {
+            partition: Some(partition.text()),
+            port: Some(port.text()),
+            ..line_of("never created", words)
+        },
+        Remark::NoSampleRead { partition, port } => RemarkLine {
+            partition: Some(partition.text()),
+            port: Some(port.text()),
+            ..line_of("no sample read", words)
+        },
+        Remark::MessagesWaiting { channel, count } => RemarkLine {
+            channel: Some(channel.text()),
+            waiting: Some(*count),
+            ..line_of("messages waiting", words)
+        },
+    }
+}
+
+/// The line of a remark with nothing but its words.
+fn line_of<'a>(remark: &'static str, words: &'a str) -> RemarkLine<'a> {
+    RemarkLine {
+        remark,
         words,
         line: None,
         at: None,
@@ -55,45 +91,5 @@ fn remark_line<'a>(remark: &'a Remark, words: &'a str) -> RemarkLine<'a> {
         port: None,
         channel: None,
         waiting: None,
-    };
-    match remark {
-        Remark::MomentBefore {
-            line: number,
-            at: Moment(at),
-            last: Moment(last),
-        } => RemarkLine {
-            remark: "moment before",
-            line: Some(*number),
-            at: Some(*at),
-            last: Some(*last),
-            ..line
-        },
-        Remark::CallNotMade {
-            line: number,
-            partition,
-        } => RemarkLine {
-            remark: "not made",
-            line: Some(*number),
-            partition: Some(partition.text()),
-            ..line
-        },
-        Remark::PortNotCreated { partition, port } => RemarkLine {
-            remark: "never created",
-            partition: Some(partition.text()),
-            port: Some(port.text()),
-            ..line
-        },
-        Remark::NoSampleRead { partition, port } => RemarkLine {
-            remark: "no sample read",
-            partition: Some(partition.text()),
-            port: Some(port.text()),
-            ..line
-        },
-        Remark::MessagesWaiting { channel, count } => RemarkLine {
-            remark: "messages waiting",
-            channel: Some(channel.text()),
-            waiting: Some(*count),
-            ..line
-        },
     }
 }
