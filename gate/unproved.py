@@ -80,9 +80,9 @@ def spoken(name):
 
 
 def try_program(kit, name, words):
-    """Runs the program, with its standard output as ours, and returns the standard error of `rt try`."""
+    """Runs the program, and returns its standard output and the standard error of `rt try`."""
     ran = subprocess.Popen([f"{kit}/bin/rt", "try", "--", *words], cwd=f"{ROOT}/crates/{name}",
-                           stdin=subprocess.DEVNULL, stderr=subprocess.PIPE)
+                           stdin=subprocess.DEVNULL, stdout=subprocess.PIPE, stderr=subprocess.PIPE)
     stopped_by = []
 
     def stop(number, _):
@@ -91,10 +91,10 @@ def try_program(kit, name, words):
 
     for it in (signal.SIGHUP, signal.SIGINT, signal.SIGTERM):
         signal.signal(it, stop)
-    said = ran.communicate()[1]
+    output, said = ran.communicate()
     if stopped_by:
         raise Stopped(stopped_by[0])
-    return said
+    return output, said
 
 
 def why_not(said):
@@ -116,7 +116,9 @@ def answer(name, words, folder):
     whole = {path: it for it, path in paths.items()}
     words = [before + whole.get(path, path) for before, path in parts]
     with spoken(name):
-        said = try_program(kit, name, words)
+        output, said = try_program(kit, name, words)
+    sys.stdout.buffer.write(as_written(output, paths))
+    sys.stdout.flush()
     ended = ENDED.search(said)
     if not ended:
         sys.stderr.buffer.write(b"" if TOO_MUCH.search(said) or TOO_LONG.search(said) else said)
