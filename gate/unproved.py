@@ -64,6 +64,15 @@ def as_written(said, paths):
     return re.sub(form, lambda it: names[it[0]], said) if names else said
 
 
+def write_out(text):
+    """Writes on standard output, as far as it is read."""
+    try:
+        sys.stdout.buffer.write(text)
+        sys.stdout.flush()
+    except BrokenPipeError:
+        os.dup2(os.open(os.devnull, os.O_WRONLY), sys.stdout.fileno())
+
+
 class Stopped(Exception):
     """The signal by which the run was to end."""
 
@@ -117,8 +126,7 @@ def answer(name, words, folder):
     words = [before + whole.get(path, path) for before, path in parts]
     with spoken(name):
         output, said = try_program(kit, name, words)
-    sys.stdout.buffer.write(as_written(output, paths))
-    sys.stdout.flush()
+    write_out(as_written(output, paths))
     ended = ENDED.search(said)
     if not ended:
         sys.stderr.buffer.write(b"" if TOO_MUCH.search(said) or TOO_LONG.search(said) else said)
