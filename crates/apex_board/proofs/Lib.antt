@@ -1,4 +1,3 @@
 pub mod JournalSteps
 pub mod LeastRoom
 pub mod RoomSteps
-pub mod PublishSteps

@@ -2,5 +2,4 @@ pub mod BoardView
 pub mod Journals
 pub mod Recorded
 pub mod Room
-pub mod OnChannels
 pub mod OnRequests

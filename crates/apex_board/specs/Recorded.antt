@@ -5,7 +5,7 @@ use Rattle.apex_ports.specs.PortsView.{PortsView}
 use Rattle.apex_ports.specs.Sound.{IsSound}
 use Rattle.apex_board.specs.declared.records.Records.{Records}
 use Rattle.apex_board.specs.Journals.{AreJournals}
-use Rattle.apex_board.specs.OnChannels.{ArePublished}
+use Rattle.apex_publishing.specs.OnChannels.{ArePublished}
 use Rattle.apex_observers.specs.Channels.{Channels}
 
 -- the journals are those of the log

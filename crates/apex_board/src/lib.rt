@@ -3,7 +3,6 @@
 
 pub mod board;
 mod journal;
-mod publishing;
 mod records;
 pub mod requests;
 

@@ -1,2 +1,2 @@
-pub mod LogLemmas
+pub mod Crossing
 pub mod ObserverLemmas

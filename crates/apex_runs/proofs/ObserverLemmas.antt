@@ -1,53 +1,82 @@
--- The observers of a board's sampling channels, one channel after the other.
-use Rattle.std.proofs.Common.{◌≡◌, ℕ, ◌+◌, ◌<◌, Bool, true, false, length, length-append, take, get_or, slice_get, Option, None, Some, List, ap, ◌∙◌, sym, arith}
-use Rattle.std.specs.Option.{option_to_list}
-use Rattle.std.proofs.lemmas.Option.{slice_get-get_or, slice_get_within, get_or_from_slice_get}
+-- The observers of the sampling channels, one channel after the other.
+use Rattle.std.proofs.Common.{◌≡◌, ◌≢◌, ℕ, zero, suc, ◌+◌, ◌<◌, ◌≤◌, ◌==◌, Bool, true, false, List, length, set, Some, slice_get, refl, ap, sym, subst, ◌∙◌, arith, ⊎_elim}
+use Rattle.std.proofs.lemmas.Bool.Decides.{nat_tests}
 use Rattle.apex_config.specs.Configuration.{Configuration, channel_of, is_queuing_channel}
 use Rattle.apex_config.specs.declared.channel.Channel.{Channel}
-use Rattle.apex_observers.specs.Channels.{Channels, AreObservers, sampling_of}
 use Rattle.apex_observers.specs.Published.{Published, last_of}
-use Rattle.apex_observers.proofs.Observing.{sampling_at, observer_at}
-use Rattle.apex_observers.proofs.Sampling.{sampling_of-next}
 use Rattle.apex_ports.specs.Channels.{last_write_on}
 use Rattle.apex_ports.specs.History.{History}
 use Rattle.apex_ports.specs.Ports.{is_queuing, is_queue}
-use Rattle.apex_board.specs.OnChannels.{ArePublished}
-use Rattle.apex_board.proofs.PublishSteps.{sampling_entry}
-
--- how many sampling channels there are before a channel
-abbrev pub place_of : Channels → ℕ → ℕ
-place_of channels c = length (sampling_of (take c channels))
+use Rattle.apex_ports.proofs.Stays.{slice_get-set_cases}
+use Rattle.apex_runs.specs.Observers.{sampling_before}
 
 -- the kind of a channel that was looked up
 pub kind_at : (config known : Configuration) (c : ℕ) (channel : Channel) (kind : Bool) → known ≡ config → channel_of known c ≡ Some channel → kind ≡ is_queuing_channel channel.kind → is_queuing config c ≡ kind
 kind_at config known c channel kind same found is = ap (λ k. is_queuing k c) (sym same) ∙ (ap is_queue found ∙ sym is)
 
-module _ (config : Configuration) (h : History) (channels : Channels) (are : ArePublished config h channels) (c : ℕ) (within : c < length config.channels) where
-  -- a sampling channel is published at its place, with the writes of the history
-  pub published_at : is_queuing config c ≡ false → (published : Published) × (slice_get (sampling_of channels) (place_of channels c) ≡ Some published) × (last_of published.writes ≡ last_write_on config c h)
-  published_at kind =
-      let entry = sampling_entry config h channels c are within kind in
-      (entry.0, sampling_at channels c entry.0 entry.1, ap last_of (are.each c (Some entry.0) entry.1).1)
+module _ (config : Configuration) where
+  pub after_queuing : (c : ℕ) → is_queuing config c ≡ true → sampling_before config (suc c) ≡ sampling_before config c
+  after_queuing c kind = rw kind refl
 
-  pub observer_within : (observers : List Published) → AreObservers channels observers → is_queuing config c ≡ false → place_of channels c < length observers
-  observer_within observers whose kind =
-      let there = published_at kind in
-      let known = observer_at channels observers (place_of channels c) there.0 whose there.1 in
-      slice_get_within observers (place_of channels c) known.0 known.1
+  pub after_sampling : (c : ℕ) → is_queuing config c ≡ false → sampling_before config (suc c) ≡ sampling_before config c + 1
+  after_sampling c kind = rw kind refl
 
-  inside : c < length channels
-  inside = omega (arith, are.all, within)
+  no_fewer : (c : ℕ) (b : Bool) → is_queuing config c ≡ b → sampling_before config c ≤ sampling_before config (suc c)
+  no_fewer c true kind = omega (arith, after_queuing c kind)
+  no_fewer c false kind = omega (arith, after_sampling c kind)
 
-  step : (entry : Option Published) → slice_get channels c ≡ Some entry → place_of channels (c + 1) ≡ place_of channels c + length (option_to_list entry)
-  step entry at =
-      ap length (sampling_of-next channels c entry inside (sym (get_or_from_slice_get channels c entry entry at))) ∙ length-append (sampling_of (take c channels)) (option_to_list entry)
-
-  pub next_sampling : is_queuing config c ≡ false → place_of channels (c + 1) ≡ place_of channels c + 1
-  next_sampling kind = let entry = sampling_entry config h channels c are within kind in step (Some entry.0) entry.1
-
-  pub next_queuing : is_queuing config c ≡ true → place_of channels (c + 1) ≡ place_of channels c
-  next_queuing kind = by_entry (get_or channels c None) (slice_get-get_or channels c None inside)
+  -- a sampling channel has a place that no later channel has
+  pub earlier : (c d : ℕ) → is_queuing config c ≡ false → c < d → sampling_before config c < sampling_before config d
+  earlier c zero kind before = absurd (omega arith)
+  earlier c (suc d) kind before = by_test (earlier c d kind) (c == d) refl
     where
-      by_entry : (entry : Option Published) → slice_get channels c ≡ Some entry → place_of channels (c + 1) ≡ place_of channels c
-      by_entry None at = omega (arith, step None at)
-      by_entry (Some published) at = absurd (cc (kind, (are.each c (Some published) at).0))
+      by_test : (c < d → sampling_before config c < sampling_before config d) → (b : Bool) → (c == d) ≡ b → sampling_before config c < sampling_before config (suc d)
+      by_test lower true test =
+          let same : c ≡ d = grind (arith, nat_tests) in
+          subst (λ (e : ℕ). sampling_before config c < sampling_before config (suc e)) same (omega (arith, after_sampling c kind))
+      by_test lower false test =
+          let apart : c ≢ d = grind (arith, nat_tests) in
+          let first = lower (omega arith) in
+          let more = no_fewer d (is_queuing config d) refl in
+          omega arith
+
+  -- so far the observers show the samples
+  abbrev pub Shown : History → List Published → ℕ → Type 0
+  Shown history observers c =
+      (d : ℕ) (known : Published) → d < c → is_queuing config d ≡ false → slice_get observers (sampling_before config d) ≡ Some known
+      → last_of known.writes ≡ last_write_on config d history
+
+  pub shown_past_queuing : (history : History) (observers : List Published) (c : ℕ) → Shown history observers c → is_queuing config c ≡ true → Shown history observers (c + 1)
+  shown_past_queuing history observers c shown kind d known before sampling at = by_test (d == c) refl
+    where
+      by_test : (b : Bool) → (d == c) ≡ b → last_of known.writes ≡ last_write_on config d history
+      by_test true test =
+          let same : d ≡ c = grind (arith, nat_tests) in
+          let queuing : is_queuing config d ≡ true = ap (is_queuing config) same ∙ kind in
+          absurd (cc (queuing, sampling))
+      by_test false test =
+          let apart : d ≢ c = grind (arith, nat_tests) in
+          shown d known (omega arith) sampling at
+
+  -- one observer more shows its channel's sample
+  pub shown_past_sampling : (history : History) (observers : List Published) (c place : ℕ) (now : Published) → Shown history observers c → is_queuing config c ≡ false → place ≡ sampling_before config c
+      → last_of now.writes ≡ last_write_on config c history → Shown history (set observers place now) (c + 1)
+  shown_past_sampling history observers c place now shown kind here is d known before sampling at = by_test (d == c) refl
+    where
+      apart_at : d ≢ c → sampling_before config d ≢ place
+      apart_at apart same = let earlier_place = earlier d c sampling (omega arith) in omega arith
+
+      by_test : (b : Bool) → (d == c) ≡ b → last_of known.writes ≡ last_write_on config d history
+      by_test true test =
+          let same : d ≡ c = grind (arith, nat_tests) in
+          let at_place : sampling_before config d ≡ place = ap (sampling_before config) same ∙ sym here in
+          ⊎_elim
+          (λ own. ap (λ (one : Published). last_of one.writes) own.1 ∙ (is ∙ ap (λ e. last_write_on config e history) (sym same)))
+          (λ other. absurd (other.0 at_place))
+          (slice_get-set_cases observers place now (sampling_before config d) known at)
+      by_test false test =
+          let apart : d ≢ c = grind (arith, nat_tests) in
+          ⊎_elim
+          (λ own. absurd (apart_at apart own.0))
+          (λ other. shown d known (omega arith) sampling other.1)
+          (slice_get-set_cases observers place now (sampling_before config d) known at)

@@ -1,2 +1,3 @@
+pub mod BoardView
 pub mod Observers
 pub mod Run

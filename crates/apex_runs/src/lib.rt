@@ -1,10 +1,11 @@
-//! Reports of boards and of runs: the report of a board is written from its log, and a run of scripts gives the report of
-//! its board once the board's observers show the same as it holds.
+//! The text of a run: its workers make the calls of their scripts on ports behind a lock, which note nothing but whose turn
+//! it was. Once all workers have ended the calls are served again on new ports, in that order, and each reply has to be what
+//! its worker was answered. That second run is the report.
 #![tactic(auto)]
 
-pub mod board_report;
+mod board;
 mod observers;
+mod pass;
 pub mod run;
 
-pub use crate::board_report::report;
 pub use crate::run::run_text;

@@ -1,32 +1,33 @@
-//! What the observers of a run show, beside the samples that its board holds.
-ghost use Rattle.std.specs.Prelude.{◌≡◌, ◌<◌, length, IfOk, IfErr};
+//! What the observers of a run show, beside the samples of a run on ports.
+ghost use Rattle.std.specs.Prelude.{◌≡◌, map, IfOk, IfErr};
 ghost use Rattle.std.specs.Option.{option_copied};
-ghost use Rattle.apex_observers.specs.Channels.{AreObservers, sampling_of};
 ghost use Rattle.apex_observers.specs.Published.{last_of};
-ghost use Rattle.apex_runs.specs.Observers.{ShowLast, IsReadFault};
+ghost use Rattle.apex_runs.specs.Observers.{ShowSamples, IsReadFault};
 
-use apex_board::Board;
 use apex_observers::{Observer, Sampled};
-use apex_ports::RunFault;
+use apex_ports::{Ports, RunFault};
 use apex_texts::Fault;
 use apex_types::{Moment, Sample};
 use std::alloc::Allocator;
 
-/// Lets each observer learn the last receipt of its channel, and compares what it shows with the channel's sample.
-pub(crate) fn compare<A: Allocator>(
-    board: &Board<A>,
+/// Compares what the observers of the sampling channels show, in the channels' order, with the channels' samples.
+pub(crate) fn compare<A: Allocator, B: Allocator>(
+    ports: &Ports<B>,
     observers: &mut [Observer<A>],
 ) -> Result<(), Fault>
-    requires { AreObservers board.now.published observers.old }
-    ensures shown { IfOk result
-        (λ _. ShowLast (sampling_of board.now.published) observers.new) }
+    ensures shown { IfOk result (λ _.
+        ShowSamples ports.now.config ports.now.history observers.new) }
+    ensures channels { map (λ known. known.channel) observers.new
+        ≡ map (λ known. known.channel) observers.old }
     ensures fault { IfErr result IsReadFault }
 {
-    board.tell(observers);
     let mut place = 0;
-    for c in 0..board.config().channels() {
-        if !board.config().channel(c).kind.is_queuing() {
-            compare_read(&mut observers[place], board.last_sample(c))?;
+    for c in 0..ports.config().channels() {
+        if !ports.config().channel(c).kind.is_queuing() {
+            if place >= observers.len() {
+                return Err(Fault::Run(RunFault::Stranger));
+            }
+            compare_read(&mut observers[place], ports.last_sample(c))?;
             place += 1;
         }
     }

@@ -1,27 +1,27 @@
 //! A run: one script for each partition in, a report out.
-ghost use Rattle.std.specs.Prelude.{◌≡◌, length, IfOk, IfErr, string_bytes};
-ghost use Rattle.apex_observers.specs.Channels.{AreObservers, sampling_of};
-ghost use Rattle.apex_runs.specs.Observers.{ShowLast};
-ghost use Rattle.apex_texts.specs.Report.{report_of};
-ghost use Rattle.apex_runs.specs.Run.{IsRun, IsReportFault};
+ghost use Rattle.std.specs.Prelude.{◌≡◌, length, vec_len, IfOk, IfErr, string_bytes};
+ghost use Rattle.std.specs.Thread.{IsSync, IsSend};
+ghost use Rattle.apex_runs.specs.Run.{IsRun, IsReported, IsReportFault};
+ghost use Rattle.apex_threads.specs.Held.{NamesHeldCall};
 
-use crate::board_report::report;
-use crate::observers::compare;
-use apex_board::Board;
+use crate::board::{Board, LockedBoard};
+use crate::pass::push_calls;
 use apex_config::Config;
-use apex_observers::Observer;
-use apex_ports::{RunFault, Script};
-use apex_texts::Fault;
-use apex_workers::{Finished, Gate, run_scripts};
-use std::alloc::Global;
+use apex_ports::{Ports, RunFault, Script};
+use apex_texts::{Fault, push_totals};
+use apex_threads::{Gate, PackedReplies, run_over};
+use std::alloc::{Allocator, Global};
 use std::sync::Wait;
 use std::thread::Threads;
+
+/// The bytes that are reserved for each line of the report.
+const LINE_BYTES: usize = 64;
 
 /// The report of a run on a new board of the configuration, in which a worker for each partition makes the
 /// calls of its script. It waits for all workers.
 ///
 /// Before the report each observer of the run learns all that was written on its channel and is read. `Fault::Gone` says
-/// that one shows the end of its board; `RunFault::Stranger` is the answer too where one shows another sample than the board.
+/// that one shows the end of its board; `RunFault::Stranger` is the answer too where one shows another sample than the report.
 pub fn run_text<R: Threads + Wait + Sync, G: Gate>(
     rt: &R,
     alloc: Global,
@@ -32,15 +32,9 @@ pub fn run_text<R: Threads + Wait + Sync, G: Gate>(
     requires { length scripts.now ≡ length config.now.partitions }
     ensures { IsRun (G.may_refuse gate.now) config.now scripts.now result }
 {
-    match run_scripts(rt, alloc, config, scripts, gate) {
-        Ok(
-            Finished {
-                board,
-                replies: _,
-                mut observers,
-            },
-        ) => {
-            let text = observed_report(alloc, &board, observers.as_mut_slice());
+    match run_workers(rt, alloc, config, scripts, gate) {
+        Ok((mut board, replies)) => {
+            let text = report(alloc, config, scripts, replies.as_slice(), &mut board);
             board.close(rt);
             text
         }
@@ -53,19 +47,66 @@ pub fn run_text<R: Threads + Wait + Sync, G: Gate>(
     }
 }
 
-/// The report of a board whose observers show the samples that it holds.
-fn observed_report(
+/// Runs the workers to their ends, and answers their board and what each was answered. On a fault the board is ended.
+fn run_workers<R: Threads + Wait + Sync, G: Gate, A: Allocator + Copy + Send + Sync>(
+    rt: &R,
+    alloc: A,
+    config: &Config,
+    scripts: &[Script],
+    gate: &G,
+) -> Result<(Board<A>, Vec<PackedReplies<A>, A>), RunFault>
+    ensures count { IfOk result (λ ended. vec_len ended.1 ≡ length scripts.now) }
+    ensures held { IfErr result (NamesHeldCall (G.may_refuse gate.now) scripts.now) }
+{
+    let board = Board::new(rt, alloc, config, calls_in(scripts))?;
+    let shared = LockedBoard::new(board);
+    let answered = run_over(rt, alloc, &shared, gate, scripts);
+    let board = shared.into_board();
+    match answered {
+        Ok(replies) => Ok((board, replies)),
+        Err(fault) => {
+            board.close(rt);
+            Err(fault)
+        }
+    }
+}
+
+/// How many calls the scripts have; no more than the greatest number.
+fn calls_in(scripts: &[Script]) -> usize {
+    let mut calls: usize = 0;
+    for script in scripts {
+        calls = calls.saturating_add(script.calls.len());
+    }
+    calls
+}
+
+/// The report of a run whose workers have ended.
+fn report(
     alloc: Global,
-    board: &Board,
-    observers: &mut [Observer],
+    config: &Config,
+    scripts: &[Script],
+    replies: &[PackedReplies],
+    board: &mut Board<Global>,
 ) -> Result<String, Fault>
-    requires { AreObservers board.now.published observers.old }
-    ensures text { IfOk result
-        (λ text. string_bytes text ≡ report_of board.now.config board.now.log) }
-    ensures shown { IfOk result
-        (λ _. ShowLast (sampling_of board.now.published) observers.new) }
+    requires scripts { length scripts.now ≡ length config.now.partitions }
+    requires each { length replies.now ≡ length scripts.now }
+    ensures text { IfOk result (λ text. IsReported
+        config.now scripts.now replies.now board.new.observers (string_bytes text)) }
     ensures fault { IfErr result IsReportFault }
 {
-    compare(board, observers)?;
-    Ok(report(alloc, board)?)
+    let mut ports = Ports::new(alloc, config.copy()?)?;
+    let mut counts = vec![in alloc; 0usize; scripts.len()]?;
+    let bytes = board.order().len().saturating_mul(LINE_BYTES);
+    let mut text = String::with_capacity(alloc, bytes)?;
+    push_calls(
+        &mut text,
+        &mut ports,
+        scripts,
+        replies,
+        board.order(),
+        counts.as_mut_slice(),
+    )?;
+    board.compare(&ports)?;
+    push_totals(&mut text, &ports)?;
+    Ok(text)
 }

@@ -6,7 +6,7 @@ use apex_command_line::{Task, task_of};
 use apex_files::{Opener, Refusal, print, read_config, read_file, refuse, scripts_named};
 use apex_runs::run_text;
 use apex_texts::{check_line, replay_trace};
-use apex_workers::OpenGate;
+use apex_threads::OpenGate;
 use std::alloc::Global;
 use std::convert::AsStr;
 use std::io::Write;

@@ -9,7 +9,7 @@ use Rattle.apex_ports.specs.declared.history.Entry.{Entry}
 use Rattle.apex_ports.specs.History.{History, entries_of}
 use Rattle.apex_ports.specs.Interference.{entries_inside, IsFreeFromInterference}
 use Rattle.apex_workers.specs.Alone.{ShowsScriptsAlone}
-use Rattle.apex_workers.specs.Collected.{HasScripts, HasReplies}
+use Rattle.apex_threads.specs.Collected.{HasScripts, HasReplies}
 
 -- partitions of which one alone is inside
 apart : (inside : ℕ → Bool) (p q : ℕ) → inside q ≢ inside p → (q == p) ≡ false

@@ -7,7 +7,7 @@ use Rattle.apex_config.specs.Configuration.{Configuration}
 use Rattle.apex_ports.specs.History.{History, entries_of}
 use Rattle.apex_ports.specs.Interference.{IsClosed, entries_inside}
 use Rattle.apex_ports.specs.Lawful.{IsLawful}
-use Rattle.apex_workers.specs.Partition.{calls_of, replies_of}
+use Rattle.apex_threads.specs.Partition.{calls_of, replies_of}
 
 -- a lawful history in which each partition inside made the calls of its script and got these replies, and the others made no call
 pub record IsRunInside (config : Configuration) (inside : ℕ → Bool) (scripts : List (List (Moment × Call))) (replies : List (List Reply)) (history : History) : Type 0 where

@@ -1,13 +1,13 @@
 //! What the workers left, beside what was handed out to them.
 ghost use Rattle.std.specs.Prelude.{◌≡◌, ◌↔◌, ◌+◌, ◌^◌, ◌<◌, length, replicate, IsTrue};
 ghost use Rattle.std.specs.Bool.{OnTrue, OnFalse};
-ghost use Rattle.apex_workers.specs.Collected.{IsNext, AreCounted, AreComplete, IsCollected, IsCollectedFor};
+ghost use Rattle.apex_threads.specs.Collected.{IsNext, AreCounted, IsCollected, IsCollectedFor};
 
-use crate::replies::Replies;
 use apex_board::{Board, Entry};
 use apex_config::Config;
 use apex_ports::Script;
-use apex_types::{Call, Moment, Reply};
+use apex_threads::{PackedReplies, are_complete};
+use apex_types::{Call, Moment};
 use std::alloc::Allocator;
 
 /// Whether the board has the configuration, and its log the calls of each partition's script with the replies to them.
@@ -15,7 +15,7 @@ pub(crate) fn is_collected_for<A: Allocator>(
     config: &Config,
     scripts: &[Script],
     board: &Board<A>,
-    replies: &[Replies<A>],
+    replies: &[PackedReplies<A>],
     counts: &mut [usize],
 ) -> bool
     requires none { counts.old ≡ replicate (length scripts.now) 0 }
@@ -32,7 +32,7 @@ pub(crate) fn is_collected_for<A: Allocator>(
 pub fn is_collected<A: Allocator>(
     log: &[Entry],
     scripts: &[Script],
-    replies: &[Replies<A>],
+    replies: &[PackedReplies<A>],
     counts: &mut [usize],
 ) -> bool
     requires none { counts.old ≡ replicate (length scripts.now) 0 }
@@ -46,7 +46,7 @@ pub fn is_collected<A: Allocator>(
 fn count_entries<A: Allocator>(
     log: &[Entry],
     scripts: &[Script],
-    replies: &[Replies<A>],
+    replies: &[PackedReplies<A>],
     counts: &mut [usize],
 ) -> bool
     requires none { counts.old ≡ replicate (length scripts.now) 0 }
@@ -68,27 +68,6 @@ fn count_entries<A: Allocator>(
     true
 }
 
-/// Whether all calls and all replies of each partition were counted.
-fn are_complete<A: Allocator>(scripts: &[Script], replies: &[Replies<A>], counts: &[usize]) -> bool
-    requires counts { length counts.now ≡ length scripts.now }
-    requires each { length replies.now ≡ length scripts.now }
-    ensures { IsTrue result ↔ AreComplete scripts.now replies.now counts.now }
-{
-    for (p, count) in counts.iter().enumerate() {
-        if !is_complete(&scripts[p], &replies[p], *count) {
-            return false;
-        }
-    }
-    true
-}
-
-/// Whether so many calls and so many replies are all of them.
-fn is_complete<A: Allocator>(script: &Script, replies: &Replies<A>, count: usize) -> bool
-    ensures { IsTrue result ↔ (count ≡ length script.now) × (count ≡ length replies.now) }
-{
-    count == script.calls.len() && count == replies.list().len()
-}
-
 /// Whether the two moments are one.
 fn is_same_moment(at: Moment, other: Moment) -> bool
     ensures { IsTrue result ↔ (at ≡ other) }
@@ -103,24 +82,22 @@ fn is_same_call(call: &Call, other: &Call) -> bool
     call == other
 }
 
-/// Whether the two replies are equal.
-fn is_same_reply(reply: &Reply, other: &Reply) -> bool
-    ensures { IsTrue result ↔ (reply.now ≡ other.now) }
-{
-    reply == other
-}
-
 /// Whether the call at a place of the script, with the reply at the same place, is the entry's.
-fn is_next<A: Allocator>(entry: &Entry, script: &Script, replies: &Replies<A>, place: usize) -> bool
+fn is_next<A: Allocator>(
+    entry: &Entry,
+    script: &Script,
+    replies: &PackedReplies<A>,
+    place: usize,
+) -> bool
     ensures next { IsTrue result ↔ IsNext entry.now script.now replies.now place }
     ensures within { OnTrue result (place + 1 < 2 ^ 64) }
 {
-    match (script.calls.get(place), replies.list().get(place)) {
-        (Some((at, call)), Some(reply)) => {
+    match script.calls.get(place) {
+        Some((at, call)) => {
             is_same_moment(*at, entry.at)
                 && is_same_call(call, &entry.call)
-                && is_same_reply(reply, &entry.reply)
+                && replies.is_at(place, &entry.reply)
         }
-        _ => false,
+        None => false,
     }
 }

@@ -2,9 +2,9 @@
 ghost use Rattle.std.specs.Prelude.{◌≡◌, ◌↔◌, ◌<◌, ◌≤◌, ◌∷◌, ◌++◌, [], length, IfOk, IsOk, IsErrOf, OnErr};
 ghost use Rattle.std.specs.Sync.Mutex.{mutex_guard_value};
 
-use crate::shared::{AskFault, SharedBoard};
 use apex_board::Board;
 use apex_ports::rules::conserved;
+use apex_threads::{AskFault, SharedBoard};
 use apex_types::{Call, Moment, Reply};
 use std::alloc::{Allocator, Global};
 use std::sync::{Mutex, MutexGuard, Wait};
@@ -67,7 +67,7 @@ ghost use Rattle.apex_ports.specs.History.{entry_of};
 ghost use Rattle.apex_ports.specs.ReplyTable.{reply_to};
 ghost use Rattle.apex_ports.specs.Writes.{WritesNothing};
 ghost use Rattle.apex_workers.specs.Facts.{HasBoardFacts};
-ghost use Rattle.apex_workers.specs.declared.shared.AskFault.TheVariants as fault;
+ghost use Rattle.apex_threads.specs.declared.shared.AskFault.TheVariants as fault;
 
 /// One call on the board that is lent.
 pub(crate) fn ask_lent<A: Allocator, R: Wait>(

@@ -4,10 +4,10 @@ ghost use Rattle.apex_observers.specs.Channels.{AreObservers};
 ghost use Rattle.apex_workers.specs.Facts.{HasBoardFacts};
 
 use crate::locked::{ask_lent, board_facts};
-use crate::shared::{AskFault, SharedBoard};
 use apex_board::Board;
 use apex_config::Config;
 use apex_observers::{Observer, ObserverFault};
+use apex_threads::{AskFault, SharedBoard};
 use apex_types::{Call, Moment, Reply};
 use std::alloc::Allocator;
 use std::marker::Model;

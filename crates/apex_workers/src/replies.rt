@@ -1,8 +1,9 @@
 //! The replies that a worker got.
-ghost use Rattle.std.specs.Prelude.{◌≡◌};
+ghost use Rattle.std.specs.Prelude.{◌≡◌, IfOk};
 
+use apex_threads::PackedReplies;
 use apex_types::Reply;
-use std::alloc::{Allocator, Global};
+use std::alloc::{AllocError, Allocator, Global};
 use std::marker::Model;
 
 /// The replies to the calls of one partition, in order. A contract sees them as a list.
@@ -34,4 +35,35 @@ impl<A: Allocator> Replies<A> {
     {
         self.replies.as_slice()
     }
+}
+
+/// The replies of each partition as a list of its own.
+pub(crate) fn unpack_all<A: Allocator + Copy>(
+    alloc: A,
+    packed: &[PackedReplies<A>],
+) -> Result<Vec<Replies<A>, A>, AllocError>
+    ensures { IfOk result (λ replies. replies.items ≡ packed.now) }
+{
+    let mut all = Vec::with_capacity(alloc, packed.len())?;
+    for replies in packed {
+        let list = unpack(alloc, replies)?;
+        all.push_reserved(list);
+    }
+    Ok(all)
+}
+
+fn unpack<A: Allocator + Copy>(
+    alloc: A,
+    packed: &PackedReplies<A>,
+) -> Result<Replies<A>, AllocError>
+    ensures { IfOk result (λ replies. replies ≡ packed.now) }
+{
+    let mut replies = Vec::with_capacity(alloc, packed.len())?;
+    for place in 0..packed.len() {
+        match packed.get(place) {
+            Some(reply) => replies.push_reserved(reply),
+            None => unreachable!(),
+        }
+    }
+    Ok(Replies::new(replies))
 }

@@ -1,28 +1,22 @@
 //! A run: one worker for each partition.
-ghost use Rattle.std.specs.Prelude.{◌≡◌, ◌<◌, ◌≤◌, [], length, replicate, vec_len, vec_capacity, IfOk, IfErr, IsOk};
+ghost use Rattle.std.specs.Prelude.{◌≡◌, ◌⊎◌, length, replicate, vec_len, Ok, Err, IfOk, IfErr, IsOk};
 ghost use Rattle.std.specs.Thread.{IsSync, IsSend};
 ghost use Rattle.apex_observers.specs.Channels.{AreObservers};
 ghost use Rattle.apex_ports.specs.Lawful.{IsLawful};
 ghost use Rattle.apex_workers.specs.Alone.{ShowsScriptsAlone};
-ghost use Rattle.apex_workers.specs.Collected.{HasScripts, HasReplies, IsCollectedFor};
-ghost use Rattle.apex_workers.specs.Held.{NamesHeldCall};
-ghost use Rattle.apex_workers.specs.Places.{AreReady};
+ghost use Rattle.apex_threads.specs.Collected.{HasScripts, HasReplies, IsCollectedFor};
+ghost use Rattle.apex_threads.specs.Held.{NamesHeldCall};
 
 use crate::comparison::is_collected_for;
-use crate::fault::fault_without;
-use crate::gate::Gate;
 use crate::observed::{LockedObservedBoard, ObservedBoard};
-use crate::replies::Replies;
-use crate::shared::SharedBoard;
-use crate::workers::run_workers;
+use crate::replies::{Replies, unpack_all};
 use apex_board::Board;
 use apex_config::Config;
 use apex_observers::Observer;
 use apex_ports::{RunFault, Script};
-use apex_types::Reply;
-use std::alloc::{AllocError, Allocator, Global};
+use apex_threads::{Gate, PackedReplies, fault_without, run_over};
+use std::alloc::{Allocator, Global};
 use std::sync::Wait;
-use std::thread;
 use std::thread::Threads;
 
 /// What a run leaves: the board, the replies of each partition's worker, in the partitions' order, and an observer of each
@@ -73,8 +67,18 @@ pub fn run_scripts<R: Threads + Wait + Sync, A: Allocator + Copy + Send + Sync, 
     let shared = LockedObservedBoard::new(observed);
     let answered = run_over(rt, alloc, &shared, gate, scripts);
     let observed = shared.into_observed();
-    match answered {
-        Ok(replies) => collected(rt, config, scripts, observed, replies, counts),
+    match with_lists(alloc, answered) {
+        Ok((packed, replies)) => {
+            collected(
+                rt,
+                config,
+                scripts,
+                observed,
+                packed.as_slice(),
+                replies,
+                counts,
+            )
+        }
         Err(fault) => {
             observed.close(rt);
             Err(fault)
@@ -82,66 +86,19 @@ pub fn run_scripts<R: Threads + Wait + Sync, A: Allocator + Copy + Send + Sync, 
     }
 }
 
-/// Runs the scripts as `run_scripts` does, over a shared board of the caller's, and answers the replies of each
-/// partition's worker, in the partitions' order.
-pub fn run_over<R: Threads + Wait + Sync, S: SharedBoard, G: Gate, A: Allocator + Copy + Send>(
-    rt: &R,
+/// What the workers were answered, and each one's replies as a list of its own.
+fn with_lists<A: Allocator + Copy>(
     alloc: A,
-    board: &S,
-    gate: &G,
-    scripts: &[Script],
-) -> Result<Vec<Replies<A>, A>, RunFault>
-    ensures count { IfOk result (λ replies. vec_len replies ≡ length scripts.now) }
-    ensures held { IfErr result (NamesHeldCall (G.may_refuse gate.now) scripts.now) }
+    answered: Result<Vec<PackedReplies<A>, A>, RunFault>,
+) -> Result<(Vec<PackedReplies<A>, A>, Vec<Replies<A>, A>), RunFault>
+    ensures packed { IfOk result (λ both. answered ≡ Ok both.0) }
+    ensures lists { IfOk result (λ both. both.1.items ≡ both.0.items) }
+    ensures fault { IfErr result
+        (λ fault. (answered ≡ Err fault) ⊎ (fault ≡ RunFault.OutOfMemory)) }
 {
-    let empty = lists_for(alloc, scripts)?;
-    let room = Vec::with_capacity(alloc, scripts.len())?;
-    run_all(rt, board, gate, scripts, empty, room)
-}
-
-/// An empty vector for each script, with places for all replies to it.
-fn lists_for<A: Allocator + Copy>(
-    alloc: A,
-    scripts: &[Script],
-) -> Result<Vec<Vec<Reply, A>, A>, AllocError>
-    ensures ready { IfOk result (λ lists. AreReady scripts.now lists.items) }
-    ensures count { IfOk result (λ lists. vec_len lists ≡ length scripts.now) }
-{
-    let mut lists = Vec::with_capacity(alloc, scripts.len())?;
-    for script in scripts {
-        let list = Vec::with_capacity(alloc, script.calls.len())?;
-        lists.push_reserved(list);
-    }
-    Ok(lists)
-}
-
-/// Runs all workers in one scope.
-fn run_all<R: Threads + Wait + Sync, S: SharedBoard, G: Gate, A: Allocator + Send>(
-    rt: &R,
-    board: &S,
-    gate: &G,
-    scripts: &[Script],
-    empty: Vec<Vec<Reply, A>, A>,
-    room: Vec<Replies<A>, A>,
-) -> Result<Vec<Replies<A>, A>, RunFault>
-    requires ready { AreReady scripts.now empty.items }
-    requires none { room.items ≡ [] }
-    requires places { vec_len empty ≤ vec_capacity room }
-    ensures count { IfOk result (λ replies. vec_len replies ≡ vec_len empty) }
-    ensures held { IfErr result (NamesHeldCall (G.may_refuse gate.now) scripts.now) }
-{
-    thread::scope(
-        thread::scope_env(),
-        rt,
-        move |scope| -> Result<Vec<Replies<A>, A>, RunFault>
-            requires ready { AreReady scripts.now empty.items }
-            requires none { room.items ≡ [] }
-            requires places { vec_len empty ≤ vec_capacity room }
-            ensures count { IfOk result (λ replies. vec_len replies ≡ vec_len empty) }
-            ensures held { IfErr result
-                (NamesHeldCall (G.may_refuse gate.entry.now) scripts.entry.now) }
-        { run_workers(scope, rt, board, gate, scripts, empty, room) },
-    )
+    let packed = answered?;
+    let replies = unpack_all(alloc, packed.as_slice())?;
+    Ok((packed, replies))
 }
 
 /// The board with the replies, where they are what was handed out to the workers.
@@ -150,11 +107,13 @@ fn collected<A: Allocator, R: Wait>(
     config: &Config,
     scripts: &[Script],
     observed: ObservedBoard<A>,
+    packed: &[PackedReplies<A>],
     replies: Vec<Replies<A>, A>,
     mut counts: Vec<usize, A>,
 ) -> Result<Finished<A>, RunFault>
     requires counts { counts.items ≡ replicate (length scripts.now) 0 }
-    requires each { vec_len replies ≡ length scripts.now }
+    requires each { length packed.now ≡ length scripts.now }
+    requires lists { replies.items ≡ packed.now }
     ensures config { IfOk result (λ finished. finished.board.config ≡ config.now) }
     ensures lawful { IfOk result (λ finished. IsLawful config.now finished.board.log) }
     ensures calls { IfOk result (λ finished. HasScripts finished.board.log scripts.now) }
@@ -169,17 +128,11 @@ fn collected<A: Allocator, R: Wait>(
 
     // It is refused only where something differs.
     ensures same { let board = observed.board in
-        IsCollectedFor config.now scripts.now board.config board.log replies.items
+        IsCollectedFor config.now scripts.now board.config board.log packed.now
         → IsOk result }
 {
     let (board, observers) = observed.into_parts();
-    if !is_collected_for(
-        config,
-        scripts,
-        &board,
-        replies.as_slice(),
-        counts.as_mut_slice(),
-    ) {
+    if !is_collected_for(config, scripts, &board, packed, counts.as_mut_slice()) {
         board.close(rt);
         return Err(RunFault::Stranger);
     }

@@ -5,6 +5,7 @@ mod gates;
 mod locked;
 mod observers;
 mod orders;
+mod packed;
 mod refused_memory;
 mod refusing_board;
 mod rings;

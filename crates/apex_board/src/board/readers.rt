@@ -9,7 +9,7 @@ use apex_types::{Message, Mode, Sample, Taken, Validity};
 use std::alloc::Allocator;
 
 impl<A: Allocator> Board<A> {
-    ghost use Rattle.apex_board.specs.OnChannels.{ArePublished};
+    ghost use Rattle.apex_publishing.specs.OnChannels.{ArePublished};
     ghost use Rattle.apex_ports.specs.Channels.{accepted_on, messages_of, taken_on, waiting_on, last_write_on};
     ghost use Rattle.apex_ports.specs.Idle.{IdleIsSilent};
     ghost use Rattle.apex_ports.specs.Interference.{IsFreeFromInterference};

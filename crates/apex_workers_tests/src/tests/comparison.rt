@@ -1,7 +1,7 @@
 //! The comparison of a log with the scripts and the replies that were handed out.
 use apex_board::Entry;
 use apex_types::{Call, Moment, Reply, ReturnCode};
-use apex_workers::{Replies, Script, is_collected};
+use apex_workers::{PackedReplies, Script, is_collected};
 use std::alloc::{AllocError, Global};
 use std::test::Fail;
 
@@ -24,12 +24,12 @@ fn entry_of(partition: usize, mode: u32, code: ReturnCode) -> Entry {
     }
 }
 
-fn replies_of(alloc: Global, codes: &[ReturnCode]) -> Result<Replies, AllocError> {
-    let mut replies = Vec::with_capacity(alloc, codes.len())?;
+fn replies_of(alloc: Global, codes: &[ReturnCode]) -> Result<PackedReplies, AllocError> {
+    let mut replies = PackedReplies::with_places(alloc, codes.len())?;
     for code in codes {
-        replies.push(Reply::Code(*code))?;
+        replies.push(&Reply::Code(*code))?;
     }
-    Ok(Replies::new(replies))
+    Ok(replies)
 }
 
 const A: ReturnCode = ReturnCode::NoError;

@@ -3,8 +3,8 @@ use Rattle.std.specs.List.{slice_get}
 use Rattle.std.proofs.lemmas.Bool.{false≢true}
 use Rattle.std.proofs.lemmas.Option.{slice_get_read}
 use Rattle.apex_ports.specs.History.{History}
-use Rattle.apex_workers.specs.Collected.{AreCounted}
-use Rattle.apex_workers.proofs.Counting.{counted_more, next_of, take_one_more}
+use Rattle.apex_threads.specs.Collected.{AreCounted}
+use Rattle.apex_threads.proofs.Counting.{counted_more, next_of, take_one_more}
 use Rattle.apex_workers.proofs.comparison.count_entries.Goals as goal
 
 pub loop-entry-preserved : goal.loop-entry-preserved

@@ -1,5 +1,5 @@
 use Rattle.std.proofs.Common.{take}
-use Rattle.apex_workers.specs.Collected.{AreCounted}
+use Rattle.apex_threads.specs.Collected.{AreCounted}
 use Rattle.apex_workers.proofs.comparison.count_entries.Given as goal
 
 abbrev pub invariant-loop-entry : goal.invariant-loop-entry

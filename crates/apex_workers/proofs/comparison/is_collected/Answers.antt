@@ -1,4 +1,4 @@
-use Rattle.apex_workers.proofs.Counting.{complete_of, is_collected_of}
+use Rattle.apex_threads.proofs.Counting.{complete_of, is_collected_of}
 use Rattle.apex_workers.proofs.comparison.is_collected.Goals as goal
 
 pub returns-then-count_entries : goal.returns-then-count_entries

@@ -1,6 +1,6 @@
 use Rattle.std.proofs.Common.{◌≡◌, subst, sym}
 use Rattle.std.specs.Bool.{Decides}
-use Rattle.apex_workers.proofs.Equal.{call_decides}
+use Rattle.apex_threads.proofs.Equal.{call_decides}
 use Rattle.apex_workers.proofs.comparison.is_same_call.Goals as goal
 
 pub returns : goal.returns

@@ -4,7 +4,7 @@ use Rattle.apex_config.specs.Configuration.{Configuration}
 use Rattle.apex_ports.specs.Interference.{IsFreeFromInterference}
 use Rattle.apex_ports.specs.Lawful.{IsLawful}
 use Rattle.apex_board.specs.BoardView.{BoardView}
-use Rattle.apex_workers.specs.Collected.{HasReplies, IsCollectedFor}
+use Rattle.apex_threads.specs.Collected.{HasReplies, IsCollectedFor}
 use Rattle.apex_workers.proofs.Alone.{shows_scripts_alone}
 use Rattle.apex_workers.proofs.run.collected.Goals as goal
 
@@ -12,9 +12,7 @@ pub returns-then-not-is_collected_for-clause-same : goal.returns-then-not-is_col
 returns-then-not-is_collected_for-clause-same g c = λ same.
     let config = c.args.config.now in
     let scripts = c.args.scripts.now in
-    let board = c.into_parts-board.result.0 in
-    let of_board = subst (λ (b : BoardView). IsCollectedFor config scripts b.config b.log c.args.replies.items) (sym c.into_parts-board.ensures.board) same in
-    c.if-not-is_collected_for.ensures.1 (subst (λ (all : List (List Reply)). IsCollectedFor config scripts board.config board.log all) (sym c.as_slice.ensures.value) of_board)
+    c.if-not-is_collected_for.ensures.1 (subst (λ (b : BoardView). IsCollectedFor config scripts b.config b.log c.args.packed.now) (sym c.into_parts-board.ensures.board) same)
 
 pub returns-clause-config : goal.returns-clause-config
 returns-clause-config g c = (c.if-not-is_collected_for.ensures.0 refl).0
@@ -29,7 +27,7 @@ returns-clause-calls g c = (c.if-not-is_collected_for.ensures.0 refl).1.calls
 
 pub returns-clause-replies : goal.returns-clause-replies
 returns-clause-replies g c =
-    subst (λ (all : List (List Reply)). HasReplies c.into_parts-board.result.0.log all) c.as_slice.ensures.value (c.if-not-is_collected_for.ensures.0 refl).1.answers
+    subst (λ (all : List (List Reply)). HasReplies c.into_parts-board.result.0.log all) (sym c.requires.lists) (c.if-not-is_collected_for.ensures.0 refl).1.answers
 
 pub returns-clause-isolated : goal.returns-clause-isolated
 returns-clause-isolated g c =

@@ -1,4 +1,4 @@
-use Rattle.apex_runs.proofs.LogLemmas.{entry_known}
+use Rattle.apex_board_report.proofs.LogLemmas.{entry_known}
 use Rattle.companion_tasks.proofs.trace_text.log_text.Goals as goal
 
 pub push_request-requires : goal.push_request-requires

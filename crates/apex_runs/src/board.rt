@@ -1,0 +1,180 @@
+//! What the workers of a run share, behind a lock.
+ghost use Rattle.std.specs.Prelude.{◌≡◌, ◌↔◌, ◌≤◌, ◌∷◌, ◌++◌, [], length, IfOk, IfErr, IsErrOf, OnErr};
+ghost use Rattle.apex_ports.specs.History.{entry_of};
+ghost use Rattle.apex_ports.specs.ReplyTable.{reply_to};
+ghost use Rattle.apex_runs.specs.Run.{IsBoardFault};
+
+use crate::observers::compare;
+use apex_config::Config;
+use apex_observers::{Observer, Publishers};
+use apex_ports::{Ports, RunFault};
+use apex_publishing::{new_publishers, publish};
+use apex_texts::Fault;
+use apex_threads::{AskFault, SharedBoard, fault_without};
+use apex_types::{Call, Moment, Reply};
+use std::alloc::Allocator;
+use std::marker::Model;
+use std::sync::{Mutex, MutexGuard, Wait};
+
+/// The ports of a run, what is published on their sampling channels, an observer of each, and which partition made each
+/// call, in the order of the calls.
+///
+/// It is not `Drop`: end it by `close`.
+pub(crate) struct Board<A: Allocator> {
+    ports: Ports<A>,
+    publishers: Publishers<A>,
+    observers: Vec<Observer<A>, A>,
+    order: Vec<u8, A>,
+}
+
+impl<A: Allocator> Model for Board<A> {
+    ghost use Rattle.apex_runs.specs.BoardView.{BoardView, IsObserved};
+
+    ghost Value = { BoardView };
+
+    ghost view = { λ board. record {
+      config = board.ports.config;
+      history = board.ports.history;
+      published = board.publishers;
+      observers = board.observers.items;
+    } };
+
+    ghost invariant = { λ board. IsObserved (record {
+      config = board.ports.config;
+      history = board.ports.history;
+      published = board.publishers;
+      observers = board.observers.items;
+    }) };
+}
+
+impl<A: Allocator + Copy> Board<A> {
+    /// New ports, with observers that have seen nothing, and places for the order of so many calls.
+    pub(crate) fn new<R: Wait>(
+        rt: &R,
+        alloc: A,
+        config: &Config,
+        calls: usize,
+    ) -> Result<Board<A>, RunFault>
+        ensures config { IfOk result (λ board. board.config ≡ config.now) }
+        ensures history { IfOk result (λ board. board.history ≡ []) }
+        ensures fault { IfErr result IsBoardFault }
+    {
+        let order = Vec::with_capacity(alloc, calls)?;
+        let ports = Ports::new(alloc, config.copy()?)?;
+        let mut publishers = new_publishers(rt, alloc, ports.config())?;
+        match publishers.observers(alloc) {
+            Ok(observers) => Ok(Board {
+                ports,
+                publishers,
+                observers,
+                order,
+            }),
+            Err(fault) => {
+                publishers.close(rt);
+                Err(fault_without(fault))
+            }
+        }
+    }
+}
+
+impl<A: Allocator> Board<A> {
+    ghost use Rattle.apex_runs.specs.Observers.{ShowSamples, IsReadFault};
+
+    /// Which partition made each call, in the order of the calls. What it says no contract promises.
+    pub(crate) fn order(&self) -> &[u8] {
+        self.order.as_slice()
+    }
+
+    /// Lets each observer learn the last receipt of its channel, and compares what it shows with the sample that the channel
+    /// has in other ports.
+    pub(crate) fn compare<B: Allocator>(&mut self, ports: &Ports<B>) -> Result<(), Fault>
+        ensures config { self.new.config ≡ self.old.config }
+        ensures published { self.new.published ≡ self.old.published }
+        ensures shown { IfOk result (λ _.
+            ShowSamples ports.now.config ports.now.history self.new.observers) }
+        ensures fault { IfErr result IsReadFault }
+    {
+        self.publishers.tell(self.observers.as_mut_slice());
+        compare(ports, self.observers.as_mut_slice())
+    }
+
+    /// One call of a partition. A refusal changes nothing.
+    fn ask<R: Wait>(
+        &mut self,
+        rt: &R,
+        partition: usize,
+        at: Moment,
+        call: &Call,
+    ) -> Result<Reply, AskFault>
+        // The reply is the reply table's, and the history gains just that entry.
+        ensures reply { IfOk result (λ reply.
+            reply ≡ reply_to self.old.config self.old.history partition at call.now) }
+        ensures entry { IfOk result (λ reply.
+            self.new.history ≡ self.old.history ++ entry_of partition at call.now reply ∷ []) }
+        ensures config { self.new.config ≡ self.old.config }
+        ensures partition { IsErrOf result AskFault.NoPartition
+            ↔ (length self.old.config.partitions ≤ partition) }
+        ensures refused { OnErr result (self.new ≡ self.old) }
+    {
+        if partition >= self.ports.config().partitions() {
+            return Err(AskFault::NoPartition);
+        }
+        if self.order.reserve(1).is_err() {
+            return Err(AskFault::OutOfMemory);
+        }
+        match publish(rt, &mut self.publishers, &self.ports, partition, at, call) {
+            Ok(()) => {
+                self.order.push_reserved(partition as u8);
+                Ok(self.ports.call(partition, at, call))
+            }
+            Err(_refused) => Err(AskFault::OutOfMemory),
+        }
+    }
+
+    /// Ends the observers' channels. It waits for reads in progress.
+    pub(crate) fn close<R: Wait>(self, rt: &R) {
+        let Board {
+            ports: _,
+            publishers,
+            observers: _,
+            order: _,
+        } = self;
+        publishers.close(rt);
+    }
+}
+
+/// A board that one thread at a time holds.
+pub(crate) struct LockedBoard<A: Allocator> {
+    board: Mutex<Board<A>>,
+}
+
+impl<A: Allocator> LockedBoard<A> {
+    /// The board behind a lock that is free.
+    pub(crate) fn new(board: Board<A>) -> LockedBoard<A> {
+        LockedBoard {
+            board: Mutex::new(board),
+        }
+    }
+
+    /// Gives the board back. Which calls it has answered by then no contract says.
+    pub(crate) fn into_board(self) -> Board<A> {
+        let LockedBoard { board } = self;
+        board.into_inner()
+    }
+}
+
+impl<A: Allocator + Send + Sync> SharedBoard for LockedBoard<A> {
+    /// Holds the lock for this one call.
+    fn ask<R: Wait>(
+        &self,
+        rt: &R,
+        partition: usize,
+        at: Moment,
+        call: &Call,
+    ) -> Result<Reply, AskFault> {
+        let mut guard = self.board.lock(rt);
+        let answer = guard.ask(rt, partition, at, call);
+        MutexGuard::unlock(guard);
+        answer
+    }
+}

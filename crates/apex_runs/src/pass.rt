@@ -1,0 +1,88 @@
+//! The calls of a run, served once more on new ports in the order in which they were made.
+ghost use Rattle.std.specs.Prelude.{◌≡◌, ◌<◌, ◌^◌, ◌∷◌, ◌++◌, [], length, replicate, string_bytes, OnOk, IfErr};
+ghost use Rattle.apex_ports.specs.History.{entry_of};
+ghost use Rattle.apex_ports.specs.Sound.{IsSound};
+ghost use Rattle.apex_runs.specs.Run.{IsReportFault};
+ghost use Rattle.apex_texts.specs.Report.{line_of, entry_lines};
+ghost use Rattle.apex_threads.specs.Collected.{IsCollected};
+
+use apex_ports::{Ports, RunFault, Script};
+use apex_texts::{Fault, push_entry};
+use apex_threads::{PackedReplies, are_complete};
+use apex_types::{Call, Moment, Reply};
+use std::alloc::AllocError;
+
+/// Serves the calls of all scripts on new ports, the next one of the partition that the order names, and writes a line for
+/// each. The order has to name each partition as often as it has calls, and each reply has to be its worker's.
+///
+/// It counts each partition's calls in the places given, which are 0 before.
+pub(crate) fn push_calls(
+    text: &mut String,
+    ports: &mut Ports,
+    scripts: &[Script],
+    replies: &[PackedReplies],
+    order: &[u8],
+    counts: &mut [usize],
+) -> Result<(), Fault>
+    requires fresh { ports.old.history ≡ [] }
+    requires sound { IsSound ports.old.config ports.old.history }
+    requires scripts { length scripts.now ≡ length ports.old.config.partitions }
+    requires each { length replies.now ≡ length scripts.now }
+    requires none { counts.old ≡ replicate (length scripts.now) 0 }
+    ensures config { ports.new.config ≡ ports.old.config }
+    ensures sound { IsSound ports.new.config ports.new.history }
+    ensures collected { OnOk result (IsCollected ports.new.history scripts.now replies.now) }
+    ensures written { OnOk result (string_bytes text.new ≡
+        string_bytes text.old ++ entry_lines ports.old.config 1 ports.new.history) }
+    ensures short { length ports.new.history < 2 ^ 64 }
+    ensures fault { IfErr result IsReportFault }
+{
+    let mut reply = Reply::NotMade;
+    let mut number: u64 = 0;
+    for byte in order {
+        let partition = usize::from(*byte);
+        if partition >= counts.len() {
+            return Err(Fault::Run(RunFault::Stranger));
+        }
+        let place = counts[partition];
+        let script = &scripts[partition];
+        let Some((at, call)) = script.calls.get(place) else {
+            return Err(Fault::Run(RunFault::Stranger));
+        };
+        number += 1;
+        push_call(text, ports, number, partition, *at, call, &mut reply)?;
+        let worker = &replies[partition];
+        if !worker.is_at(place, &reply) {
+            return Err(Fault::Run(RunFault::Stranger));
+        }
+        counts[partition] = place + 1;
+    }
+    if !are_complete(scripts, replies, counts) {
+        return Err(Fault::Run(RunFault::Stranger));
+    }
+    Ok(())
+}
+
+/// Serves a call, with its reply in the place given, and writes its line.
+fn push_call(
+    text: &mut String,
+    ports: &mut Ports,
+    number: u64,
+    partition: usize,
+    at: Moment,
+    call: &Call,
+    reply: &mut Reply,
+) -> Result<(), AllocError>
+    requires { partition < length ports.old.config.partitions }
+    ensures config { ports.new.config ≡ ports.old.config }
+    ensures sound { IsSound ports.new.config ports.new.history }
+    ensures history { ports.new.history
+        ≡ ports.old.history ++ entry_of partition at call.now reply.new ∷ [] }
+    ensures written { let entry = entry_of partition at call.now reply.new in
+        OnOk result (string_bytes text.new ≡
+        string_bytes text.old ++ line_of ports.old.config number entry) }
+{
+    ports.call_into(partition, at, call, reply);
+    let name = ports.config().partition_name(partition).text();
+    push_entry(text, number, name, at, call, reply)
+}

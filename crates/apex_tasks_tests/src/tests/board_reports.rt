@@ -1,0 +1,39 @@
+//! The report of a board: its lines are those of the calls that it answered, and then those of its partitions and channels.
+use super::texts::REDUCED;
+use apex_board::Board;
+use apex_board_report::report;
+use apex_config::Config;
+use apex_types::{Call, Message, Moment, Name};
+use std::test::Fail;
+
+#[test]
+fn a_board_reports_its_log(rt: HostRuntime) -> Result<(), Fail> {
+    let config = Config::read(rt.alloc(), REDUCED.as_bytes())?;
+    let mut board = Board::new(&rt, rt.alloc(), config)?;
+    assert!(rt; board.config().partitions() == 2);
+    let create = Call::CreateQueuing {
+        name: Name::read("NAV_OUT")?,
+        size: 4,
+        depth: 2,
+        direction: 0,
+        discipline: 0,
+    };
+    board.call(&rt, 0, Moment(1), &create)?;
+    board.call(&rt, 0, Moment(2), &Call::SetMode { mode: 3 })?;
+    let send = Call::SendQueuing {
+        id: 1,
+        message: Message::from_hex("01")?,
+    };
+    board.call(&rt, 0, Moment(3), &send)?;
+    let text = report(rt.alloc(), &board)?;
+    board.close(&rt);
+    let wanted = "1 1 FMS create-queuing NO_ERROR id 1
+2 2 FMS mode NO_ERROR
+3 3 FMS send NO_ERROR
+partition FMS mode NORMAL calls 3
+partition DSP mode COLD_START calls 0
+queuing NAV accepted 1 received 0 waiting 1
+";
+    assert_eq!(rt; text.as_str(), wanted);
+    Ok(())
+}

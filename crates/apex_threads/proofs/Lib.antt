@@ -1,0 +1,5 @@
+pub mod Counting
+pub mod Equal
+pub mod Lists
+pub mod PackedLemmas
+pub mod Ready

@@ -1,0 +1,72 @@
+-- Replies that are packed stay what they are while bytes come behind those of their messages.
+use Rattle.std.proofs.Common.{◌≡◌, ◌≢◌, ℕ, zero, suc, ◌+◌, ◌-◌, ◌<◌, ◌≤◌, ◌==◌, Bool, true, false, List, [], ◌∷◌, ◌++◌, length, take, drop, map, Some, refl, sym, ap, ◌∙◌, subst, arith, length-append}
+use Rattle.std.specs.List.{slice_get}
+use Rattle.std.proofs.lemmas.Bool.Decides.{nat_tests}
+use Rattle.std.proofs.lemmas.List.{take-append-le, drop-append-le, map-append, length-drop}
+use Rattle.std.proofs.lemmas.Option.{slice_get_within}
+use Rattle.apex_types.specs.declared.reply.Reply.{Reply}
+use Rattle.apex_types.specs.declared.reply.Reply.TheVariants as reply
+use Rattle.apex_threads.specs.declared.packed.Packed.{Packed}
+use Rattle.apex_threads.specs.declared.packed.Packed.TheVariants as packed
+use Rattle.apex_threads.specs.PackedReplies.{between, reply_in, IsPart, IsPacked, ArePacked}
+use Rattle.apex_threads.proofs.Lists.{slice_get_end, slice_get_before}
+
+module _ (bytes more : List ℕ) where
+  same_between : (from to : ℕ) → IsPart (length bytes) from to → between from to (bytes ++ more) ≡ between from to bytes
+  same_between from to is =
+      let within = is.0 in
+      let inside = is.1 in
+      ap (take (to - from)) (drop-append-le from bytes more (omega arith)) ∙ take-append-le (to - from) (drop from bytes) more (omega (arith, length-drop from bytes))
+
+  same_reply : (one : Packed) → IsPacked (length bytes) one → reply_in (bytes ++ more) one ≡ reply_in bytes one
+  same_reply packed.NotMade is = refl
+  same_reply (packed.Code code) is = refl
+  same_reply (packed.Id id) is = refl
+  same_reply (packed.Received from to) is = ap reply.Received (same_between from to is)
+  same_reply (packed.Read from to validity) is = ap (λ message. reply.Read message validity) (same_between from to is)
+  same_reply (packed.QueuingStatus waiting depth size direction) is = refl
+  same_reply (packed.SamplingStatus refresh size direction last) is = refl
+
+  part_still : (from to : ℕ) → IsPart (length bytes) from to → IsPart (length (bytes ++ more)) from to
+  part_still from to is = let inside = is.1 in (is.0, omega (arith, length-append bytes more), is.2)
+
+  packed_still : (one : Packed) → IsPacked (length bytes) one → IsPacked (length (bytes ++ more)) one
+  packed_still packed.NotMade is = tt
+  packed_still (packed.Code code) is = tt
+  packed_still (packed.Id id) is = tt
+  packed_still (packed.Received from to) is = part_still from to is
+  packed_still (packed.Read from to validity) is = part_still from to is
+  packed_still (packed.QueuingStatus waiting depth size direction) is = tt
+  packed_still (packed.SamplingStatus refresh size direction last) is = tt
+
+  -- the replies are those of before
+  pub same_replies : (all : List Packed) → ArePacked (length bytes) all → map (reply_in (bytes ++ more)) all ≡ map (reply_in bytes) all
+  same_replies [] are = refl
+  same_replies (one ∷ all) are =
+      ap (λ first. first ∷ map (reply_in (bytes ++ more)) all) (same_reply one (are 0 one refl))
+      ∙ ap (λ rest. reply_in bytes one ∷ rest) (same_replies all (λ k other here. are (suc k) other here))
+
+  pub still_packed : (all : List Packed) → ArePacked (length bytes) all → ArePacked (length (bytes ++ more)) all
+  still_packed all are k one here = packed_still one (are k one here)
+
+  -- one reply more
+  pub pushed : (all : List Packed) (one : Packed) (given : Reply) → ArePacked (length bytes) all → reply_in (bytes ++ more) one ≡ given
+      → map (reply_in (bytes ++ more)) (all ++ one ∷ []) ≡ map (reply_in bytes) all ++ given ∷ []
+  pushed all one given are is =
+      map-append (reply_in (bytes ++ more)) all (one ∷ []) ∙ (ap (λ front. front ++ reply_in (bytes ++ more) one ∷ []) (same_replies all are) ∙ ap (λ last. map (reply_in bytes) all ++ last ∷ []) is)
+
+-- one more that is packed
+pub one_more_packed : (len : ℕ) (all : List Packed) (one : Packed) → ArePacked len all → IsPacked len one → ArePacked len (all ++ one ∷ [])
+one_more_packed len all one are is k other here = by_test (k == length all) refl
+  where
+    by_test : (b : Bool) → (k == length all) ≡ b → IsPacked len other
+    by_test true test =
+        let at : k ≡ length all = grind (arith, nat_tests) in
+        let same : Some other ≡ Some one = sym here ∙ (ap (λ j. slice_get (all ++ one ∷ []) j) at ∙ slice_get_end all one) in
+        let one_is : one ≡ other = cc in
+        subst (IsPacked len) one_is is
+    by_test false test =
+        let apart : k ≢ length all = grind (arith, nat_tests) in
+        let within = slice_get_within (all ++ one ∷ []) k other here in
+        let before : k < length all = omega (arith, length-append all (one ∷ [])) in
+        are k other (sym (slice_get_before all (one ∷ []) k before) ∙ here)

@@ -1,0 +1,53 @@
+-- The lists that are ready for the replies, and the vector that gains them.
+use Rattle.std.proofs.Common.{◌≡◌, ◌≢◌, ℕ, ◌+◌, ◌<◌, ◌==◌, Bool, true, false, List, [], ◌∷◌, ◌++◌, length, Some, Vec, vec_len, Result, Ok, Err, IfOk, refl, sym, ap, subst, ◌∙◌, arith, length-append}
+use Rattle.std.specs.List.{slice_get}
+use Rattle.std.proofs.lemmas.Bool.Decides.{nat_tests}
+use Rattle.std.proofs.lemmas.Option.{slice_get_within}
+use Rattle.apex_types.specs.declared.call.Call.{Call}
+use Rattle.apex_types.specs.declared.moment.Moment.{Moment}
+use Rattle.apex_types.specs.declared.reply.Reply.{Reply}
+use Rattle.apex_ports.specs.declared.run_fault.RunFault.{RunFault}
+use Rattle.apex_threads.specs.Places.{AreReady, AddsReplies}
+use Rattle.apex_threads.proofs.Lists.{slice_get_end, slice_get_before}
+
+module _ (scripts : List (List (Moment × Call))) (lists : List (List Reply)) (last : List Reply) where
+  -- all but the last of them
+  pub ready_front : AreReady scripts (lists ++ last ∷ []) → AreReady scripts lists
+  ready_front ready = record {
+    within = let all = ready.within in omega (arith, length-append lists (last ∷ []));
+    each = λ p list here. ready.each p list (slice_get_before lists (last ∷ []) p (slice_get_within lists p list here) ∙ here);
+  }
+
+  pub partition_within : AreReady scripts (lists ++ last ∷ []) → length lists < length scripts
+  partition_within ready = let all = ready.within in omega (arith, length-append lists (last ∷ []))
+
+  -- the last of them
+  pub ready_last : AreReady scripts (lists ++ last ∷ []) → last ≡ []
+  ready_last ready = ready.each (length lists) last (slice_get_end lists last)
+
+  -- one more of them
+  pub ready_more : AreReady scripts lists → length lists < length scripts → last ≡ [] → AreReady scripts (lists ++ last ∷ [])
+  ready_more ready place empty = record {
+    within = omega (arith, length-append lists (last ∷ []));
+    each = λ p other here. by_test p other here (p == length lists) refl;
+  }
+    where
+      by_test : (p : ℕ) (other : List Reply) → slice_get (lists ++ last ∷ []) p ≡ Some other → (b : Bool) → (p == length lists) ≡ b → other ≡ []
+      by_test p other here true test =
+          let is : p ≡ length lists = grind (arith, nat_tests) in
+          let same : Some other ≡ Some last = sym here ∙ (ap (λ k. slice_get (lists ++ last ∷ []) k) is ∙ slice_get_end lists last) in
+          let list_is : other ≡ last = cc in
+          list_is ∙ empty
+      by_test p other here false test =
+          let apart : p ≢ length lists = grind (arith, nat_tests) in
+          let within = slice_get_within (lists ++ last ∷ []) p other here in
+          let before : p < length lists = omega (arith, length-append lists (last ∷ [])) in
+          ready.each p other (sym (slice_get_before lists (last ∷ []) p before) ∙ here)
+
+-- one more partition's replies
+pub one_more_reply : {A : Type 0} (lower : Result (Vec (List Reply) A) RunFault) (next : Result (List Reply) RunFault) (result : Result (Vec (List Reply) A) RunFault) (n : ℕ)
+    → IfOk lower (λ replies. vec_len replies ≡ n) → IfOk result (AddsReplies lower next) → IfOk result (λ all. vec_len all ≡ n + 1)
+one_more_reply (Ok lower) (Ok next) (Ok all) n count adds = let longer = adds.1 in omega arith
+one_more_reply (Ok lower) (Err fault) (Ok all) n count adds = absurd adds
+one_more_reply (Err fault) next (Ok all) n count adds = absurd adds
+one_more_reply lower next (Err fault) n count adds = tt

@@ -1,0 +1,11 @@
+use Rattle.std.proofs.Common.{◌≡◌, ℕ, ◌<◌, List, length, get_or, Some}
+use Rattle.std.specs.List.{slice_get}
+use Rattle.apex_types.specs.declared.call.Call.{Call}
+use Rattle.apex_types.specs.declared.moment.Moment.{Moment}
+use Rattle.apex_types.specs.declared.reply.Reply.{Reply}
+use Rattle.apex_threads.proofs.comparison.are_complete.Given as goal
+
+abbrev pub invariant-loop-p : goal.invariant-loop-p
+invariant-loop-p g l =
+    (p : ℕ) → p < l.p → (script : List (Moment × Call)) (own : List Reply) → slice_get l.scripts p ≡ Some script → slice_get l.replies p ≡ Some own
+    → (get_or l.counts p 0 ≡ length script) × (get_or l.counts p 0 ≡ length own)

@@ -1,0 +1,40 @@
+//! What the workers were answered, beside what a log or another run of the calls says.
+ghost use Rattle.std.specs.Prelude.{◌≡◌, ◌↔◌, length, IsTrue};
+ghost use Rattle.apex_threads.specs.Collected.{AreComplete};
+
+use crate::packed::PackedReplies;
+use apex_ports::Script;
+use apex_types::Reply;
+use std::alloc::Allocator;
+
+/// Whether all calls and all replies of each partition were counted.
+pub fn are_complete<A: Allocator>(
+    scripts: &[Script],
+    replies: &[PackedReplies<A>],
+    counts: &[usize],
+) -> bool
+    requires counts { length counts.now ≡ length scripts.now }
+    requires each { length replies.now ≡ length scripts.now }
+    ensures { IsTrue result ↔ AreComplete scripts.now replies.now counts.now }
+{
+    for (p, count) in counts.iter().enumerate() {
+        if !is_complete(&scripts[p], &replies[p], *count) {
+            return false;
+        }
+    }
+    true
+}
+
+/// Whether so many calls and so many replies are all of them.
+fn is_complete<A: Allocator>(script: &Script, replies: &PackedReplies<A>, count: usize) -> bool
+    ensures { IsTrue result ↔ (count ≡ length script.now) × (count ≡ length replies.now) }
+{
+    count == script.calls.len() && count == replies.len()
+}
+
+/// Whether the two replies are equal.
+pub(crate) fn is_same_reply(reply: &Reply, other: &Reply) -> bool
+    ensures { IsTrue result ↔ (reply.now ≡ other.now) }
+{
+    reply == other
+}

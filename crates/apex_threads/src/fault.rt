@@ -1,0 +1,29 @@
+//! The fault of a run in which a worker, or the making of the observers, was refused.
+ghost use Rattle.std.specs.Prelude.{◌≡◌};
+ghost use Rattle.apex_threads.specs.Fault.{fault_of, fault_without};
+
+use crate::shared::AskFault;
+use apex_observers::ObserverFault;
+use apex_ports::RunFault;
+
+/// A board without the worker's partition isn't the one that was handed out.
+impl From<AskFault> for RunFault {
+    ghost from_gives = { λ refused given. given ≡ fault_of refused };
+
+    fn from(refused: AskFault) -> RunFault {
+        match refused {
+            AskFault::OutOfMemory => RunFault::OutOfMemory,
+            AskFault::NoPartition => RunFault::Stranger,
+        }
+    }
+}
+
+/// The fault of a run whose observers couldn't be made.
+pub fn fault_without(refused: ObserverFault) -> RunFault
+    ensures { result ≡ fault_without refused }
+{
+    match refused {
+        ObserverFault::OutOfMemory => RunFault::OutOfMemory,
+        ObserverFault::NoPlace => RunFault::NoObserver,
+    }
+}

@@ -1,0 +1,20 @@
+//! Workers: each partition's script is run by a thread of its own, and all ask one board that they share. What that board
+//! is, its caller says; what each worker was answered comes back packed.
+#![tactic(auto)]
+
+pub mod comparison;
+pub mod fault;
+pub mod gate;
+pub mod packed;
+pub mod run;
+pub mod shared;
+mod worker;
+mod workers;
+
+pub use crate::comparison::are_complete;
+pub use crate::fault::fault_without;
+pub use crate::gate::{Gate, Held, OpenGate};
+pub use crate::packed::PackedReplies;
+pub use crate::run::run_over;
+pub use crate::shared::{AskFault, SharedBoard};
+pub use apex_ports::{RunFault, Script};

@@ -1,0 +1,222 @@
+//! The replies that a worker got, packed.
+ghost use Rattle.std.specs.Prelude.{◌≡◌, ◌↔◌, ◌∷◌, ◌++◌, ℕ, List, [], length, slice_get, Some, IsTrue, IfOk, OnOk, OnErr};
+ghost use Rattle.apex_threads.specs.PackedReplies.{between, reply_in, IsPart, IsPacked};
+
+use crate::comparison::is_same_reply;
+use apex_types::{Direction, Message, Reply, ReturnCode, Validity};
+use std::alloc::{AllocError, Allocator, Global};
+use std::marker::Model;
+
+/// A reply without the bytes of its message: these stand elsewhere, from one place to before another.
+#[derive(Clone, Copy, Debug)]
+pub(crate) enum Packed {
+    NotMade,
+    Code(ReturnCode),
+    Id(u32),
+    Received {
+        from: usize,
+        to: usize,
+    },
+    Read {
+        from: usize,
+        to: usize,
+        validity: Validity,
+    },
+    QueuingStatus {
+        waiting: u32,
+        depth: u32,
+        size: u32,
+        direction: Direction,
+    },
+    SamplingStatus {
+        refresh: u64,
+        size: u32,
+        direction: Direction,
+        last: Validity,
+    },
+}
+
+/// The replies to the calls of one partition, in order. A message takes as many bytes as it has, and not the place of the
+/// longest one. A contract sees them as a list.
+#[derive(Debug, Drop)]
+pub struct PackedReplies<A: Allocator = Global> {
+    replies: Vec<Packed, A>,
+    bytes: Vec<u8, A>,
+}
+
+impl<A: Allocator> Model for PackedReplies<A> {
+    ghost use Rattle.std.specs.Prelude.{List, length, map};
+    ghost use Rattle.apex_types.specs.declared.reply.Reply.{Reply};
+    ghost use Rattle.apex_threads.specs.PackedReplies.{reply_in, ArePacked};
+
+    ghost Value = { List Reply };
+
+    ghost view = { λ packed. map (reply_in packed.bytes.items) packed.replies.items };
+
+    ghost invariant = { λ packed. ArePacked (length packed.bytes.items) packed.replies.items };
+}
+
+impl<A: Allocator + Copy> PackedReplies<A> {
+    /// No replies, with places for so many. Their messages take memory when they come.
+    pub fn with_places(alloc: A, replies: usize) -> Result<PackedReplies<A>, AllocError>
+        ensures { IfOk result (λ packed. packed ≡ []) }
+    {
+        Ok(PackedReplies {
+            replies: Vec::with_capacity(alloc, replies)?,
+            bytes: Vec::new(alloc),
+        })
+    }
+}
+
+impl<A: Allocator> PackedReplies<A> {
+    /// How many replies there are.
+    pub fn len(&self) -> usize
+        ensures { result ≡ length self.now }
+    {
+        self.replies.len()
+    }
+
+    /// Adds a reply. On want of memory the replies are those of before.
+    pub fn push(&mut self, reply: &Reply) -> Result<(), AllocError>
+        ensures pushed { OnOk result (self.new ≡ self.old ++ reply.now ∷ []) }
+        ensures refused { OnErr result (self.new ≡ self.old) }
+    {
+        self.replies.reserve(1)?;
+        let packed = pack(&mut self.bytes, reply)?;
+        self.replies.push_reserved(packed);
+        Ok(())
+    }
+
+    /// The reply at a place; place 0 has the oldest.
+    pub fn get(&self, place: usize) -> Option<Reply>
+        ensures { result ≡ slice_get self.now place }
+    {
+        match self.replies.get(place) {
+            Some(packed) => Some(unpack(self.bytes.as_slice(), *packed)),
+            None => None,
+        }
+    }
+
+    /// Whether the reply at a place is this one.
+    pub fn is_at(&self, place: usize, reply: &Reply) -> bool
+        ensures { IsTrue result ↔ (slice_get self.now place ≡ Some reply.now) }
+    {
+        match self.get(place) {
+            Some(other) => is_same_reply(&other, reply),
+            None => false,
+        }
+    }
+}
+
+/// The reply without its message, which is put behind the bytes.
+fn pack<A: Allocator>(bytes: &mut Vec<u8, A>, reply: &Reply) -> Result<Packed, AllocError>
+    ensures packed { IfOk result (λ packed. reply_in bytes.new.items packed ≡ reply.now) }
+    ensures within { IfOk result (λ packed. IsPacked (length bytes.new.items) packed) }
+    ensures behind { (more : List ℕ) × (bytes.new.items ≡ bytes.old.items ++ more) }
+{
+    Ok(match reply {
+        Reply::NotMade => Packed::NotMade,
+        Reply::Code(code) => Packed::Code(*code),
+        Reply::Id(id) => Packed::Id(*id),
+        Reply::Received(message) => {
+            let (from, to) = push_message(bytes, message)?;
+            Packed::Received { from, to }
+        }
+        Reply::Read { message, validity } => {
+            let (from, to) = push_message(bytes, message)?;
+            Packed::Read {
+                from,
+                to,
+                validity: *validity,
+            }
+        }
+        Reply::QueuingStatus {
+            waiting,
+            depth,
+            size,
+            direction,
+        } => Packed::QueuingStatus {
+            waiting: *waiting,
+            depth: *depth,
+            size: *size,
+            direction: *direction,
+        },
+        Reply::SamplingStatus {
+            refresh,
+            size,
+            direction,
+            last,
+        } => Packed::SamplingStatus {
+            refresh: *refresh,
+            size: *size,
+            direction: *direction,
+            last: *last,
+        },
+    })
+}
+
+/// Puts a message behind the bytes, and answers between which places it stands.
+fn push_message<A: Allocator>(
+    bytes: &mut Vec<u8, A>,
+    message: &Message,
+) -> Result<(usize, usize), AllocError>
+    ensures message { IfOk result (λ part.
+        between part.0 part.1 bytes.new.items ≡ message.now) }
+    ensures within { IfOk result (λ part. IsPart (length bytes.new.items) part.0 part.1) }
+    ensures behind { OnOk result (bytes.new.items ≡ bytes.old.items ++ message.now) }
+    ensures refused { OnErr result (bytes.new.items ≡ bytes.old.items) }
+{
+    let from = bytes.len();
+    bytes.extend_from_slice(message.bytes())?;
+    Ok((from, bytes.len()))
+}
+
+/// The reply, with its message out of the bytes.
+fn unpack(bytes: &[u8], packed: Packed) -> Reply
+    requires { IsPacked (length bytes.now) packed }
+    ensures { result ≡ reply_in bytes.now packed }
+{
+    match packed {
+        Packed::NotMade => Reply::NotMade,
+        Packed::Code(code) => Reply::Code(code),
+        Packed::Id(id) => Reply::Id(id),
+        Packed::Received { from, to } => Reply::Received(message_at(bytes, from, to)),
+        Packed::Read { from, to, validity } => Reply::Read {
+            message: message_at(bytes, from, to),
+            validity,
+        },
+        Packed::QueuingStatus {
+            waiting,
+            depth,
+            size,
+            direction,
+        } => Reply::QueuingStatus {
+            waiting,
+            depth,
+            size,
+            direction,
+        },
+        Packed::SamplingStatus {
+            refresh,
+            size,
+            direction,
+            last,
+        } => Reply::SamplingStatus {
+            refresh,
+            size,
+            direction,
+            last,
+        },
+    }
+}
+
+/// The message between two places.
+fn message_at(bytes: &[u8], from: usize, to: usize) -> Message
+    requires { IsPart (length bytes.now) from to }
+    ensures { result ≡ between from to bytes.now }
+{
+    match Message::from_bytes(&bytes[from..to]) {
+        Ok(message) => message,
+        Err(_too_long) => unreachable!(),
+    }
+}

@@ -1,0 +1,80 @@
+//! A run over a board that its workers share: one worker for each partition.
+ghost use Rattle.std.specs.Prelude.{◌≡◌, ◌≤◌, [], length, vec_len, vec_capacity, IfOk, IfErr};
+ghost use Rattle.std.specs.Thread.{IsSync, IsSend};
+ghost use Rattle.apex_threads.specs.Held.{NamesHeldCall};
+ghost use Rattle.apex_threads.specs.Places.{AreReady};
+
+use crate::gate::Gate;
+use crate::packed::PackedReplies;
+use crate::shared::SharedBoard;
+use crate::workers::run_workers;
+use apex_ports::{RunFault, Script};
+use std::alloc::{AllocError, Allocator};
+use std::sync::Wait;
+use std::thread;
+use std::thread::Threads;
+
+/// Runs each partition's script by a worker of its own, over a board of the caller's that all of them share, and answers
+/// the replies of each partition's worker, in the partitions' order. All workers are started before any is joined.
+///
+/// A worker stops at its first refusal, and the others go on. A worker that couldn't be started goes before every other
+/// fault, and then the fault of the lowest partition goes first.
+pub fn run_over<R: Threads + Wait + Sync, S: SharedBoard, G: Gate, A: Allocator + Copy + Send>(
+    rt: &R,
+    alloc: A,
+    board: &S,
+    gate: &G,
+    scripts: &[Script],
+) -> Result<Vec<PackedReplies<A>, A>, RunFault>
+    ensures count { IfOk result (λ replies. vec_len replies ≡ length scripts.now) }
+    ensures held { IfErr result (NamesHeldCall (G.may_refuse gate.now) scripts.now) }
+{
+    let empty = lists_for(alloc, scripts)?;
+    let room = Vec::with_capacity(alloc, scripts.len())?;
+    run_all(rt, board, gate, scripts, empty, room)
+}
+
+/// An empty list for each script, with places for all replies to it.
+fn lists_for<A: Allocator + Copy>(
+    alloc: A,
+    scripts: &[Script],
+) -> Result<Vec<PackedReplies<A>, A>, AllocError>
+    ensures ready { IfOk result (λ lists. AreReady scripts.now lists.items) }
+    ensures count { IfOk result (λ lists. vec_len lists ≡ length scripts.now) }
+{
+    let mut lists = Vec::with_capacity(alloc, scripts.len())?;
+    for script in scripts {
+        let list = PackedReplies::with_places(alloc, script.calls.len())?;
+        lists.push_reserved(list);
+    }
+    Ok(lists)
+}
+
+/// Runs all workers in one scope.
+fn run_all<R: Threads + Wait + Sync, S: SharedBoard, G: Gate, A: Allocator + Send>(
+    rt: &R,
+    board: &S,
+    gate: &G,
+    scripts: &[Script],
+    empty: Vec<PackedReplies<A>, A>,
+    room: Vec<PackedReplies<A>, A>,
+) -> Result<Vec<PackedReplies<A>, A>, RunFault>
+    requires ready { AreReady scripts.now empty.items }
+    requires none { room.items ≡ [] }
+    requires places { vec_len empty ≤ vec_capacity room }
+    ensures count { IfOk result (λ replies. vec_len replies ≡ vec_len empty) }
+    ensures held { IfErr result (NamesHeldCall (G.may_refuse gate.now) scripts.now) }
+{
+    thread::scope(
+        thread::scope_env(),
+        rt,
+        move |scope| -> Result<Vec<PackedReplies<A>, A>, RunFault>
+            requires ready { AreReady scripts.now empty.items }
+            requires none { room.items ≡ [] }
+            requires places { vec_len empty ≤ vec_capacity room }
+            ensures count { IfOk result (λ replies. vec_len replies ≡ vec_len empty) }
+            ensures held { IfErr result
+                (NamesHeldCall (G.may_refuse gate.entry.now) scripts.entry.now) }
+        { run_workers(scope, rt, board, gate, scripts, empty, room) },
+    )
+}
