@@ -5,11 +5,13 @@
 pub mod files;
 pub mod named_scripts;
 mod outputs;
+pub mod packed_scripts;
 mod reading;
 pub mod refusal;
 
 pub use crate::files::{Opener, SystemFiles};
 pub use crate::named_scripts::{partition_and_path, scripts_named};
 pub use crate::outputs::{print, refuse};
+pub use crate::packed_scripts::read_packed_script;
 pub use crate::reading::{read_config, read_file};
 pub use crate::refusal::Refusal;

@@ -5,10 +5,12 @@ ghost use Rattle.apex_files.specs.Arguments.{partition_in, path_in};
 ghost use Rattle.apex_files.specs.Scripts.{AreArgumentsRead, IsScriptFile};
 
 use crate::files::Opener;
+use crate::packed_scripts::read_packed_script;
 use crate::reading::read_file;
 use crate::refusal::Refusal;
 use apex_config::Config;
-use apex_texts::{Fault, Script, TraceFault, read_script};
+use apex_texts::{Fault, TraceFault};
+use apex_threads::PackedScript;
 use std::alloc::{AllocError, Global};
 
 /// A script for each partition of the configuration: that of the argument with its name, or the empty one.
@@ -17,7 +19,7 @@ pub fn scripts_named<'a, O: Opener>(
     opener: &O,
     config: &Config,
     arguments: &[&'a str],
-) -> Result<Vec<Script>, Refusal<'a>>
+) -> Result<Vec<PackedScript>, Refusal<'a>>
     ensures { AreArgumentsRead (O.bytes_at opener.now) config.now arguments.now result }
 {
     let mut scripts = empty_scripts(alloc, config.partitions())?;
@@ -34,14 +36,12 @@ pub fn scripts_named<'a, O: Opener>(
 }
 
 /// So many scripts without a call.
-fn empty_scripts(alloc: Global, count: usize) -> Result<Vec<Script>, AllocError>
+fn empty_scripts(alloc: Global, count: usize) -> Result<Vec<PackedScript>, AllocError>
     ensures { IfOk result (λ scripts. scripts.items ≡ replicate count []) }
 {
     let mut scripts = Vec::with_capacity(alloc, count)?;
     for _ in 0..count {
-        scripts.push_reserved(Script {
-            calls: Vec::new(alloc),
-        });
+        scripts.push_reserved(PackedScript::new(alloc));
     }
     Ok(scripts)
 }
@@ -64,12 +64,12 @@ fn script_at<'a, O: Opener>(
     config: &Config,
     p: usize,
     path: &'a str,
-) -> Result<Script, Refusal<'a>>
+) -> Result<PackedScript, Refusal<'a>>
     requires { p < length config.now.partitions }
     ensures { IsScriptFile (O.bytes_at opener.now) config.now p path.now result }
 {
     let text = read_file(alloc, opener, path)?;
-    match read_script(alloc, text.as_slice()) {
+    match read_packed_script(alloc, text.as_slice()) {
         Ok(script) => Ok(script),
         Err(TraceFault::OutOfMemory) => Err(Refusal::Text(Fault::Memory)),
         Err(fault) => {

@@ -8,4 +8,4 @@ mod observers;
 mod pass;
 pub mod run;
 
-pub use crate::run::run_text;
+pub use crate::run::{run_packed_text, run_text};

@@ -6,9 +6,9 @@ ghost use Rattle.apex_runs.specs.Run.{IsReportFault};
 ghost use Rattle.apex_texts.specs.Report.{line_of, entry_lines};
 ghost use Rattle.apex_threads.specs.Collected.{IsCollected};
 
-use apex_ports::{Ports, RunFault, Script};
+use apex_ports::{Ports, RunFault};
 use apex_texts::{Fault, push_entry};
-use apex_threads::{PackedReplies, are_complete};
+use apex_threads::{PackedReplies, PackedScript, are_complete};
 use apex_types::{Call, Moment, Reply};
 use std::alloc::AllocError;
 
@@ -19,7 +19,7 @@ use std::alloc::AllocError;
 pub(crate) fn push_calls(
     text: &mut String,
     ports: &mut Ports,
-    scripts: &[Script],
+    scripts: &[PackedScript],
     replies: &[PackedReplies],
     order: &[u8],
     counts: &mut [usize],
@@ -46,11 +46,11 @@ pub(crate) fn push_calls(
         }
         let place = counts[partition];
         let script = &scripts[partition];
-        let Some((at, call)) = script.calls.get(place) else {
+        let Some((at, call)) = script.get(place) else {
             return Err(Fault::Run(RunFault::Stranger));
         };
         number += 1;
-        push_call(text, ports, number, partition, *at, call, &mut reply)?;
+        push_call(text, ports, number, partition, at, &call, &mut reply)?;
         let worker = &replies[partition];
         if !worker.is_at(place, &reply) {
             return Err(Fault::Run(RunFault::Stranger));

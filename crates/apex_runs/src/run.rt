@@ -9,7 +9,7 @@ use crate::pass::push_calls;
 use apex_config::Config;
 use apex_ports::{Ports, RunFault, Script};
 use apex_texts::{Fault, push_totals};
-use apex_threads::{Gate, PackedReplies, run_over};
+use apex_threads::{Gate, PackedReplies, PackedScript, pack_all, run_over};
 use std::alloc::{Allocator, Global};
 use std::sync::Wait;
 use std::thread::Threads;
@@ -17,16 +17,31 @@ use std::thread::Threads;
 /// The bytes that are reserved for each line of the report.
 const LINE_BYTES: usize = 64;
 
-/// The report of a run on a new board of the configuration, in which a worker for each partition makes the
-/// calls of its script. It waits for all workers.
-///
-/// Before the report each observer of the run learns all that was written on its channel and is read. `Fault::Gone` says
-/// that one shows the end of its board; `RunFault::Stranger` is the answer too where one shows another sample than the report.
+/// The report of `run_packed_text`, of scripts that are packed first.
 pub fn run_text<R: Threads + Wait + Sync, G: Gate>(
     rt: &R,
     alloc: Global,
     config: &Config,
     scripts: &[Script],
+    gate: &G,
+) -> Result<String, Fault>
+    requires { length scripts.now ≡ length config.now.partitions }
+    ensures { IsRun (G.may_refuse gate.now) config.now scripts.now result }
+{
+    let packed = pack_all(alloc, scripts)?;
+    run_packed_text(rt, alloc, config, packed.as_slice(), gate)
+}
+
+/// The report of a run on new ports of the configuration, in which a worker for each partition makes the
+/// calls of its script. It waits for all workers.
+///
+/// Before the report each observer of the run learns all that was written on its channel and is read. `Fault::Gone` says
+/// that one shows the end of its board; `RunFault::Stranger` is the answer too where one shows another sample than the report.
+pub fn run_packed_text<R: Threads + Wait + Sync, G: Gate>(
+    rt: &R,
+    alloc: Global,
+    config: &Config,
+    scripts: &[PackedScript],
     gate: &G,
 ) -> Result<String, Fault>
     requires { length scripts.now ≡ length config.now.partitions }
@@ -52,7 +67,7 @@ fn run_workers<R: Threads + Wait + Sync, G: Gate, A: Allocator + Copy + Send + S
     rt: &R,
     alloc: A,
     config: &Config,
-    scripts: &[Script],
+    scripts: &[PackedScript<A>],
     gate: &G,
 ) -> Result<(Board<A>, Vec<PackedReplies<A>, A>), RunFault>
     ensures count { IfOk result (λ ended. vec_len ended.1 ≡ length scripts.now) }
@@ -72,10 +87,10 @@ fn run_workers<R: Threads + Wait + Sync, G: Gate, A: Allocator + Copy + Send + S
 }
 
 /// How many calls the scripts have; no more than the greatest number.
-fn calls_in(scripts: &[Script]) -> usize {
+fn calls_in<A: Allocator>(scripts: &[PackedScript<A>]) -> usize {
     let mut calls: usize = 0;
     for script in scripts {
-        calls = calls.saturating_add(script.calls.len());
+        calls = calls.saturating_add(script.len());
     }
     calls
 }
@@ -84,7 +99,7 @@ fn calls_in(scripts: &[Script]) -> usize {
 fn report(
     alloc: Global,
     config: &Config,
-    scripts: &[Script],
+    scripts: &[PackedScript],
     replies: &[PackedReplies],
     board: &mut Board<Global>,
 ) -> Result<String, Fault>

@@ -4,7 +4,7 @@ ghost use Rattle.apex_tasks.specs.Task.{IsCheck, IsFileReplay, IsFileRun};
 
 use apex_command_line::{Task, task_of};
 use apex_files::{Opener, Refusal, print, read_config, read_file, refuse, scripts_named};
-use apex_runs::run_text;
+use apex_runs::run_packed_text;
 use apex_texts::{check_line, replay_trace};
 use apex_threads::OpenGate;
 use std::alloc::Global;
@@ -84,7 +84,7 @@ fn run_files<'a, R: Threads + Wait + Sync, O: Opener>(
 {
     let config = read_config(alloc, opener, config)?;
     let scripts = scripts_named(alloc, opener, &config, arguments)?;
-    match run_text(rt, alloc, &config, scripts.as_slice(), &OpenGate) {
+    match run_packed_text(rt, alloc, &config, scripts.as_slice(), &OpenGate) {
         Ok(report) => Ok(report),
         Err(fault) => Err(Refusal::Text(fault)),
     }

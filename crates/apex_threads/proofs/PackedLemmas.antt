@@ -1,41 +1,33 @@
 -- Replies that are packed stay what they are while bytes come behind those of their messages.
-use Rattle.std.proofs.Common.{◌≡◌, ◌≢◌, ℕ, zero, suc, ◌+◌, ◌-◌, ◌<◌, ◌≤◌, ◌==◌, Bool, true, false, List, [], ◌∷◌, ◌++◌, length, take, drop, map, Some, refl, sym, ap, ◌∙◌, subst, arith, length-append}
+use Rattle.std.proofs.Common.{◌≡◌, ◌≢◌, ℕ, suc, ◌<◌, ◌==◌, Bool, true, false, List, [], ◌∷◌, ◌++◌, length, map, Some, refl, sym, ap, ◌∙◌, subst, arith, length-append}
 use Rattle.std.specs.List.{slice_get}
 use Rattle.std.proofs.lemmas.Bool.Decides.{nat_tests}
-use Rattle.std.proofs.lemmas.List.{take-append-le, drop-append-le, map-append, length-drop}
+use Rattle.std.proofs.lemmas.List.{map-append}
 use Rattle.std.proofs.lemmas.Option.{slice_get_within}
 use Rattle.apex_types.specs.declared.reply.Reply.{Reply}
 use Rattle.apex_types.specs.declared.reply.Reply.TheVariants as reply
 use Rattle.apex_threads.specs.declared.packed.Packed.{Packed}
 use Rattle.apex_threads.specs.declared.packed.Packed.TheVariants as packed
-use Rattle.apex_threads.specs.PackedReplies.{between, reply_in, IsPart, IsPacked, ArePacked}
+use Rattle.apex_threads.specs.PackedReplies.{reply_in, IsPacked, ArePacked}
 use Rattle.apex_threads.proofs.Lists.{slice_get_end, slice_get_before}
+use Rattle.apex_threads.proofs.PartLemmas.{same_between, part_still}
 
 module _ (bytes more : List ℕ) where
-  same_between : (from to : ℕ) → IsPart (length bytes) from to → between from to (bytes ++ more) ≡ between from to bytes
-  same_between from to is =
-      let within = is.0 in
-      let inside = is.1 in
-      ap (take (to - from)) (drop-append-le from bytes more (omega arith)) ∙ take-append-le (to - from) (drop from bytes) more (omega (arith, length-drop from bytes))
-
   same_reply : (one : Packed) → IsPacked (length bytes) one → reply_in (bytes ++ more) one ≡ reply_in bytes one
   same_reply packed.NotMade is = refl
   same_reply (packed.Code code) is = refl
   same_reply (packed.Id id) is = refl
-  same_reply (packed.Received from to) is = ap reply.Received (same_between from to is)
-  same_reply (packed.Read from to validity) is = ap (λ message. reply.Read message validity) (same_between from to is)
+  same_reply (packed.Received from to) is = ap reply.Received (same_between bytes more from to is)
+  same_reply (packed.Read from to validity) is = ap (λ message. reply.Read message validity) (same_between bytes more from to is)
   same_reply (packed.QueuingStatus waiting depth size direction) is = refl
   same_reply (packed.SamplingStatus refresh size direction last) is = refl
-
-  part_still : (from to : ℕ) → IsPart (length bytes) from to → IsPart (length (bytes ++ more)) from to
-  part_still from to is = let inside = is.1 in (is.0, omega (arith, length-append bytes more), is.2)
 
   packed_still : (one : Packed) → IsPacked (length bytes) one → IsPacked (length (bytes ++ more)) one
   packed_still packed.NotMade is = tt
   packed_still (packed.Code code) is = tt
   packed_still (packed.Id id) is = tt
-  packed_still (packed.Received from to) is = part_still from to is
-  packed_still (packed.Read from to validity) is = part_still from to is
+  packed_still (packed.Received from to) is = part_still bytes more from to is
+  packed_still (packed.Read from to validity) is = part_still bytes more from to is
   packed_still (packed.QueuingStatus waiting depth size direction) is = tt
   packed_still (packed.SamplingStatus refresh size direction last) is = tt
 

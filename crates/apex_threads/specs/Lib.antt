@@ -2,6 +2,8 @@ pub mod Collected
 pub mod Fault
 pub mod Held
 pub mod Order
+pub mod PackedCalls
 pub mod PackedReplies
 pub mod Partition
+pub mod Parts
 pub mod Places

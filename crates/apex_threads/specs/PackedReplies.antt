@@ -1,14 +1,10 @@
 -- Replies whose messages are parts of one list of bytes.
-use Rattle.std.specs.Prelude.{ℕ, ◌≡◌, ◌+◌, ◌-◌, ◌≤◌, List, length, take, drop, slice_get, Some}
-use Rattle.apex_types.specs.declared.message.TheConstants.{MESSAGE_LIMIT}
+use Rattle.std.specs.Prelude.{ℕ, ◌≡◌, List, slice_get, Some}
 use Rattle.apex_types.specs.declared.reply.Reply.{Reply}
 use Rattle.apex_types.specs.declared.reply.Reply.TheVariants as reply
 use Rattle.apex_threads.specs.declared.packed.Packed.{Packed}
 use Rattle.apex_threads.specs.declared.packed.Packed.TheVariants as packed
-
--- the bytes from one place to before another
-abbrev pub between : ℕ → ℕ → List ℕ → List ℕ
-between from to bytes = take (to - from) (drop from bytes)
+use Rattle.apex_threads.specs.Parts.{between, IsPart}
 
 -- the reply, with its message out of these bytes
 abbrev pub reply_in : List ℕ → Packed → Reply
@@ -19,10 +15,6 @@ reply_in bytes (packed.Received from to) = reply.Received (between from to bytes
 reply_in bytes (packed.Read from to validity) = reply.Read (between from to bytes) validity
 reply_in bytes (packed.QueuingStatus waiting depth size direction) = reply.QueuingStatus waiting depth size direction
 reply_in bytes (packed.SamplingStatus refresh size direction last) = reply.SamplingStatus refresh size direction last
-
--- the places lie within so many bytes, and what is between them is no longer than a message
-abbrev pub IsPart : ℕ → ℕ → ℕ → Type 0
-IsPart len from to = (from ≤ to) × (to ≤ len) × (to ≤ from + MESSAGE_LIMIT)
 
 -- the reply's message lies within so many bytes
 abbrev pub IsPacked : ℕ → Packed → Type 0

@@ -3,13 +3,13 @@ ghost use Rattle.std.specs.Prelude.{◌≡◌, ◌↔◌, length, IsTrue};
 ghost use Rattle.apex_threads.specs.Collected.{AreComplete};
 
 use crate::packed::PackedReplies;
-use apex_ports::Script;
+use crate::packed_script::PackedScript;
 use apex_types::Reply;
 use std::alloc::Allocator;
 
 /// Whether all calls and all replies of each partition were counted.
 pub fn are_complete<A: Allocator>(
-    scripts: &[Script],
+    scripts: &[PackedScript<A>],
     replies: &[PackedReplies<A>],
     counts: &[usize],
 ) -> bool
@@ -26,10 +26,14 @@ pub fn are_complete<A: Allocator>(
 }
 
 /// Whether so many calls and so many replies are all of them.
-fn is_complete<A: Allocator>(script: &Script, replies: &PackedReplies<A>, count: usize) -> bool
+fn is_complete<A: Allocator>(
+    script: &PackedScript<A>,
+    replies: &PackedReplies<A>,
+    count: usize,
+) -> bool
     ensures { IsTrue result ↔ (count ≡ length script.now) × (count ≡ length replies.now) }
 {
-    count == script.calls.len() && count == replies.len()
+    count == script.len() && count == replies.len()
 }
 
 /// Whether the two replies are equal.

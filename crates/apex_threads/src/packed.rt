@@ -1,9 +1,10 @@
 //! The replies that a worker got, packed.
 ghost use Rattle.std.specs.Prelude.{◌≡◌, ◌↔◌, ◌∷◌, ◌++◌, ℕ, List, [], length, slice_get, Some, IsTrue, IfOk, OnOk, OnErr};
-ghost use Rattle.apex_threads.specs.PackedReplies.{between, reply_in, IsPart, IsPacked};
+ghost use Rattle.apex_threads.specs.PackedReplies.{reply_in, IsPacked};
 
 use crate::comparison::is_same_reply;
-use apex_types::{Direction, Message, Reply, ReturnCode, Validity};
+use crate::parts::{message_at, push_message};
+use apex_types::{Direction, Reply, ReturnCode, Validity};
 use std::alloc::{AllocError, Allocator, Global};
 use std::marker::Model;
 
@@ -155,22 +156,6 @@ fn pack<A: Allocator>(bytes: &mut Vec<u8, A>, reply: &Reply) -> Result<Packed, A
     })
 }
 
-/// Puts a message behind the bytes, and answers between which places it stands.
-fn push_message<A: Allocator>(
-    bytes: &mut Vec<u8, A>,
-    message: &Message,
-) -> Result<(usize, usize), AllocError>
-    ensures message { IfOk result (λ part.
-        between part.0 part.1 bytes.new.items ≡ message.now) }
-    ensures within { IfOk result (λ part. IsPart (length bytes.new.items) part.0 part.1) }
-    ensures behind { OnOk result (bytes.new.items ≡ bytes.old.items ++ message.now) }
-    ensures refused { OnErr result (bytes.new.items ≡ bytes.old.items) }
-{
-    let from = bytes.len();
-    bytes.extend_from_slice(message.bytes())?;
-    Ok((from, bytes.len()))
-}
-
 /// The reply, with its message out of the bytes.
 fn unpack(bytes: &[u8], packed: Packed) -> Reply
     requires { IsPacked (length bytes.now) packed }
@@ -207,16 +192,5 @@ fn unpack(bytes: &[u8], packed: Packed) -> Reply
             direction,
             last,
         },
-    }
-}
-
-/// The message between two places.
-fn message_at(bytes: &[u8], from: usize, to: usize) -> Message
-    requires { IsPart (length bytes.now) from to }
-    ensures { result ≡ between from to bytes.now }
-{
-    match Message::from_bytes(&bytes[from..to]) {
-        Ok(message) => message,
-        Err(_too_long) => unreachable!(),
     }
 }

@@ -6,9 +6,10 @@ ghost use Rattle.apex_threads.specs.Places.{AreReady};
 
 use crate::gate::Gate;
 use crate::packed::PackedReplies;
+use crate::packed_script::PackedScript;
 use crate::shared::SharedBoard;
 use crate::workers::run_workers;
-use apex_ports::{RunFault, Script};
+use apex_ports::RunFault;
 use std::alloc::{AllocError, Allocator};
 use std::sync::Wait;
 use std::thread;
@@ -19,12 +20,17 @@ use std::thread::Threads;
 ///
 /// A worker stops at its first refusal, and the others go on. A worker that couldn't be started goes before every other
 /// fault, and then the fault of the lowest partition goes first.
-pub fn run_over<R: Threads + Wait + Sync, S: SharedBoard, G: Gate, A: Allocator + Copy + Send>(
+pub fn run_over<
+    R: Threads + Wait + Sync,
+    S: SharedBoard,
+    G: Gate,
+    A: Allocator + Copy + Send + Sync,
+>(
     rt: &R,
     alloc: A,
     board: &S,
     gate: &G,
-    scripts: &[Script],
+    scripts: &[PackedScript<A>],
 ) -> Result<Vec<PackedReplies<A>, A>, RunFault>
     ensures count { IfOk result (λ replies. vec_len replies ≡ length scripts.now) }
     ensures held { IfErr result (NamesHeldCall (G.may_refuse gate.now) scripts.now) }
@@ -37,25 +43,25 @@ pub fn run_over<R: Threads + Wait + Sync, S: SharedBoard, G: Gate, A: Allocator 
 /// An empty list for each script, with places for all replies to it.
 fn lists_for<A: Allocator + Copy>(
     alloc: A,
-    scripts: &[Script],
+    scripts: &[PackedScript<A>],
 ) -> Result<Vec<PackedReplies<A>, A>, AllocError>
     ensures ready { IfOk result (λ lists. AreReady scripts.now lists.items) }
     ensures count { IfOk result (λ lists. vec_len lists ≡ length scripts.now) }
 {
     let mut lists = Vec::with_capacity(alloc, scripts.len())?;
     for script in scripts {
-        let list = PackedReplies::with_places(alloc, script.calls.len())?;
+        let list = PackedReplies::with_places(alloc, script.len())?;
         lists.push_reserved(list);
     }
     Ok(lists)
 }
 
 /// Runs all workers in one scope.
-fn run_all<R: Threads + Wait + Sync, S: SharedBoard, G: Gate, A: Allocator + Send>(
+fn run_all<R: Threads + Wait + Sync, S: SharedBoard, G: Gate, A: Allocator + Send + Sync>(
     rt: &R,
     board: &S,
     gate: &G,
-    scripts: &[Script],
+    scripts: &[PackedScript<A>],
     empty: Vec<PackedReplies<A>, A>,
     room: Vec<PackedReplies<A>, A>,
 ) -> Result<Vec<PackedReplies<A>, A>, RunFault>

@@ -5,8 +5,9 @@ ghost use Rattle.apex_threads.specs.Places.{AnswersAll};
 
 use crate::gate::Gate;
 use crate::packed::PackedReplies;
+use crate::packed_script::PackedScript;
 use crate::shared::SharedBoard;
-use apex_ports::{RunFault, Script};
+use apex_ports::RunFault;
 use std::alloc::Allocator;
 use std::sync::Wait;
 
@@ -15,7 +16,7 @@ pub(crate) fn run_script<R: Wait, S: SharedBoard, G: Gate, A: Allocator>(
     rt: &R,
     board: &S,
     gate: &G,
-    scripts: &[Script],
+    scripts: &[PackedScript<A>],
     partition: usize,
     mut replies: PackedReplies<A>,
 ) -> Result<PackedReplies<A>, RunFault>
@@ -25,12 +26,15 @@ pub(crate) fn run_script<R: Wait, S: SharedBoard, G: Gate, A: Allocator>(
     ensures held { IfErr result (NamesHeldCall (G.may_refuse gate.now) scripts.now) }
 {
     let script = &scripts[partition];
-    for (done, (at, call)) in script.calls.iter().enumerate() {
+    for done in 0..script.len() {
+        let Some((at, call)) = script.get(done) else {
+            unreachable!();
+        };
         let n = done + 1;
         if gate.pass(partition, n).is_err() {
             return Err(RunFault::Held { partition, n });
         }
-        let answer = board.ask(rt, partition, *at, call);
+        let answer = board.ask(rt, partition, at, &call);
         gate.answered(partition, n);
         replies.push(&answer?)?;
     }

@@ -8,20 +8,21 @@ ghost use Rattle.apex_threads.specs.Places.{AreReady, AddsReplies};
 
 use crate::gate::Gate;
 use crate::packed::PackedReplies;
+use crate::packed_script::PackedScript;
 use crate::shared::SharedBoard;
 use crate::worker::run_script;
-use apex_ports::{RunFault, Script};
+use apex_ports::RunFault;
 use std::alloc::Allocator;
 use std::sync::Wait;
 use std::thread::{Promise, Scope, Threads};
 
 /// What a worker promises: where it says that it was held, the gate may refuse the call that it names.
-struct NamesItsCall<'a, G> {
+struct NamesItsCall<'a, G, A: Allocator> {
     gate: &'a G,
-    scripts: &'a [Script],
+    scripts: &'a [PackedScript<A>],
 }
 
-impl<G> Drop for NamesItsCall<'_, G> {
+impl<G, A: Allocator> Drop for NamesItsCall<'_, G, A> {
     fn drop(self) {
         let NamesItsCall {
             gate: _,
@@ -31,7 +32,7 @@ impl<G> Drop for NamesItsCall<'_, G> {
 }
 
 impl<'a, G: Gate, A: Allocator> Promise<Result<PackedReplies<A>, RunFault>>
-    for NamesItsCall<'a, G> {
+    for NamesItsCall<'a, G, A> {
     ghost kept_by = { λ promise outcome. IfErr outcome
         (NamesHeldCall (G.may_refuse promise.gate.now) promise.scripts.now) };
 }
@@ -43,13 +44,13 @@ pub(crate) fn run_workers<
     R: Threads + Wait + Sync,
     S: SharedBoard,
     G: Gate,
-    A: Allocator + Send + 's,
+    A: Allocator + Send + Sync + 's,
 >(
     scope: &Scope<'s, E>,
     rt: &'s R,
     board: &'s S,
     gate: &'s G,
-    scripts: &'s [Script],
+    scripts: &'s [PackedScript<A>],
     mut empty: Vec<PackedReplies<A>, A>,
     all: Vec<PackedReplies<A>, A>,
 ) -> Result<Vec<PackedReplies<A>, A>, RunFault>

@@ -5,15 +5,14 @@ ghost use Rattle.apex_threads.specs.Collected.{IsNext, AreCounted, IsCollected, 
 
 use apex_board::{Board, Entry};
 use apex_config::Config;
-use apex_ports::Script;
-use apex_threads::{PackedReplies, are_complete};
+use apex_threads::{PackedReplies, PackedScript, are_complete};
 use apex_types::{Call, Moment};
 use std::alloc::Allocator;
 
 /// Whether the board has the configuration, and its log the calls of each partition's script with the replies to them.
 pub(crate) fn is_collected_for<A: Allocator>(
     config: &Config,
-    scripts: &[Script],
+    scripts: &[PackedScript<A>],
     board: &Board<A>,
     replies: &[PackedReplies<A>],
     counts: &mut [usize],
@@ -31,7 +30,7 @@ pub(crate) fn is_collected_for<A: Allocator>(
 /// It goes over the log once, and counts each partition's calls in the places given, which are 0 before.
 pub fn is_collected<A: Allocator>(
     log: &[Entry],
-    scripts: &[Script],
+    scripts: &[PackedScript<A>],
     replies: &[PackedReplies<A>],
     counts: &mut [usize],
 ) -> bool
@@ -45,7 +44,7 @@ pub fn is_collected<A: Allocator>(
 /// Counts the entries of each partition, as long as each has the next call of the script and the reply to it.
 fn count_entries<A: Allocator>(
     log: &[Entry],
-    scripts: &[Script],
+    scripts: &[PackedScript<A>],
     replies: &[PackedReplies<A>],
     counts: &mut [usize],
 ) -> bool
@@ -85,17 +84,17 @@ fn is_same_call(call: &Call, other: &Call) -> bool
 /// Whether the call at a place of the script, with the reply at the same place, is the entry's.
 fn is_next<A: Allocator>(
     entry: &Entry,
-    script: &Script,
+    script: &PackedScript<A>,
     replies: &PackedReplies<A>,
     place: usize,
 ) -> bool
     ensures next { IsTrue result ↔ IsNext entry.now script.now replies.now place }
     ensures within { OnTrue result (place + 1 < 2 ^ 64) }
 {
-    match script.calls.get(place) {
+    match script.get(place) {
         Some((at, call)) => {
-            is_same_moment(*at, entry.at)
-                && is_same_call(call, &entry.call)
+            is_same_moment(at, entry.at)
+                && is_same_call(&call, &entry.call)
                 && replies.is_at(place, &entry.reply)
         }
         None => false,

@@ -13,5 +13,6 @@ pub use crate::locked::LockedBoard;
 pub use crate::replies::Replies;
 pub use crate::run::{Finished, run_scripts};
 pub use apex_threads::{
-    AskFault, Gate, Held, OpenGate, PackedReplies, RunFault, Script, SharedBoard, run_over,
+    AskFault, Gate, Held, OpenGate, PackedReplies, PackedScript, RunFault, Script, SharedBoard,
+    pack_all, run_over,
 };

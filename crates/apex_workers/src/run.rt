@@ -14,7 +14,7 @@ use apex_board::Board;
 use apex_config::Config;
 use apex_observers::Observer;
 use apex_ports::{RunFault, Script};
-use apex_threads::{Gate, PackedReplies, fault_without, run_over};
+use apex_threads::{Gate, PackedReplies, PackedScript, fault_without, pack_all, run_over};
 use std::alloc::{Allocator, Global};
 use std::sync::Wait;
 use std::thread::Threads;
@@ -63,22 +63,21 @@ pub fn run_scripts<R: Threads + Wait + Sync, A: Allocator + Copy + Send + Sync, 
     ensures held { IfErr result (NamesHeldCall (G.may_refuse gate.now) scripts.now) }
 {
     let counts = vec![in alloc; 0usize; scripts.len()]?;
+    let packed = pack_all(alloc, scripts)?;
     let observed = ObservedBoard::new(rt, alloc, config.copy()?).map_err(fault_without)?;
     let shared = LockedObservedBoard::new(observed);
-    let answered = run_over(rt, alloc, &shared, gate, scripts);
+    let answered = run_over(rt, alloc, &shared, gate, packed.as_slice());
     let observed = shared.into_observed();
     match with_lists(alloc, answered) {
-        Ok((packed, replies)) => {
-            collected(
-                rt,
-                config,
-                scripts,
-                observed,
-                packed.as_slice(),
-                replies,
-                counts,
-            )
-        }
+        Ok((answers, replies)) => collected(
+            rt,
+            config,
+            packed.as_slice(),
+            observed,
+            answers.as_slice(),
+            replies,
+            counts,
+        ),
         Err(fault) => {
             observed.close(rt);
             Err(fault)
@@ -105,15 +104,15 @@ fn with_lists<A: Allocator + Copy>(
 fn collected<A: Allocator, R: Wait>(
     rt: &R,
     config: &Config,
-    scripts: &[Script],
+    scripts: &[PackedScript<A>],
     observed: ObservedBoard<A>,
-    packed: &[PackedReplies<A>],
+    answers: &[PackedReplies<A>],
     replies: Vec<Replies<A>, A>,
     mut counts: Vec<usize, A>,
 ) -> Result<Finished<A>, RunFault>
     requires counts { counts.items ≡ replicate (length scripts.now) 0 }
-    requires each { length packed.now ≡ length scripts.now }
-    requires lists { replies.items ≡ packed.now }
+    requires each { length answers.now ≡ length scripts.now }
+    requires lists { replies.items ≡ answers.now }
     ensures config { IfOk result (λ finished. finished.board.config ≡ config.now) }
     ensures lawful { IfOk result (λ finished. IsLawful config.now finished.board.log) }
     ensures calls { IfOk result (λ finished. HasScripts finished.board.log scripts.now) }
@@ -128,11 +127,11 @@ fn collected<A: Allocator, R: Wait>(
 
     // It is refused only where something differs.
     ensures same { let board = observed.board in
-        IsCollectedFor config.now scripts.now board.config board.log packed.now
+        IsCollectedFor config.now scripts.now board.config board.log answers.now
         → IsOk result }
 {
     let (board, observers) = observed.into_parts();
-    if !is_collected_for(config, scripts, &board, packed, counts.as_mut_slice()) {
+    if !is_collected_for(config, scripts, &board, answers, counts.as_mut_slice()) {
         board.close(rt);
         return Err(RunFault::Stranger);
     }

@@ -5,6 +5,7 @@ use apex_config::Config;
 use apex_files::{Opener, Refusal, partition_and_path, read_file, scripts_named};
 use apex_outcome_lines::{LineNumbers, call_lines};
 use apex_ports::Script;
+use apex_threads::unpack_all;
 use companion_command_line::Form;
 use companion_common::{Unfinished, read_config, with_mistakes};
 use std::alloc::{AllocError, Global};
@@ -35,6 +36,7 @@ pub(crate) fn read_scripted<'a, O: Opener>(
             return Err(with_mistakes(alloc, opener, &config, arguments, refusal));
         }
     };
+    let scripts = unpack_all(alloc, scripts.as_slice())?;
     let lines = lines_named(alloc, opener, &config, arguments)?;
     Ok(Scripted {
         config,

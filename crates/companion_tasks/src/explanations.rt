@@ -9,6 +9,7 @@ use apex_explanations::{Explanation, explain_trace};
 use apex_files::{Opener, Refusal, read_file, scripts_named};
 use apex_mistakes::trace_mistakes;
 use apex_texts::{Fault, TraceFault};
+use apex_threads::unpack_all;
 use companion_command_line::Form;
 use companion_common::{Unfinished, read_config, with_mistakes};
 use std::alloc::{AllocError, Global};
@@ -72,6 +73,7 @@ pub(crate) fn explain_run<'a, R: Threads + Wait + Sync, O: Opener>(
             return Err(with_mistakes(alloc, opener, &config, arguments, refusal));
         }
     };
+    let scripts = unpack_all(alloc, scripts.as_slice())?;
     let trace = trace_of_run(rt, alloc, &config, scripts.as_slice())?;
     let (text, fault) = explained(alloc, config, trace.as_bytes(), form)?;
     up_to_fault(text, fault)

@@ -1,7 +1,7 @@
 //! The comparison of a log with the scripts and the replies that were handed out.
 use apex_board::Entry;
 use apex_types::{Call, Moment, Reply, ReturnCode};
-use apex_workers::{PackedReplies, Script, is_collected};
+use apex_workers::{PackedReplies, Script, is_collected, pack_all};
 use std::alloc::{AllocError, Global};
 use std::test::Fail;
 
@@ -43,10 +43,10 @@ fn is_accepted(
     first: &[ReturnCode],
     second: &[ReturnCode],
 ) -> Result<bool, Fail> {
-    let scripts = [mode_changes(alloc, 2)?, mode_changes(alloc, 2)?];
+    let scripts = pack_all(alloc, &[mode_changes(alloc, 2)?, mode_changes(alloc, 2)?])?;
     let replies = [replies_of(alloc, first)?, replies_of(alloc, second)?];
     let mut counts = vec![in alloc; 0usize; 2]?;
-    Ok(is_collected(log, &scripts, &replies, counts.as_mut_slice()))
+    Ok(is_collected(log, scripts.as_slice(), &replies, counts.as_mut_slice()))
 }
 
 #[test]

@@ -1,7 +1,7 @@
 //! Workers over a board in memory that refuses calls.
 use super::comparison::mode_changes;
 use apex_types::{Call, Moment, Reply, ReturnCode};
-use apex_workers::{AskFault, OpenGate, RunFault, SharedBoard, run_over};
+use apex_workers::{AskFault, OpenGate, RunFault, SharedBoard, pack_all, run_over};
 use std::alloc::Global;
 use std::process::Abort;
 use std::sync::Wait;
@@ -57,8 +57,8 @@ fn fault_over<R: Threads + Wait + Sync + Abort>(
     alloc: Global,
     fake: &Fake,
 ) -> Result<Option<RunFault>, Fail> {
-    let scripts = [mode_changes(alloc, 4)?, mode_changes(alloc, 4)?];
-    Ok(run_over(rt, alloc, fake, &OpenGate, &scripts).err())
+    let scripts = pack_all(alloc, &[mode_changes(alloc, 4)?, mode_changes(alloc, 4)?])?;
+    Ok(run_over(rt, alloc, fake, &OpenGate, scripts.as_slice()).err())
 }
 
 #[test]

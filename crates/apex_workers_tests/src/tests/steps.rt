@@ -2,7 +2,7 @@
 use super::comparison::mode_changes;
 use super::gates::look_for;
 use apex_types::{Call, Moment, Reply, ReturnCode};
-use apex_workers::{AskFault, Gate, Held, OpenGate, Script, SharedBoard, run_over};
+use apex_workers::{AskFault, Gate, Held, OpenGate, PackedScript, SharedBoard, run_over};
 use std::alloc::{AllocError, AllocGlobal, Global};
 use std::process::Abort;
 use std::sync::Wait;
@@ -79,10 +79,10 @@ impl SharedBoard for Steps {
     }
 }
 
-fn scripts_of(alloc: Global, workers: usize, calls: u32) -> Result<Vec<Script>, AllocError> {
+fn scripts_of(alloc: Global, workers: usize, calls: u32) -> Result<Vec<PackedScript>, AllocError> {
     let mut scripts = Vec::with_capacity(alloc, workers)?;
     for _ in 0..workers {
-        scripts.push(mode_changes(alloc, calls)?)?;
+        scripts.push(PackedScript::pack(alloc, &mode_changes(alloc, calls)?)?)?;
     }
     Ok(scripts)
 }

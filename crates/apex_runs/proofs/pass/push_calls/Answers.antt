@@ -1,10 +1,7 @@
-use Rattle.std.proofs.Common.{◌≡◌, ◌+◌, ◌<◌, List, ◌++◌, ◌∷◌, [], length, set, get_or, Some, refl, sym, ap, ◌∙◌, subst, arith, string_bytes, length-append}
+use Rattle.std.proofs.Common.{◌≡◌, ◌+◌, ◌++◌, ◌∷◌, [], length, set, get_or, Some, refl, sym, ap, ◌∙◌, subst, arith, string_bytes, length-append}
 use Rattle.std.specs.List.{slice_get}
-use Rattle.std.proofs.lemmas.Bool.Decides.{nat_tests}
 use Rattle.std.proofs.lemmas.List.{length-replicate}
 use Rattle.std.proofs.lemmas.Option.{slice_get_read}
-use Rattle.apex_types.specs.declared.call.Call.{Call}
-use Rattle.apex_types.specs.declared.moment.Moment.{Moment}
 use Rattle.apex_ports.specs.History.{History, entry_of}
 use Rattle.apex_texts.specs.Report.{line_of}
 use Rattle.apex_texts.proofs.ReportLemmas.{entry_pushed, no_entry}
@@ -38,17 +35,12 @@ loop-byte-preserved c =
     let place = get_or counts p 0 in
     let script = c.index-scripts-partition.result in
     let worker = c.index-replies-partition.result in
-    let e = entry_of p c.in-Some.field-0.now.0 c.in-Some.field-0.now.1 c.push_call.new.reply in
+    let e = entry_of p c.in-Some.at c.in-Some.call c.push_call.new.reply in
     let all = c.loop-byte.invariant.counted.all in
     let each = c.requires.each in
     let script_at : slice_get scripts p ≡ Some script = slice_get_read scripts (length scripts) p script refl (omega arith) c.index-scripts-partition.is in
     let own_at : slice_get replies p ≡ Some worker = slice_get_read replies (length replies) p worker refl (omega arith) c.index-replies-partition.is in
-    let lookup = c.in-Some.ensures.lookup in
-    let calls = c.deref.result.now in
-    let calls_are : calls ≡ script = c.deref.ensures.value ∙ c.script.view_is in
-    let within : place < length calls = grind (arith, nat_tests, lookup.0) in
-    let call_at : slice_get calls place ≡ Some c.in-Some.field-0.now = slice_get_read calls (length calls) place c.in-Some.field-0.now refl within lookup.1 in
-    let next : IsNext e script worker place = (ap (λ (xs : List (Moment × Call)). slice_get xs place) (sym calls_are) ∙ call_at, c.if-not-is_at.ensures.0 refl) in
+    let next : IsNext e script worker place = (sym c.get.ensures.call ∙ c.in-Some.is, c.if-not-is_at.ensures.0 refl) in
     let before = c.loop-byte.invariant.number in
     let longer : length c.push_call.new.ports.history ≡ length history + 1 = ap length c.push_call.ensures.history ∙ length-append history (e ∷ []) in
     let so_far = c.loop-byte.invariant.length in

@@ -12,7 +12,7 @@ pub returns-then-not-is_collected_for-clause-same : goal.returns-then-not-is_col
 returns-then-not-is_collected_for-clause-same g c = λ same.
     let config = c.args.config.now in
     let scripts = c.args.scripts.now in
-    c.if-not-is_collected_for.ensures.1 (subst (λ (b : BoardView). IsCollectedFor config scripts b.config b.log c.args.packed.now) (sym c.into_parts-board.ensures.board) same)
+    c.if-not-is_collected_for.ensures.1 (subst (λ (b : BoardView). IsCollectedFor config scripts b.config b.log c.args.answers.now) (sym c.into_parts-board.ensures.board) same)
 
 pub returns-clause-config : goal.returns-clause-config
 returns-clause-config g c = (c.if-not-is_collected_for.ensures.0 refl).0

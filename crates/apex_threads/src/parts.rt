@@ -1,0 +1,33 @@
+//! Messages that stand one behind the other in one list of bytes.
+ghost use Rattle.std.specs.Prelude.{◌≡◌, ◌++◌, length, IfOk, OnOk, OnErr};
+ghost use Rattle.apex_threads.specs.Parts.{between, IsPart};
+
+use apex_types::Message;
+use std::alloc::{AllocError, Allocator};
+
+/// Puts a message behind the bytes, and answers between which places it stands.
+pub(crate) fn push_message<A: Allocator>(
+    bytes: &mut Vec<u8, A>,
+    message: &Message,
+) -> Result<(usize, usize), AllocError>
+    ensures message { IfOk result (λ part.
+        between part.0 part.1 bytes.new.items ≡ message.now) }
+    ensures within { IfOk result (λ part. IsPart (length bytes.new.items) part.0 part.1) }
+    ensures behind { OnOk result (bytes.new.items ≡ bytes.old.items ++ message.now) }
+    ensures refused { OnErr result (bytes.new.items ≡ bytes.old.items) }
+{
+    let from = bytes.len();
+    bytes.extend_from_slice(message.bytes())?;
+    Ok((from, bytes.len()))
+}
+
+/// The message between two places.
+pub(crate) fn message_at(bytes: &[u8], from: usize, to: usize) -> Message
+    requires { IsPart (length bytes.now) from to }
+    ensures { result ≡ between from to bytes.now }
+{
+    match Message::from_bytes(&bytes[from..to]) {
+        Ok(message) => message,
+        Err(_too_long) => unreachable!(),
+    }
+}
