@@ -30,7 +30,7 @@ ROOT = os.path.dirname(HERE)
 # What each part took in the run of which this is a copy of out/durations.txt.
 TABLE = os.path.join(HERE, "test_durations.txt")
 # What is run over the programs and the library, in this order.
-TESTS = ("gate", "edits", "examples", "dekarino", "judge", "judge_apart", "orders", "mistakes", "drawings", "documents",
+TESTS = ("gate", "edits", "examples", "runs", "dekarino", "judge", "judge_apart", "orders", "mistakes", "drawings", "documents",
          "apexports_script", "sweep_memory", "c_interface", "python", "package")
 # What a test counts in the order of tasks, where a crate's edits count as many as they are.
 BEFORE_EDITS = 1000
