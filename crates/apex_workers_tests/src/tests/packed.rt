@@ -5,38 +5,38 @@ use std::alloc::Global;
 use std::test::Fail;
 
 /// The message of so many bytes, all of them the number's lowest.
-fn message_of(alloc: Global, number: usize, bytes: usize) -> Result<Message, Fail> {
-    let all = vec![in alloc; number as u8; bytes]?;
+fn message_of(alloc: Global, number: u16, bytes: usize) -> Result<Message, Fail> {
+    let all = vec![in alloc; (number % 256) as u8; bytes]?;
     Ok(Message::from_bytes(all.as_slice())?)
 }
 
 /// The reply of a number: the seven kinds in turn, with messages of 0 to 1,024 bytes.
-fn reply_of(alloc: Global, number: usize) -> Result<Reply, Fail> {
+fn reply_of(alloc: Global, number: u16) -> Result<Reply, Fail> {
     Ok(match number % 7 {
         0 => Reply::NotMade,
         1 => Reply::Code(ReturnCode::InvalidConfig),
-        2 => Reply::Id(number as u32),
-        3 => Reply::Received(message_of(alloc, number, number * 37 % 1025)?),
+        2 => Reply::Id(u32::from(number)),
+        3 => Reply::Received(message_of(alloc, number, usize::from(number) * 37 % 1025)?),
         4 => Reply::Read {
-            message: message_of(alloc, number, 1024 - number % 1025)?,
+            message: message_of(alloc, number, 1024 - usize::from(number) % 1025)?,
             validity: Validity::Valid,
         },
         5 => Reply::QueuingStatus {
-            waiting: number as u32,
+            waiting: u32::from(number),
             depth: 512,
             size: 1024,
             direction: Direction::Destination,
         },
         _ => Reply::SamplingStatus {
             refresh: u64::MAX,
-            size: number as u32,
+            size: u32::from(number),
             direction: Direction::Source,
             last: Validity::Invalid,
         },
     })
 }
 
-const REPLIES: usize = 1000;
+const REPLIES: u16 = 1000;
 
 #[test]
 fn packed_replies_are_what_was_given(rt: HostRuntime) -> Result<(), Fail> {
@@ -46,14 +46,14 @@ fn packed_replies_are_what_was_given(rt: HostRuntime) -> Result<(), Fail> {
         let reply = reply_of(alloc, number)?;
         packed.push(&reply)?;
     }
-    assert_eq!(rt; packed.len(), REPLIES);
+    assert_eq!(rt; packed.len(), usize::from(REPLIES));
     for number in 0..REPLIES {
         let reply = reply_of(alloc, number)?;
-        assert!(rt; packed.get(number) == Some(reply.copy()));
-        assert!(rt; packed.is_at(number, &reply));
-        assert!(rt; !packed.is_at(REPLIES, &reply));
+        assert!(rt; packed.get(usize::from(number)) == Some(reply.copy()));
+        assert!(rt; packed.is_at(usize::from(number), &reply));
+        assert!(rt; !packed.is_at(usize::from(REPLIES), &reply));
     }
-    assert!(rt; packed.get(REPLIES).is_none());
+    assert!(rt; packed.get(usize::from(REPLIES)).is_none());
     Ok(())
 }
 
