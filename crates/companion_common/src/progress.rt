@@ -4,8 +4,8 @@ use std::fmt::{Display, Formatter};
 use std::io::{IsTerminal, Write};
 use std::time::{Clock, Duration, Instant};
 
-/// How long a line stands before it is written again.
-const STANDS_FOR: Duration = Duration::from_millis(500);
+/// How many milliseconds a line stands before it is written again.
+const STANDS_FOR: u64 = 500;
 
 /// How far a search is.
 #[derive(Clone, Copy, Debug, PartialEq, Eq)]
@@ -72,7 +72,7 @@ impl<C: Clock, W: Write> Progress for ProgressLine<'_, C, W> {
         let Ok(now) = Instant::now(self.clock) else {
             return;
         };
-        if now.duration_since(self.written.unwrap_or(made)) < STANDS_FOR {
+        if now.duration_since(self.written.unwrap_or(made)) < Duration::from_millis(STANDS_FOR) {
             return;
         }
         let seconds = now.duration_since(made).as_secs();

@@ -54,8 +54,13 @@ fn search<'a, O: Opener + FileWriter, P: Progress>(
     let config = read_config(alloc, files, config, form)?;
     let all = read_own_logs(alloc, files, &config, arguments)?;
     let mut shown = Shown { progress };
-    let answer = find_order_telling(alloc, &config, all.logs.as_slice(), steps, &mut shown)?;
-    let (found, longest) = match answer {
+    let (found, longest) = match find_order_telling(
+        alloc,
+        &config,
+        all.logs.as_slice(),
+        steps,
+        &mut shown,
+    )? {
         Answer::Order(places) => (Found::Some, places),
         Answer::NoOrder(longest) => (Found::None, longest),
         Answer::Undecided(longest) => (Found::Undecided { steps }, longest),

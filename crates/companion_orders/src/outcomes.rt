@@ -25,9 +25,7 @@ pub fn outcomes_of_scripts<'a, O: Opener, P: Progress>(
     let all = read_scripted(alloc, opener, config, arguments, form)?;
     let (config, scripts, lines) = (&all.config, all.scripts.as_slice(), all.lines.as_slice());
     if let Some(question) = question {
-        return occurrence(
-            alloc, config, scripts, lines, states, question, progress,
-        );
+        return occurrence(alloc, config, scripts, lines, states, question, progress);
     }
     let mut shown = Shown { progress };
     let found = match all_outcomes_telling(alloc, config, scripts, states, &mut shown) {

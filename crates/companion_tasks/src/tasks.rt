@@ -33,13 +33,7 @@ const NOT_WRITTEN: u8 = 3;
 
 /// Does what the words ask for, and answers the status. A refusal writes a line to `errors`, and words that aren't those
 /// of a command what is wrong, with the usage. A run waits for its workers, and a search shows its progress.
-pub fn program<
-    R: Threads + Wait + Sync,
-    O: Opener + FileWriter,
-    P: Progress,
-    W: Write,
-    E: Write,
->(
+pub fn program<R: Threads + Wait + Sync, O: Opener + FileWriter, P: Progress, W: Write, E: Write>(
     rt: &R,
     alloc: Global,
     start: Result<Start, WordsFault>,

@@ -46,22 +46,24 @@ impl IsTerminal for Screen<'_> {
     }
 }
 
-/// Shows how far two searches are on the screen, at these moments, and wipes it.
+/// Shows on the screen how far searches are, from half a second after it is there, and wipes it.
 fn search_on(screen: Screen<'_>) {
     let clock = FakeClock {
         millis: Cell::new(7_000),
     };
     let mut line = ProgressLine::new(&clock, screen);
-    let reached = [
-        (7_499, Reached::Calls { placed: 1, dead_ends: 0 }),
-        (7_500, Reached::Calls { placed: 20, dead_ends: 3 }),
-        (7_999, Reached::Calls { placed: 4, dead_ends: 5 }),
-        (9_000, Reached::States { found: 60, depth: 7 }),
-    ];
-    for (millis, reached) in reached {
+    for (millis, placed) in [(7_499, 1), (7_500, 20), (7_999, 4), (9_000, 15)] {
         clock.millis.set(millis);
-        line.show(reached);
+        line.show(Reached::Calls {
+            placed,
+            dead_ends: 3,
+        });
     }
+    clock.millis.set(9_500);
+    line.show(Reached::States {
+        found: 60,
+        depth: 7,
+    });
     line.wipe();
     line.wipe();
 }
@@ -73,7 +75,8 @@ fn the_line_is_rewritten_twice_a_second_and_wiped(rt: HostRuntime) -> Result<(),
         taken: &mut taken,
         is_terminal: true,
     });
-    let shown = "\rcalls placed 20, dead ends 3, 0 s\x1b[K\rstates 60, depth 7, 2 s\x1b[K\r\x1b[K";
+    let shown = "\rcalls placed 20, dead ends 3, 0 s\x1b[K\rcalls placed 15, dead ends 3, 2 s\x1b[K\
+\rstates 60, depth 7, 2 s\x1b[K\r\x1b[K";
     assert_eq!(rt; taken.as_slice(), shown.as_bytes());
     Ok(())
 }
