@@ -6,6 +6,7 @@ pub mod answer;
 mod bounds;
 mod choice;
 mod ends;
+mod listener;
 mod log_reader;
 mod messages;
 mod reads;
@@ -16,4 +17,5 @@ mod too_soon;
 mod walk;
 
 pub use crate::answer::{Answer, CallPlace, OwnLog};
-pub use crate::search::find_order;
+pub use crate::listener::{Listener, Nobody};
+pub use crate::search::{find_order, find_order_telling};

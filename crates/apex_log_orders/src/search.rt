@@ -5,6 +5,7 @@ ghost use Rattle.apex_log_orders.specs.Walking.{IsWalk, IsStep, IsOneOf};
 
 use crate::advice::Advice;
 use crate::answer::{Answer, CallPlace, OwnLog};
+use crate::listener::{Listener, Nobody, Report};
 use crate::stuck::{have_no_clear, is_stuck};
 use crate::walk::Walk;
 use apex_config::Config;
@@ -23,13 +24,29 @@ pub fn find_order(
     requires { length logs.now ≡ length config.now.partitions }
     ensures { IfOk result (λ answer. IsAnswer config.now logs.now answer) }
 {
+    find_order_telling(alloc, config, logs, steps, &mut Nobody)
+}
+
+/// What `find_order` answers. The listener is told from time to time how far the search is.
+pub fn find_order_telling<L: Listener>(
+    alloc: Global,
+    config: &Config,
+    logs: &[OwnLog],
+    steps: u64,
+    listener: &mut L,
+) -> Result<Answer, OutOfMemory>
+    requires { length logs.now ≡ length config.now.partitions }
+    ensures { IfOk result (λ answer. IsAnswer config.now logs.now answer) }
+{
     let advice = Advice::new(alloc, config, logs)?;
     let mut walk = Walk::new(alloc, config, logs, &advice)?;
     let mut longest = Vec::new(alloc);
     let is_clear_free = have_no_clear(logs);
     let mut left = steps;
+    let mut report = Report::new(steps);
     while left > 0 {
         left -= 1;
+        report.tell(listener, left, walk.path.len());
         if is_clear_free && !walk.follows(&advice, logs) {
             left = left.saturating_sub(walk.path.len() as u64);
             if is_stuck(config, logs, &advice, &walk) {
@@ -41,6 +58,7 @@ pub fn find_order(
             Step::On => {}
             Step::Whole => return Ok(Answer::Order(walk.path)),
             Step::Back => {
+                report.meet_dead_end();
                 keep_longest(alloc, &mut longest, walk.path.as_slice())?;
                 left = left.saturating_sub(walk.path.len() as u64);
                 if !walk.go_back(alloc, config, logs)? {

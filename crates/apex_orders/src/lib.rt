@@ -1,6 +1,7 @@
 //! All that can happen to scripts of a module, over every order of their calls.
 #![tactic(auto)]
 
+mod listener;
 mod longest;
 mod mark;
 mod marks;
@@ -16,8 +17,9 @@ pub mod step;
 mod trial;
 pub mod witness;
 
+pub use crate::listener::{Listener, Nobody};
 pub use crate::order::Order;
 pub use crate::orders_fault::OrdersFault;
-pub use crate::outcomes::{Outcomes, all_outcomes};
+pub use crate::outcomes::{Outcomes, all_outcomes, all_outcomes_telling};
 pub use crate::replies::Possible;
-pub use crate::witness::order_giving;
+pub use crate::witness::{order_giving, order_giving_telling};

@@ -5,6 +5,7 @@ ghost use Rattle.apex_orders.specs.Orders.{IsOrder, history_of};
 ghost use Rattle.apex_orders.specs.Outcomes.{AreReplies, AreEnds, IsUndecided};
 ghost use Rattle.apex_orders.specs.Searching.{AreOrders, AreEndsOf, HasMadeAll};
 
+use crate::listener::{Listener, Nobody};
 use crate::order::{Order, PackedOrder};
 use crate::orders_fault::OrdersFault;
 use crate::replay::replay;
@@ -40,9 +41,26 @@ pub fn all_outcomes(
     ensures ends { IfOk result (λ found. AreEnds config.now scripts.now found.ends.items) }
     ensures undecided { IsUndecided config.now scripts.now bound result }
 {
+    all_outcomes_telling(alloc, config, scripts, bound, &mut Nobody)
+}
+
+/// What `all_outcomes` answers. The listener is told from time to time how far the search is.
+pub fn all_outcomes_telling<L: Listener>(
+    alloc: Global,
+    config: &Config,
+    scripts: &[Script],
+    bound: usize,
+    listener: &mut L,
+) -> Result<Outcomes, OrdersFault>
+    requires { length scripts.now ≡ length config.now.partitions }
+    ensures replies { IfOk result
+        (λ found. AreReplies config.now scripts.now found.replies.items) }
+    ensures ends { IfOk result (λ found. AreEnds config.now scripts.now found.ends.items) }
+    ensures undecided { IsUndecided config.now scripts.now bound result }
+{
     let partitions = config.partitions();
     prove!(scripts.len() == partitions);
-    let found = match search(alloc, config, scripts, bound) {
+    let found = match search(alloc, config, scripts, bound, listener) {
         Err(fault) => return Err(fault),
         Ok(found) => found,
     };

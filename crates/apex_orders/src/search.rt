@@ -5,6 +5,7 @@ ghost use Rattle.apex_orders.specs.Orders.{IsOrder, history_of, script_of};
 ghost use Rattle.apex_orders.specs.Possibles.{Has};
 ghost use Rattle.apex_orders.specs.Searching.{Knows, AreOrders, AreApart, AreFound, IsTried, HasTried, Includes, Keeps, IsSearched, IsGivenUp};
 
+use crate::listener::{Level, Listener};
 use crate::longest::longest_script;
 use crate::mark::mark_of;
 use crate::order::PackedOrder;
@@ -26,11 +27,12 @@ pub(crate) struct Found {
 }
 
 /// Searches on from each point, in the order in which they are found, until none is left.
-pub(crate) fn search(
+pub(crate) fn search<L: Listener>(
     alloc: Global,
     config: &Config,
     scripts: &[Script],
     bound: usize,
+    listener: &mut L,
 ) -> Result<Found, OrdersFault>
     requires { length scripts.now ≡ length config.now.partitions }
     ensures searched { IfOk result (λ found.
@@ -43,11 +45,13 @@ pub(crate) fn search(
     let mut points = Points::new(alloc, config)?;
     let mut replies = Replies::new(alloc)?;
     let mut trial = Trial::new(alloc, config)?;
+    let mut level = Level::new();
     let mut i = 0;
     while i < orders.len() {
         if orders.len() > bound {
             return Err(OrdersFault::TooManyStates);
         }
+        level.tell(listener, i, orders.len());
         try_all(
             alloc,
             config,

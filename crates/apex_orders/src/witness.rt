@@ -4,6 +4,7 @@ ghost use Rattle.apex_orders.specs.Orders.{IsOrder};
 ghost use Rattle.apex_orders.specs.Outcomes.{CanOccur, IsGivenBy, IsUndecided};
 ghost use Rattle.apex_orders.specs.Searching.{AreOrders, IsGivenBehind, IsGivenByAnOrder};
 
+use crate::listener::{Listener, Nobody};
 use crate::order::{Order, PackedOrder};
 use crate::orders_fault::OrdersFault;
 use crate::replay::replay;
@@ -31,9 +32,28 @@ pub fn order_giving(
         (λ answer. IfNone answer (¬ CanOccur config.now scripts.now one.now)) }
     ensures undecided { IsUndecided config.now scripts.now bound result }
 {
+    order_giving_telling(alloc, config, scripts, one, bound, &mut Nobody)
+}
+
+/// What `order_giving` answers. The listener is told from time to time how far the search is.
+pub fn order_giving_telling<L: Listener>(
+    alloc: Global,
+    config: &Config,
+    scripts: &[Script],
+    one: &Possible,
+    bound: usize,
+    listener: &mut L,
+) -> Result<Option<Order>, OrdersFault>
+    requires { length scripts.now ≡ length config.now.partitions }
+    ensures found { IfOk result
+        (λ answer. IfSome answer (λ order. IsGivenBy config.now scripts.now one.now order)) }
+    ensures never { IfOk result
+        (λ answer. IfNone answer (¬ CanOccur config.now scripts.now one.now)) }
+    ensures undecided { IsUndecided config.now scripts.now bound result }
+{
     let partitions = config.partitions();
     prove!(scripts.len() == partitions);
-    let found = match search(alloc, config, scripts, bound) {
+    let found = match search(alloc, config, scripts, bound, listener) {
         Err(fault) => return Err(fault),
         Ok(found) => found,
     };

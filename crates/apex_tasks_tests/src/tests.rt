@@ -4,6 +4,7 @@ mod board_reports;
 mod companion;
 mod outputs;
 mod program;
+mod progress;
 mod run_texts;
 mod runs;
 mod texts;

@@ -1,13 +1,15 @@
-//! What the tasks of `dekarino` share: reading a configuration and telling the mistakes of texts, JSON lines, and why a task
-//! isn't done.
+//! What the tasks of `dekarino` share: reading a configuration and telling the mistakes of texts, JSON lines, showing how far
+//! a search is, and why a task isn't done.
 #![tactic(auto)]
 
 mod configuration;
 mod json;
 mod mistakes;
+mod progress;
 pub mod unfinished;
 
 pub use crate::configuration::read_config;
 pub use crate::json::push_object;
 pub use crate::mistakes::with_mistakes;
+pub use crate::progress::{Progress, ProgressLine, Reached};
 pub use crate::unfinished::Unfinished;

@@ -6,17 +6,18 @@ use crate::file_writer::FileWriter;
 use crate::found::{Found, found_text};
 use crate::order_log::order_log;
 use crate::own_logs::{OwnLogs, read_own_logs};
+use crate::shown::Shown;
 use apex_config::Config;
 use apex_files::Opener;
-use apex_log_orders::{Answer, CallPlace, find_order};
+use apex_log_orders::{Answer, CallPlace, find_order_telling};
 use companion_command_line::Form;
-use companion_common::{Unfinished, read_config};
+use companion_common::{Progress, Unfinished, read_config};
 use std::alloc::Global;
 
 /// Looks for an order of all calls of the logs that the arguments `NAME=LOG` name, on the configuration in a file, in which
 /// each reply is the standard's. Where there is one, it is written as a log to `order`, if that is given. Where there is
 /// none, the task ends as one where what was asked is not so, and above so many steps as one that is not decided.
-pub fn order_of_logs<'a, O: Opener + FileWriter>(
+pub fn order_of_logs<'a, O: Opener + FileWriter, P: Progress>(
     alloc: Global,
     files: &O,
     config: &'a str,
@@ -24,8 +25,11 @@ pub fn order_of_logs<'a, O: Opener + FileWriter>(
     order: Option<&'a str>,
     steps: u64,
     form: Form,
+    progress: &mut P,
 ) -> Result<Vec<u8>, Unfinished<'a>> {
-    let (found, text) = search(alloc, files, config, arguments, order, steps, form)?;
+    let (found, text) = search(
+        alloc, files, config, arguments, order, steps, form, progress,
+    )?;
     match found {
         Found::Some => Ok(text),
         Found::None => Err(Unfinished::NotSo { text }),
@@ -34,7 +38,7 @@ pub fn order_of_logs<'a, O: Opener + FileWriter>(
 }
 
 /// Whether there is an order, and what is told of it.
-fn search<'a, O: Opener + FileWriter>(
+fn search<'a, O: Opener + FileWriter, P: Progress>(
     alloc: Global,
     files: &O,
     config: &'a str,
@@ -42,13 +46,21 @@ fn search<'a, O: Opener + FileWriter>(
     order: Option<&'a str>,
     steps: u64,
     form: Form,
+    progress: &mut P,
 ) -> Result<(Found, Vec<u8>), Unfinished<'a>>
     ensures { IfOk result (λ told. IfSome (O.bytes_at files.now config.now)
         (IsFound (O.bytes_at files.now) arguments.now told.0)) }
 {
     let config = read_config(alloc, files, config, form)?;
     let all = read_own_logs(alloc, files, &config, arguments)?;
-    let (found, longest) = match find_order(alloc, &config, all.logs.as_slice(), steps)? {
+    let mut shown = Shown { progress };
+    let (found, longest) = match find_order_telling(
+        alloc,
+        &config,
+        all.logs.as_slice(),
+        steps,
+        &mut shown,
+    )? {
         Answer::Order(places) => (Found::Some, places),
         Answer::NoOrder(longest) => (Found::None, longest),
         Answer::Undecided(longest) => (Found::Undecided { steps }, longest),

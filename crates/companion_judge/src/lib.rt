@@ -10,6 +10,7 @@ mod next_calls;
 mod one_log;
 mod order_log;
 mod own_logs;
+mod shown;
 
 pub use crate::apart::order_of_logs;
 pub use crate::file_writer::FileWriter;

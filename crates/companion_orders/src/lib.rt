@@ -5,5 +5,6 @@ mod json_outcomes;
 mod occurrences;
 mod outcomes;
 mod scripted;
+mod shown;
 
 pub use crate::outcomes::outcomes_of_scripts;

@@ -3,30 +3,32 @@ ghost use Rattle.std.specs.Prelude.{◌≡◌, length};
 ghost use Rattle.apex_ports.specs.Sound.{IsSound};
 
 use crate::outcomes::not_found;
+use crate::shown::Shown;
 use apex_call_words::push_logged;
 use apex_config::Config;
 use apex_files::Refusal;
 use apex_logs::read_reply;
 use apex_orders::step::step;
-use apex_orders::{Order, Possible, order_giving};
+use apex_orders::{Order, Possible, order_giving_telling};
 use apex_outcome_lines::LineNumbers;
 use apex_ports::{Ports, Script};
 use apex_types::{OutOfMemory, Reply};
 use companion_command_line::Question;
-use companion_common::Unfinished;
+use companion_common::{Progress, Unfinished};
 use std::alloc::{AllocError, Global};
 
 /// What is told where no order gives the reply.
 const NEVER: &[u8] = b"never\n";
 
 /// The answer to a question: an order in which the call gets the reply, as a log, or that there is none.
-pub(crate) fn occurrence<'a>(
+pub(crate) fn occurrence<'a, P: Progress>(
     alloc: Global,
     config: &Config,
     scripts: &[Script],
     lines: &[LineNumbers],
     states: usize,
     question: Question<'a>,
+    progress: &mut P,
 ) -> Result<Vec<u8>, Unfinished<'a>>
     requires { length scripts.now ≡ length config.now.partitions }
 {
@@ -37,7 +39,8 @@ pub(crate) fn occurrence<'a>(
     let Some(one) = possible_in(config, lines, words) else {
         return Err(Unfinished::Refused(Refusal::Argument(words)));
     };
-    let order = match order_giving(alloc, config, scripts, &one, states) {
+    let mut shown = Shown { progress };
+    let order = match order_giving_telling(alloc, config, scripts, &one, states, &mut shown) {
         Ok(order) => order,
         Err(fault) => return Err(not_found(fault, states)),
     };

@@ -2,16 +2,17 @@
 use crate::json_outcomes::outcomes_as_json;
 use crate::occurrences::occurrence;
 use crate::scripted::read_scripted;
+use crate::shown::Shown;
 use apex_files::Opener;
-use apex_orders::{OrdersFault, all_outcomes};
+use apex_orders::{OrdersFault, all_outcomes_telling};
 use apex_outcome_lines::outcomes_text;
 use companion_command_line::{Form, Question};
-use companion_common::Unfinished;
+use companion_common::{Progress, Unfinished};
 use std::alloc::{AllocError, Global};
 
 /// What the scripts that the arguments name can come to, on the configuration in a file: all of it, or the answer to a
 /// question. It is undecided above so many states.
-pub fn outcomes_of_scripts<'a, O: Opener>(
+pub fn outcomes_of_scripts<'a, O: Opener, P: Progress>(
     alloc: Global,
     opener: &O,
     config: &'a str,
@@ -19,13 +20,15 @@ pub fn outcomes_of_scripts<'a, O: Opener>(
     states: usize,
     question: Option<Question<'a>>,
     form: Form,
+    progress: &mut P,
 ) -> Result<Vec<u8>, Unfinished<'a>> {
     let all = read_scripted(alloc, opener, config, arguments, form)?;
     let (config, scripts, lines) = (&all.config, all.scripts.as_slice(), all.lines.as_slice());
     if let Some(question) = question {
-        return occurrence(alloc, config, scripts, lines, states, question);
+        return occurrence(alloc, config, scripts, lines, states, question, progress);
     }
-    let found = match all_outcomes(alloc, config, scripts, states) {
+    let mut shown = Shown { progress };
+    let found = match all_outcomes_telling(alloc, config, scripts, states, &mut shown) {
         Ok(found) => found,
         Err(fault) => return Err(not_found(fault, states)),
     };

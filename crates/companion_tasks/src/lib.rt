@@ -15,4 +15,5 @@ mod trace_text;
 
 pub use crate::tasks::program;
 pub use apex_files::{Opener, SystemFiles};
+pub use companion_common::{Progress, ProgressLine, Reached};
 pub use companion_judge::FileWriter;

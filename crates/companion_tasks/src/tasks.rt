@@ -8,7 +8,7 @@ use apex_files::{Opener, Refusal, print, refuse};
 use apex_logs::FaultyLine;
 use apex_texts::Fault;
 use companion_command_line::{Files, Origin, Start, Task, WordsFault, task_of, version_text};
-use companion_common::Unfinished;
+use companion_common::{Progress, Unfinished};
 use companion_judge::{FileWriter, departures_of_log, order_of_logs};
 use companion_orders::outcomes_of_scripts;
 use std::alloc::Global;
@@ -32,12 +32,13 @@ const UNDECIDED: u8 = 5;
 const NOT_WRITTEN: u8 = 3;
 
 /// Does what the words ask for, and answers the status. A refusal writes a line to `errors`, and words that aren't those
-/// of a command what is wrong, with the usage. A run waits for its workers.
-pub fn program<R: Threads + Wait + Sync, O: Opener + FileWriter, W: Write, E: Write>(
+/// of a command what is wrong, with the usage. A run waits for its workers, and a search shows its progress.
+pub fn program<R: Threads + Wait + Sync, O: Opener + FileWriter, P: Progress, W: Write, E: Write>(
     rt: &R,
     alloc: Global,
     start: Result<Start, WordsFault>,
     opener: &O,
+    progress: &mut P,
     output: &mut W,
     errors: &mut E,
 ) -> u8 {
@@ -46,7 +47,11 @@ pub fn program<R: Threads + Wait + Sync, O: Opener + FileWriter, W: Write, E: Wr
         Err(fault) => return misused(&fault, errors),
     };
     match task_of(alloc, words.as_slice()) {
-        Ok(task) => finish(perform(rt, alloc, task, &origin, opener), output, errors),
+        Ok(task) => {
+            let done = perform(rt, alloc, task, &origin, opener, progress);
+            progress.wipe();
+            finish(done, output, errors)
+        }
         Err(fault) => misused(&fault, errors),
     }
 }
@@ -130,12 +135,13 @@ fn too_many_states<E: Write>(states: usize, errors: &mut E) -> u8 {
 }
 
 /// What the task tells.
-fn perform<'a, R: Threads + Wait + Sync, O: Opener + FileWriter>(
+fn perform<'a, R: Threads + Wait + Sync, O: Opener + FileWriter, P: Progress>(
     rt: &R,
     alloc: Global,
     task: Task<'a>,
     origin: &Origin,
     opener: &O,
+    progress: &mut P,
 ) -> Result<Vec<u8>, Unfinished<'a>> {
     match task {
         Task::Table { config, form } => table(alloc, opener, config, form),
@@ -162,7 +168,16 @@ fn perform<'a, R: Threads + Wait + Sync, O: Opener + FileWriter>(
             order,
             steps,
             form,
-        } => order_of_logs(alloc, opener, config, logs.as_slice(), order, steps, form),
+        } => order_of_logs(
+            alloc,
+            opener,
+            config,
+            logs.as_slice(),
+            order,
+            steps,
+            form,
+            progress,
+        ),
         Task::Orders {
             config,
             scripts,
@@ -177,6 +192,7 @@ fn perform<'a, R: Threads + Wait + Sync, O: Opener + FileWriter>(
             states,
             question,
             form,
+            progress,
         ),
         Task::Rows { service, form } => reply_table(alloc, service, form),
         Task::Version => Ok(version_text(alloc, origin)?.into_bytes()),

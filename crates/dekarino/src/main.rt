@@ -2,12 +2,21 @@
 #![tactic(auto)]
 
 use companion_command_line::start_given;
-use companion_tasks::{SystemFiles, program};
+use companion_tasks::{ProgressLine, SystemFiles, program};
 use std::process::ExitCode;
 
 fn main(rt: HostRuntime) -> ExitCode {
     let files = SystemFiles { rt: &rt };
     let (mut output, mut errors) = (rt.stdout(), rt.stderr());
+    let mut progress = ProgressLine::new(&rt, rt.stderr());
     let start = start_given(&rt);
-    ExitCode::from(program(&rt, rt.alloc(), start, &files, &mut output, &mut errors))
+    ExitCode::from(program(
+        &rt,
+        rt.alloc(),
+        start,
+        &files,
+        &mut progress,
+        &mut output,
+        &mut errors,
+    ))
 }

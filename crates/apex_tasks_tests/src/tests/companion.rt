@@ -2,7 +2,7 @@
 use super::program::FakeFiles;
 use super::texts::ORDER;
 use companion_command_line::{Origin, Start};
-use companion_tasks::{FileWriter, program};
+use companion_tasks::{FileWriter, Progress, Reached, program};
 use std::alloc::{AllocError, Global};
 use std::io;
 use std::io::ErrorKind;
@@ -20,6 +20,16 @@ impl FileWriter for FakeFiles {
             Err(io::Error::from(ErrorKind::PermissionDenied))
         }
     }
+}
+
+/// Shows nothing.
+#[derive(Drop)]
+struct Unshown;
+
+impl Progress for Unshown {
+    fn show(&mut self, _reached: Reached) {}
+
+    fn wipe(&mut self) {}
 }
 
 /// What the program is started with, where nothing is known of where it comes from.
@@ -49,7 +59,15 @@ fn tells<R: Abort + AllocGlobal + Threads + Wait + Sync>(
     let mut written = Vec::new(alloc);
     let mut told = Vec::new(alloc);
     let start = start_with(alloc, words)?;
-    let got = program(rt, alloc, Ok(start), &FakeFiles, &mut written, &mut told);
+    let got = program(
+        rt,
+        alloc,
+        Ok(start),
+        &FakeFiles,
+        &mut Unshown,
+        &mut written,
+        &mut told,
+    );
     assert_eq!(rt; written.as_slice(), output.as_bytes(), "{words:?}");
     assert_eq!(rt; told.as_slice(), errors.as_bytes(), "{words:?}");
     assert_eq!(rt; got, status, "{words:?}");

@@ -9,7 +9,7 @@ use Rattle.apex_orders.proofs.SearchLemmas.{first_valid, first_apart, none_found
 use Rattle.apex_orders.proofs.search.search.Goals as goal
 
 pub loop-i-init : goal.loop-i-init
-loop-i-init c =
+loop-i-init g c =
     let config = c.args.config.now in
     let scripts = c.args.scripts.now in
     let first = sym c.in_ok-orders.ensures in
@@ -25,11 +25,11 @@ loop-i-init c =
     }
 
 pub returns-in_err-try_all-clause-given_up : goal.returns-in_err-try_all-clause-given_up
-returns-in_err-try_all-clause-given_up c =
+returns-in_err-try_all-clause-given_up g c =
     given_up_none c.args.config.now c.args.scripts.now c.args.bound c.from_residual-in_err-try_all.result c.from_residual-in_err-try_all.ensures.1
 
 pub loop-i-preserved : goal.loop-i-preserved
-loop-i-preserved c =
+loop-i-preserved g c =
     let was = c.loop-i.invariant in
     let now = c.in_ok-try_all.ensures in
     record {
@@ -52,7 +52,7 @@ loop-i-preserved c =
     }
 
 pub returns-clause-searched : goal.returns-clause-searched
-returns-clause-searched c =
+returns-clause-searched g c =
     let was = c.loop-i.invariant in
     subst (λ (replies : List Possible). IsSearched c.args.config.now c.args.scripts.now c.loop-i.orders.items replies) (sym c.into_found-replies.ensures)
     (record { first = was.first; valid = was.valid; found = was.found; tried = λ k below. was.tried k (omega (arith, below)) })

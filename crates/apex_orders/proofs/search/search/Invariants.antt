@@ -5,7 +5,7 @@ use Rattle.apex_orders.specs.Searching.{AreOrders, AreApart, AreFound, HasTried}
 use Rattle.apex_orders.proofs.search.search.Given as goal
 
 abbrev pub invariant-loop-i : goal.invariant-loop-i
-invariant-loop-i l = record {
+invariant-loop-i g l = record {
   within : l.i ≤ l.bound;
   first : Has l.orders.items [];
   valid : AreOrders l.config l.orders.items;
@@ -17,4 +17,4 @@ invariant-loop-i l = record {
 }
 
 abbrev pub decreases-loop-i : goal.decreases-loop-i
-decreases-loop-i l = l.bound + 1 - l.i
+decreases-loop-i g l = l.bound + 1 - l.i

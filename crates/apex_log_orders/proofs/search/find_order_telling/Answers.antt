@@ -2,10 +2,10 @@ use Rattle.std.proofs.Common.{⊎_elim, List, sym, ◌∙◌, subst}
 use Rattle.std.proofs.lemmas.Bool.{false≢true}
 use Rattle.apex_log_orders.specs.declared.answer.CallPlace.{CallPlace}
 use Rattle.apex_log_orders.specs.LogOrders.{IsBeginning, entries_at}
-use Rattle.apex_log_orders.proofs.search.find_order.Goals as goal
+use Rattle.apex_log_orders.proofs.search.find_order_telling.Goals as goal
 
 pub returns-then-is_stuck : goal.returns-then-is_stuck
-returns-then-is_stuck c =
+returns-then-is_stuck g c =
     let config = c.args.config.now in
     let logs = c.args.logs.now in
     let begins : List CallPlace → Type 0 = λ places. IsBeginning config logs (entries_at logs places) in (
@@ -17,7 +17,7 @@ returns-then-is_stuck c =
     )
 
 pub returns-then-not-branch : goal.returns-then-not-branch
-returns-then-not-branch c =
+returns-then-not-branch g c =
     let config = c.args.config.now in
     let logs = c.args.logs.now in
     let begins : List CallPlace → Type 0 = λ places. IsBeginning config logs (entries_at logs places) in (

@@ -4,14 +4,14 @@ use Rattle.apex_orders.specs.Searching.{IsGivenByAnOrder}
 use Rattle.apex_orders.proofs.Completing.{given_of_occurs}
 use Rattle.apex_orders.proofs.EndLemmas.{undecided_of}
 use Rattle.apex_orders.proofs.WitnessLemmas.{none_weaker}
-use Rattle.apex_orders.proofs.witness.order_giving.Goals as goal
+use Rattle.apex_orders.proofs.witness.order_giving_telling.Goals as goal
 
 pub returns-in-Err-clause-undecided : goal.returns-in-Err-clause-undecided
-returns-in-Err-clause-undecided c =
+returns-in-Err-clause-undecided g c =
     undecided_of (Unit {0}) (Unit {0}) c.args.config.now c.args.scripts.now c.partitions-partitions.ensures.valid c.args.bound c.in-Err.fault c.in-Err.ensures.given_up
 
 pub returns-clause-never : goal.returns-clause-never
-returns-clause-never c =
+returns-clause-never g c =
     let config = c.args.config.now in
     let scripts = c.args.scripts.now in
     let one = c.args.one.now in

@@ -3,19 +3,19 @@ use Rattle.apex_orders.specs.Searching.{AreEndsOf}
 use Rattle.apex_orders.specs.Orders.{history_of}
 use Rattle.apex_orders.proofs.Completing.{are_replies, are_ends}
 use Rattle.apex_orders.proofs.EndLemmas.{full_of_made, made_of_full, undecided_of}
-use Rattle.apex_orders.proofs.outcomes.all_outcomes.Goals as goal
+use Rattle.apex_orders.proofs.outcomes.all_outcomes_telling.Goals as goal
 
 pub returns-in-Err-clause-undecided : goal.returns-in-Err-clause-undecided
-returns-in-Err-clause-undecided c =
+returns-in-Err-clause-undecided g c =
     undecided_of (Unit {0}) (Unit {0}) c.args.config.now c.args.scripts.now c.partitions-partitions.ensures.valid c.args.bound c.in-Err.fault c.in-Err.ensures.given_up
 
 pub returns-clause-replies : goal.returns-clause-replies
-returns-clause-replies c =
+returns-clause-replies g c =
     let searched = c.in-Ok.ensures.searched in
     are_replies c.args.config.now c.args.scripts.now c.partitions-partitions.ensures.valid c.in-Ok.ensures.short c.in-Ok.found.orders.items c.in-Ok.found.replies.items searched c.requires
 
 pub returns-clause-ends : goal.returns-clause-ends
-returns-clause-ends c =
+returns-clause-ends g c =
     let config = c.args.config.now in
     let scripts = c.args.scripts.now in
     let searched = c.in-Ok.ensures.searched in
