@@ -9,7 +9,8 @@ use crate::own_logs::{OwnLogs, read_own_logs};
 use crate::shown::Shown;
 use apex_config::Config;
 use apex_files::Opener;
-use apex_log_orders::{Answer, CallPlace, find_order_telling};
+use apex_log_groups::find_order_apart;
+use apex_log_orders::{Answer, CallPlace};
 use companion_command_line::Form;
 use companion_common::{Progress, Unfinished, read_config};
 use std::alloc::Global;
@@ -52,15 +53,10 @@ fn search<'a, O: Opener + FileWriter, P: Progress>(
         (IsFound (O.bytes_at files.now) arguments.now told.0)) }
 {
     let config = read_config(alloc, files, config, form)?;
-    let all = read_own_logs(alloc, files, &config, arguments)?;
+    let mut all = read_own_logs(alloc, files, &config, arguments)?;
     let mut shown = Shown { progress };
-    let (found, longest) = match find_order_telling(
-        alloc,
-        &config,
-        all.logs.as_slice(),
-        steps,
-        &mut shown,
-    )? {
+    let logs = all.logs.as_mut_slice();
+    let (found, longest) = match find_order_apart(alloc, &config, logs, steps, &mut shown)? {
         Answer::Order(places) => (Found::Some, places),
         Answer::NoOrder(longest) => (Found::None, longest),
         Answer::Undecided(longest) => (Found::Undecided { steps }, longest),

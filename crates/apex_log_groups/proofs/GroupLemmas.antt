@@ -1,0 +1,156 @@
+-- Groups searched one after the other.
+use Rattle.std.proofs.Common.{◌≡◌, ◌≢◌, ⊎_elim, ℕ, zero, suc, ◌+◌, ◌<◌, ◌≤◌, ◌==◌, Bool, true, false, cond, if◌then◌else◌, ◌-◌, List, [], ◌∷◌, ◌++◌, length, take, Option, Some, None, refl, sym, ap, ◌∙◌, subst, arith, append-nil}
+use Rattle.std.specs.List.{slice_get, filter}
+use Rattle.std.specs.Option.{option_to_list}
+use Rattle.std.proofs.lemmas.Bool.{cases_lt}
+use Rattle.std.proofs.lemmas.Bool.Decides.{nat_tests}
+use Rattle.std.proofs.lemmas.Option.{slice_get_within}
+use Rattle.apex_config.specs.Configuration.{Configuration, PartitionData, port_of, port_at, ports_of_partition}
+use Rattle.apex_config.specs.declared.port.Port.{Port}
+use Rattle.apex_ports.specs.declared.history.Entry.{Entry}
+use Rattle.apex_ports.specs.History.{History, entries_of}
+use Rattle.apex_ports.specs.Interference.{entries_inside}
+use Rattle.apex_log_orders.specs.declared.answer.CallPlace.{CallPlace}
+use Rattle.apex_log_orders.specs.LogOrders.{Logs, log_in, IsOrder, IsBeginning, entry_at, entries_at}
+use Rattle.apex_log_orders.proofs.Beginnings.{begins_nil, entries_at-append}
+use Rattle.std.proofs.lemmas.List.Elements.{filter-append}
+use Rattle.apex_log_groups.specs.Groups.{AreApart, AreWhole, HasItsChannels, HasNone, IsOfGroups, IsPart, group_of, in_group}
+use Rattle.apex_log_groups.proofs.Exchanged.{no_log}
+use Rattle.apex_log_groups.proofs.Joined.{joined_lawful, none_inside, all_inside, here_inside, none_outside}
+
+-- ---- groups
+
+owner_within : (config : Configuration) (p id : ℕ) (port : Port) → port_of config p id ≡ Some port → p < length config.partitions
+owner_within config p id port found = of_partition (slice_get config.partitions p) refl found
+  where
+    none_at : (b : Bool) → ◌≡◌ {A = Option Port} (if b then None else None) (Some port) → ⊥
+    none_at true is = absurd cc
+    none_at false is = absurd cc
+
+    of_partition : (o : Option PartitionData) → slice_get config.partitions p ≡ o → port_at (ports_of_partition o) id ≡ Some port → p < length config.partitions
+    of_partition None is at = absurd (none_at (id == 0) at)
+    of_partition (Some partition) is at = slice_get_within config.partitions p partition is
+
+pub groups_apart : (config : Configuration) (groups channels : List ℕ)
+    → ((p : ℕ) → p < length config.partitions → (group_of groups p < length config.partitions) × HasItsChannels config groups channels p) → AreApart config groups
+groups_apart config groups channels each = record {
+  closed = λ group p id q jd port other mine theirs shared. ap (λ (g : ℕ). g == group) (
+      sym ((each p (owner_within config p id port mine)).1 id port mine)
+      ∙ (ap (group_of channels) shared ∙ (each q (owner_within config q jd other theirs)).1 jd other theirs));
+  within = λ p inside. (each p inside).0;
+}
+
+-- ---- histories
+
+take_none : {X : Type 0} (n : ℕ) → ◌≡◌ {A = List X} (take n []) []
+take_none zero = refl
+take_none (suc n) = refl
+
+take_itself : {X : Type 0} (xs : List X) → take (length xs) xs ≡ xs
+take_itself [] = refl
+take_itself (x ∷ xs) = ap (λ ys. x ∷ ys) (take_itself xs)
+
+entries_of-append : (p : ℕ) (h more : History) → entries_of p (h ++ more) ≡ entries_of p h ++ entries_of p more
+entries_of-append p h more = filter-append (λ (entry : Entry). entry.partition == p) h more
+
+pub order_begins : (config : Configuration) (logs : Logs) (h : History) → IsOrder config logs h → IsBeginning config logs h
+order_begins config logs h order = record {
+  lawful = order.lawful;
+  entries = λ p. sym (ap (take (length (entries_of p h))) (sym (order.entries p)) ∙ take_itself (entries_of p h));
+}
+
+-- the places of the partitions inside have the entries that all places have in their part of the logs
+pub entries_inside_at : (inside : ℕ → Bool) (logs part : Logs) → IsPart inside logs part → (places : List CallPlace)
+    → entries_at logs (filter (λ (place : CallPlace). inside place.partition) places) ≡ entries_at part places
+entries_inside_at inside logs part is [] = refl
+entries_inside_at inside logs part is (place ∷ places) = by_test (inside place.partition) (is place.partition) (entries_inside_at inside logs part is places)
+  where
+    inner : List CallPlace
+    inner = filter (λ (place : CallPlace). inside place.partition) places
+
+    by_test : (b : Bool) → log_in part place.partition ≡ cond b (log_in logs place.partition) [] → entries_at logs inner ≡ entries_at part places
+        → entries_at logs (cond b (place ∷ inner) inner) ≡ entries_at part (place ∷ places)
+    by_test true log rest = λ i. option_to_list (slice_get (sym log i) place.index) ++ rest i
+    by_test false log rest = rest ∙ sym (ap (λ (own : History). option_to_list (slice_get own place.index) ++ entries_at part places) log)
+
+module _ (config : Configuration) (logs : Logs) (groups : List ℕ) where
+  pub of_no_group : IsOfGroups config logs groups 0 []
+  of_no_group = record { begins = begins_nil config logs; others = λ p any. refl }
+
+  module _ (group : ℕ) (h : History) (joined : IsOfGroups config logs groups group h) where
+    abbrev pub inside : ℕ → Bool
+    inside = in_group groups group
+
+    pub of_one_more : IsOfGroups config logs groups (group + 1) h
+    of_one_more = record { begins = joined.begins; others = λ p past. joined.others p (omega (arith, past)) }
+
+    pub whole_more : HasNone config groups group → AreWhole config logs groups group h → AreWhole config logs groups (group + 1) h
+    whole_more none whole p within few = whole p within (let apart : group_of groups p ≢ group = none p within in grind (arith, few, apart))
+
+    module _ (apart : AreApart config groups) (part : Logs) (is : IsPart inside logs part) (more : History) (begins : IsBeginning config part more) where
+      none_here : (p : ℕ) → inside p ≡ true → entries_of p h ≡ []
+      none_here p here = joined.others p (let same : group_of groups p ≡ group = grind (arith, nat_tests, here) in omega (arith, same))
+
+      none_there : (p : ℕ) → inside p ≡ false → entries_of p more ≡ []
+      none_there p out = begins.entries p ∙ (ap (take (length (entries_of p more))) (none_outside config inside (apart.closed group) logs part is p out) ∙ take_none (length (entries_of p more)))
+
+      mine : (p : ℕ) → inside p ≡ true → entries_of p (h ++ more) ≡ entries_of p more
+      mine p here = entries_of-append p h more ∙ ap (λ (es : History). es ++ entries_of p more) (none_here p here)
+
+      others : (p : ℕ) → inside p ≡ false → entries_of p (h ++ more) ≡ entries_of p h
+      others p out = entries_of-append p h more ∙ (ap (λ (es : History). entries_of p h ++ es) (none_there p out) ∙ append-nil (entries_of p h))
+
+      begins_each : (p : ℕ) (b : Bool) → inside p ≡ b → entries_of p (h ++ more) ≡ take (length (entries_of p (h ++ more))) (log_in logs p)
+      begins_each p true here = subst (λ (es : History). es ≡ take (length es) (log_in logs p)) (sym (mine p here))
+          (begins.entries p ∙ ap (take (length (entries_of p more))) (here_inside config inside (apart.closed group) logs part is p here))
+      begins_each p false out = subst (λ (es : History). es ≡ take (length es) (log_in logs p)) (sym (others p out)) (joined.begins.entries p)
+
+      pub of_group : IsOfGroups config logs groups (group + 1) (h ++ more)
+      of_group = record {
+        begins = record {
+          lawful = joined_lawful config inside (apart.closed group) h more joined.begins.lawful begins.lawful (none_inside inside h none_here) (all_inside inside more none_there);
+          entries = λ p. begins_each p (inside p) refl;
+        };
+        others = λ p past.
+            let out : inside p ≡ false = grind (arith, nat_tests, past) in
+            others p out ∙ joined.others p (omega (arith, past));
+      }
+
+      pub whole_group : AreWhole config logs groups group h → IsOrder config part more → AreWhole config logs groups (group + 1) (h ++ more)
+      whole_group whole order p within few = by_test (inside p) refl
+        where
+          by_test : (b : Bool) → inside p ≡ b → entries_of p (h ++ more) ≡ log_in logs p
+          by_test true here = mine p here ∙ (order.entries p ∙ here_inside config inside (apart.closed group) logs part is p here)
+          by_test false out = others p out ∙ whole p within (grind (arith, nat_tests, few, out))
+
+  -- where all groups are searched
+  pub all_groups : AreApart config groups → length logs ≡ length config.partitions → (h : History) → IsOfGroups config logs groups (length config.partitions) h → AreWhole config logs groups (length config.partitions) h → IsOrder config logs h
+  all_groups apart count h joined whole = record {
+    lawful = joined.begins.lawful;
+    entries = λ p. ⊎_elim
+        (λ (within : p < length config.partitions). whole p within (apart.within p within))
+        (λ (beyond : length config.partitions ≤ p).
+        let none : log_in logs p ≡ [] = no_log logs p (omega (arith, count, beyond)) in
+        joined.begins.entries p ∙ (ap (take (length (entries_of p h))) none ∙ (take_none (length (entries_of p h)) ∙ sym none)))
+        (cases_lt p (length config.partitions));
+  }
+
+  -- with the places of a group's answer behind the others
+  pub places_more : (group : ℕ) (part : Logs) → IsPart (in_group groups group) logs part → (all places : List CallPlace)
+      → entries_at logs (all ++ filter (λ (place : CallPlace). in_group groups group place.partition) places) ≡ entries_at logs all ++ entries_at part places
+  places_more group part is all places =
+      entries_at-append logs all (filter (λ (place : CallPlace). in_group groups group place.partition) places)
+      ∙ ap (λ (es : History). entries_at logs all ++ es) (entries_inside_at (in_group groups group) logs part is places)
+
+  -- a group's answer and the places of the groups before it
+  module _ (apart : AreApart config groups) (group : ℕ) (all places new : List CallPlace) (part : Logs) (is : IsPart (in_group groups group) logs part)
+      (added : new ≡ all ++ filter (λ (place : CallPlace). in_group groups group place.partition) places) (joined : IsOfGroups config logs groups group (entries_at logs all)) where
+    entries_added : entries_at logs new ≡ entries_at logs all ++ entries_at part places
+    entries_added = ap (entries_at logs) added ∙ places_more group part is all places
+
+    pub of_added : IsBeginning config part (entries_at part places) → IsOfGroups config logs groups (group + 1) (entries_at logs new)
+    of_added begins = subst (IsOfGroups config logs groups (group + 1)) (sym entries_added) (of_group group (entries_at logs all) joined apart part is (entries_at part places) begins)
+
+    pub whole_added : AreWhole config logs groups group (entries_at logs all) → IsOrder config part (entries_at part places) → AreWhole config logs groups (group + 1) (entries_at logs new)
+    whole_added whole order = subst (AreWhole config logs groups (group + 1)) (sym entries_added)
+        (whole_group group (entries_at logs all) joined apart part is (entries_at part places) (order_begins config part (entries_at part places) order) whole order)
