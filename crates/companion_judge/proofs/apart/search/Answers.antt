@@ -13,10 +13,10 @@ returns g c =
     let known = c.in_ok-config.ensures in
     let read = files c.args.config.now in
     let answer = c.in_ok-places.field-0 in
-    let says = c.in_ok-places.ensures in
-    let same = c.as_slice.ensures.value in
+    let says = c.in_ok-places.ensures.answer in
+    let same = c.as_mut_slice-logs.ensures.value in
     elim c.match-branch-4.branch [
-      | in-Order w ↦ rw w.found-is (order_found files arguments config logs are read (entries_at logs w.in-Order.places.items) known (says_order config logs c.as_slice.result.now same answer says w.in-Order.places w.in-Order.is))
-      | in-NoOrder w ↦ rw w.found-is (none_found files arguments config logs are read known (says_none config logs c.as_slice.result.now same answer says w.in-NoOrder.longest w.in-NoOrder.is))
+      | in-Order w ↦ rw w.found-is (order_found files arguments config logs are read (entries_at logs w.in-Order.places.items) known (says_order config logs c.as_mut_slice-logs.result.now same answer says w.in-Order.places w.in-Order.is))
+      | in-NoOrder w ↦ rw w.found-is (none_found files arguments config logs are read known (says_none config logs c.as_mut_slice-logs.result.now same answer says w.in-NoOrder.longest w.in-NoOrder.is))
       | in-Undecided w ↦ rw w.found-is (nothing_found files arguments c.args.steps read)
     ]
