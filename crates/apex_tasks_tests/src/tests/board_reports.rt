@@ -4,12 +4,17 @@ use apex_board::Board;
 use apex_board_report::report;
 use apex_config::Config;
 use apex_types::{Call, Message, Moment, Name};
+use std::alloc::Global;
+use std::process::Abort;
+use std::sync::Wait;
 use std::test::Fail;
 
-#[test]
-fn a_board_reports_its_log(rt: HostRuntime) -> Result<(), Fail> {
-    let config = Config::read(rt.alloc(), REDUCED.as_bytes())?;
-    let mut board = Board::new(&rt, rt.alloc(), config)?;
+/// The report after the first partition has created its port, entered NORMAL and sent a message.
+fn report_after_calls<R: Abort + Wait>(
+    rt: &R,
+    alloc: Global,
+    board: &mut Board,
+) -> Result<String, Fail> {
     assert!(rt; board.config().partitions() == 2);
     let create = Call::CreateQueuing {
         name: Name::read("NAV_OUT")?,
@@ -18,22 +23,29 @@ fn a_board_reports_its_log(rt: HostRuntime) -> Result<(), Fail> {
         direction: 0,
         discipline: 0,
     };
-    board.call(&rt, 0, Moment(1), &create)?;
-    board.call(&rt, 0, Moment(2), &Call::SetMode { mode: 3 })?;
+    board.call(rt, 0, Moment(1), &create)?;
+    board.call(rt, 0, Moment(2), &Call::SetMode { mode: 3 })?;
     let send = Call::SendQueuing {
         id: 1,
         message: Message::from_hex("01")?,
     };
-    board.call(&rt, 0, Moment(3), &send)?;
-    let text = report(rt.alloc(), &board)?;
+    board.call(rt, 0, Moment(3), &send)?;
+    Ok(report(alloc, board)?)
+}
+
+#[test]
+fn a_board_reports_its_log(rt: HostRuntime) -> Result<(), Fail> {
+    let config = Config::read(rt.alloc(), REDUCED.as_bytes())?;
+    let mut board = Board::new(&rt, rt.alloc(), config)?;
+    let text = report_after_calls(&rt, rt.alloc(), &mut board);
     board.close(&rt);
     let wanted = "1 1 FMS create-queuing NO_ERROR id 1
 2 2 FMS mode NO_ERROR
 3 3 FMS send NO_ERROR
 partition FMS mode NORMAL calls 3
 partition DSP mode COLD_START calls 0
-queuing NAV accepted 1 received 0 waiting 1
+queuing NAV accepted 1 received 0 waiting 1 01
 ";
-    assert_eq!(rt; text.as_str(), wanted);
+    assert_eq!(rt; text?.as_str(), wanted);
     Ok(())
 }

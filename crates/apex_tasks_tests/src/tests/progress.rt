@@ -88,6 +88,6 @@ fn nothing_is_shown_where_there_is_no_terminal(rt: HostRuntime) -> Result<(), Fa
         taken: &mut taken,
         is_terminal: false,
     });
-    assert_eq!(rt; taken.as_slice(), b"");
+    assert!(rt; taken.is_empty());
     Ok(())
 }
