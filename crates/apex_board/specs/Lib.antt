@@ -1,3 +1,4 @@
+pub mod Asked
 pub mod BoardView
 pub mod Journals
 pub mod Recorded

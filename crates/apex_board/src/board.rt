@@ -1,6 +1,7 @@
 //! The board: its public face.
 ghost use Rattle.std.specs.Prelude.{◌≡◌, ◌+◌, ◌<◌, ◌≤◌, ◌∷◌, ◌++◌, [], true, false, length, Some, slice_get, IfOk, OnOk, OnErr, IsOk};
 
+use crate::asked::asked_port;
 use crate::records::Records;
 use apex_config::Config;
 use apex_observers::{Observer, ObserverFault, Publishers, Receipt};
@@ -173,8 +174,8 @@ impl<A: Allocator> Board<A> {
             SameChannels self.old.config self.old.log self.new.log) }
         ensures idle { StaysIdle self.old.config self.old.log self.new.log }
     {
-        self.records
-            .make_room(self.ports.config(), partition, call)?;
+        let port = asked_port(self.ports.config(), partition, call);
+        self.records.make_room(self.ports.config(), port, call)?;
         publish(rt, &mut self.publishers, &self.ports, partition, at, call)?;
         let reply = self.ports.call(partition, at, call);
         let entry = Entry {
@@ -183,7 +184,7 @@ impl<A: Allocator> Board<A> {
             call: call.copy(),
             reply: reply.copy(),
         };
-        self.records.push(self.ports.config(), entry);
+        self.records.push(self.ports.config(), port, entry);
         Ok(reply)
     }
 

@@ -2,8 +2,11 @@
 ghost use Rattle.std.specs.Prelude.{◌≡◌, ℕ, ◌+◌, ◌≤◌, [], ◌++◌, IsOk, OnOk, IfSome, ◌<◌, drop, length, map};
 ghost use Rattle.std.specs.Vec.{vec_len, vec_capacity};
 ghost use Rattle.apex_ports.specs.Channels.{as_cleared, clears, message_accepted, message_received};
+ghost use Rattle.apex_config.specs.Configuration.{Configuration};
+ghost use Rattle.apex_board.specs.Asked.{IsAskedBy, IsBelow};
 ghost use Rattle.apex_board.specs.Journals.{IsFresh, is_for, message_for};
 
+use crate::asked::AskedPort;
 use apex_config::Config;
 use apex_ports::Entry;
 use apex_types::{Call, Direction, Message, Reply, ReturnCode, Taken};
@@ -91,21 +94,23 @@ pub(crate) fn new_journal<A: Allocator + Copy>(
     }
 }
 
-/// The message that an entry put into a channel, and the channel's number.
+/// The message that an entry put into a channel, and the channel's number. The port is the one that its call asks for.
 pub(crate) fn accepted_message<'a>(
-    config: &Config,
+    port: Option<AskedPort>,
     entry: &'a Entry,
 ) -> Option<(usize, &'a Message)>
-    ensures found { (c : ℕ) → message_accepted config.now c entry.now ≡ message_for c result }
-    ensures channel { IfSome result (λ found. found.0 < length config.now.channels) }
+    ensures found { (config : Configuration) → IsAskedBy config entry.now port
+        → (c : ℕ) → message_accepted config c entry.now ≡ message_for c result }
+    ensures channel { (count : ℕ) → IsBelow count port
+        → IfSome result (λ found. found.0 < count) }
 {
-    let (Call::SendQueuing { id, message }, Reply::Code(ReturnCode::NoError)) = (
+    let (Call::SendQueuing { message, .. }, Reply::Code(ReturnCode::NoError)) = (
         &entry.call,
         &entry.reply,
     ) else {
         return None;
     };
-    let port = config.port(entry.partition, *id)?;
+    let port = port?;
     match port.direction {
         Direction::Source => Some((port.channel, message)),
         Direction::Destination => None,
@@ -114,16 +119,18 @@ pub(crate) fn accepted_message<'a>(
 
 /// The message that an entry received from a channel, and the channel's number.
 pub(crate) fn received_message<'a>(
-    config: &Config,
+    port: Option<AskedPort>,
     entry: &'a Entry,
 ) -> Option<(usize, &'a Message)>
-    ensures found { (c : ℕ) → message_received config.now c entry.now ≡ message_for c result }
-    ensures channel { IfSome result (λ found. found.0 < length config.now.channels) }
+    ensures found { (config : Configuration) → IsAskedBy config entry.now port
+        → (c : ℕ) → message_received config c entry.now ≡ message_for c result }
+    ensures channel { (count : ℕ) → IsBelow count port
+        → IfSome result (λ found. found.0 < count) }
 {
-    let (Call::ReceiveQueuing { id }, Reply::Received(message)) = (&entry.call, &entry.reply) else {
+    let (Call::ReceiveQueuing { .. }, Reply::Received(message)) = (&entry.call, &entry.reply) else {
         return None;
     };
-    let port = config.port(entry.partition, *id)?;
+    let port = port?;
     match port.direction {
         Direction::Destination => Some((port.channel, message)),
         Direction::Source => None,
@@ -131,15 +138,17 @@ pub(crate) fn received_message<'a>(
 }
 
 /// The number of the channel that an entry clears.
-pub(crate) fn cleared_channel(config: &Config, entry: &Entry) -> Option<usize>
-    ensures found { (c : ℕ) → clears config.now c entry.now ≡ is_for c result }
-    ensures channel { IfSome result (λ channel. channel < length config.now.channels) }
+pub(crate) fn cleared_channel(port: Option<AskedPort>, entry: &Entry) -> Option<usize>
+    ensures found { (config : Configuration) → IsAskedBy config entry.now port
+        → (c : ℕ) → clears config c entry.now ≡ is_for c result }
+    ensures channel { (count : ℕ) → IsBelow count port
+        → IfSome result (λ channel. channel < count) }
 {
-    let (Call::ClearQueuing { id }, Reply::Code(ReturnCode::NoError)) = (&entry.call, &entry.reply)
+    let (Call::ClearQueuing { .. }, Reply::Code(ReturnCode::NoError)) = (&entry.call, &entry.reply)
     else {
         return None;
     };
-    let port = config.port(entry.partition, *id)?;
+    let port = port?;
     match port.direction {
         Direction::Destination => Some(port.channel),
         Direction::Source => None,

@@ -1,6 +1,7 @@
 //! The board: the ports of a module with the log of all calls and the journals of its queuing channels.
 #![tactic(auto)]
 
+mod asked;
 pub mod board;
 mod journal;
 mod records;

@@ -5,6 +5,7 @@ ghost use Rattle.apex_ports.specs.Channels.{message_received};
 ghost use Rattle.apex_ports.specs.Refused.{is_send};
 ghost use Rattle.apex_ports.specs.Sound.{IsSound};
 
+use crate::asked::AskedPort;
 use crate::journal::{Journal, accepted_message, cleared_channel, new_journal, received_message};
 use apex_config::Config;
 use apex_ports::Entry;
@@ -38,6 +39,7 @@ impl<A: Allocator + Copy> Records<A> {
 }
 
 impl<A: Allocator> Records<A> {
+    ghost use Rattle.apex_board.specs.Asked.{asked_port, IsAskedBy, IsBelow};
     ghost use Rattle.apex_board.specs.Journals.{AreJournals};
     ghost use Rattle.apex_board.specs.Recorded.{AreRecords};
     ghost use Rattle.apex_board.specs.Room.{HasPlaceFor, HasRoom, HasRoomAt, KeepsRoom, KeepsAllButOne, room_of, spare};
@@ -105,20 +107,22 @@ impl<A: Allocator> Records<A> {
         }
     }
 
-    /// Makes the room that a call may need: for its entry, and for the message that it sends.
+    /// Makes the room that a call may need: for its entry, and for the message that it sends by the port.
     pub(crate) fn make_room(
         &mut self,
         config: &Config,
-        partition: usize,
+        port: Option<AskedPort>,
         call: &Call,
     ) -> Result<(), AllocError>
+        requires channel { IsBelow (length config.now.channels) port }
         requires sound { IsSound config.now self.old.log.items }
         requires recorded { AreRecords config.now self.old }
         ensures log { self.new.log.items ≡ self.old.log.items }
         ensures recorded { AreRecords config.now self.new }
         ensures entry { OnOk result (vec_len self.new.log < vec_capacity self.new.log) }
-        ensures place { OnOk result
-            (HasPlaceFor config.now partition call.now self.new.journals.items) }
+        ensures place { OnOk result ((partition : ℕ) →
+            port ≡ asked_port config.now partition call.now →
+            HasPlaceFor config.now partition call.now self.new.journals.items) }
         ensures len { vec_len self.new.log ≡ vec_len self.old.log }
         ensures capacity { vec_capacity self.old.log ≤ vec_capacity self.new.log }
         ensures room { KeepsRoom self.old.journals.items self.new.journals.items }
@@ -126,17 +130,18 @@ impl<A: Allocator> Records<A> {
             (is_send call.now ≡ true → HasRoom 1 self.old.journals.items) → IsOk result }
     {
         self.log.reserve(1)?;
-        let Call::SendQueuing { id, .. } = call else {
-            return Ok(());
-        };
-        match config.port(partition, *id) {
-            Some(port) => self.reserve_channel(config, port.channel, 1),
-            None => Ok(()),
+        match (call, port) {
+            (Call::SendQueuing { .. }, Some(port)) => {
+                self.reserve_channel(config, port.channel, 1)
+            }
+            _ => Ok(()),
         }
     }
 
-    /// Records an entry for which there is room.
-    pub(crate) fn push(&mut self, config: &Config, entry: Entry)
+    /// Records an entry for which there is room. The port is the one that its call asks for.
+    pub(crate) fn push(&mut self, config: &Config, port: Option<AskedPort>, entry: Entry)
+        requires port { IsAskedBy config.now entry port }
+        requires channel { IsBelow (length config.now.channels) port }
         requires sound { IsSound config.now (self.old.log.items ++ entry ∷ []) }
         requires recorded { AreRecords config.now self.old }
         requires free { vec_len self.old.log < vec_capacity self.old.log }
@@ -147,13 +152,15 @@ impl<A: Allocator> Records<A> {
         ensures capacity { vec_capacity self.new.log ≡ vec_capacity self.old.log }
         ensures room { KeepsAllButOne self.old.journals.items self.new.journals.items }
     {
-        self.push_accepted(config, &entry);
-        self.push_taken(config, &entry);
+        self.push_accepted(config, port, &entry);
+        self.push_taken(config, port, &entry);
         self.log.push_reserved(entry);
     }
 
     // Puts the message that an entry sent into its channel's journal.
-    fn push_accepted(&mut self, config: &Config, entry: &Entry)
+    fn push_accepted(&mut self, config: &Config, port: Option<AskedPort>, entry: &Entry)
+        requires port { IsAskedBy config.now entry.now port }
+        requires channel { IsBelow (length config.now.channels) port }
         requires sound { IsSound config.now (self.old.log.items ++ entry.now ∷ []) }
         requires recorded { AreRecords config.now self.old }
         requires place { HasPlaceFor config.now entry.now.partition entry.now.call
@@ -163,7 +170,7 @@ impl<A: Allocator> Records<A> {
         ensures log { self.new.log ≡ self.old.log }
         ensures room { KeepsAllButOne self.old.journals.items self.new.journals.items }
     {
-        let Some((channel, message)) = accepted_message(config, entry) else {
+        let Some((channel, message)) = accepted_message(port, entry) else {
             return;
         };
         match &mut self.journals[channel] {
@@ -173,7 +180,9 @@ impl<A: Allocator> Records<A> {
     }
 
     // Puts what an entry took out of a channel into the channel's journal.
-    fn push_taken(&mut self, config: &Config, entry: &Entry)
+    fn push_taken(&mut self, config: &Config, port: Option<AskedPort>, entry: &Entry)
+        requires port { IsAskedBy config.now entry.now port }
+        requires channel { IsBelow (length config.now.channels) port }
         requires sound { IsSound config.now (self.old.log.items ++ entry.now ∷ []) }
         requires recorded { let log = self.old.log.items in
             AreJournals config.now (log ++ entry.now ∷ []) log self.old.journals.items }
@@ -182,8 +191,8 @@ impl<A: Allocator> Records<A> {
         ensures log { self.new.log ≡ self.old.log }
         ensures room { KeepsRoom self.old.journals.items self.new.journals.items }
     {
-        let Some((channel, message)) = received_message(config, entry) else {
-            return self.push_cleared(config, entry);
+        let Some((channel, message)) = received_message(port, entry) else {
+            return self.push_cleared(config, port, entry);
         };
         match &mut self.journals[channel] {
             Some(journal) => journal.taken.push_reserved(Taken {
@@ -195,7 +204,9 @@ impl<A: Allocator> Records<A> {
     }
 
     // Puts what an entry cleared, which received nothing, into its channel's journal.
-    fn push_cleared(&mut self, config: &Config, entry: &Entry)
+    fn push_cleared(&mut self, config: &Config, port: Option<AskedPort>, entry: &Entry)
+        requires port { IsAskedBy config.now entry.now port }
+        requires channel { IsBelow (length config.now.channels) port }
         requires sound { IsSound config.now (self.old.log.items ++ entry.now ∷ []) }
         requires recorded { let log = self.old.log.items in
             AreJournals config.now (log ++ entry.now ∷ []) log self.old.journals.items }
@@ -205,7 +216,7 @@ impl<A: Allocator> Records<A> {
         ensures log { self.new.log ≡ self.old.log }
         ensures room { KeepsRoom self.old.journals.items self.new.journals.items }
     {
-        let Some(channel) = cleared_channel(config, entry) else {
+        let Some(channel) = cleared_channel(port, entry) else {
             return;
         };
         if let Some(journal) = &mut self.journals[channel] {

@@ -1,3 +1,4 @@
 pub mod Documents
 pub mod Folding
+pub mod PlaceLines
 pub mod Reading

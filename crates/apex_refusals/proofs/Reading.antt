@@ -7,7 +7,8 @@ use Rattle.toml.specs.Parse.{parse_document}
 use Rattle.apex_config.specs.Meaning.{RefusalData}
 use Rattle.apex_config.specs.declared.fault.ConfigFault.{ConfigFault}
 use Rattle.apex_config.specs.declared.place.Place.{Place}
-use Rattle.apex_refusals.specs.Lines.{document_of, named_lines, AreFileLines, more_line, IsRefusalOf, AreMistakesIn}
+use Rattle.apex_refusals.specs.Documents.{document_of}
+use Rattle.apex_refusals.specs.Lines.{named_lines, AreFileLines, more_line, IsRefusalOf, AreMistakesIn}
 use Rattle.apex_refusals.specs.ValueFindings.{ends_of}
 use Rattle.apex_refusals.specs.declared.mistakes.TheConstants.{MISTAKE_LIMIT}
 
@@ -28,9 +29,9 @@ module _ (document : Data) (refusal : RefusalData) (fault : ConfigFault) (places
   lines_told new empty same told =
       subst (λ (r : RefusalData). IsRefusalOf (Some document) r new) same (told ∙ ap (λ (text : List ℕ). text ++ named_lines (ends_of fault document) fault document places) empty)
 
-  pub mistakes_told : (file lines new : List ℕ) → old ≡ [] → ◌≡◌ {A = RefusalData} (record { fault = fault; places = places }) refusal
-      → AreFileLines file (ends_of fault document) fault document old (take MISTAKE_LIMIT places) lines → new ≡ lines ++ more_line (length places - MISTAKE_LIMIT)
-      → AreMistakesIn document file refusal new
-  mistakes_told file lines new empty same told more =
-      subst (λ (r : RefusalData). AreMistakesIn document file r new) same
-      (lines, subst (λ (text : List ℕ). AreFileLines file (ends_of fault document) fault document text (take MISTAKE_LIMIT places) lines) empty told, more)
+  pub mistakes_told : (file text lines new : List ℕ) → old ≡ [] → ◌≡◌ {A = RefusalData} (record { fault = fault; places = places }) refusal
+      → AreFileLines file text (ends_of fault document) fault document old (take MISTAKE_LIMIT places) lines → new ≡ lines ++ more_line (length places - MISTAKE_LIMIT)
+      → AreMistakesIn document file text refusal new
+  mistakes_told file text lines new empty same told more =
+      subst (λ (r : RefusalData). AreMistakesIn document file text r new) same
+      (lines, subst (λ (before : List ℕ). AreFileLines file text (ends_of fault document) fault document before (take MISTAKE_LIMIT places) lines) empty told, more)

@@ -1,3 +1,4 @@
+pub mod Documents
 pub mod Findings
 pub mod FormFindings
 pub mod Heads
@@ -5,6 +6,7 @@ pub mod Hints
 pub mod Lines
 pub mod NotToml
 pub mod Paths
+pub mod PlaceLines
 pub mod Places
 pub mod Printed
 pub mod ValueFindings

@@ -1,9 +1,7 @@
 -- The lines that tell a refusal.
-use Rattle.std.specs.Prelude.{ℕ, ◌≡◌, if◌then◌else◌, ◌++◌, ◌==◌, ◌-◌, List, [], codes, decimal, length, take, Option, Some, None, option_map, option_and_then}
+use Rattle.std.specs.Prelude.{ℕ, ◌≡◌, if◌then◌else◌, ◌++◌, ◌==◌, ◌-◌, List, [], codes, decimal, length, take, Option, Some, None, option_and_then}
 use Rattle.std.specs.List.{flat_map, FoldsTo}
-use Rattle.std.specs.Str.{is_utf8}
-use Rattle.toml.specs.Data.{Data, table}
-use Rattle.toml.specs.Parse.{parse_document}
+use Rattle.toml.specs.Data.{Data}
 use Rattle.apex_config.specs.Ends.{EndsData}
 use Rattle.apex_config.specs.Meaning.{RefusalData}
 use Rattle.apex_config.specs.Values.{text_at}
@@ -13,10 +11,12 @@ use Rattle.apex_config.specs.declared.key.Key.TheVariants as keys
 use Rattle.apex_config.specs.declared.place.Part.{Part}
 use Rattle.apex_config.specs.declared.place.Part.TheVariants as parts
 use Rattle.apex_config.specs.declared.place.Place.{Place}
+use Rattle.apex_refusals.specs.Documents.{document_of}
 use Rattle.apex_refusals.specs.Findings.{FindingData}
 use Rattle.apex_refusals.specs.Heads.{head_of}
 use Rattle.apex_refusals.specs.Hints.{hint_of}
 use Rattle.apex_refusals.specs.NotToml.{IsNotToml}
+use Rattle.apex_refusals.specs.PlaceLines.{IsLineNumber, key_there}
 use Rattle.apex_refusals.specs.Places.{value_of}
 use Rattle.apex_refusals.specs.ValueFindings.{ends_of, finding_in}
 use Rattle.apex_refusals.specs.Words.{finding_words, owner_words}
@@ -67,31 +67,33 @@ file_line ends fault document place finding file number =
     ++ hint_of ends.config.channels finding
     ++ codes "\n"
 
--- what is found has a line, with the number of its line in the text where that is told
-abbrev pub AddsFileLine : (List ℕ → Option ℕ → List ℕ) → List ℕ → List ℕ → List ℕ → Type 0
-AddsFileLine line file before after = (number : Option ℕ) × (after ≡ before ++ line file number)
+-- what is found has a line, with the number of the place's line in the text
+abbrev pub AddsFileLine : EndsData → ConfigFault → Data → Place → FindingData → List ℕ → List ℕ → List ℕ → List ℕ → Type 0
+AddsFileLine ends fault document place finding file text before after =
+    (number : Option ℕ) × IsLineNumber text place.part (key_there document place) number
+    × (after ≡ before ++ file_line ends fault document place finding file number)
 
-abbrev pub IsLineOfFinding : EndsData → ConfigFault → Data → Place → Option FindingData → List ℕ → List ℕ → List ℕ → Type 0
-IsLineOfFinding ends fault document place None file before after = after ≡ before
-IsLineOfFinding ends fault document place (Some finding) file before after = AddsFileLine (file_line ends fault document place finding) file before after
+abbrev pub IsLineOfFinding : EndsData → ConfigFault → Data → Place → Option FindingData → List ℕ → List ℕ → List ℕ → List ℕ → Type 0
+IsLineOfFinding ends fault document place None file text before after = after ≡ before
+IsLineOfFinding ends fault document place (Some finding) file text before after =
+    AddsFileLine ends fault document place finding file text before after
 
-abbrev pub IsFileLine : List ℕ → EndsData → ConfigFault → Data → List ℕ → Place → List ℕ → Type 0
-IsFileLine file ends fault document before place after = IsLineOfFinding ends fault document place (finding_in ends fault document place) file before after
+abbrev pub IsFileLine : List ℕ → List ℕ → EndsData → ConfigFault → Data → List ℕ → Place → List ℕ → Type 0
+IsFileLine file text ends fault document before place after =
+    IsLineOfFinding ends fault document place (finding_in ends fault document place) file text before after
 
 -- the lines of places, one after the other
-abbrev pub AreFileLines : List ℕ → EndsData → ConfigFault → Data → List ℕ → List Place → List ℕ → Type 0
-AreFileLines file ends fault document before places after = FoldsTo (IsFileLine file ends fault document) before places after
+abbrev pub AreFileLines : List ℕ → List ℕ → EndsData → ConfigFault → Data → List ℕ → List Place → List ℕ → Type 0
+AreFileLines file text ends fault document before places after =
+    FoldsTo (IsFileLine file text ends fault document) before places after
 
 -- ---- a refusal
 
 -- the lines of places that were refused for a fault
 abbrev pub IsTold : Form → ConfigFault → Data → List Place → List ℕ → List ℕ → Type 0
 IsTold forms.Names fault document places before after = after ≡ before ++ named_lines (ends_of fault document) fault document places
-IsTold (forms.File file) fault document places before after = AreFileLines file.name.now (ends_of fault document) fault document before places after
-
--- the document that a text is; none of one that is no TOML
-abbrev pub document_of : List ℕ → Option Data
-document_of text = if is_utf8 text then option_map table (parse_document text) else None
+IsTold (forms.File file) fault document places before after =
+    AreFileLines file.name.now file.text.now (ends_of fault document) fault document before places after
 
 abbrev pub IsRefusalOf : Option Data → RefusalData → List ℕ → Type 0
 IsRefusalOf None refusal lines = IsNotToml lines
@@ -105,16 +107,17 @@ IsRefusalTold text refusal lines = IsRefusalOf (document_of text) refusal lines
 abbrev pub more_line : ℕ → List ℕ
 more_line more = if more == 0 then [] else codes "and " ++ (decimal more ++ codes " more\n")
 
-abbrev pub AreMistakesIn : Data → List ℕ → RefusalData → List ℕ → Type 0
-AreMistakesIn document file refusal told =
-    (lines : List ℕ) × AreFileLines file (ends_of refusal.fault document) refusal.fault document [] (take MISTAKE_LIMIT refusal.places) lines
+abbrev pub AreMistakesIn : Data → List ℕ → List ℕ → RefusalData → List ℕ → Type 0
+AreMistakesIn document file text refusal told =
+    (lines : List ℕ)
+    × AreFileLines file text (ends_of refusal.fault document) refusal.fault document [] (take MISTAKE_LIMIT refusal.places) lines
     × (told ≡ lines ++ more_line (length refusal.places - MISTAKE_LIMIT))
 
 -- of a text that is no TOML nothing is said
-abbrev pub AreMistakesOf : Option Data → List ℕ → RefusalData → List ℕ → Type 0
-AreMistakesOf None file refusal told = Unit {0}
-AreMistakesOf (Some document) file refusal told = AreMistakesIn document file refusal told
+abbrev pub AreMistakesOf : Option Data → List ℕ → List ℕ → RefusalData → List ℕ → Type 0
+AreMistakesOf None file text refusal told = Unit {0}
+AreMistakesOf (Some document) file text refusal told = AreMistakesIn document file text refusal told
 
 -- the mistakes of a refused text, each by file, line and path
 abbrev pub AreMistakes : List ℕ → List ℕ → RefusalData → List ℕ → Type 0
-AreMistakes file text refusal told = AreMistakesOf (document_of text) file refusal told
+AreMistakes file text refusal told = AreMistakesOf (document_of text) file text refusal told

@@ -29,7 +29,7 @@ fn push_file_line<'a>(
     place: Place,
     file: File<'_>,
 ) -> Result<(), AllocError>
-    ensures { OnOk result (IsFileLine file.entry.name.now read.now fault
+    ensures { OnOk result (IsFileLine file.entry.name.now file.entry.text.now read.now fault
         (view document.now) (string_bytes told.old) place (string_bytes told.new)) }
 {
     match finding_in(document, read, fault, place) {
@@ -54,7 +54,7 @@ pub fn push_file_lines<'a>(
     places: &[Place],
     file: File<'_>,
 ) -> Result<(), AllocError>
-    ensures { OnOk result (AreFileLines file.entry.name.now read.now fault
+    ensures { OnOk result (AreFileLines file.entry.name.now file.entry.text.now read.now fault
         (view document.now) (string_bytes told.old) places.now (string_bytes told.new)) }
 {
     for place in places {

@@ -1,9 +1,11 @@
 //! The head of a place's line: the file, the line of the text where that is known, and the path of the place.
-ghost use Rattle.std.specs.Prelude.{ℕ, ◌≡◌, ◌++◌, string_bytes, Option, OnOk};
+ghost use Rattle.std.specs.Prelude.{◌≡◌, ◌++◌, string_bytes, OnOk};
 ghost use Rattle.std.specs.Option.{option_copied};
 ghost use Rattle.toml.specs.View.{view};
-ghost use Rattle.apex_refusals.specs.Heads.{line_words, path_to, head_of};
+ghost use Rattle.apex_refusals.specs.Heads.{line_words, path_to, AddsHead};
+ghost use Rattle.apex_refusals.specs.PlaceLines.{key_there};
 
+use crate::line_of::line_of;
 use crate::path::PathOfPart;
 use crate::places::{key_at, stands};
 use crate::printed::Named;
@@ -11,72 +13,16 @@ use apex_config::place::{Part, Place};
 use std::alloc::{AllocError, Global};
 use toml::Value;
 
-/// The most bytes of a text in which the lines of places are looked for, since each look reads the text up to a line.
-const LOOKED_THROUGH: usize = 65_536;
-
-/// What ends the arrays that are open at the end of a line: none, one of tables, or one within a table of another.
-const ENDINGS: [&'static [u8]; 3] = [b"", b"\n]", b"\n]}]"];
-
-/// Whether the begin of a text, its open arrays ended, is TOML in which this stands.
-fn stands_in(
-    alloc: Global,
-    text: &[u8],
-    part: Part,
-    key: Option<&str>,
-) -> Result<bool, AllocError> {
-    for ending in &ENDINGS {
-        let mut begin = Vec::new(alloc);
-        begin.extend_from_slice(text)?;
-        begin.extend_from_slice(ending)?;
-        match toml::table_from_slice(alloc, begin.as_slice()) {
-            Ok(table) => return Ok(stands(&Value::Table(table), part, key)),
-            // An error without a span is want of memory.
-            Err(error) if error.span().is_none() => return Err(AllocError),
-            Err(_) => {}
-        }
+/// The key of a place where it stands; what is missing has the line of what it is missing in.
+fn key_there<'a>(document: &'a Value, place: Place) -> Option<&'a str>
+    ensures { option_copied result ≡ key_there (view document.now) place }
+{
+    let key = key_at(document, place);
+    if stands(document, place.part, key) {
+        key
+    } else {
+        None
     }
-    Ok(false)
-}
-
-/// Where each line of a text ends.
-fn ends_of_lines(alloc: Global, text: &[u8]) -> Result<Vec<usize>, AllocError> {
-    let mut ends = Vec::new(alloc);
-    for (index, byte) in text.iter().enumerate() {
-        if *byte == b'\n' {
-            ends.push(index)?;
-        }
-    }
-    ends.push(text.len())?;
-    Ok(ends)
-}
-
-/// The line of a place, from 1: with it the place stands in the lines so far, and without it it doesn't. What is missing has
-/// the line of what it is missing in. None in a text that is too long, or without the place.
-fn line_of(
-    alloc: Global,
-    text: &[u8],
-    part: Part,
-    key: Option<&str>,
-) -> Result<Option<usize>, AllocError> {
-    if text.len() > LOOKED_THROUGH || !stands_in(alloc, text, part, key)? {
-        return Ok(None);
-    }
-    let ends = ends_of_lines(alloc, text)?;
-    let mut without: usize = 0;
-    let mut with = ends.len();
-    for _ in 0..64 {
-        let middle = without / 2 + with / 2 + (without % 2 + with % 2) / 2;
-        if middle <= without || middle >= with {
-            break;
-        }
-        let end = ends.get(middle - 1).copied().unwrap_or(text.len());
-        if stands_in(alloc, text.get(..end).unwrap_or(text), part, key)? {
-            with = middle;
-        } else {
-            without = middle;
-        }
-    }
-    Ok(Some(with))
 }
 
 /// Writes the path of a part and of a key in it.
@@ -91,7 +37,7 @@ fn push_path(told: &mut String, part: Part, key: Option<&str>) -> Result<(), All
     }
 }
 
-/// Writes the head of a place's line.
+/// Writes the head of a place's line, with the number of its line in the text where that can be told.
 pub fn push_head(
     alloc: Global,
     told: &mut String,
@@ -100,19 +46,14 @@ pub fn push_head(
     document: &Value,
     place: Place,
 ) -> Result<(), AllocError>
-    ensures { OnOk result ((number : Option ℕ) × (string_bytes told.new
-        ≡ string_bytes told.old ++ head_of (view document.now) place file.now number)) }
+    ensures { OnOk result (AddsHead (view document.now) place file.now text.now
+        (string_bytes told.old) (string_bytes told.new)) }
 {
-    let key = key_at(document, place);
-    let there = match key {
-        Some(key) if stands(document, place.part, Some(key)) => Some(key),
-        _ => None,
-    };
-    let number = line_of(alloc, text, place.part, there)?;
+    let number = line_of(alloc, text, place.part, key_there(document, place))?;
     told.push_str(file)?;
     push_number(told, number)?;
     told.push_str(": ")?;
-    push_path(told, place.part, key)?;
+    push_path(told, place.part, key_at(document, place))?;
     told.push_str(": ")
 }
 

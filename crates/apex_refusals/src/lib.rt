@@ -6,6 +6,7 @@ mod finding;
 mod form_finding;
 mod head;
 mod hint;
+mod line_of;
 mod lines;
 mod mistakes;
 mod not_toml;

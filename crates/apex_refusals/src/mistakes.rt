@@ -50,7 +50,7 @@ fn mistakes_in(
     refusal: &Refusal,
 ) -> Result<String, AllocError>
     ensures { IfOk result (λ told.
-        AreMistakesIn (view document.now) file.now refusal.now (string_bytes told)) }
+        AreMistakesIn (view document.now) file.now text.now refusal.now (string_bytes told)) }
 {
     let mut told = String::new(alloc);
     let form = Form::File(File { name: file, text });

@@ -1,5 +1,5 @@
 -- What the observers of a run show.
-use Rattle.std.specs.Prelude.{ℕ, zero, suc, ◌≡◌, ◌+◌, ◌<◌, ◌⊎◌, Bool, true, false, List, length, Some, slice_get, if◌then◌else◌}
+use Rattle.std.specs.Prelude.{ℕ, zero, suc, ◌≡◌, ◌+◌, ◌<◌, ◌⊎◌, false, List, length, Some, slice_get, if◌then◌else◌}
 use Rattle.apex_config.specs.Configuration.{Configuration}
 use Rattle.apex_observers.specs.Published.{Published, last_of}
 use Rattle.apex_ports.specs.Channels.{last_write_on}

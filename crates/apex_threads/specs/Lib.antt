@@ -7,3 +7,4 @@ pub mod PackedReplies
 pub mod Partition
 pub mod Parts
 pub mod Places
+pub mod Steps

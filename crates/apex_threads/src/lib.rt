@@ -10,6 +10,7 @@ pub mod packed_script;
 mod parts;
 pub mod run;
 pub mod shared;
+mod steps;
 mod worker;
 mod workers;
 

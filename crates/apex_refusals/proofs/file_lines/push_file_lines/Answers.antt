@@ -9,7 +9,7 @@ use Rattle.apex_refusals.proofs.file_lines.push_file_lines.Goals as goal
 
 pub loop-place-preserved : goal.loop-place-preserved
 loop-place-preserved c =
-    let step : List ℕ → Place → List ℕ → Type 0 = IsFileLine c.args.file.name.now c.args.read.now c.args.fault (view c.args.document.now) in
+    let step : List ℕ → Place → List ℕ → Type 0 = IsFileLine c.args.file.name.now c.args.file.text.now c.args.read.now c.args.fault (view c.args.document.now) in
     let before = string_bytes c.args.told.now in
     let after = string_bytes c.push_file_line.new.told in
     subst (λ (places : List Place). FoldsTo step before places after) (sym (take_more c.args.places.now c.loop-place.place-index _ c.loop-place-test.true))

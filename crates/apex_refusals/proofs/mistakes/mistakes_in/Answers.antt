@@ -12,5 +12,5 @@ returns c =
     let document = view c.args.document.now in
     let same = ap (λ (places : List Place). let refusal : RefusalData = record { fault = c.refusal.inside.fault; places = places } in refusal) c.as_slice-places.ensures.value ∙ c.refusal.view_is in
     let lines = string_bytes c.push_lines.new.told in
-    let told = subst (λ (places : List Place). AreFileLines c.args.file.now (ends_of c.refusal.inside.fault document) c.refusal.inside.fault document (string_bytes c.new-told.result) places lines) c.first_of.ensures c.in_ok-push_lines.ensures in
-    mistakes_told document c.args.refusal.now c.refusal.inside.fault c.as_slice-places.result.now (string_bytes c.new-told.result) c.args.file.now lines _ c.new-told.ensures.bytes same told (search rules)
+    let told = subst (λ (places : List Place). AreFileLines c.args.file.now c.args.text.now (ends_of c.refusal.inside.fault document) c.refusal.inside.fault document (string_bytes c.new-told.result) places lines) c.first_of.ensures c.in_ok-push_lines.ensures in
+    mistakes_told document c.args.refusal.now c.refusal.inside.fault c.as_slice-places.result.now (string_bytes c.new-told.result) c.args.file.now c.args.text.now lines _ c.new-told.ensures.bytes same told (search rules)

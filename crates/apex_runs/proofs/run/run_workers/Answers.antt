@@ -1,4 +1,3 @@
-use Rattle.std.proofs.Common.{Result, Ok, Err, IfErr}
 use Rattle.apex_runs.proofs.Crossing.{LockedBoard-sync}
 use Rattle.apex_runs.specs.contracts.run.run_workers as run_workers
 use Rattle.apex_runs.proofs.run.run_workers.Goals as goal

@@ -1,4 +1,4 @@
-use Rattle.std.proofs.Common.{◌≡◌, ◌<◌, List, length, sym, subst, arith}
+use Rattle.std.proofs.Common.{◌<◌, List, length, sym, subst, arith}
 use Rattle.apex_types.specs.declared.reply.Reply.{Reply}
 use Rattle.apex_threads.specs.Places.{AreReady}
 use Rattle.apex_threads.proofs.Ready.{ready_more}

@@ -1,5 +1,4 @@
-use Rattle.std.proofs.Common.{◌≡◌, ◌+◌, ◌++◌, ◌∷◌, [], suc, List, take, Some, ap, sym, ◌∙◌, arith}
-use Rattle.std.specs.List.{slice_get}
+use Rattle.std.proofs.Common.{◌≡◌, ◌+◌, ◌++◌, ◌∷◌, [], suc, List, take, ap, sym, ◌∙◌, arith}
 use Rattle.apex_types.specs.declared.reply.Reply.{Reply}
 use Rattle.apex_threads.proofs.Counting.{take_one_more}
 use Rattle.apex_workers.proofs.replies.unpack.Goals as goal

@@ -1,10 +1,9 @@
-use Rattle.std.proofs.Common.{[], refl, sym, subst, inl, inr, ◌∙◌}
+use Rattle.std.proofs.Common.{refl, sym, subst, inl, inr}
 use Rattle.apex_config.specs.Configuration.{Configuration}
 use Rattle.apex_observers.specs.Channels.{Channels, AreObservers}
 use Rattle.apex_observers.specs.declared.publisher.ObserverFault.{ObserverFault}
 use Rattle.apex_observers.specs.declared.publisher.ObserverFault.TheVariants as observer_fault
 use Rattle.apex_ports.specs.History.{History}
-use Rattle.apex_ports.specs.declared.run_fault.RunFault.{RunFault}
 use Rattle.apex_publishing.specs.OnChannels.{ArePublished}
 use Rattle.apex_threads.specs.Fault.{fault_without}
 use Rattle.apex_runs.specs.Run.{IsBoardFault}

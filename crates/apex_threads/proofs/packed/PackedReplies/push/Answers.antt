@@ -1,8 +1,7 @@
-use Rattle.std.proofs.Common.{◌≡◌, ◌++◌, ◌∷◌, [], ℕ, List, length, Some, ap, sym, subst, ◌∙◌, map, Result, Ok, Err, OnErr}
-use Rattle.std.specs.List.{slice_get}
+use Rattle.std.proofs.Common.{◌≡◌, ◌++◌, ◌∷◌, [], ℕ, List, length, ap, sym, subst, ◌∙◌, map, Result, Ok, Err, OnErr}
 use Rattle.apex_types.specs.declared.reply.Reply.{Reply}
 use Rattle.apex_threads.specs.declared.packed.Packed.{Packed}
-use Rattle.apex_threads.specs.PackedReplies.{reply_in, IsPacked, ArePacked}
+use Rattle.apex_threads.specs.PackedReplies.{reply_in, ArePacked}
 use Rattle.apex_threads.proofs.PackedLemmas.{same_replies, still_packed, pushed, one_more_packed}
 use Rattle.apex_threads.proofs.packed.PackedReplies.push.Goals as goal
 

@@ -1,0 +1,31 @@
+//! The queuing port by which a call sends, receives or clears.
+ghost use Rattle.std.specs.Prelude.{◌≡◌, length};
+ghost use Rattle.apex_board.specs.Asked.{asked_port, IsBelow};
+
+use apex_config::Config;
+use apex_types::{Call, Direction};
+
+/// The channel of a queuing port that a call asks for, and the port's direction.
+#[derive(Clone, Copy)]
+pub(crate) struct AskedPort {
+    pub(crate) channel: usize,
+    pub(crate) direction: Direction,
+}
+
+/// The queuing port that a call of a partition sends to, receives from or clears, if it is such a call and has one.
+pub(crate) fn asked_port(config: &Config, partition: usize, call: &Call) -> Option<AskedPort>
+    ensures port { result ≡ asked_port config.now partition call.now }
+    ensures within { IsBelow (length config.now.channels) result }
+{
+    let id = match call {
+        Call::SendQueuing { id, .. } => *id,
+        Call::ReceiveQueuing { id } => *id,
+        Call::ClearQueuing { id } => *id,
+        _ => return None,
+    };
+    let port = config.port(partition, id)?;
+    Some(AskedPort {
+        channel: port.channel,
+        direction: port.direction,
+    })
+}

@@ -1,0 +1,112 @@
+//! The line of a text on which a part of its document begins to stand.
+ghost use Rattle.std.specs.Prelude.{◌≡◌, ◌≤◌, ◌++◌, option_map, length, IfOk};
+ghost use Rattle.std.specs.Option.{option_copied};
+ghost use Rattle.toml.specs.View.{view};
+ghost use Rattle.apex_refusals.specs.Documents.{document_of};
+ghost use Rattle.apex_refusals.specs.PlaceLines.{line_ends, first_lines, document_in, stands_in, IsLineNumber};
+
+use crate::places::stands;
+use apex_config::place::Part;
+use std::alloc::{AllocError, Global};
+use toml::Value;
+
+/// The most bytes of a text in which the lines of places are looked for, since each look reads the text up to a line.
+const LOOKED_THROUGH: usize = 65_536;
+
+/// The document that a text is; none of one that is no TOML.
+fn document_of(alloc: Global, text: &[u8]) -> Result<Option<Value>, AllocError>
+    ensures { IfOk result (λ found. option_map view found ≡ document_of text.now) }
+{
+    match toml::table_from_slice(alloc, text) {
+        Ok(table) => Ok(Some(Value::Table(table))),
+        Err(error) if error.is_memory() => Err(AllocError),
+        Err(_) => Ok(None),
+    }
+}
+
+/// The document that the begin of a text is with this ending.
+fn document_ended(alloc: Global, begin: &[u8], ending: &[u8]) -> Result<Option<Value>, AllocError>
+    ensures { IfOk result (λ found.
+        option_map view found ≡ document_of (begin.now ++ ending.now)) }
+{
+    let mut text = Vec::new(alloc);
+    text.extend_from_slice(begin)?;
+    text.extend_from_slice(ending)?;
+    document_of(alloc, text.as_slice())
+}
+
+/// The document that the begin of a text is: as it stands, or with an end to the arrays that are open.
+fn document_in(alloc: Global, begin: &[u8]) -> Result<Option<Value>, AllocError>
+    ensures { IfOk result (λ found. option_map view found ≡ document_in begin.now) }
+{
+    if let Some(whole) = document_of(alloc, begin)? {
+        return Ok(Some(whole));
+    }
+    if let Some(ended) = document_ended(alloc, begin, b"\n]")? {
+        return Ok(Some(ended));
+    }
+    document_ended(alloc, begin, b"\n]}]")
+}
+
+/// Whether the begin of a text has the part, or the key in it.
+fn stands_in(alloc: Global, begin: &[u8], part: Part, key: Option<&str>) -> Result<bool, AllocError>
+    ensures { IfOk result (λ there.
+        there ≡ stands_in begin.now part (option_copied key.entry)) }
+{
+    match document_in(alloc, begin)? {
+        Some(document) => Ok(stands(&document, part, key)),
+        None => Ok(false),
+    }
+}
+
+/// Where each line of a text ends.
+fn ends_of_lines(alloc: Global, text: &[u8]) -> Result<Vec<usize>, AllocError>
+    ensures { IfOk result (λ ends. ends.items ≡ line_ends 0 text.now) }
+{
+    let mut ends = Vec::new(alloc);
+    for (offset, byte) in text.iter().enumerate() {
+        if *byte == b'\n' {
+            ends.push(offset)?;
+        }
+    }
+    ends.push(text.len())?;
+    Ok(ends)
+}
+
+/// A text up to the end of the line of this number, from 1.
+fn first_lines<'a>(text: &'a [u8], ends: &[usize], number: usize) -> &'a [u8]
+    requires ends { ends.now ≡ line_ends 0 text.now }
+    requires from_one { 1 ≤ number }
+    ensures { result.now ≡ first_lines number text.now }
+{
+    let end = ends.get(number - 1).copied().unwrap_or(text.len());
+    text.get(..end).unwrap_or(text)
+}
+
+/// The line of a part or of a key in it, from 1: with it the place stands in the lines so far, and without it it doesn't.
+/// None in a text that is too long, or without the place.
+pub(crate) fn line_of(
+    alloc: Global,
+    text: &[u8],
+    part: Part,
+    key: Option<&str>,
+) -> Result<Option<usize>, AllocError>
+    ensures { IfOk result (IsLineNumber text.now part (option_copied key.entry)) }
+{
+    if text.len() > LOOKED_THROUGH || !stands_in(alloc, text, part, key)? {
+        return Ok(None);
+    }
+    let ends = ends_of_lines(alloc, text)?;
+    let mut without: usize = 0;
+    let mut with = ends.len();
+    while with - without > 1 {
+        let middle = without + (with - without) / 2;
+        let begin = first_lines(text, ends.as_slice(), middle);
+        if stands_in(alloc, begin, part, key)? {
+            with = middle;
+        } else {
+            without = middle;
+        }
+    }
+    Ok(Some(with))
+}

@@ -1,0 +1,97 @@
+//! The steps of a worker: before each call it passes its gate, then it asks the board, and then the gate hears of it.
+ghost use Rattle.std.specs.Prelude.{◌≡◌, ◌+◌, ◌<◌, OnOk, OnErr};
+
+use crate::gate::{Gate, Held};
+use crate::shared::{AskFault, SharedBoard};
+use apex_types::{Call, Moment, Reply};
+use std::sync::Wait;
+
+/// The one way of a worker to its gate and to the board. It counts the calls that the gate let through, those that were
+/// asked of the board, and those of which the gate heard; no step can be taken out of turn.
+pub(crate) struct Steps<'a, S, G> {
+    board: &'a S,
+    gate: &'a G,
+    partition: usize,
+    passed: usize,
+    asked: usize,
+    heard: usize,
+}
+
+impl<S, G> Drop for Steps<'_, S, G> {
+    fn drop(self) {
+        let Steps {
+            board: _,
+            gate: _,
+            partition: _,
+            passed: _,
+            asked: _,
+            heard: _,
+        } = self;
+    }
+}
+
+impl<'a, S: SharedBoard, G: Gate> Steps<'a, S, G> {
+    ghost use Rattle.apex_threads.specs.Steps.{IsBetweenCalls, IsOfSameWorker};
+
+    /// The steps of a partition's worker before its first call.
+    pub(crate) fn new(board: &'a S, gate: &'a G, partition: usize) -> Steps<'a, S, G>
+        ensures first { IsBetweenCalls result 0 }
+        ensures partition { result.partition ≡ partition }
+        ensures gate { result.gate.now ≡ gate.now }
+    {
+        Steps {
+            board,
+            gate,
+            partition,
+            passed: 0,
+            asked: 0,
+            heard: 0,
+        }
+    }
+
+    /// Passes the gate before the next call, once the gate has heard of each earlier one.
+    pub(crate) fn pass(&mut self) -> Result<(), Held>
+        requires turn { IsBetweenCalls self.old self.old.passed }
+        requires room { self.old.passed < usize.MAX }
+        ensures passed { OnOk result (self.new.passed ≡ self.old.passed + 1) }
+        ensures refused { OnErr result
+            (G.may_refuse self.old.gate.now self.old.partition (self.old.passed + 1)) }
+        ensures asked { self.new.asked ≡ self.old.asked }
+        ensures heard { self.new.heard ≡ self.old.heard }
+        ensures same { IsOfSameWorker self.old self.new }
+    {
+        let n = self.passed + 1;
+        self.gate.pass(self.partition, n)?;
+        self.passed = n;
+        Ok(())
+    }
+
+    /// Asks the board for the call that the gate let through.
+    pub(crate) fn ask<R: Wait>(
+        &mut self,
+        rt: &R,
+        at: Moment,
+        call: &Call,
+    ) -> Result<Reply, AskFault>
+        requires turn { self.old.passed ≡ self.old.asked + 1 }
+        ensures asked { self.new.asked ≡ self.old.asked + 1 }
+        ensures passed { self.new.passed ≡ self.old.passed }
+        ensures heard { self.new.heard ≡ self.old.heard }
+        ensures same { IsOfSameWorker self.old self.new }
+    {
+        self.asked += 1;
+        self.board.ask(rt, self.partition, at, call)
+    }
+
+    /// Lets the gate hear of the call that was asked.
+    pub(crate) fn tell(&mut self)
+        requires turn { self.old.asked ≡ self.old.heard + 1 }
+        ensures heard { self.new.heard ≡ self.old.heard + 1 }
+        ensures passed { self.new.passed ≡ self.old.passed }
+        ensures asked { self.new.asked ≡ self.old.asked }
+        ensures same { IsOfSameWorker self.old self.new }
+    {
+        self.heard += 1;
+        self.gate.answered(self.partition, self.heard);
+    }
+}
