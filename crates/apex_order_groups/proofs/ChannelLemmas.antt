@@ -1,6 +1,5 @@
 -- What a channel counts comes from the entries of the partitions that have its ports.
-use Rattle.std.proofs.Common.{◌≡◌, ◌≢◌, ℕ, ◌<◌, ◌==◌, Bool, true, false, cond, List, [], ◌∷◌, ◌++◌, length, drop, filter, Option, Some, None, refl, sym, ap, ◌∙◌, subst, arith, append-nil}
-use Rattle.std.specs.List.{slice_get}
+use Rattle.std.proofs.Common.{◌≡◌, ◌≢◌, ℕ, ◌<◌, Bool, true, false, cond, List, [], ◌∷◌, ◌++◌, length, drop, filter, Option, Some, None, refl, sym, ap, ◌∙◌, arith, append-nil}
 use Rattle.std.proofs.lemmas.Bool.Decides.{nat_tests}
 use Rattle.std.proofs.lemmas.List.Elements.{filter-append}
 use Rattle.apex_types.specs.declared.call.Call.{Call}
@@ -9,7 +8,7 @@ use Rattle.apex_types.specs.declared.taken.Taken.{Taken}
 use Rattle.apex_config.specs.Configuration.{Configuration, port_of}
 use Rattle.apex_config.specs.declared.port.Port.{Port}
 use Rattle.apex_ports.specs.declared.history.Entry.{Entry}
-use Rattle.apex_ports.specs.Channels.{accepted_on, message_accepted, message_received, received_on, taken_by, taken_on, waiting_on}
+use Rattle.apex_ports.specs.Channels.{accepted_on, message_accepted, message_received, received_on, taken_by, taken_on}
 use Rattle.apex_ports.specs.Counts.{count_of}
 use Rattle.apex_ports.specs.History.{History}
 use Rattle.apex_ports.specs.Interference.{IsClosed, entries_inside}

@@ -1,5 +1,5 @@
 -- The scripts of the partitions inside come to what all scripts come to inside.
-use Rattle.std.proofs.Common.{◌≡◌, ⊎_elim, ℕ, ◌<◌, ◌≤◌, Bool, true, false, List, [], length, map, take, Ok, Err, Result, Option, Some, refl, sym, ap, ◌∙◌, subst, arith}
+use Rattle.std.proofs.Common.{◌≡◌, ⊎_elim, ℕ, ◌<◌, ◌≤◌, Bool, true, false, List, [], length, map, take, Ok, Err, Result, Option, refl, sym, ap, ◌∙◌, subst, arith}
 use Rattle.std.specs.Prelude.{IfOk, IfSome, IfNone}
 use Rattle.std.specs.List.{slice_get}
 use Rattle.std.proofs.lemmas.Bool.{cases_lt}
@@ -16,7 +16,7 @@ use Rattle.apex_groups.proofs.Inside.{all_inside, entries_go, entries_stay}
 use Rattle.apex_orders.specs.declared.orders_fault.OrdersFault.{OrdersFault}
 use Rattle.apex_orders.specs.declared.orders_fault.OrdersFault.TheVariants.{TooManyStates, OutOfMemory}
 use Rattle.apex_orders.specs.declared.replies.Possible.{Possible}
-use Rattle.apex_orders.specs.Orders.{Scripts, script_of, calls_of, replies_of, IsBeginning, IsWay}
+use Rattle.apex_orders.specs.Orders.{Scripts, script_of, calls_of, IsBeginning, IsWay}
 use Rattle.apex_orders.specs.Outcomes.{AreEnds, AreReplies, CanOccur, HasMorePoints, IsGivenBy, IsUndecided}
 use Rattle.apex_orders.specs.declared.outcomes.Outcomes.{Outcomes}
 use Rattle.apex_orders.proofs.Completing.{answered_on, begins_of, finish}

@@ -1,5 +1,5 @@
 -- What is found of the scripts of each group of partitions.
-use Rattle.std.specs.Prelude.{ℕ, ◌≡◌, ◌<◌, ◌↔◌, ◌+◌, if◌then◌else◌, Bool, List, [], ◌∷◌, ◌++◌, length, filter, replicate, Option, IfSome, IfNone}
+use Rattle.std.specs.Prelude.{ℕ, ◌<◌, ◌↔◌, ◌+◌, if◌then◌else◌, Bool, List, [], ◌∷◌, ◌++◌, length, filter, replicate, Option, IfSome, IfNone}
 use Rattle.apex_config.specs.Configuration.{Configuration}
 use Rattle.apex_ports.specs.History.{History}
 use Rattle.apex_ports.specs.Interference.{entries_inside}

@@ -1,4 +1,4 @@
-use Rattle.std.proofs.Common.{◌≡◌, ℕ, Bool, [], length, subst}
+use Rattle.std.proofs.Common.{ℕ, Bool, [], length, subst}
 use Rattle.std.specs.Prelude.{replicate}
 use Rattle.apex_log_orders.specs.LogOrders.{Logs, IsAnswer}
 use Rattle.apex_groups.specs.Groups.{AreExchanged, in_group}

@@ -1,4 +1,4 @@
-use Rattle.std.proofs.Common.{◌≡◌, ℕ, Bool, [], length, subst}
+use Rattle.std.proofs.Common.{ℕ, Bool, [], length, subst}
 use Rattle.std.specs.Prelude.{replicate}
 use Rattle.apex_orders.specs.Orders.{Scripts}
 use Rattle.apex_groups.specs.Groups.{AreExchanged, in_group}

@@ -1,4 +1,4 @@
-use Rattle.std.proofs.Common.{ℕ, Bool, List, Some, None, sym, ◌∙◌, subst}
+use Rattle.std.proofs.Common.{ℕ, Bool, Some, None, sym, ◌∙◌, subst}
 use Rattle.apex_groups.specs.Groups.{in_group}
 use Rattle.apex_orders.specs.Outcomes.{IsGivenBy}
 use Rattle.apex_order_groups.specs.Parts.{IsAnswerOf}

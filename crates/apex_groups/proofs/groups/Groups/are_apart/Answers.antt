@@ -1,4 +1,4 @@
-use Rattle.std.proofs.Common.{◌<◌, ℕ, length, arith}
+use Rattle.std.proofs.Common.{arith}
 use Rattle.apex_groups.proofs.GroupLemmas.{groups_apart}
 use Rattle.apex_groups.proofs.groups.Groups.are_apart.Goals as goal
 
