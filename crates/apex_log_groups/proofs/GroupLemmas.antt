@@ -1,44 +1,20 @@
 -- Groups searched one after the other.
-use Rattle.std.proofs.Common.{◌≡◌, ◌≢◌, ⊎_elim, ℕ, zero, suc, ◌+◌, ◌<◌, ◌≤◌, ◌==◌, Bool, true, false, cond, if◌then◌else◌, ◌-◌, List, [], ◌∷◌, ◌++◌, length, take, Option, Some, None, refl, sym, ap, ◌∙◌, subst, arith, append-nil}
+use Rattle.std.proofs.Common.{◌≡◌, ◌≢◌, ⊎_elim, ℕ, zero, suc, ◌+◌, ◌<◌, ◌≤◌, ◌==◌, Bool, true, false, cond, ◌-◌, List, [], ◌∷◌, ◌++◌, length, take, Option, refl, sym, ap, ◌∙◌, subst, arith, append-nil}
 use Rattle.std.specs.List.{slice_get, filter}
 use Rattle.std.specs.Option.{option_to_list}
 use Rattle.std.proofs.lemmas.Bool.{cases_lt}
 use Rattle.std.proofs.lemmas.Bool.Decides.{nat_tests}
-use Rattle.std.proofs.lemmas.Option.{slice_get_within}
-use Rattle.apex_config.specs.Configuration.{Configuration, PartitionData, port_of, port_at, ports_of_partition}
-use Rattle.apex_config.specs.declared.port.Port.{Port}
+use Rattle.apex_config.specs.Configuration.{Configuration}
 use Rattle.apex_ports.specs.declared.history.Entry.{Entry}
 use Rattle.apex_ports.specs.History.{History, entries_of}
-use Rattle.apex_ports.specs.Interference.{entries_inside}
 use Rattle.apex_log_orders.specs.declared.answer.CallPlace.{CallPlace}
-use Rattle.apex_log_orders.specs.LogOrders.{Logs, log_in, IsOrder, IsBeginning, entry_at, entries_at}
+use Rattle.apex_log_orders.specs.LogOrders.{Logs, log_in, IsOrder, IsBeginning, entries_at}
 use Rattle.apex_log_orders.proofs.Beginnings.{begins_nil, entries_at-append}
 use Rattle.std.proofs.lemmas.List.Elements.{filter-append}
-use Rattle.apex_log_groups.specs.Groups.{AreApart, AreWhole, HasItsChannels, HasNone, IsOfGroups, IsPart, group_of, in_group}
-use Rattle.apex_log_groups.proofs.Exchanged.{no_log}
-use Rattle.apex_log_groups.proofs.Joined.{joined_lawful, none_inside, all_inside, here_inside, none_outside}
-
--- ---- groups
-
-owner_within : (config : Configuration) (p id : ℕ) (port : Port) → port_of config p id ≡ Some port → p < length config.partitions
-owner_within config p id port found = of_partition (slice_get config.partitions p) refl found
-  where
-    none_at : (b : Bool) → ◌≡◌ {A = Option Port} (if b then None else None) (Some port) → ⊥
-    none_at true is = absurd cc
-    none_at false is = absurd cc
-
-    of_partition : (o : Option PartitionData) → slice_get config.partitions p ≡ o → port_at (ports_of_partition o) id ≡ Some port → p < length config.partitions
-    of_partition None is at = absurd (none_at (id == 0) at)
-    of_partition (Some partition) is at = slice_get_within config.partitions p partition is
-
-pub groups_apart : (config : Configuration) (groups channels : List ℕ)
-    → ((p : ℕ) → p < length config.partitions → (group_of groups p < length config.partitions) × HasItsChannels config groups channels p) → AreApart config groups
-groups_apart config groups channels each = record {
-  closed = λ group p id q jd port other mine theirs shared. ap (λ (g : ℕ). g == group) (
-      sym ((each p (owner_within config p id port mine)).1 id port mine)
-      ∙ (ap (group_of channels) shared ∙ (each q (owner_within config q jd other theirs)).1 jd other theirs));
-  within = λ p inside. (each p inside).0;
-}
+use Rattle.apex_groups.specs.Groups.{AreApart, HasNone, IsPart, group_of, in_group}
+use Rattle.apex_groups.proofs.Exchanged.{here_inside, no_list, none_outside}
+use Rattle.apex_groups.proofs.Inside.{all_inside, joined_lawful, none_inside}
+use Rattle.apex_log_groups.specs.LogGroups.{AreWhole, IsOfGroups}
 
 -- ---- histories
 
@@ -92,7 +68,7 @@ module _ (config : Configuration) (logs : Logs) (groups : List ℕ) where
       none_here p here = joined.others p (let same : group_of groups p ≡ group = grind (arith, nat_tests, here) in omega (arith, same))
 
       none_there : (p : ℕ) → inside p ≡ false → entries_of p more ≡ []
-      none_there p out = begins.entries p ∙ (ap (take (length (entries_of p more))) (none_outside config inside (apart.closed group) logs part is p out) ∙ take_none (length (entries_of p more)))
+      none_there p out = begins.entries p ∙ (ap (take (length (entries_of p more))) (none_outside inside logs part is p out) ∙ take_none (length (entries_of p more)))
 
       mine : (p : ℕ) → inside p ≡ true → entries_of p (h ++ more) ≡ entries_of p more
       mine p here = entries_of-append p h more ∙ ap (λ (es : History). es ++ entries_of p more) (none_here p here)
@@ -102,7 +78,7 @@ module _ (config : Configuration) (logs : Logs) (groups : List ℕ) where
 
       begins_each : (p : ℕ) (b : Bool) → inside p ≡ b → entries_of p (h ++ more) ≡ take (length (entries_of p (h ++ more))) (log_in logs p)
       begins_each p true here = subst (λ (es : History). es ≡ take (length es) (log_in logs p)) (sym (mine p here))
-          (begins.entries p ∙ ap (take (length (entries_of p more))) (here_inside config inside (apart.closed group) logs part is p here))
+          (begins.entries p ∙ ap (take (length (entries_of p more))) (here_inside inside logs part is p here))
       begins_each p false out = subst (λ (es : History). es ≡ take (length es) (log_in logs p)) (sym (others p out)) (joined.begins.entries p)
 
       pub of_group : IsOfGroups config logs groups (group + 1) (h ++ more)
@@ -120,7 +96,7 @@ module _ (config : Configuration) (logs : Logs) (groups : List ℕ) where
       whole_group whole order p within few = by_test (inside p) refl
         where
           by_test : (b : Bool) → inside p ≡ b → entries_of p (h ++ more) ≡ log_in logs p
-          by_test true here = mine p here ∙ (order.entries p ∙ here_inside config inside (apart.closed group) logs part is p here)
+          by_test true here = mine p here ∙ (order.entries p ∙ here_inside inside logs part is p here)
           by_test false out = others p out ∙ whole p within (grind (arith, nat_tests, few, out))
 
   -- where all groups are searched
@@ -130,7 +106,7 @@ module _ (config : Configuration) (logs : Logs) (groups : List ℕ) where
     entries = λ p. ⊎_elim
         (λ (within : p < length config.partitions). whole p within (apart.within p within))
         (λ (beyond : length config.partitions ≤ p).
-        let none : log_in logs p ≡ [] = no_log logs p (omega (arith, count, beyond)) in
+        let none : log_in logs p ≡ [] = no_list logs p (omega (arith, count, beyond)) in
         joined.begins.entries p ∙ (ap (take (length (entries_of p h))) none ∙ (take_none (length (entries_of p h)) ∙ sym none)))
         (cases_lt p (length config.partitions));
   }

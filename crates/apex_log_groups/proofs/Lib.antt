@@ -1,3 +1,2 @@
-pub mod Exchanged
 pub mod GroupLemmas
 pub mod Joined

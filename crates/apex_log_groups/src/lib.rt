@@ -2,7 +2,6 @@
 //! searched by themselves.
 #![tactic(auto)]
 
-mod groups;
 mod parts;
 mod search;
 

@@ -1,13 +1,13 @@
 //! The logs of one group.
 ghost use Rattle.std.specs.Prelude.{◌≡◌, ◌++◌, ℕ, [], length, filter, replicate, IfOk, OnOk};
-ghost use Rattle.apex_log_groups.specs.Groups.{AreExchanged, IsAnswerOf, in_group};
+ghost use Rattle.apex_groups.specs.Groups.{in_group};
+ghost use Rattle.apex_log_groups.specs.LogGroups.{IsAnswerOf};
 
-use crate::groups::Groups;
 use apex_config::Config;
+use apex_groups::{Groups, exchange};
 use apex_log_orders::{Answer, CallPlace, Listener, OwnLog, find_order_telling};
 use apex_types::OutOfMemory;
 use std::alloc::{AllocError, Global};
-use std::mem;
 
 /// So many logs without an entry.
 pub(crate) fn no_logs(alloc: Global, count: usize) -> Result<Vec<OwnLog>, AllocError>
@@ -45,21 +45,6 @@ pub(crate) fn find_order_of<L: Listener>(
     let answer = find_order_telling(alloc, config, part, steps, listener);
     exchange(groups, group, logs, part);
     answer
-}
-
-/// Puts the logs of the group's partitions in each other's place.
-fn exchange(groups: &Groups, group: usize, one: &mut [OwnLog], other: &mut [OwnLog])
-    requires { length one.old ≡ length other.old }
-    ensures one { AreExchanged (in_group groups.now.of_partitions.items group)
-        one.old other.old one.new }
-    ensures other { AreExchanged (in_group groups.now.of_partitions.items group)
-        other.old one.old other.new }
-{
-    for p in 0..one.len() {
-        if groups.of_partition(p) == group {
-            mem::swap(&mut one[p], &mut other[p]);
-        }
-    }
 }
 
 /// Adds those of the places that are of the group's partitions.

@@ -1,11 +1,11 @@
 //! The search of an order, group by group.
 ghost use Rattle.std.specs.Prelude.{◌≡◌, length, IfOk};
 ghost use Rattle.apex_log_orders.specs.LogOrders.{IsAnswer};
-ghost use Rattle.apex_log_groups.specs.Groups.{AreApart};
+ghost use Rattle.apex_groups.specs.Groups.{AreApart};
 
-use crate::groups::Groups;
 use crate::parts::{add_places, find_order_of, no_logs};
 use apex_config::Config;
+use apex_groups::Groups;
 use apex_log_orders::{Answer, Listener, OwnLog, find_order_telling};
 use apex_types::OutOfMemory;
 use std::alloc::Global;

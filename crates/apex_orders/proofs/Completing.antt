@@ -100,7 +100,7 @@ module _ (config : Configuration) (scripts : Scripts) (valid : IsConfiguration c
   abbrev pub IsFull : ℕ → History → Type 0
   IsFull p h = length (script_of scripts p) ≤ length (calls_of p h)
 
-  grows : (h : History) (order : List ℕ) (p : ℕ) → length (calls_of p h) ≤ length (calls_of p (continued config scripts h order))
+  pub grows : (h : History) (order : List ℕ) (p : ℕ) → length (calls_of p h) ≤ length (calls_of p (continued config scripts h order))
   grows h [] p = omega arith
   grows h (q ∷ order) p =
       let longer = ap (λ (calls : List (Moment × Call)). length calls) (calls_of-append p h (next_entries config scripts h q)) in
@@ -169,6 +169,13 @@ module _ (config : Configuration) (scripts : Scripts) (valid : IsConfiguration c
   finish count h good =
       let full = finish_below (length config.partitions) h (omega arith) in
       record { order = full.order; is_order = full.is_order; finished = way_of count (continued config scripts h full.order) (good_walk config scripts h full.order good full.is_order) full.finished }
+
+  -- a way is a beginning
+  pub begins_of : (h : History) → IsWay config scripts h → IsBeginning config scripts h
+  begins_of h way = record {
+    lawful = way.lawful;
+    calls = λ p. way.calls p ∙ sym (take_whole (length (calls_of p h)) (script_of scripts p) (let same = ap (λ (calls : List (Moment × Call)). length calls) (way.calls p) in omega (arith, same)));
+  }
 
   -- ---- what a search knows that has come to its end
 
@@ -239,12 +246,6 @@ module _ (config : Configuration) (scripts : Scripts) (valid : IsConfiguration c
         (λ (now : Makes config scripts h p other). given_next h p within good known other now)
         (answered_by h p other at))
         one here
-
-    begins_of : (h : History) → IsWay config scripts h → IsBeginning config scripts h
-    begins_of h way = record {
-      lawful = way.lawful;
-      calls = λ p. way.calls p ∙ sym (take_whole (length (calls_of p h)) (script_of scripts p) (let same = ap (λ (calls : List (Moment × Call)). length calls) (way.calls p) in omega (arith, same)));
-    }
 
     -- each reply that can occur is given behind one of the orders
     pub given_of_occurs : (one : Possible) → CanOccur config scripts one → IsGivenByAnOrder config scripts orders one

@@ -20,6 +20,13 @@ impl Model for Order {
 }
 
 impl Order {
+    /// The order in which these partitions make the calls.
+    pub fn new(partitions: Vec<usize>) -> Order
+        ensures { result ≡ partitions.items }
+    {
+        Order { partitions }
+    }
+
     /// The numbers of the partitions.
     pub fn partitions(&self) -> &[usize]
         ensures { result.now ≡ self.now }
@@ -99,6 +106,6 @@ impl PackedOrder {
         for p in self.partitions.as_slice() {
             partitions.push(*p as usize)?;
         }
-        Ok(Order { partitions })
+        Ok(Order::new(partitions))
     }
 }

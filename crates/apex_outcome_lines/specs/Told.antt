@@ -1,12 +1,14 @@
 -- What is told of all orders of scripts: each call with its replies, each queuing channel with the ranges of its counts,
--- and how many states and ends there are.
-use Rattle.std.specs.Prelude.{ℕ, ◌+◌, ◌==◌, if◌then◌else◌, List, [], ◌∷◌, ◌++◌, length, codes, decimal}
+-- and how many states and ends each group of partitions has.
+use Rattle.std.specs.Prelude.{ℕ, ◌+◌, ◌==◌, if◌then◌else◌, List, [], ◌∷◌, ◌++◌, codes, decimal}
 use Rattle.apex_config.specs.Configuration.{Configuration}
 use Rattle.apex_config.specs.declared.channel.Channel.{Channel}
 use Rattle.apex_config.specs.declared.channel.ChannelKind.{ChannelKind}
 use Rattle.apex_config.specs.declared.channel.ChannelKind.TheVariants as kinds
 use Rattle.apex_orders.specs.Orders.{Scripts}
-use Rattle.apex_orders.specs.declared.outcomes.Outcomes.{Outcomes}
+use Rattle.apex_order_groups.specs.declared.outcomes.GroupCounts.{GroupCounts}
+use Rattle.apex_order_groups.specs.declared.outcomes.OutcomesApart.{OutcomesApart}
+use Rattle.apex_texts.specs.Report.{name_of_partition}
 use Rattle.apex_outcome_lines.specs.declared.counts.Ranges.{Ranges}
 use Rattle.apex_outcome_lines.specs.declared.script_lines.LineNumbers.{LineNumbers}
 use Rattle.apex_outcome_lines.specs.Calls.{scripts_lines}
@@ -43,7 +45,7 @@ channel_lines config scripts ends c [] = []
 channel_lines config scripts ends c (channel ∷ rest) =
     channel_line config scripts ends c channel.name channel.kind ++ channel_lines config scripts ends (c + 1) rest
 
--- ---- the last line
+-- ---- the last lines
 
 -- a number of ends
 abbrev pub ends_text : ℕ → List ℕ
@@ -57,11 +59,39 @@ states_text count = if count == 1 then codes "1 state" else decimal count ++ cod
 unfoldable pub count_line : ℕ → ℕ → List ℕ
 count_line states ends = states_text states ++ codes ", " ++ ends_text ends ++ codes "\n"
 
+-- names of partitions, each behind a comma
+unfoldable pub names_behind : Configuration → List ℕ → List ℕ
+names_behind config [] = []
+names_behind config (p ∷ rest) = codes ", " ++ name_of_partition config p ++ names_behind config rest
+
+-- and the first behind none
+unfoldable pub names_text : Configuration → List ℕ → List ℕ
+names_text config [] = []
+names_text config (p ∷ rest) = name_of_partition config p ++ names_behind config rest
+
+-- `N states, M ends` of a group
+abbrev pub group_count : GroupCounts → List ℕ
+group_count group = count_line group.states group.ends
+
+-- `NAME, NAME: N states, M ends`
+unfoldable pub group_line : Configuration → GroupCounts → List ℕ
+group_line config group = names_text config group.partitions.items ++ codes ": " ++ group_count group
+
+-- a line for each of several groups
+unfoldable pub group_lines : Configuration → List GroupCounts → List ℕ
+group_lines config [] = []
+group_lines config (group ∷ rest) = group_line config group ++ group_lines config rest
+
+-- of one group the counts alone
+unfoldable pub count_lines : Configuration → List GroupCounts → List ℕ
+count_lines config (group ∷ []) = group_count group
+count_lines config groups = group_lines config groups
+
 -- ---- the whole
 
 -- the lines of all calls, of all queuing channels, and of the counts
-unfoldable pub text_of : Configuration → Scripts → List LineNumbers → Outcomes → List ℕ
+unfoldable pub text_of : Configuration → Scripts → List LineNumbers → OutcomesApart → List ℕ
 text_of config scripts lines outcomes =
     scripts_lines config lines outcomes.replies.items 0 scripts
     ++ channel_lines config scripts outcomes.ends.items 0 config.channels
-    ++ count_line outcomes.states (length outcomes.ends.items)
+    ++ count_lines config outcomes.groups.items

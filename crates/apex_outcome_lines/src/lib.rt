@@ -1,5 +1,5 @@
 //! All that can happen to scripts as a text: each call with the replies that it can get, each queuing channel with the
-//! ranges of its counts, and how many states and ends there are.
+//! ranges of its counts, and how many states and ends each group of partitions has.
 #![tactic(auto)]
 
 pub mod counts;

@@ -1,27 +1,29 @@
 //! The whole text of all that can happen to scripts.
 ghost use Rattle.std.specs.Prelude.{◌≡◌, ◌<◌, ◌++◌, length, slice_get, Some, string_bytes, IfOk, OnOk};
 ghost use Rattle.apex_outcome_lines.specs.Calls.{numbers_of, scripts_lines};
-ghost use Rattle.apex_outcome_lines.specs.Told.{range_text, cleared_text, ranges_text, channel_line, channel_lines, states_text, ends_text, count_line, text_of};
+ghost use Rattle.apex_outcome_lines.specs.Told.{range_text, cleared_text, ranges_text, channel_line, channel_lines, states_text, ends_text, count_line, names_behind, names_text, group_line, group_lines, count_lines, text_of};
+ghost use Rattle.apex_texts.specs.Report.{name_of_partition};
 
 use crate::counts::{Ranges, ranges_of};
 use crate::replies::push_script;
 use crate::script_lines::LineNumbers;
 use crate::words::{push_number, push_word};
 use apex_config::{Channel, ChannelKind, Config};
-use apex_orders::{Order, Outcomes, Possible};
+use apex_order_groups::{GroupCounts, OutcomesApart};
+use apex_orders::{Order, Possible};
 use apex_ports::Script;
 use apex_types::OutOfMemory;
 use std::alloc::{AllocError, Global};
 
 /// A line for each call with the replies that it can get, a line for each queuing channel with the ranges of its counts,
-/// and how many states and ends there are. `lines` has the numbers of the lines of each partition's calls.
+/// and how many states and ends each group of partitions has. `lines` has the numbers of the lines of each partition's calls.
 #[tactic(auto, unfolding(crate::specs::Told::text_of))]
 pub fn outcomes_text(
     alloc: Global,
     config: &Config,
     scripts: &[Script],
     lines: &[LineNumbers],
-    outcomes: &Outcomes,
+    outcomes: &OutcomesApart,
 ) -> Result<String, OutOfMemory>
     requires { length scripts.now ≡ length config.now.partitions }
     ensures { let told = text_of config.now scripts.now lines.now outcomes.now in
@@ -32,7 +34,7 @@ pub fn outcomes_text(
     let ends = outcomes.ends.as_slice();
     push_scripts(&mut text, config, scripts, lines, replies)?;
     push_channels(alloc, &mut text, config, scripts, ends)?;
-    push_count(&mut text, outcomes.states, ends.len())?;
+    push_counts(&mut text, config, outcomes.groups.as_slice())?;
     Ok(text)
 }
 
@@ -148,6 +150,76 @@ fn push_cleared(text: &mut String, low: u64, high: u64) -> Result<(), AllocError
     }
     push_word(text, " cleared ")?;
     push_range(text, low, high)
+}
+
+/// The counts of one group alone, or a line for each of several.
+#[tactic(auto, unfolding(crate::specs::Told::count_lines))]
+fn push_counts(text: &mut String, config: &Config, groups: &[GroupCounts]) -> Result<(), AllocError>
+    ensures { OnOk result (string_bytes text.new
+        ≡ string_bytes text.old ++ count_lines config.now groups.now) }
+{
+    match groups {
+        [group] => push_count(text, group.states, group.ends),
+        _ => push_groups(text, config, groups),
+    }
+}
+
+#[tactic(auto, unfolding(crate::specs::Told::group_lines))]
+fn push_groups(text: &mut String, config: &Config, groups: &[GroupCounts]) -> Result<(), AllocError>
+    ensures { OnOk result (string_bytes text.new
+        ≡ string_bytes text.old ++ group_lines config.now groups.now) }
+{
+    for group in groups {
+        push_group(text, config, group)?;
+    }
+    Ok(())
+}
+
+/// `NAME, NAME: N states, M ends`, at the end of a text.
+#[tactic(auto, unfolding(crate::specs::Told::group_line))]
+fn push_group(text: &mut String, config: &Config, group: &GroupCounts) -> Result<(), AllocError>
+    ensures { OnOk result (string_bytes text.new
+        ≡ string_bytes text.old ++ group_line config.now group.now) }
+{
+    push_names(text, config, group.partitions.as_slice())?;
+    push_word(text, ": ")?;
+    push_count(text, group.states, group.ends)
+}
+
+/// The partitions' names, each but the first behind a comma.
+#[tactic(auto, unfolding(crate::specs::Told::names_text))]
+fn push_names(text: &mut String, config: &Config, partitions: &[usize]) -> Result<(), AllocError>
+    ensures { OnOk result (string_bytes text.new
+        ≡ string_bytes text.old ++ names_text config.now partitions.now) }
+{
+    let Some((first, rest)) = partitions.split_first() else {
+        return Ok(());
+    };
+    push_name(text, config, *first)?;
+    push_others(text, config, rest)
+}
+
+#[tactic(auto, unfolding(crate::specs::Told::names_behind))]
+fn push_others(text: &mut String, config: &Config, partitions: &[usize]) -> Result<(), AllocError>
+    ensures { OnOk result (string_bytes text.new
+        ≡ string_bytes text.old ++ names_behind config.now partitions.now) }
+{
+    for p in partitions {
+        push_word(text, ", ")?;
+        push_name(text, config, *p)?;
+    }
+    Ok(())
+}
+
+/// The partition's name; nothing of a number that is no partition's.
+fn push_name(text: &mut String, config: &Config, p: usize) -> Result<(), AllocError>
+    ensures { OnOk result (string_bytes text.new
+        ≡ string_bytes text.old ++ name_of_partition config.now p) }
+{
+    if p >= config.partitions() {
+        return Ok(());
+    }
+    push_word(text, config.partition_name(p).text())
 }
 
 /// `N states, M ends`, at the end of a text.

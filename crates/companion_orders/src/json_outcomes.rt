@@ -2,7 +2,8 @@
 ghost use Rattle.std.specs.Prelude.{◌≡◌, ◌<◌, length};
 
 use apex_config::{ChannelKind, Config};
-use apex_orders::{Order, Outcomes, Possible};
+use apex_order_groups::{GroupCounts, OutcomesApart};
+use apex_orders::{Order, Possible};
 use apex_outcome_lines::{LineNumbers, ranges_of};
 use apex_ports::Script;
 use apex_texts::{Service, push_reply};
@@ -31,20 +32,22 @@ struct ChannelLine<'a> {
     waiting: (u64, u64),
 }
 
-/// How many states and ends there are.
+/// How many states and ends a group of partitions has.
 #[derive(Drop, Serialize)]
-struct CountLine {
+struct CountLine<'a> {
     states: usize,
     ends: usize,
+    partitions: Vec<&'a str>,
 }
 
-/// The objects of all that can happen: one for each call, one for each queuing channel, and then the counts.
+/// The objects of all that can happen: one for each call, one for each queuing channel, and then one for each
+/// group of partitions.
 pub(crate) fn outcomes_as_json(
     alloc: Global,
     config: &Config,
     scripts: &[Script],
     lines: &[LineNumbers],
-    outcomes: &Outcomes,
+    outcomes: &OutcomesApart,
 ) -> Result<String, OutOfMemory>
     requires { length scripts.now ≡ length config.now.partitions }
 {
@@ -63,12 +66,30 @@ pub(crate) fn outcomes_as_json(
         }
     }
     push_channels(alloc, &mut text, config, scripts, outcomes.ends.as_slice())?;
-    let counted = CountLine {
-        states: outcomes.states,
-        ends: outcomes.ends.len(),
-    };
-    push_object(alloc, &mut text, &counted)?;
+    for group in outcomes.groups.iter() {
+        push_group(alloc, &mut text, config, group)?;
+    }
     Ok(text)
+}
+
+fn push_group(
+    alloc: Global,
+    text: &mut String,
+    config: &Config,
+    group: &GroupCounts,
+) -> Result<(), AllocError> {
+    let mut partitions = Vec::new(alloc);
+    for p in group.partitions.iter() {
+        if *p < config.partitions() {
+            partitions.push(config.partition_name(*p).text())?;
+        }
+    }
+    let object = CountLine {
+        states: group.states,
+        ends: group.ends,
+        partitions,
+    };
+    push_object(alloc, text, &object)
 }
 
 fn push_call(

@@ -8,8 +8,9 @@ use apex_call_words::push_logged;
 use apex_config::Config;
 use apex_files::Refusal;
 use apex_logs::read_reply;
+use apex_order_groups::order_giving_apart;
 use apex_orders::step::step;
-use apex_orders::{Order, Possible, order_giving_telling};
+use apex_orders::{Order, Possible};
 use apex_outcome_lines::LineNumbers;
 use apex_ports::{Ports, Script};
 use apex_types::{OutOfMemory, Reply};
@@ -24,13 +25,13 @@ const NEVER: &[u8] = b"never\n";
 pub(crate) fn occurrence<'a, P: Progress>(
     alloc: Global,
     config: &Config,
-    scripts: &[Script],
+    scripts: &mut [Script],
     lines: &[LineNumbers],
     states: usize,
     question: Question<'a>,
     progress: &mut P,
 ) -> Result<Vec<u8>, Unfinished<'a>>
-    requires { length scripts.now ≡ length config.now.partitions }
+    requires { length scripts.old ≡ length config.now.partitions }
 {
     let (words, wanted) = match question {
         Question::When(words) => (words, true),
@@ -40,7 +41,7 @@ pub(crate) fn occurrence<'a, P: Progress>(
         return Err(Unfinished::Refused(Refusal::Argument(words)));
     };
     let mut shown = Shown { progress };
-    let order = match order_giving_telling(alloc, config, scripts, &one, states, &mut shown) {
+    let order = match order_giving_apart(alloc, config, scripts, &one, states, &mut shown) {
         Ok(order) => order,
         Err(fault) => return Err(not_found(fault, states)),
     };

@@ -4,7 +4,8 @@ use crate::occurrences::occurrence;
 use crate::scripted::read_scripted;
 use crate::shown::Shown;
 use apex_files::Opener;
-use apex_orders::{OrdersFault, all_outcomes_telling};
+use apex_order_groups::all_outcomes_apart;
+use apex_orders::OrdersFault;
 use apex_outcome_lines::outcomes_text;
 use companion_command_line::{Form, Question};
 use companion_common::{Progress, Unfinished};
@@ -22,13 +23,14 @@ pub fn outcomes_of_scripts<'a, O: Opener, P: Progress>(
     form: Form,
     progress: &mut P,
 ) -> Result<Vec<u8>, Unfinished<'a>> {
-    let all = read_scripted(alloc, opener, config, arguments, form)?;
-    let (config, scripts, lines) = (&all.config, all.scripts.as_slice(), all.lines.as_slice());
+    let mut all = read_scripted(alloc, opener, config, arguments, form)?;
+    let (config, lines) = (&all.config, all.lines.as_slice());
+    let scripts = all.scripts.as_mut_slice();
     if let Some(question) = question {
         return occurrence(alloc, config, scripts, lines, states, question, progress);
     }
     let mut shown = Shown { progress };
-    let found = match all_outcomes_telling(alloc, config, scripts, states, &mut shown) {
+    let found = match all_outcomes_apart(alloc, config, scripts, states, &mut shown) {
         Ok(found) => found,
         Err(fault) => return Err(not_found(fault, states)),
     };

@@ -1,8 +1,9 @@
-use Rattle.std.proofs.Common.{◌≡◌, ℕ, Bool, [], length, subst}
+use Rattle.std.proofs.Common.{ℕ, Bool, [], length, subst}
 use Rattle.std.specs.Prelude.{replicate}
 use Rattle.apex_log_orders.specs.LogOrders.{Logs, IsAnswer}
-use Rattle.apex_log_groups.specs.Groups.{AreExchanged, IsAnswerOf, in_group}
-use Rattle.apex_log_groups.proofs.Exchanged.{exchanged_back, put_in, of_ok}
+use Rattle.apex_groups.specs.Groups.{AreExchanged, in_group}
+use Rattle.apex_log_groups.specs.LogGroups.{IsAnswerOf}
+use Rattle.apex_groups.proofs.Exchanged.{exchanged_back, put_in, of_ok}
 use Rattle.apex_log_groups.proofs.parts.find_order_of.Goals as goal
 
 pub returns-clause-logs : goal.returns-clause-logs

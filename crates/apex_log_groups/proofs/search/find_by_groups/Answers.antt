@@ -1,4 +1,4 @@
-use Rattle.std.proofs.Common.{◌≡◌, ℕ, ◌+◌, ◌++◌, Bool, true, false, List, [], length, take, drop, refl, sym, ap, ◌∙◌, subst, arith, rules}
+use Rattle.std.proofs.Common.{◌≡◌, ℕ, ◌+◌, ◌++◌, Bool, true, false, List, [], length, take, drop, sym, ap, ◌∙◌, subst, arith, rules}
 use Rattle.std.specs.Prelude.{replicate}
 use Rattle.std.specs.List.{filter}
 use Rattle.std.proofs.lemmas.Bool.{false≢true}
@@ -7,9 +7,10 @@ use Rattle.apex_log_orders.specs.declared.answer.Answer.{Answer}
 use Rattle.apex_log_orders.specs.declared.answer.Answer.TheVariants.{Order, NoOrder, Undecided}
 use Rattle.apex_log_orders.specs.declared.answer.CallPlace.{CallPlace}
 use Rattle.apex_log_orders.specs.LogOrders.{Logs, entries_at}
-use Rattle.apex_log_groups.specs.Groups.{AreWhole, IsAnswerOf, IsOfGroups, in_group}
+use Rattle.apex_groups.specs.Groups.{in_group}
+use Rattle.apex_log_groups.specs.LogGroups.{AreWhole, IsAnswerOf, IsOfGroups}
 use Rattle.apex_log_groups.proofs.GroupLemmas.{all_groups, of_added, order_begins, whole_added}
-use Rattle.apex_log_groups.proofs.Exchanged.{itself_again}
+use Rattle.apex_groups.proofs.Exchanged.{itself_again}
 use Rattle.apex_log_groups.proofs.Joined.{no_order}
 use Rattle.apex_log_groups.proofs.search.find_by_groups.Goals as goal
 use Rattle.apex_log_groups.proofs.search.find_by_groups.Goals.{in-Order+in_ok-add_places-in-Order, in-Undecided+in_ok-add_places-in-Undecided}

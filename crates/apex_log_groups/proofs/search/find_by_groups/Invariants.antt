@@ -1,7 +1,7 @@
 use Rattle.std.proofs.Common.{◌≡◌, [], length, true}
 use Rattle.std.specs.Prelude.{replicate}
 use Rattle.apex_log_orders.specs.LogOrders.{entries_at}
-use Rattle.apex_log_groups.specs.Groups.{AreWhole, IsOfGroups}
+use Rattle.apex_log_groups.specs.LogGroups.{AreWhole, IsOfGroups}
 use Rattle.apex_log_groups.proofs.search.find_by_groups.Given as goal
 
 abbrev pub invariant-loop-group : goal.invariant-loop-group

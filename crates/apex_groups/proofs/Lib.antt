@@ -1,0 +1,3 @@
+pub mod Exchanged
+pub mod GroupLemmas
+pub mod Inside

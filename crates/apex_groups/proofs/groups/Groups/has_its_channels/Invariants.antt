@@ -1,0 +1,10 @@
+use Rattle.std.proofs.Common.{◌≡◌, ◌≤◌, ℕ, Some}
+use Rattle.apex_config.specs.Configuration.{port_of}
+use Rattle.apex_config.specs.declared.port.Port.{Port}
+use Rattle.apex_groups.specs.Groups.{group_of}
+use Rattle.apex_groups.proofs.groups.Groups.has_its_channels.Given as goal
+
+abbrev pub invariant-loop-index : goal.invariant-loop-index
+invariant-loop-index l =
+    (id : ℕ) (port : Port) → id ≤ l.index → port_of l.config l.p id ≡ Some port
+    → group_of l.self.of_channels.items port.channel ≡ group_of l.self.of_partitions.items l.p

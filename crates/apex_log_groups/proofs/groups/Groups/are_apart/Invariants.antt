@@ -1,8 +1,0 @@
-use Rattle.std.proofs.Common.{◌<◌, ℕ, length}
-use Rattle.apex_log_groups.specs.Groups.{HasItsChannels, group_of}
-use Rattle.apex_log_groups.proofs.groups.Groups.are_apart.Given as goal
-
-abbrev pub invariant-loop-p : goal.invariant-loop-p
-invariant-loop-p l =
-    (q : ℕ) → q < l.p
-    → (group_of l.self.of_partitions.items q < length l.config.partitions) × HasItsChannels l.config l.self.of_partitions.items l.self.of_channels.items q

@@ -1,0 +1,5 @@
+pub mod ChannelLemmas
+pub mod GroupSteps
+pub mod Lists
+pub mod PartLemmas
+pub mod WholeLemmas

@@ -1,0 +1,32 @@
+use Rattle.std.proofs.Common.{ℕ, Bool, [], length, subst}
+use Rattle.std.specs.Prelude.{replicate}
+use Rattle.apex_orders.specs.Orders.{Scripts}
+use Rattle.apex_groups.specs.Groups.{AreExchanged, in_group}
+use Rattle.apex_groups.proofs.Exchanged.{exchanged_back, put_in}
+use Rattle.apex_order_groups.proofs.PartLemmas.{answer_of, undecided_part}
+use Rattle.apex_order_groups.proofs.parts.order_of.Goals as goal
+
+pub returns-clause-scripts : goal.returns-clause-scripts
+returns-clause-scripts g c =
+    exchanged_back (in_group c.args.groups.now.of_partitions.items c.args.group) c.args.scripts.now c.args.part.now c.exchange.new.one c.exchange.new.other c.exchange-2.new.one
+    c.exchange.ensures.one c.exchange.ensures.other c.exchange-2.ensures.one
+
+pub returns-clause-found : goal.returns-clause-found
+returns-clause-found g c =
+    let config = c.args.config.now in
+    let scripts = c.args.scripts.now in
+    let part = c.exchange.new.other in
+    let inside : ℕ → Bool = in_group c.args.groups.now.of_partitions.items c.args.group in
+    let put : AreExchanged inside (replicate (length config.partitions) []) scripts part = subst (λ (none : Scripts). AreExchanged inside none scripts part) c.requires.part c.exchange.ensures.other in
+    answer_of config inside scripts part (put_in inside scripts (length config.partitions) part put) c.args.one.now c.order_giving_telling-found.result
+    c.order_giving_telling-found.ensures.found c.order_giving_telling-found.ensures.never
+
+pub returns-clause-undecided : goal.returns-clause-undecided
+returns-clause-undecided g c =
+    let config = c.args.config.now in
+    let scripts = c.args.scripts.now in
+    let part = c.exchange.new.other in
+    let inside : ℕ → Bool = in_group c.args.groups.now.of_partitions.items c.args.group in
+    let put : AreExchanged inside (replicate (length config.partitions) []) scripts part = subst (λ (none : Scripts). AreExchanged inside none scripts part) c.requires.part c.exchange.ensures.other in
+    undecided_part config inside scripts part (put_in inside scripts (length config.partitions) part put) c.args.bound c.order_giving_telling-found.result
+    c.order_giving_telling-found.ensures.undecided
