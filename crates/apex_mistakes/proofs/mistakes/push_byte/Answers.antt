@@ -1,4 +1,4 @@
-use Rattle.std.proofs.Common.{◌≡◌, ◌++◌, ℕ, List, codes, string_bytes, ap, ◌∙◌, append_assoc}
+use Rattle.std.proofs.Common.{◌++◌, ℕ, List, codes, string_bytes, ap, ◌∙◌, append_assoc}
 use Rattle.apex_mistakes.specs.Quoted.{hex_digits}
 use Rattle.apex_mistakes.proofs.mistakes.push_byte.Goals as goal
 

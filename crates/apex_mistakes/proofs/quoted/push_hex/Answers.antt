@@ -1,4 +1,4 @@
-use Rattle.std.proofs.Common.{◌≡◌, ◌++◌, arith, string_bytes, ap, ◌∙◌}
+use Rattle.std.proofs.Common.{arith}
 use Rattle.std.proofs.lemmas.Fmt.{hex_byte}
 use Rattle.apex_mistakes.proofs.quoted.push_hex.Goals as goal
 

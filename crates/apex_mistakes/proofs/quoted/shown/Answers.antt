@@ -1,4 +1,4 @@
-use Rattle.std.proofs.Common.{take, arith, sym}
+use Rattle.std.proofs.Common.{arith, sym}
 use Rattle.std.proofs.lemmas.List.{length-take-le, take_all}
 use Rattle.apex_mistakes.proofs.quoted.shown.Goals as goal
 

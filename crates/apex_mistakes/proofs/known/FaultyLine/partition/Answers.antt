@@ -1,5 +1,3 @@
-use Rattle.std.proofs.Common.{◌≡◌, sym, ap, ◌∙◌}
-use Rattle.apex_mistakes.specs.Lines.{caller_of}
 use Rattle.apex_mistakes.proofs.known.FaultyLine.partition.Goals as goal
 
 pub returns-in-Script-clause-found : goal.returns-in-Script-clause-found
