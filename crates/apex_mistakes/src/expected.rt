@@ -1,20 +1,37 @@
 //! What has to stand where a fault of a line stands, in words.
-ghost use Rattle.std.specs.Prelude.{◌≡◌};
-ghost use Rattle.apex_mistakes.specs.Words.{expected_words};
+ghost use Rattle.std.specs.Prelude.{◌≡◌, ◌++◌, [], map, take, nat_lt, length, if◌then◌else◌, codes, string_bytes, IfOk, OnOk};
+ghost use Rattle.std.specs.List.{flat_map};
+ghost use Rattle.apex_mistakes.specs.Words.{expected_words, partition_names, call_words, joined, listed, expected_text};
 
-use crate::known::FaultyLine;
+use apex_config::Config;
 use apex_texts::{Expected, SERVICES};
-use std::alloc::AllocError;
+use std::alloc::{AllocError, Global};
 
 /// The most names of partitions that are listed.
 const NAMES_SHOWN: usize = 12;
 
 /// Writes what was expected.
-pub(crate) fn push_expected(text: &mut String, faulty: &FaultyLine<'_>) -> Result<(), AllocError> {
-    match faulty.place.expected {
-        Expected::Partition => push_partitions(text, faulty),
-        Expected::Service => push_services(text),
-        expected => text.push_str(words(expected)),
+#[tactic(auto, unfolding(crate::specs::Words::expected_text))]
+pub(crate) fn push_expected(
+    alloc: Global,
+    text: &mut String,
+    config: &Config,
+    expected: Expected,
+) -> Result<(), AllocError>
+    ensures { OnOk result (string_bytes text.new
+        ≡ string_bytes text.old ++ expected_text config.now expected) }
+{
+    text.push_str(words(expected))?;
+    match expected {
+        Expected::Partition => {
+            let names = partition_names(alloc, config)?;
+            push_listed(text, names.as_slice())
+        }
+        Expected::Service => {
+            let words = call_words(alloc)?;
+            push_listed(text, words.as_slice())
+        }
+        _ => Ok(()),
     }
 }
 
@@ -41,28 +58,78 @@ fn words(expected: Expected) -> &'static str
     }
 }
 
-fn push_partitions(text: &mut String, faulty: &FaultyLine<'_>) -> Result<(), AllocError> {
-    let config = faulty.config;
-    text.push_str("the name of a partition: ")?;
+/// The names of the partitions.
+pub(crate) fn partition_names<'a>(
+    alloc: Global,
+    config: &'a Config,
+) -> Result<Vec<&'a str>, AllocError>
+    ensures { IfOk result
+        (λ names. map (λ name. name.now) names.items ≡ partition_names config.now) }
+{
+    let mut names = Vec::new(alloc);
     for p in 0..config.partitions() {
-        if p == NAMES_SHOWN {
-            return text.push_str(", ..");
-        }
-        if p > 0 {
-            text.push_str(", ")?;
-        }
-        text.push_str(config.partition_name(p).text())?;
+        names.push(config.partition_name(p).text())?;
     }
-    Ok(())
+    Ok(names)
 }
 
-fn push_services(text: &mut String) -> Result<(), AllocError> {
-    text.push_str("a call word: ")?;
-    for (number, service) in SERVICES.iter().enumerate() {
-        if number > 0 {
-            text.push_str(", ")?;
+/// The call words of all services.
+pub(crate) fn call_words<'a>(alloc: Global) -> Result<Vec<&'a str>, AllocError>
+    ensures { IfOk result (λ words. map (λ word. word.now) words.items ≡ call_words) }
+{
+    let mut words = Vec::new(alloc);
+    for service in &SERVICES {
+        words.push(service.word())?;
+    }
+    Ok(words)
+}
+
+/// Writes the first of the known words, and `..` where there are more.
+fn push_listed(text: &mut String, words: &[&str]) -> Result<(), AllocError>
+    ensures { OnOk result (string_bytes text.new
+        ≡ string_bytes text.old ++ listed (map (λ word. word.now) words.now)) }
+{
+    text.push_str(": ")?;
+    push_joined(text, first_of(words))?;
+    if words.len() > NAMES_SHOWN {
+        text.push_str(", ..")
+    } else {
+        Ok(())
+    }
+}
+
+/// The words that are listed.
+fn first_of<'w, 'a>(words: &'w [&'a str]) -> &'w [&'a str]
+    ensures { result.now ≡ take NAMES_SHOWN words.now }
+{
+    if words.len() > NAMES_SHOWN {
+        &words[..NAMES_SHOWN]
+    } else {
+        words
+    }
+}
+
+/// Writes words, parted by commas.
+fn push_joined(text: &mut String, words: &[&str]) -> Result<(), AllocError>
+    ensures { OnOk result (string_bytes text.new
+        ≡ string_bytes text.old ++ joined (map (λ word. word.now) words.now)) }
+{
+    match words.split_first() {
+        Some((first, rest)) => {
+            text.push_str(first)?;
+            push_others(text, rest)
         }
-        text.push_str(service.word())?;
+        None => Ok(()),
+    }
+}
+
+fn push_others(text: &mut String, words: &[&str]) -> Result<(), AllocError>
+    ensures { OnOk result (string_bytes text.new ≡ string_bytes text.old
+        ++ flat_map (λ word. codes ", " ++ word) (map (λ word. word.now) words.now)) }
+{
+    for word in words {
+        text.push_str(", ")?;
+        text.push_str(word)?;
     }
     Ok(())
 }

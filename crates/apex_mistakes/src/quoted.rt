@@ -1,33 +1,67 @@
-//! A word of a line, printed so that a line stays one line of ASCII.
-use std::fmt;
+//! A word of a line, written so that a line stays one line of ASCII.
+ghost use Rattle.std.specs.Prelude.{◌≡◌, ◌++◌, take, string_bytes, OnOk};
+ghost use Rattle.std.specs.List.{flat_map};
+ghost use Rattle.apex_mistakes.specs.Quoted.{hex_digits, escaped, quoted, quote_behind};
 
-/// The most bytes of a word that are printed.
+use std::alloc::AllocError;
+
+/// The most bytes of a word that are shown.
 const SHOWN: usize = 64;
 
-/// A word in quotes: its first 64 bytes, those that are no printable ASCII as escapes, and `..` after the quotes where the
-/// word goes on.
-#[derive(Clone, Copy)]
-pub(crate) struct Quoted<'a>(pub(crate) &'a [u8]);
+/// Writes a word in quotes: its first 64 bytes, those that are no printable ASCII as escapes, and `..` after the quotes
+/// where the word goes on.
+pub(crate) fn push_quoted(text: &mut String, word: &[u8]) -> Result<(), AllocError>
+    ensures { OnOk result (string_bytes text.new ≡ string_bytes text.old ++ quoted word.now) }
+{
+    text.push_str("\"")?;
+    push_escapes(text, shown(word))?;
+    text.push_str(quote_behind(word))
+}
 
-impl fmt::Display for Quoted<'_> {
-    fn fmt<W: fmt::Write>(&self, f: &mut fmt::Formatter<W>) -> fmt::Result {
-        f.write_char('"')?;
-        for byte in self.0.iter().take(SHOWN) {
-            write_escaped(f, *byte)?;
-        }
-        f.write_char('"')?;
-        if self.0.len() > SHOWN {
-            f.write_str("..")?;
-        }
-        Ok(())
+/// The bytes of a word that are shown.
+fn shown(word: &[u8]) -> &[u8]
+    ensures { result.now ≡ take SHOWN word.now }
+{
+    if word.len() > SHOWN {
+        &word[..SHOWN]
+    } else {
+        word
     }
 }
 
-fn write_escaped<W: fmt::Write>(f: &mut fmt::Formatter<W>, byte: u8) -> fmt::Result {
-    match byte {
-        b'"' => f.write_str("\\\""),
-        b'\\' => f.write_str("\\\\"),
-        b' '..=b'~' => f.write_char(byte as char),
-        _ => write!(f, "\\x{byte:02x}"),
+fn quote_behind(word: &[u8]) -> &'static str
+    ensures { result.now ≡ quote_behind word.now }
+{
+    if word.len() > SHOWN { "\".." } else { "\"" }
+}
+
+fn push_escapes(text: &mut String, bytes: &[u8]) -> Result<(), AllocError>
+    ensures { OnOk result (string_bytes text.new
+        ≡ string_bytes text.old ++ flat_map escaped bytes.now) }
+{
+    for byte in bytes {
+        push_escaped(text, *byte)?;
     }
+    Ok(())
+}
+
+fn push_escaped(text: &mut String, byte: u8) -> Result<(), AllocError>
+    ensures { OnOk result (string_bytes text.new ≡ string_bytes text.old ++ escaped byte) }
+{
+    match byte {
+        b'"' => text.push_str("\\\""),
+        b'\\' => text.push_str("\\\\"),
+        b' '..=b'~' => text.push(byte as char),
+        _ => {
+            text.push_str("\\x")?;
+            push_hex(text, byte)
+        }
+    }
+}
+
+/// Writes a byte as two hexadecimal digits.
+pub(crate) fn push_hex(text: &mut String, byte: u8) -> Result<(), AllocError>
+    ensures { OnOk result (string_bytes text.new ≡ string_bytes text.old ++ hex_digits byte) }
+{
+    write!(text, "{byte:02x}")
 }

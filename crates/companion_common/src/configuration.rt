@@ -2,22 +2,14 @@
 ghost use Rattle.std.specs.Prelude.{◌≡◌, Ok, IfOk, IfSome};
 ghost use Rattle.apex_config.specs.Meaning.{config_of};
 
-use crate::json::push_object;
+use crate::places::push_place;
 use crate::unfinished::Unfinished;
 use apex_config::Config;
 use apex_files::{Opener, Refusal, read_file};
 use apex_refusals::config_mistakes;
 use apex_texts::Fault;
 use companion_command_line::Form;
-use serde::Serialize;
 use std::alloc::{AllocError, Global};
-
-/// A place of a configuration's fault.
-#[derive(Drop, Serialize)]
-struct PlaceLine<'a> {
-    fault: Option<u32>,
-    place: &'a str,
-}
 
 /// The configuration in a file. Where it is refused, the places of its fault are told.
 #[tactic(auto, unfolding(apex_config::specs::Meaning::config_of))]
@@ -73,7 +65,7 @@ fn places(
 fn place_lines(alloc: Global, fault: Option<u32>, lines: &str) -> Result<String, AllocError> {
     let mut text = String::new(alloc);
     for place in lines.lines() {
-        push_object(alloc, &mut text, &PlaceLine { fault, place })?;
+        push_place(alloc, &mut text, fault, place)?;
     }
     Ok(text)
 }

@@ -5,11 +5,12 @@
 mod configuration;
 mod json;
 mod mistakes;
+mod places;
 mod progress;
 pub mod unfinished;
 
 pub use crate::configuration::read_config;
 pub use crate::json::push_object;
-pub use crate::mistakes::with_mistakes;
+pub use crate::mistakes::{mistakes_of_trace, with_mistakes};
 pub use crate::progress::{Progress, ProgressLine, Reached};
 pub use crate::unfinished::Unfinished;

@@ -33,7 +33,7 @@ pub(crate) fn read_scripted<'a, O: Opener>(
     let scripts = match scripts_named(alloc, opener, &config, arguments) {
         Ok(scripts) => scripts,
         Err(refusal) => {
-            return Err(with_mistakes(alloc, opener, &config, arguments, refusal));
+            return Err(with_mistakes(alloc, opener, &config, arguments, refusal, form));
         }
     };
     let scripts = unpack_all(alloc, scripts.as_slice())?;

@@ -7,11 +7,10 @@ use crate::runs::trace_of_run;
 use apex_config::Config;
 use apex_explanations::{Explanation, explain_trace};
 use apex_files::{Opener, Refusal, read_file, scripts_named};
-use apex_mistakes::trace_mistakes;
 use apex_texts::{Fault, TraceFault};
 use apex_threads::unpack_all;
 use companion_command_line::Form;
-use companion_common::{Unfinished, read_config, with_mistakes};
+use companion_common::{Unfinished, mistakes_of_trace, read_config, with_mistakes};
 use std::alloc::{AllocError, Global};
 use std::sync::Wait;
 use std::thread::Threads;
@@ -34,7 +33,9 @@ pub(crate) fn explain_trace_in<'a, O: Opener>(
         Form::Json => {
             let config = read_config(alloc, opener, config, form)?;
             let bytes = read_file(alloc, opener, trace)?;
-            let (text, fault) = explain_as_json(alloc, config, bytes.as_slice())?;
+            let mistakes = mistakes_of_trace(alloc, trace, &config, bytes.as_slice(), form)?;
+            let (mut text, fault) = explain_as_json(alloc, config, bytes.as_slice())?;
+            text.extend_from_slice(mistakes.as_bytes())?;
             up_to_fault(text, fault)
         }
     }
@@ -52,7 +53,7 @@ fn explanation_in<'a, O: Opener>(
 {
     let config = read_config(alloc, opener, config, Form::Text)?;
     let bytes = read_file(alloc, opener, trace)?;
-    let mistakes = trace_mistakes(alloc, trace, &config, bytes.as_slice())?;
+    let mistakes = mistakes_of_trace(alloc, trace, &config, bytes.as_slice(), Form::Text)?;
     let explanation = explain_trace(alloc, config, bytes.as_slice())?;
     Ok((explanation, mistakes))
 }
@@ -70,7 +71,7 @@ pub(crate) fn explain_run<'a, R: Threads + Wait + Sync, O: Opener>(
     let scripts = match scripts_named(alloc, opener, &config, arguments) {
         Ok(scripts) => scripts,
         Err(refusal) => {
-            return Err(with_mistakes(alloc, opener, &config, arguments, refusal));
+            return Err(with_mistakes(alloc, opener, &config, arguments, refusal, form));
         }
     };
     let scripts = unpack_all(alloc, scripts.as_slice())?;
