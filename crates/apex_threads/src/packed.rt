@@ -102,11 +102,34 @@ impl<A: Allocator> PackedReplies<A> {
     pub fn is_at(&self, place: usize, reply: &Reply) -> bool
         ensures { IsTrue result ↔ (slice_get self.now place ≡ Some reply.now) }
     {
-        match self.get(place) {
-            Some(other) => is_same_reply(&other, reply),
+        match self.replies.get(place) {
+            Some(packed) => is_packed(self.bytes.as_slice(), packed, reply),
             None => false,
         }
     }
+}
+
+/// Whether the reply that is packed is this one. A received message is compared where it stands.
+fn is_packed(bytes: &[u8], packed: &Packed, reply: &Reply) -> bool
+    requires { IsPacked (length bytes.now) packed.now }
+    ensures { IsTrue result ↔ (reply_in bytes.now packed.now ≡ reply.now) }
+{
+    match (packed, reply) {
+        (Packed::Code(code), Reply::Code(other)) => code == other,
+        (Packed::Received { from, to }, Reply::Received(message)) => {
+            &bytes[*from..*to] == message.bytes()
+        }
+        _ => is_unpacked(bytes, *packed, reply),
+    }
+}
+
+// Not inlined, since the place of an unpacked reply is cleared where a function begins.
+#[inline(never)]
+fn is_unpacked(bytes: &[u8], packed: Packed, reply: &Reply) -> bool
+    requires { IsPacked (length bytes.now) packed }
+    ensures { IsTrue result ↔ (reply_in bytes.now packed ≡ reply.now) }
+{
+    is_same_reply(&unpack(bytes, packed), reply)
 }
 
 /// The reply without its message, which is put behind the bytes.
