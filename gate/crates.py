@@ -9,6 +9,8 @@ import time
 MEMORY_EACH = 3_000_000_000
 # More jobs than these gain nothing in a crate of the usual size.
 MOST_JOBS = 4
+# A chain of at least so much of the longest one decides with it how long all takes.
+NEARLY = 0.75
 # A control group's limits, of its second and its first version: the file of the limit, and the file and form of what
 # goes with it, which is what the group holds already, or the period of its quota.
 MEMORY_LIMITS = [
@@ -117,9 +119,9 @@ def behind(tasks):
 
 def side_by_side(tasks, at_once=None):
     """Does the tasks, given by their names, as many at once as lanes() says or as at_once gives; each when all that it
-    comes after went well, and first those with the longest chain behind them. Of those that run, the one with the
-    longest chain left may use most_jobs(), and each other one fewer: one, and more where lanes are idle. Returns by
-    name whether each went well; those that were not begun are left out."""
+    comes after went well, and first those with the longest chain behind them. Of those that run, one whose chain left
+    is the longest, or nearly so, may use most_jobs(), and each other one fewer: one, and more where lanes are idle.
+    Returns by name whether each went well; those that were not begun are left out."""
     at_once, most, length = at_once or lanes(), most_jobs(), behind(tasks)
     left, running, done, began = sorted(tasks, key=lambda it: -length[it]), {}, {}, {}
     with concurrent.futures.ThreadPoolExecutor(at_once) as pool:
@@ -130,8 +132,8 @@ def side_by_side(tasks, at_once=None):
                 if idle > 0:
                     left.remove(name)
                     began[name] = now = time.monotonic()
-                    is_first = all(length[name] > length[it] - (now - began[it]) for it in running.values())
-                    jobs = most if is_first else max(1, min(most - 1, idle // (len(ready) - at)))
+                    rules = all(length[name] > NEARLY * (length[it] - (now - began[it])) for it in running.values())
+                    jobs = most if rules else max(1, min(most - 1, idle // (len(ready) - at)))
                     running[pool.submit(tasks[name].work, jobs)] = name
             if not running:
                 break

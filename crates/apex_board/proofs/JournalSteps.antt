@@ -20,7 +20,7 @@ use Rattle.apex_ports.specs.Sound.{IsSound}
 use Rattle.apex_ports.proofs.Appends.{accepted_on-append}
 use Rattle.apex_ports.proofs.Conserved.{always_conserved}
 use Rattle.apex_ports.proofs.Histories.{taken-received, taken-cleared}
-use Rattle.apex_ports.proofs.Lookups.{place_of}
+use Rattle.apex_ports.proofs.Lookups.{at_index}
 use Rattle.apex_ports.proofs.Stays.{accepted_stays, taken_stays, receives_no_clear, and_true, none_or_none}
 use Rattle.apex_board.specs.declared.journal.Journal.{Journal}
 use Rattle.apex_board.specs.Journals.{if_there, journal_at, has_journal, accepted_in, taken_in, AreJournals, IsFresh}
@@ -38,29 +38,29 @@ set_elsewhere (y ∷ journals) (suc c) x zero apart = refl
 set_elsewhere (y ∷ journals) (suc c) x (suc d) apart = set_elsewhere journals c x d (λ e. apart (ap suc e))
 
 pub journal_at-set : {A : Type 0} (journals : List (Option (Journal A))) (c : ℕ) (x : Option (Journal A)) → c < length journals → (d : ℕ) → journal_at (set journals c x) d ≡ (if d == c then x else journal_at journals d)
-journal_at-set journals c x within d = by_place (d == c) refl
+journal_at-set journals c x within d = by_index (d == c) refl
   where
-    by_place : (b : Bool) → (d == c) ≡ b → journal_at (set journals c x) d ≡ (if b then x else journal_at journals d)
-    by_place true is = let here : d ≡ c = grind (arith, nat_tests) in (λ i. journal_at (set journals c x) (here i)) ∙ set_here journals c x within
-    by_place false is = set_elsewhere journals c x d (grind (arith, nat_tests))
+    by_index : (b : Bool) → (d == c) ≡ b → journal_at (set journals c x) d ≡ (if b then x else journal_at journals d)
+    by_index true is = let here : d ≡ c = grind (arith, nat_tests) in (λ i. journal_at (set journals c x) (here i)) ∙ set_here journals c x within
+    by_index false is = set_elsewhere journals c x d (grind (arith, nat_tests))
 
 -- the journal that an index reads
 pub journal_here : {A : Type 0} (journals : List (Option (Journal A))) (c : ℕ) (x : Option (Journal A)) → c < length journals → x ≡ get_or journals c x → journal_at journals c ≡ x
-journal_here journals c x within is = ap if_there (place_of journals c x within is)
+journal_here journals c x within is = ap if_there (at_index journals c x within is)
 
 -- a journal that is there
 pub record IsJournal {A : Type 0} (config : Configuration) (h t : History) (c : ℕ) (journal : Journal A) : Type 0 where
   pub queuing : is_queuing config c ≡ true
   pub accepted : journal.accepted.items ≡ accepted_on config c h
   pub taken : journal.taken.items ≡ taken_on config c t
-  pub places : vec_capacity journal.accepted ≤ vec_capacity journal.taken
+  pub fits : vec_capacity journal.accepted ≤ vec_capacity journal.taken
 
 pub journal_is : {A : Type 0} (config : Configuration) (h t : History) (journals : List (Option (Journal A))) (c : ℕ) (journal : Journal A) → AreJournals config h t journals → journal_at journals c ≡ Some journal → IsJournal config h t c journal
 journal_is config h t journals c journal are here = record {
   queuing = sym (are.kind c) ∙ ap has_journal here;
   accepted = ap accepted_in (sym here) ∙ are.accepted c;
   taken = ap taken_in (sym here) ∙ are.taken c;
-  places = are.places c journal here;
+  fits = are.fits c journal here;
 }
 
 -- where one journal is set, and the others stay
@@ -69,12 +69,12 @@ module _ {A : Type 0} (config : Configuration) (h t h' t' : History) (journals :
       → new.accepted.items ≡ accepted_on config c h' → new.taken.items ≡ taken_on config c t' → vec_capacity new.accepted ≤ vec_capacity new.taken
       → ((d : ℕ) → d ≢ c → accepted_on config d h' ≡ accepted_on config d h) → ((d : ℕ) → d ≢ c → taken_on config d t' ≡ taken_on config d t)
       → AreJournals config h' t' (set journals c (Some new))
-  journal_set was within queuing accepted taken places others_accepted others_taken = record {
+  journal_set was within queuing accepted taken fits others_accepted others_taken = record {
     all = length-set journals c (Some new) ∙ was.all;
     kind = λ d. ap has_journal (at d) ∙ by_kind d (d == c) refl;
     accepted = λ d. ap accepted_in (at d) ∙ by_accepted d (d == c) refl;
     taken = λ d. ap taken_in (at d) ∙ by_taken d (d == c) refl;
-    places = λ d journal is. by_places d journal (d == c) refl (sym (at d) ∙ is);
+    fits = λ d journal is. by_journal d journal (d == c) refl (sym (at d) ∙ is);
   }
     where
       at : (d : ℕ) → journal_at (set journals c (Some new)) d ≡ (if d == c then Some new else journal_at journals d)
@@ -92,9 +92,9 @@ module _ {A : Type 0} (config : Configuration) (h t h' t' : History) (journals :
       by_taken d true is = let here : d ≡ c = grind (arith, nat_tests) in taken ∙ ap (λ (k : ℕ). taken_on config k t') (sym here)
       by_taken d false is = let apart : d ≢ c = grind (arith, nat_tests) in was.taken d ∙ sym (others_taken d apart)
 
-      by_places : (d : ℕ) (journal : Journal A) (b : Bool) → (d == c) ≡ b → (if b then Some new else journal_at journals d) ≡ Some journal → vec_capacity journal.accepted ≤ vec_capacity journal.taken
-      by_places d journal true is found = let same : new ≡ journal = cc in subst (λ (j : Journal A). vec_capacity j.accepted ≤ vec_capacity j.taken) same places
-      by_places d journal false is found = was.places d journal found
+      by_journal : (d : ℕ) (journal : Journal A) (b : Bool) → (d == c) ≡ b → (if b then Some new else journal_at journals d) ≡ Some journal → vec_capacity journal.accepted ≤ vec_capacity journal.taken
+      by_journal d journal true is found = let same : new ≡ journal = cc in subst (λ (j : Journal A). vec_capacity j.accepted ≤ vec_capacity j.taken) same fits
+      by_journal d journal false is found = was.fits d journal found
 
 -- ---- what an entry puts into a journal
 
@@ -211,7 +211,7 @@ accepts_nothing config h e journals was none = record {
   kind = was.kind;
   accepted = λ d. was.accepted d ∙ sym (accepted_stays config d h e (none d));
   taken = was.taken;
-  places = was.places;
+  fits = was.fits;
 }
 
 pub takes_nothing : {A : Type 0} (config : Configuration) (h : History) (e : Entry) (journals : List (Option (Journal A))) → AreJournals config (h ++ e ∷ []) h journals → ((d : ℕ) → message_received config d e ≡ None) → ((d : ℕ) → clears config d e ≡ false) → AreJournals config (h ++ e ∷ []) (h ++ e ∷ []) journals
@@ -220,7 +220,7 @@ takes_nothing config h e journals was none no_clear = record {
   kind = was.kind;
   accepted = was.accepted;
   taken = λ d. was.taken d ∙ sym (taken_stays config d h e (none d) (no_clear d));
-  places = was.places;
+  fits = was.fits;
 }
 
 -- a clear of a channel without a journal takes nothing
@@ -230,17 +230,17 @@ clears_without_journal config h e c journals sound was none no_receive found = r
   all = was.all;
   kind = was.kind;
   accepted = was.accepted;
-  taken = λ d. by_place d (c == d) refl;
-  places = was.places;
+  taken = λ d. by_index d (c == d) refl;
+  fits = was.fits;
 }
   where
-    by_place : (d : ℕ) (b : Bool) → (c == d) ≡ b → taken_in (journal_at journals d) ≡ taken_on config d (h ++ e ∷ [])
-    by_place d true is =
+    by_index : (d : ℕ) (b : Bool) → (c == d) ≡ b → taken_in (journal_at journals d) ≡ taken_on config d (h ++ e ∷ [])
+    by_index d true is =
         let here : c ≡ d = grind (arith, nat_tests) in
         let there : journal_at journals d ≡ None = (λ i. journal_at journals (sym here i)) ∙ none in
         let sampling : is_queuing config d ≡ false = sym (was.kind d) ∙ ap has_journal there in
         ap taken_in there ∙ sym (nothing_taken config (h ++ e ∷ []) d sound sampling)
-    by_place d false is = was.taken d ∙ sym (taken_stays config d h e (no_receive d) (found d ∙ is))
+    by_index d false is = was.taken d ∙ sym (taken_stays config d h e (no_receive d) (found d ∙ is))
 
 -- ---- new journals
 
@@ -260,7 +260,7 @@ fresh_journals {A} config journals all each = record {
   kind = λ c. by_kind c (slice_get journals c) refl;
   accepted = λ c. by_accepted c (slice_get journals c) refl;
   taken = λ c. by_taken c (slice_get journals c) refl;
-  places = λ c journal is. by_places c (slice_get journals c) journal refl is;
+  fits = λ c journal is. by_journal c (slice_get journals c) journal refl is;
 }
   where
     by_kind : (c : ℕ) (found : Option (Option (Journal A))) → slice_get journals c ≡ found → has_journal (if_there found) ≡ is_queuing config c
@@ -278,10 +278,10 @@ fresh_journals {A} config journals all each = record {
     by_taken c (Some None) is = refl
     by_taken c (Some (Some journal)) is = (each c (Some journal) is).2
 
-    by_places : (c : ℕ) (found : Option (Option (Journal A))) (journal : Journal A) → slice_get journals c ≡ found → if_there found ≡ Some journal → vec_capacity journal.accepted ≤ vec_capacity journal.taken
-    by_places c None journal is here = absurd (cc)
-    by_places c (Some None) journal is here = absurd (cc)
-    by_places c (Some (Some journal')) journal is here =
+    by_journal : (c : ℕ) (found : Option (Option (Journal A))) (journal : Journal A) → slice_get journals c ≡ found → if_there found ≡ Some journal → vec_capacity journal.accepted ≤ vec_capacity journal.taken
+    by_journal c None journal is here = absurd (cc)
+    by_journal c (Some None) journal is here = absurd (cc)
+    by_journal c (Some (Some journal')) journal is here =
         let same : journal' ≡ journal = cc in
         subst (λ (j : Journal A). vec_capacity j.accepted ≤ vec_capacity j.taken) same (each c (Some journal') is).3
 

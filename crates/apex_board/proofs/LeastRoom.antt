@@ -1,4 +1,4 @@
--- The room is the greatest number of calls for which the log and each journal have the places.
+-- The room is the greatest number of calls for which the log and each journal have the room.
 use Rattle.std.proofs.Common.{◌≡◌, ℕ, zero, suc, ◌+◌, ◌-◌, ◌<◌, ◌≤◌, ◌==◌, Bool, true, false, List, [], ◌∷◌, Option, Some, None, refl, subst, arith}
 use Rattle.std.specs.Vec.{vec_len, vec_capacity}
 use Rattle.std.proofs.lemmas.Bool.Decides.{nat_tests}
@@ -6,13 +6,13 @@ use Rattle.apex_board.specs.declared.journal.Journal.{Journal}
 use Rattle.apex_board.specs.declared.records.Records.{Records}
 use Rattle.apex_board.specs.Room.{HasRoom, KeepsRoom, KeepsAllButOne, spare, room_beside, least_room, room_of}
 
--- the journal has the places
+-- the journal has the room
 abbrev Fits : {A : Type 0} → ℕ → Option (Journal A) → Type 0
 Fits {A} n journal = (j : Journal A) → journal ≡ Some j → vec_len j.accepted + n ≤ vec_capacity j.accepted
 
 beside_from : {A : Type 0} (journal : Option (Journal A)) (n room : ℕ) → n ≤ room → Fits n journal → n ≤ room_beside journal room
-beside_from None n room enough places = enough
-beside_from (Some journal) n room enough places = let fits = places journal refl in omega arith
+beside_from None n room enough has = enough
+beside_from (Some journal) n room enough has = let fits = has journal refl in omega arith
 
 beside_means : {A : Type 0} (journal : Option (Journal A)) (n room : ℕ) → n ≤ room_beside journal room → (n ≤ room) × Fits n journal
 beside_means None n room enough = (enough, λ j is. absurd (cc))
@@ -40,7 +40,7 @@ least_means (journal ∷ journals) n room enough =
     let rest = least_means journals n (room_beside journal room) enough in
     ((beside_means journal n room rest.0).0, room_of_each journal journals n room rest.0 rest.1)
 
--- what there is room for has its places
+-- what there is room for has its room
 pub room_means : {A : Type 0} (records : Records A) (n : ℕ) → n ≤ room_of records → (vec_len records.log + n ≤ vec_capacity records.log) × HasRoom n records.journals.items
 room_means records n enough =
     let both = least_means records.journals.items n (spare records.log) enough in
@@ -48,7 +48,7 @@ room_means records n enough =
     let entries = both.0 in
     (omega (arith, within), both.1)
 
--- what has its places there is room for
+-- what has its room there is room for
 pub room_from : {A : Type 0} (records : Records A) (n : ℕ) → vec_len records.log + n ≤ vec_capacity records.log → HasRoom n records.journals.items → n ≤ room_of records
 room_from records n entries each = least_from records.journals.items n (spare records.log) (omega arith) each
 

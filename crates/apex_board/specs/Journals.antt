@@ -36,7 +36,7 @@ pub record AreJournals {A : Type 0} (config : Configuration) (history recorded :
   pub accepted : (c : ℕ) → accepted_in (journal_at journals c) ≡ accepted_on config c history
   pub taken : (c : ℕ) → taken_in (journal_at journals c) ≡ taken_on config c recorded
   -- what is accepted can be taken without memory
-  pub places : (c : ℕ) (journal : Journal A) → journal_at journals c ≡ Some journal → vec_capacity journal.accepted ≤ vec_capacity journal.taken
+  pub fits : (c : ℕ) (journal : Journal A) → journal_at journals c ≡ Some journal → vec_capacity journal.accepted ≤ vec_capacity journal.taken
 
 -- the journal of a channel without messages
 abbrev pub IsFresh : {A : Type 0} → Configuration → ℕ → Option (Journal A) → Type 0

@@ -9,7 +9,7 @@ use Rattle.apex_board.specs.declared.journal.Journal.{Journal}
 use Rattle.apex_board.specs.declared.records.Records.{Records}
 use Rattle.apex_board.specs.Journals.{journal_at}
 
--- the spare places of a vector
+-- how many items more a vector has room for
 abbrev pub spare : {X A : Type 0} → Vec X A → ℕ
 spare v = vec_capacity v - vec_len v
 
@@ -27,7 +27,7 @@ least_room (journal ∷ journals) room = least_room journals (room_beside journa
 abbrev pub room_of : {A : Type 0} → Records A → ℕ
 room_of records = least_room records.journals.items (spare records.log)
 
--- ---- places
+-- ---- room
 
 -- a channel's journal can store so many more accepted messages without memory, where the channel has one
 abbrev pub HasRoomAt : {A : Type 0} → ℕ → ℕ → List (Option (Journal A)) → Type 0
@@ -39,8 +39,8 @@ abbrev pub HasRoom : {A : Type 0} → ℕ → List (Option (Journal A)) → Type
 HasRoom n journals = (c : ℕ) → HasRoomAt n c journals
 
 -- the message that a call sends can be stored without memory
-abbrev pub HasPlaceFor : {A : Type 0} → Configuration → ℕ → Call → List (Option (Journal A)) → Type 0
-HasPlaceFor config partition call journals =
+abbrev pub HasRoomFor : {A : Type 0} → Configuration → ℕ → Call → List (Option (Journal A)) → Type 0
+HasRoomFor config partition call journals =
     (c : ℕ) (message : List ℕ) → message_sent config c partition call ≡ Some message → HasRoomAt 1 c journals
 
 -- no room is lost
@@ -51,12 +51,12 @@ KeepsRoom old new = (n c : ℕ) → HasRoomAt n c old → HasRoomAt n c new
 abbrev pub KeepsAllButOne : {A : Type 0} → List (Option (Journal A)) → List (Option (Journal A)) → Type 0
 KeepsAllButOne old new = (n c : ℕ) → HasRoomAt (n + 1) c old → HasRoomAt n c new
 
--- the log has as many spare places at least, and no room is lost
+-- the log has as much spare room at least, and no room is lost
 pub record IsNoSmaller {A : Type 0} (old new : Records A) : Type 0 where
   pub log : spare old.log ≤ spare new.log
   pub journals : KeepsRoom old.journals.items new.journals.items
 
--- the log has one spare place less at most, and room for one message at most is used
+-- the log has spare room for one entry less at most, and room for one message at most is used
 pub record IsOneLessAtMost {A : Type 0} (old new : Records A) : Type 0 where
   pub log : spare old.log ≤ spare new.log + 1
   pub journals : KeepsAllButOne old.journals.items new.journals.items

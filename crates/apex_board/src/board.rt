@@ -153,7 +153,7 @@ impl<A: Allocator> Board<A> {
         ensures channels { books_of self.new.published ≡ books_of self.old.published }
 
         // Want of memory changes nothing but the room. Where there is room, it comes at most for a write that
-        // is to be published. A call that is no send needs no more than a place in the log.
+        // is to be published. A call that is no send needs no more than room in the log.
         ensures refused { OnErr result (self.new.log ≡ self.old.log) }
         ensures refused_published { OnErr result (self.new.published ≡ self.old.published) }
         ensures refused_room { OnErr result (self.old.room ≤ self.new.room) }

@@ -24,7 +24,7 @@ impl<A: Allocator + Copy> Journal<A> {
     pub(crate) fn new(alloc: A) -> Journal<A>
         ensures accepted { result.accepted.items ≡ [] }
         ensures taken { result.taken.items ≡ [] }
-        ensures places { vec_capacity result.accepted ≤ vec_capacity result.taken }
+        ensures room { vec_capacity result.accepted ≤ vec_capacity result.taken }
     {
         Journal {
             accepted: Vec::new(alloc),
@@ -37,7 +37,7 @@ impl<A: Allocator> Journal<A> {
     /// Makes room for this many more accepted messages, and for taking all of them.
     pub(crate) fn make_room(&mut self, messages: usize) -> Result<(), AllocError>
         requires taken { vec_len self.old.taken ≤ vec_len self.old.accepted }
-        requires places { vec_capacity self.old.accepted ≤ vec_capacity self.old.taken }
+        requires room { vec_capacity self.old.accepted ≤ vec_capacity self.old.taken }
         ensures ok { OnOk result
             (vec_len self.new.accepted + messages ≤ vec_capacity self.new.accepted) }
         ensures succeeds { vec_len self.old.accepted + messages ≤ vec_capacity self.old.accepted →
@@ -46,7 +46,7 @@ impl<A: Allocator> Journal<A> {
         ensures taken { self.new.taken.items ≡ self.old.taken.items }
         ensures len { vec_len self.new.accepted ≡ vec_len self.old.accepted }
         ensures capacity { vec_capacity self.old.accepted ≤ vec_capacity self.new.accepted }
-        ensures places { vec_capacity self.new.accepted ≤ vec_capacity self.new.taken }
+        ensures room { vec_capacity self.new.accepted ≤ vec_capacity self.new.taken }
     {
         let len = self.accepted.len();
         if messages <= self.accepted.capacity() - len {
@@ -63,15 +63,15 @@ impl<A: Allocator> Journal<A> {
     /// Takes each message that isn't taken yet, as a cleared one. There is room for it.
     pub(crate) fn clear(&mut self)
         requires taken { vec_len self.old.taken ≤ vec_len self.old.accepted }
-        requires places { vec_capacity self.old.accepted ≤ vec_capacity self.old.taken }
+        requires room { vec_capacity self.old.accepted ≤ vec_capacity self.old.taken }
         ensures accepted { self.new.accepted ≡ self.old.accepted }
         ensures taken { let waiting = drop (length self.old.taken.items) self.old.accepted.items in
             self.new.taken.items ≡ self.old.taken.items ++ map as_cleared waiting }
         ensures capacity { vec_capacity self.new.taken ≡ vec_capacity self.old.taken }
     {
-        for place in self.taken.len()..self.accepted.len() {
+        for index in self.taken.len()..self.accepted.len() {
             self.taken.push_reserved(Taken {
-                message: self.accepted[place].copy(),
+                message: self.accepted[index].copy(),
                 cleared: true,
             });
         }

@@ -42,7 +42,7 @@ impl<A: Allocator> Records<A> {
     ghost use Rattle.apex_board.specs.Asked.{asked_port, IsAskedBy, IsBelow};
     ghost use Rattle.apex_board.specs.Journals.{AreJournals};
     ghost use Rattle.apex_board.specs.Recorded.{AreRecords};
-    ghost use Rattle.apex_board.specs.Room.{HasPlaceFor, HasRoom, HasRoomAt, KeepsRoom, KeepsAllButOne, room_of, spare};
+    ghost use Rattle.apex_board.specs.Room.{HasRoomFor, HasRoom, HasRoomAt, KeepsRoom, KeepsAllButOne, room_of, spare};
 
     /// How many calls can be served without memory.
     pub(crate) fn room(&self) -> usize
@@ -120,9 +120,9 @@ impl<A: Allocator> Records<A> {
         ensures log { self.new.log.items ≡ self.old.log.items }
         ensures recorded { AreRecords config.now self.new }
         ensures entry { OnOk result (vec_len self.new.log < vec_capacity self.new.log) }
-        ensures place { OnOk result ((partition : ℕ) →
+        ensures fits { OnOk result ((partition : ℕ) →
             port ≡ asked_port config.now partition call.now →
-            HasPlaceFor config.now partition call.now self.new.journals.items) }
+            HasRoomFor config.now partition call.now self.new.journals.items) }
         ensures len { vec_len self.new.log ≡ vec_len self.old.log }
         ensures capacity { vec_capacity self.old.log ≤ vec_capacity self.new.log }
         ensures room { KeepsRoom self.old.journals.items self.new.journals.items }
@@ -145,7 +145,7 @@ impl<A: Allocator> Records<A> {
         requires sound { IsSound config.now (self.old.log.items ++ entry ∷ []) }
         requires recorded { AreRecords config.now self.old }
         requires free { vec_len self.old.log < vec_capacity self.old.log }
-        requires place { HasPlaceFor config.now entry.partition entry.call self.old.journals.items }
+        requires fits { HasRoomFor config.now entry.partition entry.call self.old.journals.items }
         ensures log { self.new.log.items ≡ self.old.log.items ++ entry ∷ [] }
         ensures recorded { AreRecords config.now self.new }
         ensures len { vec_len self.new.log ≡ vec_len self.old.log + 1 }
@@ -163,7 +163,7 @@ impl<A: Allocator> Records<A> {
         requires channel { IsBelow (length config.now.channels) port }
         requires sound { IsSound config.now (self.old.log.items ++ entry.now ∷ []) }
         requires recorded { AreRecords config.now self.old }
-        requires place { HasPlaceFor config.now entry.now.partition entry.now.call
+        requires fits { HasRoomFor config.now entry.now.partition entry.now.call
             self.old.journals.items }
         ensures recorded { let log = self.old.log.items in
             AreJournals config.now (log ++ entry.now ∷ []) log self.new.journals.items }

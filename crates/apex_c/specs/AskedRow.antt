@@ -7,7 +7,7 @@ use Rattle.apex_ports.specs.PortsView.{PortsView}
 use Rattle.apex_ports.specs.ReplyTable.{row_of}
 use Rattle.apex_ports.specs.Seen.{seen}
 use Rattle.apex_ports.specs.declared.rows.Row.{Row}
-use Rattle.apex_row_words.specs.Words.{words_of}
+use Rattle.apex_row_words.specs.Words.{row_words_for}
 use Rattle.apex_c.specs.Asked.{Asked, create_queuing, create_sampling, queuing_id, sampling_id, send, write}
 use Rattle.apex_c.specs.Found.{Found, in_partition}
 use Rattle.apex_c.specs.Held.{PortsHeld}
@@ -49,4 +49,4 @@ row_in held p at asked = of_call held p asked (λ ports call. row_number (row_of
 -- the words of the row
 abbrev pub words_in : PortsHeld → ℕ → Moment → Asked → Found (List ℕ)
 words_in held p at asked =
-    of_call held p asked (λ ports call. words_of ports.config p call (row_of_ports ports p at call))
+    of_call held p asked (λ ports call. row_words_for ports.config p call (row_of_ports ports p at call))

@@ -1,7 +1,7 @@
 //! Calls that C asks about, without making them: the row of the reply table that a call gets, and its words.
 ghost use Rattle.std.specs.Prelude.{◌≡◌, ◌≢◌, ◌<◌, Ok, Some, length, string_bytes, IfOk};
 ghost use Rattle.std.specs.Result.{result_unwrap_or};
-ghost use Rattle.apex_row_words.specs.Words.{words_of};
+ghost use Rattle.apex_row_words.specs.Words.{row_words_for};
 ghost use Rattle.apex_types.specs.Name.{name_of};
 ghost use Rattle.apex_types.specs.declared.call.Call.TheVariants as call;
 ghost use Rattle.apex_c.specs.Asked.{message_asked, name_asked};
@@ -235,7 +235,7 @@ fn words_of_call(
     requires { partition < length ports.now.config.partitions }
     ensures { let row = row_of_ports ports.now partition at call.now in
         IfOk result (λ words. string_bytes words
-        ≡ words_of ports.now.config partition call.now row) }
+        ≡ row_words_for ports.now.config partition call.now row) }
 {
     let mut words = String::new(alloc);
     let row = ports.row(partition, at, call);

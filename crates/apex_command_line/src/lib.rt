@@ -2,6 +2,9 @@
 #![tactic(auto)]
 
 ghost use Rattle.std.specs.Prelude.{◌≡◌};
+ghost use Rattle.std.specs.IoError.{error_kind};
+ghost use Rattle.clap.specs.Words.{kind_of};
+ghost use Rattle.apex_command_line.specs.Faults.{given_fault, parsed_fault};
 ghost use Rattle.apex_command_line.specs.declared.WordsFault.TheVariants.{OutOfMemory};
 
 use clap::error::ErrorKind;
@@ -48,21 +51,23 @@ impl From<AllocError> for WordsFault {
 }
 
 impl From<clap::Error> for WordsFault {
+    ghost from_gives = { λ error given. given ≡ parsed_fault (kind_of error) };
+
     fn from(error: clap::Error) -> WordsFault {
-        if error.kind() == ErrorKind::OutOfMemory {
-            WordsFault::OutOfMemory
-        } else {
-            WordsFault::Usage
+        match error.kind() {
+            ErrorKind::OutOfMemory => WordsFault::OutOfMemory,
+            _ => WordsFault::Usage,
         }
     }
 }
 
 impl From<io::Error> for WordsFault {
+    ghost from_gives = { λ error given. given ≡ given_fault (error_kind error) };
+
     fn from(error: io::Error) -> WordsFault {
-        if error.kind() == io::ErrorKind::OutOfMemory {
-            WordsFault::OutOfMemory
-        } else {
-            WordsFault::Usage
+        match error.kind() {
+            io::ErrorKind::OutOfMemory => WordsFault::OutOfMemory,
+            _ => WordsFault::Usage,
         }
     }
 }

@@ -3,6 +3,7 @@ pub mod EachEntry
 pub mod EndCounts
 pub mod FirstNumbers
 pub mod Indexes
+pub mod PassLemmas
 pub mod SeenNames
 pub mod Tails
 pub mod Views

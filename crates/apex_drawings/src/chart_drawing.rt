@@ -9,7 +9,7 @@ use crate::chart::Chart;
 use crate::fault::DrawingFault;
 use crate::legend::push_legend;
 use crate::reading::read_chart;
-use crate::svg::{place, push_cross, push_end, push_ring, push_start, push_text};
+use crate::svg::{offset, push_cross, push_end, push_ring, push_start, push_text};
 use apex_config::Config;
 use apex_ports::Entry;
 use apex_types::{Call, ReturnCode};
@@ -106,7 +106,7 @@ fn frame_of(config: &Config, texts: &[String]) -> Frame {
         .unwrap_or(LINE)
         .min(LINE);
     let is_slanted = line < LINE;
-    let texts = place(2 * MARGIN, CHARACTER, longest);
+    let texts = offset(2 * MARGIN, CHARACTER, longest);
     Frame {
         texts,
         first: texts.saturating_add(line / 2),
@@ -127,12 +127,12 @@ fn longest_of(texts: &[String]) -> usize {
 
 /// The life line of partition `p`.
 fn line_of(frame: Frame, p: usize) -> usize {
-    place(frame.first, frame.line, p)
+    offset(frame.first, frame.line, p)
 }
 
 /// The height of a call, by its index from 0.
 fn height_of(frame: Frame, index: usize) -> usize {
-    place(frame.top.saturating_add(ROW), ROW, index)
+    offset(frame.top.saturating_add(ROW), ROW, index)
 }
 
 /// The empty drawing of so many calls.
@@ -209,7 +209,7 @@ fn push_arrow(
         Call::ReadSampling { .. } => "sample",
         _ => "message",
     };
-    let (sent, shown) = (place(1, 1, arrow.from), place(1, 1, arrow.to));
+    let (sent, shown) = (offset(1, 1, arrow.from), offset(1, 1, arrow.to));
     write!(
         svg,
         "<path class=\"{class}\" data-from=\"{sent}\" data-to=\"{shown}\" "
@@ -252,7 +252,7 @@ fn push_mark(
     waits: bool,
 ) -> Result<(), AllocError> {
     let (x, y) = (line_of(frame, call.partition), height_of(frame, index));
-    let number = place(1, 1, index);
+    let number = offset(1, 1, index);
     if waits {
         push_ring(svg, x, y, number)?;
     }

@@ -1,5 +1,5 @@
 //! What the marks and the arrows of a chart mean.
-use crate::svg::{place, push_cross, push_text};
+use crate::svg::{offset, push_cross, push_text};
 use std::alloc::AllocError;
 
 /// How far apart the lines of the legend are.
@@ -18,17 +18,17 @@ pub(crate) fn push_legend(svg: &mut String, y: usize) -> Result<(), AllocError> 
         "<circle class=\"call\" cx=\"{MARK}\" cy=\"{y}\" r=\"4\"/>"
     )?;
     push_words(svg, y, "a call that was answered NO_ERROR")?;
-    let y = place(y, LINE, 1);
+    let y = offset(y, LINE, 1);
     svg.push_str("<path class=\"refused\" d=\"")?;
     push_cross(svg, MARK, y)?;
     push_words(svg, y, "a call that was refused or not made")?;
-    let y = place(y, LINE, 1);
+    let y = offset(y, LINE, 1);
     push_line(svg, y, "message")?;
     push_words(svg, y, "from a send to the receive that took its message")?;
-    let y = place(y, LINE, 1);
+    let y = offset(y, LINE, 1);
     push_line(svg, y, "sample")?;
     push_words(svg, y, "from a write to a read that showed its sample")?;
-    let y = place(y, LINE, 1);
+    let y = offset(y, LINE, 1);
     writeln!(
         svg,
         "<circle class=\"waits\" cx=\"{MARK}\" cy=\"{y}\" r=\"7\"/>"

@@ -3,7 +3,7 @@
 //! left one, so that no two lines lie on one another.
 ghost use Rattle.std.specs.Prelude.{◌<◌, length};
 
-use crate::svg::{place, push_end, push_start, push_text};
+use crate::svg::{offset, push_end, push_start, push_text};
 use apex_config::{Channel, ChannelKind, Config, Port, PortKind};
 use apex_types::Direction;
 use std::alloc::{AllocError, Global};
@@ -56,7 +56,7 @@ pub fn draw_module(alloc: Global, config: &Config) -> Result<String, AllocError>
     let rows = rows_above(config, 0, count).max(rows_above(config, 1, count));
     let width = columns.right.saturating_add(BOX + MARGIN);
     let mut svg = String::new(alloc);
-    push_start(&mut svg, width, place(2 * MARGIN, ROW, rows), "Module", 0)?;
+    push_start(&mut svg, width, offset(2 * MARGIN, ROW, rows), "Module", 0)?;
     for p in 0..count {
         push_partition(&mut svg, config, columns, p)?;
     }
@@ -73,7 +73,7 @@ fn columns_of(config: &Config) -> Columns {
     Columns {
         first_lane,
         lane,
-        right: place(first_lane + LABELS, lane, config.channels()),
+        right: offset(first_lane + LABELS, lane, config.channels()),
     }
 }
 
@@ -95,7 +95,7 @@ fn end_of(config: &Config, columns: Columns, p: usize, index: usize) -> End {
     let rows = rows_above(config, p % 2, p).saturating_add(index);
     End {
         x: if is_left { MARGIN + BOX } else { columns.right },
-        y: place(top + ROW + ROW / 2, ROW, rows),
+        y: offset(top + ROW + ROW / 2, ROW, rows),
         is_left,
     }
 }
@@ -112,14 +112,14 @@ fn push_partition(
     let first = end_of(config, columns, p, 0);
     let x = if first.is_left { MARGIN } else { first.x };
     let y = first.y.saturating_sub(ROW + ROW / 2);
-    let height = place(ROW, ROW, config.ports(p));
+    let height = offset(ROW, ROW, config.ports(p));
     write!(svg, "<rect class=\"box\" x=\"{x}\" y=\"{y}\" ")?;
     writeln!(svg, "width=\"{BOX}\" height=\"{height}\" rx=\"4\"/>")?;
     let name = config.partition_name(p).text();
     push_text(
         svg,
-        place(x, 8, 1),
-        place(y, 23, 1),
+        offset(x, 8, 1),
+        offset(y, 23, 1),
         " class=\"name\"",
         name,
     )?;
@@ -146,14 +146,20 @@ fn push_port(
     x: usize,
 ) -> Result<(), AllocError> {
     let alloc = *svg.allocator();
-    let x = place(x, 12, 1);
-    let name = format!(in alloc; "{} {}", place(1, 1, index), port.name.text())?;
+    let x = offset(x, 12, 1);
+    let name = format!(in alloc; "{} {}", offset(1, 1, index), port.name.text())?;
     push_text(svg, x, end.y, "", name.as_str())?;
     let kind = match port.kind {
         PortKind::Queuing => format!(in alloc; "queuing {}", word_of(port.direction))?,
         PortKind::Sampling { refresh } => { format!(in alloc; "sampling, refresh {refresh} ns")? }
     };
-    push_text(svg, x, place(end.y, 12, 1), " class=\"dim\"", kind.as_str())
+    push_text(
+        svg,
+        x,
+        offset(end.y, 12, 1),
+        " class=\"dim\"",
+        kind.as_str(),
+    )
 }
 
 fn word_of(direction: Direction) -> &'static str {
@@ -182,7 +188,7 @@ fn push_channel(
             push_label(
                 svg,
                 end,
-                place(end.y, 12, 1),
+                offset(end.y, 12, 1),
                 " class=\"dim\"",
                 carries.as_str(),
             )
@@ -192,7 +198,7 @@ fn push_channel(
                 svg,
                 channel.kind,
                 source,
-                place(columns.first_lane, columns.lane, port.channel),
+                offset(columns.first_lane, columns.lane, port.channel),
                 end,
             ),
             None => Ok(()),
@@ -220,7 +226,7 @@ fn push_label(
     text: &str,
 ) -> Result<(), AllocError> {
     if end.is_left {
-        push_text(svg, place(end.x, LABEL, 1), y, class, text)
+        push_text(svg, offset(end.x, LABEL, 1), y, class, text)
     } else {
         let alloc = *svg.allocator();
         let attributes = format!(in alloc; "{class} text-anchor=\"end\"")?;

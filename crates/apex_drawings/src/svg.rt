@@ -52,12 +52,12 @@ fn push_escaped(made: &mut String, character: char) -> Result<(), AllocError>
     }
 }
 
-/// The place of this number, from 0, where places are so far apart.
-pub(crate) fn place(first: usize, apart: usize, number: usize) -> usize {
+/// The offset of the item of this number, from 0, where items are so far apart.
+pub(crate) fn offset(first: usize, apart: usize, number: usize) -> usize {
     first.saturating_add(apart.saturating_mul(number))
 }
 
-/// A text at a place, with these further attributes.
+/// A text at a point, with these further attributes.
 pub(crate) fn push_text(
     svg: &mut String,
     x: usize,
@@ -99,7 +99,7 @@ pub(crate) fn push_start(
 
 /// The head of an arrow.
 fn push_arrow_head(svg: &mut String, name: &str, gap: usize) -> Result<(), AllocError> {
-    let point = place(9, gap, 1);
+    let point = offset(9, gap, 1);
     write!(
         svg,
         "<marker id=\"{name}\" markerUnits=\"userSpaceOnUse\" markerWidth=\"9\" "
@@ -132,7 +132,7 @@ pub(crate) fn push_ring(
     )
 }
 
-/// The end of a cross about a place.
+/// The end of a cross about a point.
 pub(crate) fn push_cross(svg: &mut String, x: usize, y: usize) -> Result<(), AllocError> {
     let (left, right) = (x.saturating_sub(4), x.saturating_add(4));
     let (top, bottom) = (y.saturating_sub(4), y.saturating_add(4));

@@ -6,7 +6,7 @@ use Rattle.std.proofs.lemmas.Option.{slice_get-get_or}
 use Rattle.apex_config.specs.Configuration.{Configuration, PartitionData, ports_of, port_at, channel_of, partition_name_of}
 use Rattle.apex_config.specs.declared.channel.Channel.{Channel}
 use Rattle.apex_config.specs.declared.port.Port.{Port}
-use Rattle.apex_config.proofs.WithoutFault.{port_at_suc}
+use Rattle.apex_config.proofs.PassLemmas.{port_at_suc}
 use Rattle.apex_texts.specs.Report.{name_of_partition}
 use Rattle.apex_texts.proofs.ReportLemmas.{drop_at}
 use Rattle.apex_explanations.specs.PortTable.{partner_text, partners_in, partners_text, port_line, port_lines, partition_text, partition_texts}

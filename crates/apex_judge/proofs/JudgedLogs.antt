@@ -50,9 +50,9 @@ front_of_nil [] ys none = (refl, none)
 front_of_nil (x ∷ xs) ys none = absurd (cc)
 
 -- an entry that is no departure has the standard's reply
-no_departure : (place : ℕ) (b : Bool) (expected : Expected) → departure_at place (if b then None else Some expected) ≡ [] → b ≡ true
-no_departure place true expected none = refl
-no_departure place false expected none = absurd (cc)
+no_departure : (index : ℕ) (b : Bool) (expected : Expected) → departure_at index (if b then None else Some expected) ≡ [] → b ≡ true
+no_departure index true expected none = refl
+no_departure index false expected none = absurd (cc)
 
 -- each entry has a partition of the configuration
 after_first : (config : Configuration) (x : Entry) (xs : History) → HasPartitions config (x ∷ xs) → HasPartitions config xs
@@ -95,7 +95,7 @@ no_departure_is_lawful config log valid partitions = record {
 -- what the first departure of entries says, where they follow a sound log
 record IsFirstAfter (config : Configuration) (before entries : History) (first : Departure) (k : ℕ) (entry : Entry) : Type 0 where
   here : slice_get entries k ≡ Some entry
-  place : first.place ≡ length before + k
+  index : first.index ≡ length before + k
   sound : IsSound config (before ++ take k entries)
   table : first.expected.reply ≡ reply_to config (before ++ take k entries) entry.partition entry.at entry.call
   differs : entry.reply ≢ first.expected.reply
@@ -105,11 +105,11 @@ head_is x y xs ys same = cc
 
 module _ (config : Configuration) where
   here_first : (before : History) (e : Entry) (entries : History) (first : Departure) → IsSound config before
-      → agrees (reply_shown config before e.partition e.at e.call) e.reply ≡ false → record { place = length before; expected = expected_of config before e } ≡ first
+      → agrees (reply_shown config before e.partition e.at e.call) e.reply ≡ false → record { index = length before; expected = expected_of config before e } ≡ first
       → IsFirstAfter config before (e ∷ entries) first 0 e
   here_first before e entries first sound test is = record {
     here = refl;
-    place = sym (ap (λ (d : Departure). d.place) is) ∙ omega arith;
+    index = sym (ap (λ (d : Departure). d.index) is) ∙ omega arith;
     sound = subst (IsSound config) (sym (append-nil before)) sound;
     table = sym (ap (λ (d : Departure). d.expected.reply) is)
         ∙ (same_reply config before e.partition e.at e.call sound ∙ ap (λ (h : History). reply_to config h e.partition e.at e.call) (sym (append-nil before)));
@@ -125,7 +125,7 @@ module _ (config : Configuration) where
       let same : (before ++ e ∷ []) ++ take k entries ≡ before ++ e ∷ take k entries = append_assoc before (e ∷ []) (take k entries) in
       record {
         here = found.here;
-        place = let place = found.place in omega (arith, place, length-append before (e ∷ []));
+        index = let index = found.index in omega (arith, index, length-append before (e ∷ []));
         sound = subst (IsSound config) same found.sound;
         table = subst (λ (h : History). first.expected.reply ≡ reply_to config h entry.partition entry.at entry.call) same found.table;
         differs = found.differs;
@@ -151,12 +151,12 @@ module _ (config : Configuration) where
 pub first_departure : FirstDeparture
 first_departure config log first rest valid partitions is =
     let found = first_after config [] log first rest (sound-nil config valid) partitions is in
-    let place : first.place ≡ found.0 = let at = found.2.place in omega (arith, at) in (
+    let index : first.index ≡ found.0 = let at = found.2.index in omega (arith, at) in (
       found.1,
       record {
-        here = ap (λ (k : ℕ). slice_get log k) place ∙ found.2.here;
-        lawful = subst (λ (k : ℕ). IsLawful config (take k log)) (sym place) found.2.sound.lawful;
-        table = subst (λ (k : ℕ). first.expected.reply ≡ reply_to config (take k log) found.1.partition found.1.at found.1.call) (sym place) found.2.table;
+        here = ap (λ (k : ℕ). slice_get log k) index ∙ found.2.here;
+        lawful = subst (λ (k : ℕ). IsLawful config (take k log)) (sym index) found.2.sound.lawful;
+        table = subst (λ (k : ℕ). first.expected.reply ≡ reply_to config (take k log) found.1.partition found.1.at found.1.call) (sym index) found.2.table;
         differs = found.2.differs;
       },
     )

@@ -23,8 +23,8 @@ pub partition_stays : {A : Type 0} (config : Configuration) (h : History) (e : E
 partition_stays config h e p state was left = record {
   mode = was.mode ∙ sym (mode_of-append p h e ∙ ap (λ o. unwrap_or o (mode_of p h)) left.mode);
   ports = was.ports;
-  created = λ id place. was.created id place ∙ sym (is_created-append p id h e ∙ ((λ i. left.created id i || (is_created p id h && not (is_restart (left.mode i)))) ∙ or_not (is_created p id h)));
-  last = λ id place. was.last id place ∙ sym (last_validity_of-append p id h e ∙ (λ i. if left.created id i then Invalid else unwrap_or (left.read id i) (last_validity_of p id h)));
+  created = λ id known. was.created id known ∙ sym (is_created-append p id h e ∙ ((λ i. left.created id i || (is_created p id h && not (is_restart (left.mode i)))) ∙ or_not (is_created p id h)));
+  last = λ id known. was.last id known ∙ sym (last_validity_of-append p id h e ∙ (λ i. if left.created id i then Invalid else unwrap_or (left.read id i) (last_validity_of p id h)));
 }
 
 -- an entry is about no partition but its own

@@ -92,12 +92,12 @@ read_is message validity (Read other shown) h =
 read_is message validity _ h = absurd (cc)
 
 queuing_is : (waiting depth size : ℕ) (direction : Direction) (logged : Reply) → is_queuing_status waiting depth size direction logged ≡ true → logged ≡ QueuingStatus waiting depth size direction
-queuing_is waiting depth size direction (QueuingStatus count places bytes way) h =
-    let three = and_parts ((count == waiting) && (places == depth) && (bytes == size)) (number_of_direction way == number_of_direction direction) h in
-    let two = and_parts ((count == waiting) && (places == depth)) (bytes == size) three.0 in
-    let one = and_parts (count == waiting) (places == depth) two.0 in
+queuing_is waiting depth size direction (QueuingStatus count capacity bytes way) h =
+    let three = and_parts ((count == waiting) && (capacity == depth) && (bytes == size)) (number_of_direction way == number_of_direction direction) h in
+    let two = and_parts ((count == waiting) && (capacity == depth)) (bytes == size) three.0 in
+    let one = and_parts (count == waiting) (capacity == depth) two.0 in
     let a = eqb-true count waiting one.0 in
-    let b = eqb-true places depth one.1 in
+    let b = eqb-true capacity depth one.1 in
     let c = eqb-true bytes size two.1 in
     let d = same_direction way direction three.1 in
     λ i. QueuingStatus (a i) (b i) (c i) (d i)

@@ -29,9 +29,9 @@ NoDepartureIsLawful = (config : Configuration) (log : History) → IsConfigurati
 
 -- the first entry whose reply isn't the table's, after lawful entries
 pub record IsFirst (config : Configuration) (log : History) (departure : Departure) (entry : Entry) : Type 0 where
-  pub here : slice_get log departure.place ≡ Some entry
-  pub lawful : IsLawful config (take departure.place log)
-  pub table : departure.expected.reply ≡ reply_to config (take departure.place log) entry.partition entry.at entry.call
+  pub here : slice_get log departure.index ≡ Some entry
+  pub lawful : IsLawful config (take departure.index log)
+  pub table : departure.expected.reply ≡ reply_to config (take departure.index log) entry.partition entry.at entry.call
   pub differs : entry.reply ≢ departure.expected.reply
 
 abbrev pub FirstDeparture : Type 0

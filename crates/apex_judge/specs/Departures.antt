@@ -21,10 +21,10 @@ instead_of config before entry =
     if agrees (reply_shown config before entry.partition entry.at entry.call) entry.reply then None
     else Some (expected_of config before entry)
 
--- the departure of the entry at a place, if it is one
+-- the departure of the entry at an index, if it is one
 abbrev pub departure_at : ℕ → Option Expected → List Departure
-departure_at place None = []
-departure_at place (Some expected) = record { place = place; expected = expected } ∷ []
+departure_at index None = []
+departure_at index (Some expected) = record { index = index; expected = expected } ∷ []
 
 -- the departures of entries that follow a log
 abbrev pub departures_after : Configuration → History → List Entry → List Departure

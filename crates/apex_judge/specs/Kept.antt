@@ -10,7 +10,7 @@ use Rattle.apex_ports.specs.declared.history.Entry.{Entry}
 use Rattle.apex_ports.specs.History.{History, entry_of}
 use Rattle.apex_ports.specs.Kept.{EachAt}
 use Rattle.apex_ports.specs.Modes.{mode_of}
-use Rattle.apex_ports.specs.Ports.{IsPlace, is_created}
+use Rattle.apex_ports.specs.Ports.{IsIdentifier, is_created}
 use Rattle.apex_ports.specs.Channels.{last_write_on, last_validity_of}
 use Rattle.apex_judge.specs.declared.partition.PortState.{PortState}
 use Rattle.apex_judge.specs.declared.partition.PartitionState.{PartitionState}
@@ -33,8 +33,8 @@ state_at states id = if id == 0 then None else slice_get states (id - 1)
 pub record IsPartitionShown {A : Type 0} (config : Configuration) (log : History) (p : ℕ) (state : PartitionState A) : Type 0 where
   pub mode : state.mode ≡ mode_of p log
   pub ports : length state.ports.items ≡ length (ports_of config p)
-  pub created : (id : ℕ) → IsPlace (ports_of config p) id → created_in (state_at state.ports.items id) ≡ is_created p id log
-  pub last : (id : ℕ) → IsPlace (ports_of config p) id → last_in (state_at state.ports.items id) ≡ last_validity_of p id log
+  pub created : (id : ℕ) → IsIdentifier (ports_of config p) id → created_in (state_at state.ports.items id) ≡ is_created p id log
+  pub last : (id : ℕ) → IsIdentifier (ports_of config p) id → last_in (state_at state.ports.items id) ≡ last_validity_of p id log
 
 pub record IsChannelShown {A : Type 0} (config : Configuration) (log : History) (c : ℕ) (state : ChannelState A) : Type 0 where
   pub waiting : state.waiting.items ≡ waiting_shown config c log

@@ -28,8 +28,8 @@ is_read_as message validity (Read logged shown) = bytes_eq logged message && (nu
 is_read_as message validity _ = false
 
 abbrev pub is_queuing_status : ℕ → ℕ → ℕ → Direction → Reply → Bool
-is_queuing_status waiting depth size direction (QueuingStatus count places bytes way) =
-    (count == waiting) && (places == depth) && (bytes == size) && (number_of_direction way == number_of_direction direction)
+is_queuing_status waiting depth size direction (QueuingStatus count capacity bytes way) =
+    (count == waiting) && (capacity == depth) && (bytes == size) && (number_of_direction way == number_of_direction direction)
 is_queuing_status waiting depth size direction _ = false
 
 abbrev pub is_sampling_status : ℕ → ℕ → Direction → Validity → Reply → Bool

@@ -55,10 +55,10 @@ impl<A: Allocator> ChannelState<A> {
         ensures few { length self.new.waiting.items ≤ length self.old.waiting.items }
         ensures sample { self.new.sample ≡ self.old.sample }
     {
-        let Some(place) = place_of(&self.waiting, message) else {
+        let Some(index) = index_of(&self.waiting, message) else {
             return;
         };
-        discard(&mut self.waiting, place + 1);
+        discard(&mut self.waiting, index + 1);
     }
 
     /// Replaces the sample.
@@ -82,10 +82,10 @@ impl<A: Allocator> ChannelState<A> {
     }
 }
 
-// The place of the first message with these bytes.
-fn place_of<A: Allocator>(waiting: &VecDeque<Message, A>, message: &Message) -> Option<usize>
-    ensures place { result ≡ position (λ one. bytes_eq one message.now) waiting.now.items }
-    ensures within { IfSome result (λ place. place < length waiting.now.items) }
+// The index of the first message with these bytes.
+fn index_of<A: Allocator>(waiting: &VecDeque<Message, A>, message: &Message) -> Option<usize>
+    ensures index { result ≡ position (λ one. bytes_eq one message.now) waiting.now.items }
+    ensures within { IfSome result (λ index. index < length waiting.now.items) }
 {
     waiting
         .iter()

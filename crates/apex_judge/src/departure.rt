@@ -12,8 +12,8 @@ pub struct Expected {
 /// An entry of a log whose reply isn't the standard's.
 #[derive(Debug, Drop, PartialEq, Eq)]
 pub struct Departure {
-    /// The entry's place in the log, from 0.
-    pub place: usize,
+    /// The entry's index in the log, from 0.
+    pub index: usize,
     /// What the standard has there.
     pub expected: Expected,
 }

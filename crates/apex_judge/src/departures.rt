@@ -21,9 +21,9 @@ pub fn judge_log<A: Allocator + Copy>(
 {
     let mut judge = Judge::new(alloc, config)?;
     let mut found = Vec::new(alloc);
-    for (place, entry) in log.iter().enumerate() {
+    for (index, entry) in log.iter().enumerate() {
         let instead = judge.judge(entry.partition, entry.at, &entry.call, &entry.reply)?;
-        push_departure(&mut found, place, instead)?;
+        push_departure(&mut found, index, instead)?;
     }
     Ok(found)
 }
@@ -40,16 +40,16 @@ pub fn has_partitions(config: &Config, log: &[Entry]) -> bool
     true
 }
 
-// Notes what the standard has in place of the reply at a place, where that is another.
+// Notes what the standard has in place of the reply at an index, where that is another.
 fn push_departure<A: Allocator>(
     found: &mut Vec<Departure, A>,
-    place: usize,
+    index: usize,
     instead: Option<Expected>,
 ) -> Result<(), AllocFailed<Departure>>
-    ensures { IfOk result (λ _. found.new.items ≡ found.old.items ++ departure_at place instead) }
+    ensures { IfOk result (λ _. found.new.items ≡ found.old.items ++ departure_at index instead) }
 {
     let Some(expected) = instead else {
         return Ok(());
     };
-    found.push(Departure { place, expected })
+    found.push(Departure { index, expected })
 }

@@ -4,7 +4,7 @@ ghost use Rattle.std.specs.Option.{option_copied};
 ghost use Rattle.apex_config.specs.Configuration.{port_of, ports_of};
 ghost use Rattle.apex_ports.specs.Channels.{last_write_on, last_validity_of};
 ghost use Rattle.apex_ports.specs.Modes.{mode_of};
-ghost use Rattle.apex_ports.specs.Ports.{IsPlace, is_created, queuing_named, sampling_named};
+ghost use Rattle.apex_ports.specs.Ports.{IsIdentifier, is_created, queuing_named, sampling_named};
 ghost use Rattle.apex_ports.specs.Seen.{created_port, queuing_port, sampling_port};
 ghost use Rattle.apex_judge.specs.Kept.{IsShown};
 ghost use Rattle.apex_judge.specs.Shown.{shown};
@@ -28,7 +28,7 @@ impl<A: Allocator> State<A> {
     /// Whether a configured port is created.
     pub(crate) fn is_created(&self, config: &Config, partition: usize, id: u32) -> bool
         requires partition { partition < length config.now.partitions }
-        requires place { IsPlace (ports_of config.now partition) id }
+        requires identifier { IsIdentifier (ports_of config.now partition) id }
         requires shown { IsShown config.now self.now.log self.now }
         ensures { result ≡ is_created partition id self.now.log }
     {
@@ -38,7 +38,7 @@ impl<A: Allocator> State<A> {
     /// What the last read of a configured port showed.
     pub(crate) fn last_validity(&self, config: &Config, partition: usize, id: u32) -> Validity
         requires partition { partition < length config.now.partitions }
-        requires place { IsPlace (ports_of config.now partition) id }
+        requires identifier { IsIdentifier (ports_of config.now partition) id }
         requires shown { IsShown config.now self.now.log self.now }
         ensures { result ≡ last_validity_of partition id self.now.log }
     {
@@ -147,7 +147,8 @@ pub(crate) fn queuing_named<'a>(
         (queuing_named config.now partition name.now ≡ None)
         (λ found. queuing_named config.now partition name.now
         ≡ Some (record { id = found.0; port = found.1.now })) }
-    ensures place { IfSome result (λ found. IsPlace (ports_of config.now partition) found.0) }
+    ensures identifier { IfSome result
+        (λ found. IsIdentifier (ports_of config.now partition) found.0) }
     ensures linked { IfSome result (λ found. found.1.now.channel < length config.now.channels) }
 {
     let id = config.port_named(partition, name)?;
@@ -169,7 +170,8 @@ pub(crate) fn sampling_named<'a>(
         (sampling_named config.now partition name.now ≡ None)
         (λ found. sampling_named config.now partition name.now
         ≡ Some (record { id = found.0; port = found.1.now })) }
-    ensures place { IfSome result (λ found. IsPlace (ports_of config.now partition) found.0) }
+    ensures identifier { IfSome result
+        (λ found. IsIdentifier (ports_of config.now partition) found.0) }
     ensures linked { IfSome result (λ found. found.1.now.channel < length config.now.channels) }
 {
     let id = config.port_named(partition, name)?;

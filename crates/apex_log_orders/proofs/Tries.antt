@@ -150,8 +150,8 @@ module _ (config : Configuration) (logs : Logs) where
       no_way : (k : ℕ) (choice : Choice) → (slice_get front k ≡ Some choice) ⊎ ((k ≡ length front) × (next ≡ choice)) → HaveNoWay config logs (entries_at logs (take k path)) choice
       no_way k choice (inl here) = tried.none k choice (stays_before front (top ∷ []) k choice here)
       no_way k choice (inr last) = λ j p below is.
-          let place : k ≡ length path = last.0 ∙ short in
-          let here : take k path ≡ path = ap (λ (m : ℕ). take m path) place ∙ whole in
+          let index : k ≡ length path = last.0 ∙ short in
+          let here : take k path ≡ path = ap (λ (m : ℕ). take m path) index ∙ whole in
           let start : choice.first ≡ top.first = ap (λ (c : Choice). c.first) (sym last.1) ∙ first in
           let few : choice.tried ≡ suc top.tried = ap (λ (c : Choice). c.tried) (sym last.1) ∙ more in
           let is_here : candidate n top.first j ≡ Some p = ap (λ (f : ℕ). candidate n f j) (sym start) ∙ is in

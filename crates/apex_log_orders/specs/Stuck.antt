@@ -65,7 +65,7 @@ pub record ArePair (logs : Logs) (front : History) (p : ℕ) (entry : Entry) (pl
 abbrev pub Writes : Configuration → ℕ → List ℕ → Entry → Type 0
 Writes config c bytes entry = message_written config c entry.partition entry.call ≡ Some bytes
 
--- none of the entries from one place up to another asks so
+-- none of the entries from one index up to another asks so
 abbrev pub NoneWrites : Configuration → ℕ → List ℕ → History → ℕ → ℕ → Type 0
 NoneWrites config c bytes log first past =
     (k : ℕ) (entry : Entry) → first ≤ k → k < past → slice_get log k ≡ Some entry → ¬ Writes config c bytes entry

@@ -14,12 +14,12 @@ use Rattle.apex_logs.specs.declared.log.LogError.{LogError}
 use Rattle.apex_logs.specs.declared.log.LogError.TheVariants as errors
 use Rattle.apex_logs.specs.declared.log.LoggedEntry.{LoggedEntry}
 use Rattle.apex_logs.specs.declared.log_fault.LogFault.{LogFault}
-use Rattle.apex_logs.specs.LogFault.{number_of, words_of}
+use Rattle.apex_logs.specs.LogFault.{number_of, log_fault_words}
 use Rattle.apex_logs.specs.LogLine.{entry_of_line, own_request_at, ends_calls}
 
 -- `line L fault N: WORDS`
 abbrev pub faulty_line_words : FaultyLine → List ℕ
-faulty_line_words faulty = codes "line " ++ decimal faulty.line ++ codes " fault " ++ decimal (number_of faulty.fault) ++ codes ": " ++ words_of faulty.fault
+faulty_line_words faulty = codes "line " ++ decimal faulty.line ++ codes " fault " ++ decimal (number_of faulty.fault) ++ codes ": " ++ log_fault_words faulty.fault
 
 abbrev pub error_words : LogError → List ℕ
 error_words (errors.Line faulty) = faulty_line_words faulty

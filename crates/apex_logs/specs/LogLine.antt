@@ -19,14 +19,14 @@ use Rattle.apex_logs.specs.ReplyWords.{as_in_trace, first_word, reply_of}
 
 -- ---- the arrow
 
--- the place of the first arrow
+-- where the first arrow stands
 abbrev pub arrow_in : List ℕ → Option ℕ
 arrow_in text = first_of (matches text (codes "->") 0)
 
--- what stands before the arrow at a place, and what stands behind it
+-- what stands before the arrow at an index, and what stands behind it
 abbrev pub sides_at : List ℕ → Option ℕ → Result (List ℕ × List ℕ) LogFault
 sides_at text None = Err NoReply
-sides_at text (Some place) = Ok (take place text, drop (place + 2) text)
+sides_at text (Some at) = Ok (take at text, drop (at + 2) text)
 
 -- what stands before the first arrow, and what stands behind it
 abbrev pub sides_of : List ℕ → Result (List ℕ × List ℕ) LogFault
@@ -43,10 +43,10 @@ abbrev pub is_closed : Bool → List ℕ → Bool
 is_closed before [] = before
 is_closed before (byte ∷ rest) = is_closed (if is_blank byte then before else byte == 41) rest
 
--- what stands before the note that begins at a place
+-- what stands before the note that begins at an index
 abbrev pub before_note_at : List ℕ → Option ℕ → Result (List ℕ) LogFault
 before_note_at text None = Ok text
-before_note_at text (Some place) = if is_closed false (drop place text) then Ok (take place text) else Err OpenNote
+before_note_at text (Some at) = if is_closed false (drop at text) then Ok (take at text) else Err OpenNote
 
 -- what stands before the note of a text: from its first bracket on, closed at the end
 abbrev pub before_note : List ℕ → Result (List ℕ) LogFault

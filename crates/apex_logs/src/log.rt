@@ -91,7 +91,7 @@ pub trait LogForm {
     // That a partition can make calls in the log.
     ghost Knows: { Self → ℕ → Type 0 };
 
-    /// Reads the entry of a line into its place, as `read_log_line` does.
+    /// Reads the entry of a line into `entry`, as `read_log_line` does.
     fn read_line(&self, line: &[u8], entry: &mut Entry) -> Result<bool, LogFault>
         ensures exact { Gives (λ has_call. if has_call then Some entry.new else None) result
             (entry_of_line (asked_by self.now) line.now) }
@@ -131,7 +131,7 @@ impl LogForm for PartitionLog {
     }
 }
 
-/// Reads the first entry of a text that follows so many lines into its place, and answers the number of its line and
+/// Reads the first entry of a text that follows so many lines into `entry`, and answers the number of its line and
 /// the text after that line; none where the calls have ended. Lines without a call are passed over. After a fault, and
 /// where there is none, any entry may stand there.
 pub fn next_entry<'a, F: LogForm>(

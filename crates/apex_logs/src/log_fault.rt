@@ -1,6 +1,6 @@
 //! What is wrong with a line of a log.
 ghost use Rattle.std.specs.Prelude.{◌≡◌, Some};
-ghost use Rattle.apex_logs.specs.LogFault.{number_of, words_of};
+ghost use Rattle.apex_logs.specs.LogFault.{number_of, log_fault_words};
 
 use apex_texts::LineFault;
 use std::error::Error;
@@ -35,7 +35,7 @@ impl LogFault {
 
     /// The printed words of the fault.
     pub fn words(self) -> &'static str
-        ensures { result.now ≡ words_of self }
+        ensures { result.now ≡ log_fault_words self }
     {
         match self {
             LogFault::Line(fault) => fault.words(),
@@ -47,7 +47,7 @@ impl LogFault {
 }
 
 impl fmt::Display for LogFault {
-    ghost output = { λ fault. Some (words_of fault) };
+    ghost output = { λ fault. Some (log_fault_words fault) };
 
     fn fmt<W: fmt::Write>(&self, f: &mut fmt::Formatter<W>) -> fmt::Result {
         f.write_str(self.words())

@@ -17,7 +17,7 @@ use apex_texts::text::next_word;
 use apex_types::{Call, Moment, Reply};
 use memchr::{memchr, memmem};
 
-/// An entry into whose place others are read.
+/// An entry that others are read into.
 pub const ANY_ENTRY: Entry = Entry {
     partition: 0,
     at: Moment(0),
@@ -25,7 +25,7 @@ pub const ANY_ENTRY: Entry = Entry {
     reply: Reply::NotMade,
 };
 
-/// Reads the entry of a log's line into its place, and answers whether the line has one: a line
+/// Reads the entry of a log's line into `entry`, and answers whether the line has one: a line
 /// without words and a comment have none. After a fault any entry may stand there.
 #[tactic(auto, unfolding(crate::specs::LogLine::entry_of_line, crate::specs::LogLine::entry_of_parts))]
 pub fn read_log_line(config: &Config, line: &[u8], entry: &mut Entry) -> Result<bool, LogFault>
@@ -44,8 +44,8 @@ pub fn read_log_line(config: &Config, line: &[u8], entry: &mut Entry) -> Result<
     }
 }
 
-/// Reads the entry of a line in the log of one partition, which the line doesn't name, into its
-/// place, and answers as `read_log_line` does.
+/// Reads the entry of a line in the log of one partition, which the line doesn't name, into
+/// `entry`, and answers as `read_log_line` does.
 #[tactic(auto, unfolding(crate::specs::LogLine::entry_of_line, crate::specs::LogLine::entry_of_parts))]
 pub fn read_partition_log_line(
     partition: usize,
@@ -112,13 +112,13 @@ fn sides_of(line: &[u8]) -> Result<(&[u8], &[u8]), LogFault>
 {
     match arrow_in(line) {
         None => Err(LogFault::NoReply),
-        Some(place) => Ok((&line[..place], &line[place + 2..])),
+        Some(at) => Ok((&line[..at], &line[at + 2..])),
     }
 }
 
 fn arrow_in(line: &[u8]) -> Option<usize>
     ensures found { result ≡ arrow_in line.now }
-    ensures within { IfSome result (λ place. place + 2 ≤ length line.now) }
+    ensures within { IfSome result (λ at. at + 2 ≤ length line.now) }
 {
     memmem::find(line, b"->")
 }
@@ -178,7 +178,7 @@ fn before_note(text: &[u8]) -> Result<&[u8], LogFault>
 {
     match bracket_in(text) {
         None => Ok(text),
-        Some(place) if is_closed(&text[place..]) => Ok(&text[..place]),
+        Some(at) if is_closed(&text[at..]) => Ok(&text[..at]),
         Some(_) => Err(LogFault::OpenNote),
     }
 }

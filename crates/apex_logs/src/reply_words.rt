@@ -13,7 +13,7 @@ use std::str;
 /// The greatest refresh period of a logged status, in nanoseconds: that of 64 bits.
 pub const REFRESH_LIMIT: u64 = 18_446_744_073_709_551_615;
 
-/// Reads the reply that the words are into its place. After a fault any reply may stand there.
+/// Reads the reply that the words are into `entry`. After a fault any reply may stand there.
 #[tactic(auto, unfolding(crate::specs::ReplyWords::reply_of))]
 pub fn read_reply(words: &[u8], reply: &mut Reply) -> Result<(), LogFault>
     ensures { Gives (λ _. reply.new) result (reply_of (words_of words.now)) }
@@ -114,7 +114,7 @@ fn read_message_reply(words: &[u8], reply: &mut Reply) -> Result<(), LogFault>
     }
 }
 
-// A function clears the places of its values where it begins, those of functions inlined into it too. So each
+// A function clears the room of its values where it begins, those of functions inlined into it too. So each
 // function that makes a reply with a message isn't inlined.
 #[inline(never)]
 fn read_received(word: &[u8], reply: &mut Reply) -> Result<(), LogFault>

@@ -5,7 +5,7 @@ use Rattle.std.specs.List.{list_all, starts_with}
 use Rattle.std.specs.Option.{option_or}
 use Rattle.apex_config.specs.Configuration.{Configuration, partition_named, id_named, port_of}
 use Rattle.apex_line_faults.specs.declared.line_place.LinePlace.{LinePlace}
-use Rattle.apex_nearest.specs.Nearest.{nearest_of}
+use Rattle.apex_mistake_words.specs.Nearest.{nearest_of}
 use Rattle.apex_texts.specs.Arguments.{name_in}
 use Rattle.apex_texts.specs.Service.{word_of, service_named}
 use Rattle.apex_texts.specs.declared.expected.Expected.{Expected}

@@ -1,21 +1,22 @@
 -- The mistakes of a trace or a script: a line for each faulty line, and how many more there are.
-use Rattle.std.specs.Prelude.{ℕ, ◌-◌, ◌==◌, if◌then◌else◌, List, [], ◌++◌, length, take, codes, decimal, Option, Some, None}
+use Rattle.std.specs.Prelude.{ℕ, ◌-◌, List, [], ◌++◌, length, take, codes, decimal, Option, Some, None}
 use Rattle.std.specs.List.{flat_map}
 use Rattle.apex_config.specs.Configuration.{Configuration}
 use Rattle.apex_line_faults.specs.declared.line_place.LinePlace.{LinePlace}
-use Rattle.apex_texts.specs.LineFault.{words_of}
+use Rattle.apex_texts.specs.LineFault.{fault_words}
 use Rattle.apex_texts.specs.declared.line_fault.LineFault.{LineFault}
 use Rattle.apex_texts.specs.declared.line_fault.LineFault.TheVariants as faults
 use Rattle.apex_mistakes.specs.Hints.{hint_of}
 use Rattle.apex_mistakes.specs.Lines.{line_at, word_at, byte_at}
 use Rattle.apex_mistakes.specs.Quoted.{hex_digits, quoted}
 use Rattle.apex_mistakes.specs.Words.{expected_text}
-use Rattle.apex_mistakes.specs.declared.mistakes.TheConstants.{MISTAKE_LIMIT}
+use Rattle.apex_mistake_words.specs.declared.more.TheConstants.{MISTAKE_LIMIT}
+use Rattle.apex_mistake_words.specs.More.{more_line}
 
 -- `FILE:LINE:COLUMN: WHAT IS WRONG: `
 unfoldable pub head_of : List ℕ → LinePlace → List ℕ
 head_of file place =
-    file ++ (codes ":" ++ (decimal place.line ++ (codes ":" ++ (decimal place.column ++ (codes ": " ++ (words_of place.fault ++ codes ": "))))))
+    file ++ (codes ":" ++ (decimal place.line ++ (codes ":" ++ (decimal place.column ++ (codes ": " ++ (fault_words place.fault ++ codes ": "))))))
 
 -- the byte that stands there
 abbrev pub byte_text : ℕ → List ℕ
@@ -49,10 +50,6 @@ mistake_line file config caller line place =
 -- the line of a place in a text, of whose lines each is called by a partition
 abbrev pub mistake_at : List ℕ → Configuration → (List ℕ → Option ℕ) → List ℕ → LinePlace → List ℕ
 mistake_at file config caller text place = mistake_line file config (caller (line_at place.line text)) (line_at place.line text) place
-
--- `and N more`, where there are more mistakes than are told
-abbrev pub more_line : ℕ → List ℕ
-more_line more = if more == 0 then [] else codes "and " ++ (decimal more ++ codes " more\n")
 
 -- the mistakes at the first of these places, and how many more there are
 abbrev pub mistakes_text : List ℕ → Configuration → (List ℕ → Option ℕ) → List ℕ → List LinePlace → List ℕ

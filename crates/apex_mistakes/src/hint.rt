@@ -4,13 +4,13 @@ ghost use Rattle.std.specs.Char.{is_ascii_hexdigit};
 ghost use Rattle.std.specs.List.{list_all};
 ghost use Rattle.apex_mistakes.specs.Lines.{caller_of};
 ghost use Rattle.apex_mistakes.specs.Hints.{hint_words, meant_words, names_service, moment_hint, partition_hint, service_hint, number_hint, identifier_hint, has_prefix, message_hint, end_hint, word_hint, byte_order_mark, hint_of};
-ghost use Rattle.apex_nearest.specs.Nearest.{nearest_of};
+ghost use Rattle.apex_mistake_words.specs.Nearest.{nearest_of};
 
 use crate::expected::{call_words, partition_names};
 use crate::known::FaultyLine;
 use crate::standard::{DIRECTIONS, DISCIPLINES, MODES, Numbered, numbered, service_of_standard};
 use apex_config::Config;
-use apex_nearest::nearest;
+use apex_mistake_words::nearest;
 use apex_texts::arguments::name_in;
 use apex_texts::{Expected, LineFault, Service};
 use std::alloc::{AllocError, Global};

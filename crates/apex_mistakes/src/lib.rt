@@ -9,4 +9,4 @@ mod mistakes;
 mod quoted;
 mod standard;
 
-pub use crate::mistakes::{MISTAKE_LIMIT, script_mistakes, trace_mistakes};
+pub use crate::mistakes::{script_mistakes, trace_mistakes};

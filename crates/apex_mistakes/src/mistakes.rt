@@ -5,7 +5,8 @@ ghost use Rattle.std.specs.Str.Lines.{lines};
 ghost use Rattle.apex_line_faults.specs.FaultyLines.{trace_places, script_places};
 ghost use Rattle.apex_mistakes.specs.Lines.{line_at, trace_caller, script_caller, caller_of};
 ghost use Rattle.apex_mistakes.specs.Hints.{hint_of};
-ghost use Rattle.apex_mistakes.specs.Mistakes.{head_of, byte_text, found_text, hint_text, mistake_line, mistake_at, more_line, mistakes_text};
+ghost use Rattle.apex_mistakes.specs.Mistakes.{head_of, byte_text, found_text, hint_text, mistake_line, mistake_at, mistakes_text};
+ghost use Rattle.apex_mistake_words.specs.More.{more_line};
 
 use crate::expected::push_expected;
 use crate::hint::hint_of;
@@ -13,11 +14,9 @@ use crate::known::{Caller, FaultyLine};
 use crate::quoted::{push_hex, push_quoted};
 use apex_config::Config;
 use apex_line_faults::{FaultyLines, LinePlace, script_faults, trace_faults};
+use apex_mistake_words::{MISTAKE_LIMIT, push_more};
 use apex_texts::{LineFault, next_line};
 use std::alloc::{AllocError, Global};
-
-/// The most mistakes that are told.
-pub const MISTAKE_LIMIT: usize = 20;
 
 /// A line for each faulty line of a trace in the file, at most `MISTAKE_LIMIT`, and then one that says how many more there
 /// are. Nothing, where the trace can be read. The only error is that an allocation was refused.
@@ -85,16 +84,6 @@ fn mistakes(
     )?;
     push_more(&mut told, faults.count.saturating_sub(MISTAKE_LIMIT))?;
     Ok(told)
-}
-
-/// The line that says how many more there are.
-fn push_more(told: &mut String, more: usize) -> Result<(), AllocError>
-    ensures { OnOk result (string_bytes told.new ≡ string_bytes told.old ++ more_line more) }
-{
-    if more == 0 {
-        return Ok(());
-    }
-    writeln!(told, "and {more} more")
 }
 
 /// The lines of faults.

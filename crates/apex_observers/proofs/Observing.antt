@@ -9,7 +9,7 @@ books_of_sampling [] = refl
 books_of_sampling (None ∷ channels) = books_of_sampling channels
 books_of_sampling (Some published ∷ channels) = ap (λ books. published.channel ∷ books) (books_of_sampling channels)
 
--- the place of a channel among the sampling channels
+-- the index of a channel among the sampling channels
 pub sampling_at : (channels : Channels) (n : ℕ) (published : Published) → slice_get channels n ≡ Some (Some published)
     → slice_get (sampling_of channels) (length (sampling_of (take n channels))) ≡ Some published
 sampling_at [] n published at = absurd (cc)
@@ -18,17 +18,17 @@ sampling_at (Some first ∷ channels) zero published at = cc
 sampling_at (None ∷ channels) (suc n) published at = sampling_at channels n published at
 sampling_at (Some first ∷ channels) (suc n) published at = sampling_at channels n published at
 
--- the observer at a place is of the channel at that place
-pub observer_at : (channels : Channels) (observers : List Published) (place : ℕ) (published : Published) → AreObservers channels observers → slice_get (sampling_of channels) place ≡ Some published
-    → (known : Published) × (slice_get observers place ≡ Some known) × (published.channel ≡ known.channel)
-observer_at channels observers place published are at = by_entry (slice_get observers place) refl
+-- the observer at an index is of the channel at that index
+pub observer_at : (channels : Channels) (observers : List Published) (index : ℕ) (published : Published) → AreObservers channels observers → slice_get (sampling_of channels) index ≡ Some published
+    → (known : Published) × (slice_get observers index ≡ Some known) × (published.channel ≡ known.channel)
+observer_at channels observers index published are at = by_entry (slice_get observers index) refl
   where
-    same : option_map (λ known. known.channel) (slice_get observers place) ≡ Some published.channel
-    same = sym (slice_get-map (λ known. known.channel) observers place)
-        ∙ (ap (λ books. slice_get books place) (are ∙ sym (books_of_sampling channels))
-        ∙ (slice_get-map (λ known. known.channel) (sampling_of channels) place ∙ ap (option_map (λ known. known.channel)) at))
+    same : option_map (λ known. known.channel) (slice_get observers index) ≡ Some published.channel
+    same = sym (slice_get-map (λ known. known.channel) observers index)
+        ∙ (ap (λ books. slice_get books index) (are ∙ sym (books_of_sampling channels))
+        ∙ (slice_get-map (λ known. known.channel) (sampling_of channels) index ∙ ap (option_map (λ known. known.channel)) at))
 
-    by_entry : (o : Option Published) → slice_get observers place ≡ o → (known : Published) × (slice_get observers place ≡ Some known) × (published.channel ≡ known.channel)
+    by_entry : (o : Option Published) → slice_get observers index ≡ o → (known : Published) × (slice_get observers index ≡ Some known) × (published.channel ≡ known.channel)
     by_entry None is = let none = ap (option_map (λ known. known.channel)) is in absurd (cc (none, same))
     by_entry (Some known) is = let some = ap (option_map (λ known. known.channel)) is in (known, is, cc (some, same))
 
@@ -44,13 +44,13 @@ set_cases (z ∷ xs) (suc i) y (suc k) x at =
     (set_cases xs i y k x at)
 
 -- what holds of the observers so far, each beside its channel, holds with one observer more
-pub one_more : (Holds : Published → Published → Type 0) (channels : Channels) (place : ℕ) (publisher new : Published) (observers : List Published) → slice_get (sampling_of channels) place ≡ Some publisher → Holds publisher new
-    → ((k : ℕ) (published known : Published) → k < place → slice_get (sampling_of channels) k ≡ Some published → slice_get observers k ≡ Some known → Holds published known)
-    → (k : ℕ) (published known : Published) → k < place + 1 → slice_get (sampling_of channels) k ≡ Some published → slice_get (set observers place new) k ≡ Some known → Holds published known
-one_more Holds channels place publisher new observers at holds before k published known within there here =
+pub one_more : (Holds : Published → Published → Type 0) (channels : Channels) (index : ℕ) (publisher new : Published) (observers : List Published) → slice_get (sampling_of channels) index ≡ Some publisher → Holds publisher new
+    → ((k : ℕ) (published known : Published) → k < index → slice_get (sampling_of channels) k ≡ Some published → slice_get observers k ≡ Some known → Holds published known)
+    → (k : ℕ) (published known : Published) → k < index + 1 → slice_get (sampling_of channels) k ≡ Some published → slice_get (set observers index new) k ≡ Some known → Holds published known
+one_more Holds channels index publisher new observers at holds before k published known within there here =
     ⊎_elim
-    (λ (h : (k ≡ place) × (known ≡ new)).
+    (λ (h : (k ≡ index) × (known ≡ new)).
     let same : published ≡ publisher = let moved = ap (λ n. slice_get (sampling_of channels) n) h.0 in cc (at, there, moved) in
     subst (λ (p : Published). Holds p known) (sym same) (subst (λ (o : Published). Holds publisher o) (sym h.1) holds))
-    (λ (h : (k ≢ place) × (slice_get observers k ≡ Some known)). before k published known (omega (arith, within, h.0)) there h.1)
-    (set_cases observers place new k known here)
+    (λ (h : (k ≢ index) × (slice_get observers k ≡ Some known)). before k published known (omega (arith, within, h.0)) there h.1)
+    (set_cases observers index new k known here)

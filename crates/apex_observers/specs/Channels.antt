@@ -27,7 +27,7 @@ sampling_of channels = filter_map (λ published. published) channels
 abbrev pub AreObservers : Channels → List Published → Type 0
 AreObservers channels observers = map (λ known. known.channel) observers ≡ filter_map (λ book. book) (books_of channels)
 
--- each of these knows all that is published on the channel at its place
+-- each of these knows all that is published on the channel at its index
 abbrev pub KnowAll : List Published → List Published → Type 0
 KnowAll all observers =
-    (place : ℕ) (published known : Published) → slice_get all place ≡ Some published → slice_get observers place ≡ Some known → IsPrefix published.writes known.writes
+    (index : ℕ) (published known : Published) → slice_get all index ≡ Some published → slice_get observers index ≡ Some known → IsPrefix published.writes known.writes

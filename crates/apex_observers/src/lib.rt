@@ -10,13 +10,13 @@
 //! | `Publisher::new`, `Publishers::add_sampling` | yes | for want of memory |
 //! | `Publisher::publish`, `Publishers::publish` | for reads in progress | for want of memory, which `new` took |
 //! | `Publisher::close`, `Publishers::close` | for reads in progress | no |
-//! | `Publisher::observer`, `Publishers::observers` | no | where all places for observers are taken; for want of memory |
+//! | `Publisher::observer`, `Publishers::observers` | no | where there are as many observers as there is room for; for want of memory |
 //! | `Publisher::receipt`, `Publishers::receipt`, `Publishers::tell`, `Receipt::copy`, `Observer::learn`, `Observer::read` | no | no |
 //!
 //! # What is published
 //!
 //! A channel has two copies of its last sample (the crate `left_right`): readers take one while the writer changes the
-//! other, and a publication lets them change places. Each copy has a receipt beside the sample, so that a reader knows
+//! other, and a publication lets them change over. Each copy has a receipt beside the sample, so that a reader knows
 //! which writes came before. What a receipt says is said in contracts alone, by a history in which each write has its
 //! place (the crate `logbook`); in the program a receipt is the number of writes. Two lists of one channel are
 //! beginnings of one history, and so the longer of two is found by their numbers.

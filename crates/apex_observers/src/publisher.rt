@@ -2,6 +2,7 @@
 ghost use Rattle.std.specs.Prelude.{◌≡◌, ◌<◌, ◌^◌, [], drop, Some, IfOk, MatchResult};
 ghost use Rattle.left_right.specs.Sides.{view as known_by};
 ghost use Rattle.apex_observers.specs.Published.{with_write};
+ghost use Rattle.apex_observers.specs.declared.publisher.ObserverFault.TheVariants as fault;
 
 use crate::history::Count;
 use crate::observer::Observer;
@@ -31,12 +32,16 @@ pub enum ObserverFault {
 }
 
 impl From<NoPlace> for ObserverFault {
+    ghost from_gives = { λ _ given. given ≡ fault.NoPlace };
+
     fn from(_full: NoPlace) -> ObserverFault {
         ObserverFault::NoPlace
     }
 }
 
 impl<T: Drop> From<AllocFailed<T>> for ObserverFault {
+    ghost from_gives = { λ _ given. given ≡ fault.OutOfMemory };
+
     fn from(_refused: AllocFailed<T>) -> ObserverFault {
         ObserverFault::OutOfMemory
     }
@@ -114,7 +119,7 @@ fn show_empty<A: Allocator, R: Wait>(
 }
 
 impl<A: Allocator> Publisher<A> {
-    /// A channel with no writes, with places for so many observers at a time.
+    /// A channel with no writes, with room for so many observers at a time.
     pub fn new<R: Wait>(rt: &R, alloc: A, observers: usize) -> Result<Publisher<A>, OutOfMemory>
     where
         A: Clone,
@@ -176,7 +181,7 @@ impl<A: Allocator> Publisher<A> {
         self.receipt.copy()
     }
 
-    /// A new observer, which knows of the writes so far. No contract says when there is no place.
+    /// A new observer, which knows of the writes so far. No contract says when there is no room.
     pub fn observer(&mut self) -> Result<Observer<A>, NoPlace>
         ensures observer { IfOk result (λ observer. observer ≡ self.old) }
         ensures unchanged { self.new ≡ self.old }

@@ -68,7 +68,7 @@ impl<A: Allocator> Publishers<A> {
         self.add(rt, None)
     }
 
-    /// Adds a sampling channel on which nothing is published, with places for so many observers at a time.
+    /// Adds a sampling channel on which nothing is published, with room for so many observers at a time.
     pub fn add_sampling<R: Wait>(
         &mut self,
         rt: &R,
@@ -151,11 +151,11 @@ impl<A: Allocator> Publishers<A> {
         ensures observers { AreObservers self.now observers.new }
         ensures told { KnowAll (sampling_of self.now) observers.new }
     {
-        let mut place = 0;
+        let mut index = 0;
         for entry in &self.list {
             if let Some(publisher) = entry {
-                observers[place].learn(publisher.receipt());
-                place += 1;
+                observers[index].learn(publisher.receipt());
+                index += 1;
             }
         }
     }

@@ -154,5 +154,5 @@ module _ (config : Configuration) (scripts : Scripts) (groups : List ℕ) where
             same = subst (HasSameTotals config way (history_of config scripts shown.order)) source.5
                 (same_totals config (in_group groups (group_of groups p)) (apart.closed (group_of groups p)) p source.1 source.2 (is_in groups (group_of groups p) p refl) source.3
                 (subst (λ (d : ℕ). d < length config.channels) (sym source.5) within)
-                way (history_of config scripts shown.order) is_way.lawful (show.ways shown.order shown.here).lawful shown.same);
+                way (history_of config scripts shown.order) shown.same);
           }

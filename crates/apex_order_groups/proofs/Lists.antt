@@ -31,11 +31,11 @@ module _ {X : Type 0} where
 
   -- what an item is that a list has which begins with another
   first_or_rest : (y : X) (xs : List X) (x : X) → Has (y ∷ xs) x → (y ≡ x) ⊎ Has xs x
-  first_or_rest y xs x has = of_place has.0 has.1
+  first_or_rest y xs x has = of_index has.0 has.1
     where
-      of_place : (k : ℕ) → slice_get (y ∷ xs) k ≡ Some x → (y ≡ x) ⊎ Has xs x
-      of_place zero at = inl (let same : y ≡ x = cc in same)
-      of_place (suc k) at = inr (k, at)
+      of_index : (k : ℕ) → slice_get (y ∷ xs) k ≡ Some x → (y ≡ x) ⊎ Has xs x
+      of_index zero at = inl (let same : y ≡ x = cc in same)
+      of_index (suc k) at = inr (k, at)
 
   pub has_either : (xs ys : List X) (x : X) → Has (xs ++ ys) x → Has xs x ⊎ Has ys x
   has_either [] ys x has = inr has

@@ -35,7 +35,7 @@ no_entries scripts p h none is = nothing_mapped timed_of (entries_of p h) (is �
 no_reply : (config : Configuration) (scripts : Scripts) (one : Possible) → script_of scripts one.partition ≡ [] → CanOccur config scripts one → ⊥
 no_reply config scripts one none can =
     let nothing = no_entries scripts one.partition can.way none (can.is_way.calls one.partition) in
-    let at = sym (ap (λ (es : History). slice_get (map (λ (entry : Entry). entry.reply) es) one.place) nothing) ∙ can.reply in
+    let at = sym (ap (λ (es : History). slice_get (map (λ (entry : Entry). entry.reply) es) one.index) nothing) ∙ can.reply in
     absurd (cc)
 
 -- what is answered is a partition's of the configuration
@@ -109,7 +109,7 @@ module _ (config : Configuration) (inside : ℕ → Bool) (scripts part : Script
   occurs_in_part closed one here can = record {
     way = entries_inside inside can.way;
     is_way = way_inside closed can.way can.is_way;
-    reply = ap (λ (es : History). slice_get (map (λ (entry : Entry). entry.reply) es) one.place) (entries_stay inside one.partition here can.way) ∙ can.reply;
+    reply = ap (λ (es : History). slice_get (map (λ (entry : Entry). entry.reply) es) one.index) (entries_stay inside one.partition here can.way) ∙ can.reply;
   }
 
   pub occurs_in_all : IsConfiguration config → length scripts ≡ length config.partitions → (one : Possible) → CanOccur config part one → CanOccur config scripts one

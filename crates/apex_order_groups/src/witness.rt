@@ -11,7 +11,7 @@ use apex_orders::{Listener, Order, OrdersFault, Possible, order_giving_telling};
 use apex_ports::Script;
 use std::alloc::Global;
 
-/// An order in which the call at the place gets the reply, as `order_giving` of `apex_orders` answers it, but where the
+/// An order in which the call at the index gets the reply, as `order_giving` of `apex_orders` answers it, but where the
 /// call's partition shares no channel with some others, the calls of its group alone are searched. The scripts are as
 /// before afterwards; they are changed only while they are searched.
 pub fn order_giving_apart<L: Listener>(

@@ -23,9 +23,9 @@ use Rattle.apex_orders.proofs.Lists.{stays_before, before_or_last, take_whole, n
 use Rattle.apex_orders.proofs.Walks.{own_entry, other_entry, calls_of-append, replies_of-append, calls_count, replies_count, IsGood, IsDone, IsNext, answered, next_cases, same_history, one_longer, good_next, first_of, rest_of, none_ordered, first_ordered, joined, good_walk, continued-append, ordered, history_of_order}
 use Rattle.apex_orders.proofs.Following.{AreShort, same_self, same_along, same_next, same_count, point_next}
 
--- the call at the place was answered so
+-- the call at the index was answered so
 abbrev pub IsAnswered : History → Possible → Type 0
-IsAnswered h one = slice_get (replies_of one.partition h) one.place ≡ Some one.reply
+IsAnswered h one = slice_get (replies_of one.partition h) one.index ≡ Some one.reply
 
 pub good_nil : (config : Configuration) (scripts : Scripts) → IsConfiguration config → IsGood config scripts []
 good_nil config scripts valid = record { sound = sound-nil config valid; calls = λ p. refl }
@@ -38,8 +38,8 @@ module _ (config : Configuration) (scripts : Scripts) (valid : IsConfiguration c
 
   still_answered : (h more : History) (one : Possible) → IsAnswered h one → IsAnswered (h ++ more) one
   still_answered h more one here =
-      ap (λ (replies : List Reply). slice_get replies one.place) (replies_of-append one.partition h more)
-      ∙ stays_before (replies_of one.partition h) (replies_of one.partition more) one.place one.reply here
+      ap (λ (replies : List Reply). slice_get replies one.index) (replies_of-append one.partition h more)
+      ∙ stays_before (replies_of one.partition h) (replies_of one.partition more) one.index one.reply here
 
   pub answered_on : (h : History) (order : List ℕ) (one : Possible) → IsAnswered h one → IsAnswered (continued config scripts h order) one
   answered_on h [] one here = here
@@ -52,10 +52,10 @@ module _ (config : Configuration) (scripts : Scripts) (valid : IsConfiguration c
       let longer : replies_of one.partition (h ++ next_entries config scripts h p) ≡ replies_of one.partition h ++ one.reply ∷ [] =
       ap (λ (es : History). replies_of one.partition (h ++ es)) makes.entry
       ∙ (replies_of-append one.partition h (e ∷ []) ∙ ap (λ (es : History). replies_of one.partition h ++ map (λ (entry : Entry). entry.reply) es) (own_entry one.partition e (sym makes.partition))) in
-      let place : one.place ≡ length (replies_of one.partition h) =
-      makes.place ∙ (ap (λ (n : ℕ). length (entries_of n h)) (sym makes.partition) ∙ sym (replies_count one.partition h)) in
-      ap (λ (replies : List Reply). slice_get replies one.place) longer
-      ∙ (ap (λ (n : ℕ). slice_get (replies_of one.partition h ++ one.reply ∷ []) n) place ∙ at_seam (replies_of one.partition h) one.reply [])
+      let index : one.index ≡ length (replies_of one.partition h) =
+      makes.index ∙ (ap (λ (n : ℕ). length (entries_of n h)) (sym makes.partition) ∙ sym (replies_count one.partition h)) in
+      ap (λ (replies : List Reply). slice_get replies one.index) longer
+      ∙ (ap (λ (n : ℕ). slice_get (replies_of one.partition h ++ one.reply ∷ []) n) index ∙ at_seam (replies_of one.partition h) one.reply [])
 
   -- what is answered behind a step was answered before it, or by it
   answered_by : (h : History) (p : ℕ) (one : Possible) → IsAnswered (h ++ next_entries config scripts h p) one → IsAnswered h one ⊎ Makes config scripts h p one
@@ -79,21 +79,21 @@ module _ (config : Configuration) (scripts : Scripts) (valid : IsConfiguration c
               let longer : replies_of one.partition (h ++ e ∷ []) ≡ replies_of one.partition h ++ e.reply ∷ [] =
               split ∙ ap (λ (es : History). replies_of one.partition h ++ map (λ (entry : Entry). entry.reply) es) (own_entry one.partition e own) in
               ⊎_elim
-              (λ (before : slice_get (replies_of one.partition h) one.place ≡ Some one.reply). inl before)
-              (λ (last : (one.place ≡ length (replies_of one.partition h)) × (e.reply ≡ one.reply)). inr (record {
+              (λ (before : slice_get (replies_of one.partition h) one.index ≡ Some one.reply). inl before)
+              (λ (last : (one.index ≡ length (replies_of one.partition h)) × (e.reply ≡ one.reply)). inr (record {
                 partition = sym own;
-                place = last.0 ∙ (replies_count one.partition h ∙ ap (λ (n : ℕ). length (entries_of n h)) (sym own));
+                index = last.0 ∙ (replies_count one.partition h ∙ ap (λ (n : ℕ). length (entries_of n h)) (sym own));
                 at = next.timed.0;
                 call = next.timed.1;
                 entry = next.entry ∙ ap (λ (r : Reply). entry_of p next.timed.0 next.timed.1 r ∷ []) last.1;
               }))
-              (before_or_last (replies_of one.partition h) e.reply one.place one.reply (ap (λ (replies : List Reply). slice_get replies one.place) (sym longer) ∙ at))
+              (before_or_last (replies_of one.partition h) e.reply one.index one.reply (ap (λ (replies : List Reply). slice_get replies one.index) (sym longer) ∙ at))
 
           others : (p ≡ one.partition → ⊥) → IsAnswered h one ⊎ Makes config scripts h p one
           others apart =
               let same : replies_of one.partition (h ++ e ∷ []) ≡ replies_of one.partition h =
               split ∙ (ap (λ (es : History). replies_of one.partition h ++ map (λ (entry : Entry). entry.reply) es) (other_entry one.partition e apart) ∙ append-nil (replies_of one.partition h)) in
-              inl (ap (λ (replies : List Reply). slice_get replies one.place) (sym same) ∙ at)
+              inl (ap (λ (replies : List Reply). slice_get replies one.index) (sym same) ∙ at)
 
   -- ---- each beginning can be finished
 
@@ -158,12 +158,12 @@ module _ (config : Configuration) (scripts : Scripts) (valid : IsConfiguration c
   pub way_of : length scripts ≡ length config.partitions → (h : History) → IsGood config scripts h → AreFull (length config.partitions) h → IsWay config scripts h
   way_of count h good full = record {
     lawful = good.sound.lawful;
-    calls = λ p. good.calls p ∙ take_whole (length (calls_of p h)) (script_of scripts p) (of_place p (slice_get scripts p) refl);
+    calls = λ p. good.calls p ∙ take_whole (length (calls_of p h)) (script_of scripts p) (of_index p (slice_get scripts p) refl);
   }
     where
-      of_place : (p : ℕ) (o : Option (List (Moment × Call))) → slice_get scripts p ≡ o → length (script_of scripts p) ≤ length (calls_of p h)
-      of_place p None none = subst (λ (o : Option (List (Moment × Call))). length (unwrap_or o []) ≤ length (calls_of p h)) (sym none) (omega arith)
-      of_place p (Some script) here = full p (let within = slice_get_within scripts p script here in omega (arith, within, count))
+      of_index : (p : ℕ) (o : Option (List (Moment × Call))) → slice_get scripts p ≡ o → length (script_of scripts p) ≤ length (calls_of p h)
+      of_index p None none = subst (λ (o : Option (List (Moment × Call))). length (unwrap_or o []) ≤ length (calls_of p h)) (sym none) (omega arith)
+      of_index p (Some script) here = full p (let within = slice_get_within scripts p script here in omega (arith, within, count))
 
   pub finish : length scripts ≡ length config.partitions → (h : History) → IsGood config scripts h → Finishes h (IsWay config scripts)
   finish count h good =
@@ -221,7 +221,7 @@ module _ (config : Configuration) (scripts : Scripts) (valid : IsConfiguration c
         let own : p ≡ one.partition = sym makes.partition in
         let made : Makes config scripts there p one = record {
           partition = makes.partition;
-          place = makes.place ∙ same_count config scripts short h there p within good good_too known.same;
+          index = makes.index ∙ same_count config scripts short h there p within good good_too known.same;
           at = makes.at;
           call = makes.call;
           entry = sym (same_next config scripts short h there p within good good_too known.same) ∙ makes.entry;

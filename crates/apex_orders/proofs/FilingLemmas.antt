@@ -1,4 +1,4 @@
--- Places in buckets.
+-- Indexes in buckets.
 use Rattle.std.proofs.Common.{◌≡◌, ⊎_elim, ℕ, ◌<◌, ◌%◌, List, [], ◌∷◌, ◌++◌, length, get_or, Some, refl, sym, ap, ◌∙◌, subst, arith}
 use Rattle.std.specs.List.{slice_get}
 use Rattle.std.proofs.Math.ListN.{set}
@@ -24,11 +24,11 @@ module _ (buckets : List (List ℕ)) (b : ℕ) (new : List ℕ) (within : b < le
   stay_in : ((k : ℕ) → Has (get_or buckets b []) k → Has new k) → StayIn buckets (set buckets b new)
   stay_in kept = record {
     count = length-set buckets b new;
-    each = λ mark place here.
+    each = λ mark index here.
         ⊎_elim
         (λ (same : mark % length buckets ≡ b).
-        subst (λ (places : List ℕ). Has places place) (sym (own_bucket mark same)) (kept place (subst (λ (n : ℕ). Has (get_or buckets n []) place) same here)))
-        (λ (apart : mark % length buckets ≡ b → ⊥). subst (λ (places : List ℕ). Has places place) (sym (other_bucket mark apart)) here)
+        subst (λ (indexes : List ℕ). Has indexes index) (sym (own_bucket mark same)) (kept index (subst (λ (n : ℕ). Has (get_or buckets n []) index) same here)))
+        (λ (apart : mark % length buckets ≡ b → ⊥). subst (λ (indexes : List ℕ). Has indexes index) (sym (other_bucket mark apart)) here)
         (cases_eq (mark % length buckets) b);
   }
 
@@ -36,10 +36,10 @@ module _ (buckets : List (List ℕ)) (b : ℕ) (new : List ℕ) (within : b < le
   pub stay_with : (was : List ℕ) → was ≡ get_or buckets b was → ((k : ℕ) → Has was k → Has new k) → StayIn buckets (set buckets b new)
   stay_with was at kept =
       let is : get_or buckets b [] ≡ was = get_or_from_slice_get buckets b was [] (slice_get_read buckets (length buckets) b was refl within at) in
-      stay_in (λ k has. kept k (subst (λ (places : List ℕ). Has places k) is has))
+      stay_in (λ k has. kept k (subst (λ (indexes : List ℕ). Has indexes k) is has))
 
-  pub is_in : (mark place : ℕ) → b ≡ mark % length buckets → Has new place → IsIn (set buckets b new) mark place
-  is_in mark place own here = subst (λ (places : List ℕ). Has places place) (sym (own_bucket mark (sym own))) here
+  pub is_in : (mark index : ℕ) → b ≡ mark % length buckets → Has new index → IsIn (set buckets b new) mark index
+  is_in mark index own here = subst (λ (indexes : List ℕ). Has indexes index) (sym (own_bucket mark (sym own))) here
 
 pub still_filed : (marks : List ℕ) (old new : List (List ℕ)) → AreFiled marks old → StayIn old new → AreFiled marks new
 still_filed marks old new filed stay = record {

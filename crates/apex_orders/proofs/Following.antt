@@ -29,7 +29,7 @@ same_self config h = record {
   calls = λ p within. refl;
   counts = λ c within. record { accepted = refl; received = refl; cleared = refl };
   state = record {
-    partitions = λ p within. record { mode = refl; ports = record { created = λ id place. refl; last = λ id place. refl } };
+    partitions = λ p within. record { mode = refl; ports = record { created = λ id known. refl; last = λ id known. refl } };
     channels = λ c within. record { sample = refl; waiting = refl };
   };
 }
@@ -46,8 +46,8 @@ same_along config f g h one two = record {
     partitions = λ p within. record {
       mode = (one.state.partitions p within).mode ∙ (two.state.partitions p within).mode;
       ports = record {
-        created = λ id place. (one.state.partitions p within).ports.created id place ∙ (two.state.partitions p within).ports.created id place;
-        last = λ id place. (one.state.partitions p within).ports.last id place ∙ (two.state.partitions p within).ports.last id place;
+        created = λ id known. (one.state.partitions p within).ports.created id known ∙ (two.state.partitions p within).ports.created id known;
+        last = λ id known. (one.state.partitions p within).ports.last id known ∙ (two.state.partitions p within).ports.last id known;
       };
     };
     channels = λ c within. record {

@@ -44,12 +44,12 @@ module _ (config : Configuration) (scripts : Scripts) (orders : List (List ℕ))
         (before_or_last old.saved.items ports j one here);
   }
 
-  -- what was taken out belongs to the order at the place
+  -- what was taken out belongs to the order at the index
   pub taken_after : (k : ℕ) (ports : PortsView) (order : List ℕ) → IsTaken old new k ports → slice_get orders k ≡ Some order → IsAfter config scripts order ports
   taken_after k ports order taken at =
       are.each 0 ports order
       (ap (λ (ps : List PortsView). slice_get ps 0) taken.saved)
-      (let place : old.first + 0 ≡ k = let here = taken.here in omega (arith, here) in ap (λ (n : ℕ). slice_get orders n) place ∙ at)
+      (let index : old.first + 0 ≡ k = let here = taken.here in omega (arith, here) in ap (λ (n : ℕ). slice_get orders n) index ∙ at)
 
   pub points_taken : (k : ℕ) (ports : PortsView) → IsTaken old new k ports → ArePoints config scripts orders new
   points_taken k ports taken = record {
@@ -61,10 +61,10 @@ module _ (config : Configuration) (scripts : Scripts) (orders : List (List ℕ))
         omega (arith, count, first, shorter);
     each = λ j one order at listed.
         let first = taken.first in
-        let place : new.first + j ≡ old.first + suc j = omega (arith, first) in
+        let index : new.first + j ≡ old.first + suc j = omega (arith, first) in
         are.each (suc j) one order
         (ap (λ (ps : List PortsView). slice_get ps (suc j)) taken.saved ∙ at)
-        (ap (λ (n : ℕ). slice_get orders n) (sym place) ∙ listed);
+        (ap (λ (n : ℕ). slice_get orders n) (sym index) ∙ listed);
   }
 
   pub points_left : IsLeft old new → ArePoints config scripts orders new
@@ -80,12 +80,12 @@ module _ (config : Configuration) (scripts : Scripts) (orders : List (List ℕ))
         (ap (λ (n : ℕ). slice_get orders (n + j)) (sym left.first) ∙ listed);
   }
 
-  -- what is saved for the place belongs to the order there
+  -- what is saved for the index belongs to the order there
   pub saved_here : (k : ℕ) (order : List ℕ) (r : Option (Bor PortsView)) → slice_get orders k ≡ Some order → IfSome r (λ _. old.first ≤ k)
       → IfSome r (λ ports. slice_get old.saved.items (k - old.first) ≡ Some ports.now) → IfSome r (λ ports. IsAfter config scripts order ports.now)
-  saved_here k order None at place is = tt
-  saved_here k order (Some lent) at place is =
-      let there : old.first + (k - old.first) ≡ k = omega (arith, place) in
+  saved_here k order None at index is = tt
+  saved_here k order (Some lent) at index is =
+      let there : old.first + (k - old.first) ≡ k = omega (arith, index) in
       are.each (k - old.first) lent.now order is (ap (λ (n : ℕ). slice_get orders n) there ∙ at)
 
   -- by what taking out answered

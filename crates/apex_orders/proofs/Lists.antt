@@ -1,4 +1,4 @@
--- Places of lists.
+-- Indexes of lists.
 use Rattle.std.proofs.Common.{◌≡◌, ◌⊎◌, inl, inr, ⊎_elim, ℕ, zero, suc, ◌≤◌, List, [], ◌∷◌, ◌++◌, length, take, Some, None, refl, ap, arith}
 use Rattle.std.specs.List.{slice_get}
 

@@ -4,9 +4,9 @@ use Rattle.std.specs.List.{slice_get}
 use Rattle.apex_types.specs.Validity.{number_of}
 use Rattle.apex_config.specs.Configuration.{Configuration, ports_of}
 use Rattle.apex_ports.specs.History.{History}
-use Rattle.apex_ports.specs.Ports.{IsPlace}
+use Rattle.apex_ports.specs.Ports.{IsIdentifier}
 use Rattle.apex_states.specs.States.{IsSamePorts}
-use Rattle.apex_orders.specs.Marks.{mixed, calls_below, calls_mark, shown_below, all_shown_below, shown_mark, messages_mark, channels_below, mark_of, AreMarked}
+use Rattle.apex_orders.specs.Marks.{mixed, calls_below, shown_below, all_shown_below, shown_mark, messages_mark, channels_below, mark_of, AreMarked}
 use Rattle.apex_orders.specs.Orders.{Scripts, history_of}
 use Rattle.apex_orders.specs.Points.{IsSamePoint, IsSameCalls}
 use Rattle.apex_orders.proofs.Lists.{at_seam, stays_before, before_or_last}
@@ -20,8 +20,8 @@ module _ (config : Configuration) (h other : History) where
       → shown_below config h p mark n ≡ shown_below config other p mark_too n
   same_shown p mark mark_too zero is within same = is
   same_shown p mark mark_too (suc i) is within same =
-      let place : IsPlace (ports_of config p) (i + 1) = record { first = omega arith; last = omega arith } in
-      λ j. mixed (same_shown p mark mark_too i is (omega arith) same j) (number_of (same.last (i + 1) place j))
+      let known : IsIdentifier (ports_of config p) (i + 1) = record { first = omega arith; last = omega arith } in
+      λ j. mixed (same_shown p mark mark_too i is (omega arith) same j) (number_of (same.last (i + 1) known j))
 
   same_all_shown : (n : ℕ) → n ≤ length config.partitions → IsSamePoint config h other → all_shown_below config h n ≡ all_shown_below config other n
   same_all_shown zero within same = same_calls_below (length config.partitions) (omega arith) same.calls

@@ -97,8 +97,8 @@ module _ (config : Configuration) (scripts : Scripts) where
   same_made h p one other makes makes_too =
       let reply : one.reply ≡ other.reply = ap (first_reply one.reply) (sym makes.entry ∙ makes_too.entry) in
       let partition : one.partition ≡ other.partition = makes.partition ∙ sym makes_too.partition in
-      let place : one.place ≡ other.place = makes.place ∙ sym makes_too.place in
-      λ i. record { partition = partition i; place = place i; reply = reply i }
+      let index : one.index ≡ other.index = makes.index ∙ sym makes_too.index in
+      λ i. record { partition = partition i; index = index i; reply = reply i }
 
   pub tried_one : (orders : List (List ℕ)) (replies : List Possible) (order : List ℕ) (p : ℕ) (one : Possible) → Knows config scripts orders (history_of config scripts (order ++ p ∷ []))
       → Has replies one → Makes config scripts (history_of config scripts order) p one → IsTried config scripts orders replies order p
@@ -131,16 +131,16 @@ module _ (config : Configuration) (scripts : Scripts) where
     reply = λ one makes. includes one (tried.reply one makes);
   }
 
-  -- the order at a place that was there stands there still
-  same_place : (old new : List (List ℕ)) (k : ℕ) (order : List ℕ) → Keeps old new → k < length old → slice_get new k ≡ Some order → slice_get old k ≡ Some order
-  same_place old new k order keeps within at =
+  -- the order at an index that was there stands there still
+  same_index : (old new : List (List ℕ)) (k : ℕ) (order : List ℕ) → Keeps old new → k < length old → slice_get new k ≡ Some order → slice_get old k ≡ Some order
+  same_index old new k order keeps within at =
       let was = slice_get-get_or old k order within in
       was ∙ (sym (keeps k _ was) ∙ at)
 
   pub has_tried_kept : (old new : List (List ℕ)) (replies more : List Possible) (k : ℕ) → Keeps old new → Includes replies more → k < length old
       → HasTried config scripts old replies k → HasTried config scripts new more k
   has_tried_kept old new replies more k keeps includes within tried order at p inside =
-      tried_kept old new replies more order p keeps includes (tried order (same_place old new k order keeps within at) p inside)
+      tried_kept old new replies more order p keeps includes (tried order (same_index old new k order keeps within at) p inside)
 
 pub keeps_along : {X : Type 0} (a b c : List X) → Keeps a b → Keeps b c → Keeps a c
 keeps_along a b c one two k x at = two k x (one k x at)

@@ -19,9 +19,9 @@ module _ (config : Configuration) (scripts : Scripts) (h : History) (p : ℕ) (s
   makes_nothing made =
       ap (entries_for config h p) (call_at (length (entries_of p h)) ∙ none_beyond script (length (entries_of p h)) (omega (arith, made)))
 
-  pub whole_count : (place : ℕ) → place ≡ count_of (entries_of p h) → place < 2 ^ 64 - 1 → place ≡ length (entries_of p h)
-  whole_count place is few = omega (arith, is, few)
+  pub whole_count : (index : ℕ) → index ≡ count_of (entries_of p h) → index < 2 ^ 64 - 1 → index ≡ length (entries_of p h)
+  whole_count index is few = omega (arith, is, few)
 
-  pub makes_next : (place : ℕ) (timed : Moment × Call) → place ≡ length (entries_of p h) → slice_get script place ≡ Some timed → next_entries config scripts h p ≡ answered config scripts h p timed ∷ []
-  makes_next place timed is at =
+  pub makes_next : (index : ℕ) (timed : Moment × Call) → index ≡ length (entries_of p h) → slice_get script index ≡ Some timed → next_entries config scripts h p ≡ answered config scripts h p timed ∷ []
+  makes_next index timed is at =
       ap (entries_for config h p) (call_at (length (entries_of p h)) ∙ (ap (λ (n : ℕ). slice_get script n) (sym is) ∙ at))

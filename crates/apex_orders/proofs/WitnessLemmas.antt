@@ -32,7 +32,7 @@ module _ (config : Configuration) (scripts : Scripts) where
           entry = entry_of p makes.at makes.call one.reply;
           whole = ahead ∙ ap (λ (es : History). h ++ es) makes.entry;
           partition = refl;
-          place = makes.place;
+          index = makes.index;
           reply = refl;
         };
       }

@@ -19,9 +19,9 @@ pub record ArePoints (config : Configuration) (scripts : Scripts) (orders : List
   pub each : (j : ℕ) (ports : PortsView) (order : List ℕ) → slice_get points.saved.items j ≡ Some ports
       → slice_get orders (points.first + j) ≡ Some order → IsAfter config scripts order ports
 
--- what was saved at the place was taken out
-pub record IsTaken (old new : Points) (place : ℕ) (ports : PortsView) : Type 0 where
-  pub here : old.first ≡ place
+-- what was saved at the index was taken out
+pub record IsTaken (old new : Points) (index : ℕ) (ports : PortsView) : Type 0 where
+  pub here : old.first ≡ index
   pub first : new.first ≡ old.first + 1
   pub saved : old.saved.items ≡ ports ∷ new.saved.items
   pub marks : new.marks ≡ old.marks

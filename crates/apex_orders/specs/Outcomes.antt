@@ -10,26 +10,26 @@ use Rattle.apex_orders.specs.Orders.{Scripts, IsBeginning, IsWay, IsOrder, histo
 use Rattle.apex_orders.specs.Points.{IsSamePoint}
 use Rattle.apex_orders.specs.Possibles.{Has}
 
--- some way of all calls gives the partition's call at the place this reply
+-- some way of all calls gives the partition's call at the index this reply
 pub record CanOccur (config : Configuration) (scripts : Scripts) (one : Possible) : Type 0 where
   pub way : History
   pub is_way : IsWay config scripts way
-  pub reply : slice_get (replies_of one.partition way) one.place ≡ Some one.reply
+  pub reply : slice_get (replies_of one.partition way) one.index ≡ Some one.reply
 
--- the last entry of the history is that of the call at the place, with the reply
+-- the last entry of the history is that of the call at the index, with the reply
 pub record EndsWith (history : History) (one : Possible) : Type 0 where
   pub before : History
   pub entry : Entry
   pub whole : history ≡ before ++ entry ∷ []
   pub partition : entry.partition ≡ one.partition
-  pub place : one.place ≡ length (entries_of one.partition before)
+  pub index : one.index ≡ length (entries_of one.partition before)
   pub reply : entry.reply ≡ one.reply
 
--- the calls in this order are a beginning, which ends with the call at the place, and gives it the reply
+-- the calls in this order are a beginning, which ends with the call at the index, and gives it the reply
 pub record IsGivenBy (config : Configuration) (scripts : Scripts) (one : Possible) (order : List ℕ) : Type 0 where
   pub valid : IsOrder config order
   pub begins : IsBeginning config scripts (history_of config scripts order)
-  pub reply : slice_get (replies_of one.partition (history_of config scripts order)) one.place ≡ Some one.reply
+  pub reply : slice_get (replies_of one.partition (history_of config scripts order)) one.index ≡ Some one.reply
   pub last : EndsWith (history_of config scripts order) one
 
 -- these are the replies that calls can get, and no others

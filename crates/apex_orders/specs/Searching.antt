@@ -17,7 +17,7 @@ pub record Knows (config : Configuration) (scripts : Scripts) (orders : List (Li
   pub here : Has orders order
   pub same : IsSamePoint config history (history_of config scripts order)
 
--- each item of the one list stands at its place in the other
+-- each item of the one list stands at its index in the other
 abbrev pub Keeps : {X : Type 0} → List X → List X → Type 0
 Keeps {X} old new = (k : ℕ) (x : X) → slice_get old k ≡ Some x → slice_get new k ≡ Some x
 
@@ -45,7 +45,7 @@ pub record IsFound (config : Configuration) (scripts : Scripts) (one : Possible)
 abbrev pub AreFound : Configuration → Scripts → List Possible → Type 0
 AreFound config scripts replies = (one : Possible) → Has replies one → IsFound config scripts one
 
--- behind the order, the partition's next call is the one at the place, and gets the reply
+-- behind the order, the partition's next call is the one at the index, and gets the reply
 pub record IsGivenBehind (config : Configuration) (scripts : Scripts) (order : List ℕ) (one : Possible) : Type 0 where
   pub within : one.partition < length config.partitions
   pub makes : Makes config scripts (history_of config scripts order) one.partition one
@@ -62,7 +62,7 @@ AreApart config scripts orders =
     (j k : ℕ) (order other : List ℕ) → j < k → slice_get orders j ≡ Some order → slice_get orders k ≡ Some other
     → ¬ IsSamePoint config (history_of config scripts other) (history_of config scripts order)
 
--- of the order at the place every partition was tried
+-- of the order at the index every partition was tried
 abbrev pub HasTried : Configuration → Scripts → List (List ℕ) → List Possible → ℕ → Type 0
 HasTried config scripts orders replies k =
     (order : List ℕ) → slice_get orders k ≡ Some order

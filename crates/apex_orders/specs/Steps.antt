@@ -11,10 +11,10 @@ use Rattle.apex_orders.specs.Orders.{Scripts, next_entries}
 abbrev pub MakesNothing : Configuration → Scripts → History → ℕ → Type 0
 MakesNothing config scripts history p = next_entries config scripts history p ≡ []
 
--- the partition's next call is at this place, and gets this reply
+-- the partition's next call is at this index, and gets this reply
 pub record Makes (config : Configuration) (scripts : Scripts) (history : History) (p : ℕ) (one : Possible) : Type 0 where
   pub partition : one.partition ≡ p
-  pub place : one.place ≡ length (entries_of p history)
+  pub index : one.index ≡ length (entries_of p history)
   pub at : Moment
   pub call : Call
   pub entry : next_entries config scripts history p ≡ entry_of p at call one.reply ∷ []

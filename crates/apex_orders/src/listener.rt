@@ -21,7 +21,7 @@ impl Listener for Nobody {
 #[derive(Drop)]
 pub(crate) struct Level {
     depth: usize,
-    /// The place after the last of them.
+    /// The index after the last of them.
     end: usize,
 }
 
@@ -31,14 +31,14 @@ impl Level {
         Level { depth: 0, end: 1 }
     }
 
-    /// Tells how far the search is that goes on from the point at the place, once a level and every so many places.
-    pub(crate) fn tell<L: Listener>(&mut self, listener: &mut L, place: usize, states: usize) {
-        let is_next = place >= self.end;
+    /// Tells how far the search is that goes on from the point at the index, once a level and every so many indexes.
+    pub(crate) fn tell<L: Listener>(&mut self, listener: &mut L, index: usize, states: usize) {
+        let is_next = index >= self.end;
         if is_next {
             self.depth = self.depth.saturating_add(1);
             self.end = states;
         }
-        if is_next || place % POINTS_UNTOLD == 0 {
+        if is_next || index % POINTS_UNTOLD == 0 {
             listener.level(self.depth, states);
         }
     }

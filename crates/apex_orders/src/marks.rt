@@ -7,10 +7,10 @@ use apex_types::OutOfMemory;
 use std::alloc::{AllocError, Global};
 use std::marker::Model;
 
-/// The places of the marks that have one remainder. To a contract it is the list of them.
+/// The indexes of the marks that have one remainder. To a contract it is the list of them.
 #[derive(Drop)]
 struct Bucket {
-    places: Vec<usize>,
+    indexes: Vec<usize>,
 }
 
 impl Model for Bucket {
@@ -18,7 +18,7 @@ impl Model for Bucket {
 
     ghost Value = { List ℕ };
 
-    ghost view = { λ bucket. bucket.places.items };
+    ghost view = { λ bucket. bucket.indexes.items };
 }
 
 impl Bucket {
@@ -26,23 +26,23 @@ impl Bucket {
         ensures { result ≡ [] }
     {
         Bucket {
-            places: Vec::new(alloc),
+            indexes: Vec::new(alloc),
         }
     }
 
-    /// One place more.
-    fn add(&mut self, place: usize) -> Result<(), AllocError>
+    /// One index more.
+    fn add(&mut self, index: usize) -> Result<(), AllocError>
         ensures kept { (k : ℕ) → Has self.old k → Has self.new k }
-        ensures added { OnOk result (Has self.new place) }
+        ensures added { OnOk result (Has self.new index) }
     {
-        self.places.push(place)?;
+        self.indexes.push(index)?;
         Ok(())
     }
 
-    fn places(&self) -> &[usize]
+    fn indexes(&self) -> &[usize]
         ensures { result.now ≡ self.now }
     {
-        self.places.as_slice()
+        self.indexes.as_slice()
     }
 }
 
@@ -81,21 +81,21 @@ impl Marks {
     pub(crate) fn push(&mut self, mark: u64) -> Result<(), OutOfMemory>
         ensures { OnOk result (self.new ≡ self.old ++ mark ∷ []) }
     {
-        let place = self.marks.len();
-        file(&mut self.buckets, mark, place)?;
+        let index = self.marks.len();
+        file(&mut self.buckets, mark, index)?;
         self.marks.push(mark)?;
         Ok(())
     }
 
-    /// Places at which the mark may stand; it stands at no others.
-    pub(crate) fn places(&self, mark: u64) -> &[usize]
+    /// Indexes at which the mark may stand; it stands at no others.
+    pub(crate) fn indexes(&self, mark: u64) -> &[usize]
         ensures { (k : ℕ) → slice_get self.now k ≡ Some mark → Has result.now k }
     {
         let b = bucket_of(mark, self.buckets.len());
-        self.buckets[b].places()
+        self.buckets[b].indexes()
     }
 
-    /// Whether the mark stands at the place.
+    /// Whether the mark stands at the index.
     pub(crate) fn stands_at(&self, mark: u64, k: usize) -> bool
         ensures { IsTrue result ↔ (slice_get self.now k ≡ Some mark) }
     {
@@ -103,7 +103,7 @@ impl Marks {
     }
 }
 
-/// Buckets without places.
+/// Buckets without indexes.
 fn empty_buckets(alloc: Global, count: usize) -> Result<Vec<Bucket>, OutOfMemory>
     ensures { IfOk result (λ buckets. length buckets.items ≡ count) }
 {
@@ -122,13 +122,13 @@ fn bucket_of(mark: u64, buckets: usize) -> usize
     (mark as usize) % buckets
 }
 
-/// Puts the place into the bucket of the mark.
-fn file(buckets: &mut Vec<Bucket>, mark: u64, place: usize) -> Result<(), OutOfMemory>
+/// Puts the index into the bucket of the mark.
+fn file(buckets: &mut Vec<Bucket>, mark: u64, index: usize) -> Result<(), OutOfMemory>
     requires { 0 < length buckets.old.items }
     ensures kept { StayIn buckets.old.items buckets.new.items }
-    ensures filed { OnOk result (IsIn buckets.new.items mark place) }
+    ensures filed { OnOk result (IsIn buckets.new.items mark index) }
 {
     let b = bucket_of(mark, buckets.len());
-    buckets[b].add(place)?;
+    buckets[b].add(index)?;
     Ok(())
 }

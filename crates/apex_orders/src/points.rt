@@ -22,7 +22,7 @@ use std::collections::VecDeque;
 /// How many buckets the marks of points have: a prime.
 const BUCKETS: usize = 131_071;
 
-/// The marks of all known points, and what the ports were at those from the place `first` on.
+/// The marks of all known points, and what the ports were at those from the index `first` on.
 #[derive(Drop)]
 pub(crate) struct Points {
     pub(crate) marks: Marks,
@@ -49,7 +49,7 @@ impl Points {
         })
     }
 
-    /// Takes out what the ports were at the place, where that is the first of which it is saved.
+    /// Takes out what the ports were at the index, where that is the first of which it is saved.
     pub(crate) fn take(&mut self, k: usize) -> Option<SavedPorts>
         requires { k < usize.MAX }
         ensures { MatchOption result (IsLeft self.old self.new)
@@ -76,16 +76,17 @@ impl Points {
     ) -> Result<(), OutOfMemory>
         ensures first { self.new.first ≡ self.old.first }
         ensures marks { OnOk result (self.new.marks ≡ self.old.marks ++ mark ∷ []) }
-        ensures saved { OnOk result (self.new.saved.items ≡ self.old.saved.items ++ ports.now ∷ []) }
+        ensures saved { OnOk result
+            (self.new.saved.items ≡ self.old.saved.items ++ ports.now ∷ []) }
     {
         self.marks.push(mark)?;
         self.saved.push_back(ports.save(alloc)?)?;
         Ok(())
     }
 
-    /// What the ports were at the place, where it is saved.
+    /// What the ports were at the index, where it is saved.
     fn saved_at(&self, k: usize) -> Option<&SavedPorts>
-        ensures place { IfSome result (λ _. self.now.first ≤ k) }
+        ensures index { IfSome result (λ _. self.now.first ≤ k) }
         ensures ports { IfSome result (λ ports.
             slice_get self.now.saved.items (k - self.now.first) ≡ Some ports.now) }
     {
@@ -116,7 +117,7 @@ pub(crate) fn is_known(
     ensures ports { trial.new.ports ≡ trial.old.ports }
     ensures trial { IsTrialOf config.now trial.new }
 {
-    for k in points.marks.places(mark) {
+    for k in points.marks.indexes(mark) {
         if points.marks.stands_at(mark, *k) {
             go_to(
                 alloc,

@@ -13,8 +13,8 @@ use std::marker::Model;
 pub struct Possible {
     /// The partition's number, from 0.
     pub partition: usize,
-    /// The place of the call in the partition's script, from 0.
-    pub place: usize,
+    /// The index of the call in the partition's script, from 0.
+    pub index: usize,
     pub reply: Reply,
 }
 
@@ -55,7 +55,7 @@ impl Replies {
             Has self.new other ↔ (Has self.old other ⊎ (other ≡ one))) }
     {
         let mark = call_mark(&one);
-        for k in self.marks.places(mark) {
+        for k in self.marks.indexes(mark) {
             if let Some(known) = self.found.get(*k) {
                 if is_same_possible(known, &one) {
                     return Ok(());
@@ -79,14 +79,14 @@ impl Replies {
 fn call_mark(one: &Possible) -> u64 {
     (one.partition as u64)
         .wrapping_mul(1_000_003)
-        .wrapping_add(one.place as u64)
+        .wrapping_add(one.index as u64)
 }
 
 /// Whether they are equal.
 pub(crate) fn is_same_possible(a: &Possible, b: &Possible) -> bool
     ensures { IsTrue result ↔ (a.now ≡ b.now) }
 {
-    a.place == b.place && a.partition == b.partition && is_same_reply(&a.reply, &b.reply)
+    a.index == b.index && a.partition == b.partition && is_same_reply(&a.reply, &b.reply)
 }
 
 fn is_same_reply(a: &Reply, b: &Reply) -> bool

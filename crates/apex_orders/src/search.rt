@@ -77,7 +77,7 @@ fn first_orders(alloc: Global) -> Result<Vec<PackedOrder>, OutOfMemory>
     Ok(orders)
 }
 
-/// Tries the next call of every partition behind the order at a place.
+/// Tries the next call of every partition behind the order at an index.
 fn try_all(
     alloc: Global,
     config: &Config,
@@ -89,7 +89,7 @@ fn try_all(
     i: usize,
 ) -> Result<(), OutOfMemory>
     requires scripts { length scripts.now ≡ length config.now.partitions }
-    requires place { i < length orders.old.items }
+    requires within { i < length orders.old.items }
     requires orders { AreOrders config.now orders.old.items }
     requires points { ArePoints config.now scripts.now orders.old.items points.old }
     requires apart { AreApart config.now scripts.now orders.old.items }

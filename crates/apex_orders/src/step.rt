@@ -21,15 +21,15 @@ pub fn step(ports: &mut Ports, scripts: &[Script], p: usize) -> Option<Possible>
         (λ one. Makes ports.old.config scripts.now ports.old.history p one) }
 {
     let script = &scripts[p];
-    let place = ports.calls(p) as usize;
-    if place >= script.calls.len() {
+    let index = ports.calls(p) as usize;
+    if index >= script.calls.len() {
         return None;
     }
-    let (at, call) = &script.calls[place];
+    let (at, call) = &script.calls[index];
     let reply = ports.call(p, *at, call);
     Some(Possible {
         partition: p,
-        place,
+        index,
         reply,
     })
 }

@@ -16,7 +16,7 @@ use apex_ports::Script;
 use apex_types::OutOfMemory;
 use std::alloc::Global;
 
-/// An order in which the call at the place gets the reply: the calls up to that one, which is the last.
+/// An order in which the call at the index gets the reply: the calls up to that one, which is the last.
 /// `None` where no order of all calls gives it. It is undecided where orders come to more states than the bound.
 pub fn order_giving(
     alloc: Global,
@@ -88,7 +88,7 @@ fn order_among(
     Ok(None)
 }
 
-/// Whether the partition's next call behind the order is the one at the place, and gets the reply.
+/// Whether the partition's next call behind the order is the one at the index, and gets the reply.
 fn gives(
     alloc: Global,
     config: &Config,

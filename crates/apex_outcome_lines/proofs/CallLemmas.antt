@@ -12,17 +12,17 @@ use Rattle.apex_outcome_lines.specs.Told.{channel_line, channel_lines}
 
 -- ---- replies
 
-module _ (p place : ℕ) (found : List Possible) (i : ℕ) where
+module _ (p index : ℕ) (found : List Possible) (i : ℕ) where
   -- at a reply to the call
-  pub reply_cut : (one : Possible) (word : List ℕ) → slice_get found i ≡ Some one → is_to p place one ≡ true
-      → replies_behind word (replies_to p place (drop i found))
-      ≡ (word ++ reply_text one.reply) ++ replies_behind (codes " | ") (replies_to p place (drop (i + 1) found))
+  pub reply_cut : (one : Possible) (word : List ℕ) → slice_get found i ≡ Some one → is_to p index one ≡ true
+      → replies_behind word (replies_to p index (drop i found))
+      ≡ (word ++ reply_text one.reply) ++ replies_behind (codes " | ") (replies_to p index (drop (i + 1) found))
   unfolding replies_behind
   reply_cut one word here is = rw (drop_at found i one here, is) refl
 
   -- at another reply
-  pub reply_skipped : (one : Possible) → slice_get found i ≡ Some one → is_to p place one ≡ false
-      → replies_to p place (drop i found) ≡ replies_to p place (drop (i + 1) found)
+  pub reply_skipped : (one : Possible) → slice_get found i ≡ Some one → is_to p index one ≡ false
+      → replies_to p index (drop i found) ≡ replies_to p index (drop (i + 1) found)
   reply_skipped one here is = rw (drop_at found i one here, is) refl
 
 -- ---- channels

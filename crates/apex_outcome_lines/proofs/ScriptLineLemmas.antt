@@ -62,10 +62,10 @@ read_line line item read = by_words (line_words line) refl
 
 -- the call is that of the line of the number, where the first of these lines has the other number
 record IsCallOf (first : ℕ) (left : List (List ℕ)) (number : ℕ) (timed : Moment × Call) : Type 0 where
-  place : ℕ
-  number_is : number ≡ place + first
+  index : ℕ
+  number_is : number ≡ index + first
   line : List ℕ
-  here : slice_get left place ≡ Some line
+  here : slice_get left index ≡ Some line
   call : item_of_line timed_call_at line ≡ Ok (Some timed)
 
 record AreOf (first : ℕ) (left : List (List ℕ)) (calls : List (Moment × Call)) : Type 0 where
@@ -74,7 +74,7 @@ record AreOf (first : ℕ) (left : List (List ℕ)) (calls : List (Moment × Cal
 
 later : (first : ℕ) (line : List ℕ) (rest : List (List ℕ)) (number : ℕ) (timed : Moment × Call) → IsCallOf (first + 1) rest number timed → IsCallOf first (line ∷ rest) number timed
 later first line rest number timed is = record {
-  place = suc is.place;
+  index = suc is.index;
   number_is = let that = is.number_is in omega arith;
   line = is.line;
   here = is.here;
@@ -106,7 +106,7 @@ call_here first line rest timed calls is read are = record { count = ap length s
         let number_is : first ≡ number = cc in
         let one_is : timed ≡ one = cc in
         record {
-          place = 0;
+          index = 0;
           number_is = omega arith;
           line = line;
           here = refl;
@@ -147,7 +147,7 @@ pub are_lines : (script : List ℕ) → AreLinesOf script (call_numbers script) 
 are_lines script = by_calls (script_of script) refl
   where
     line_of : (number : ℕ) (timed : Moment × Call) → IsCallOf 1 (lines script) number timed → IsLineOf script number timed
-    line_of number timed is = record { place = is.place; number_is = is.number_is; line = is.line; here = is.here; call = is.call }
+    line_of number timed is = record { index = is.index; number_is = is.number_is; line = is.line; here = is.here; call = is.call }
 
     by_calls : (calls : Result (List (Moment × Call)) FaultyLine) → script_of script ≡ calls → AreLinesOf script (call_numbers script) calls
     by_calls (Ok calls) is =

@@ -12,13 +12,13 @@ use Rattle.apex_outcome_lines.specs.declared.script_lines.LineNumbers.{LineNumbe
 
 -- ---- replies
 
--- whether it is a reply to the call at the place of the partition's script
+-- whether it is a reply to the call at the index of the partition's script
 abbrev pub is_to : ℕ → ℕ → Possible → Bool
-is_to p place one = (one.partition == p) && (one.place == place)
+is_to p index one = (one.partition == p) && (one.index == index)
 
--- the replies to the call at the place of the partition's script, as they stand
+-- the replies to the call at the index of the partition's script, as they stand
 abbrev pub replies_to : ℕ → ℕ → List Possible → List Reply
-replies_to p place found = map (λ one. one.reply) (filter (is_to p place) found)
+replies_to p index found = map (λ one. one.reply) (filter (is_to p index) found)
 
 -- the replies, the first behind this word, and each other one behind a bar
 unfoldable pub replies_behind : List ℕ → List Reply → List ℕ
@@ -33,16 +33,16 @@ call_line config p line at call replies =
     name_of_partition config p ++ codes ":" ++ decimal line ++ codes " " ++ decimal at.0
     ++ codes " " ++ call_text call ++ replies_behind (codes " -> ") replies ++ codes "\n"
 
--- the number at a place; 0 where there is none
+-- the number at an index; 0 where there is none
 abbrev pub line_at : List ℕ → ℕ → ℕ
-line_at numbers place = unwrap_or (slice_get numbers place) 0
+line_at numbers index = unwrap_or (slice_get numbers index) 0
 
--- the lines of a partition's calls, of which the first has this place in its script
+-- the lines of a partition's calls, of which the first has this index in its script
 unfoldable pub script_lines : Configuration → ℕ → List ℕ → List Possible → ℕ → List (Moment × Call) → List ℕ
-script_lines config p numbers found place [] = []
-script_lines config p numbers found place (timed ∷ rest) =
-    call_line config p (line_at numbers place) timed.0 timed.1 (replies_to p place found)
-    ++ script_lines config p numbers found (place + 1) rest
+script_lines config p numbers found index [] = []
+script_lines config p numbers found index (timed ∷ rest) =
+    call_line config p (line_at numbers index) timed.0 timed.1 (replies_to p index found)
+    ++ script_lines config p numbers found (index + 1) rest
 
 -- ---- all scripts
 

@@ -33,13 +33,13 @@ call_numbers script = numbers_from 1 (lines script)
 
 -- the line of the number has the call
 pub record IsLineOf (script : List ℕ) (number : ℕ) (timed : Moment × Call) : Type 0 where
-  pub place : ℕ
-  pub number_is : number ≡ place + 1
+  pub index : ℕ
+  pub number_is : number ≡ index + 1
   pub line : List ℕ
-  pub here : slice_get (lines script) place ≡ Some line
+  pub here : slice_get (lines script) index ≡ Some line
   pub call : item_of_line timed_call_at line ≡ Ok (Some timed)
 
--- there is a number for each call, and at its place that of its line
+-- there is a number for each call, and at its index that of its line
 pub record AreTheirLines (script numbers : List ℕ) (calls : List (Moment × Call)) : Type 0 where
   pub count : length numbers ≡ length calls
   pub each : (k number : ℕ) (timed : Moment × Call) → slice_get numbers k ≡ Some number

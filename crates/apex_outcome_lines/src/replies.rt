@@ -27,18 +27,18 @@ pub fn push_script(
     ensures { OnOk result (string_bytes text.new ≡ string_bytes text.old
         ++ script_lines config.now p numbers.now replies.now 0 script.now) }
 {
-    for (place, (at, call)) in script.calls.iter().enumerate() {
-        let line = line_at(numbers, place);
-        push_call_line(text, config, p, place, line, *at, call, replies)?;
+    for (index, (at, call)) in script.calls.iter().enumerate() {
+        let line = line_at(numbers, index);
+        push_call_line(text, config, p, index, line, *at, call, replies)?;
     }
     Ok(())
 }
 
-/// The number at a place, 0 where there is none.
-fn line_at(numbers: &[usize], place: usize) -> usize
-    ensures { result ≡ line_at numbers.now place }
+/// The number at an index, 0 where there is none.
+fn line_at(numbers: &[usize], index: usize) -> usize
+    ensures { result ≡ line_at numbers.now index }
 {
-    numbers.get(place).copied().unwrap_or(0)
+    numbers.get(index).copied().unwrap_or(0)
 }
 
 #[tactic(auto, unfolding(crate::specs::Calls::call_line))]
@@ -46,14 +46,14 @@ fn push_call_line(
     text: &mut String,
     config: &Config,
     p: usize,
-    place: usize,
+    index: usize,
     line: usize,
     at: Moment,
     call: &Call,
     replies: &[Possible],
 ) -> Result<(), AllocError>
     requires { p < length config.now.partitions }
-    ensures { let given = replies_to p place replies.now in
+    ensures { let given = replies_to p index replies.now in
         OnOk result (string_bytes text.new
         ≡ string_bytes text.old ++ call_line config.now p line at call.now given) }
 {
@@ -65,25 +65,25 @@ fn push_call_line(
     push_number(text, nanoseconds)?;
     push_word(text, " ")?;
     push_call(text, call)?;
-    push_replies(text, p, place, replies)?;
+    push_replies(text, p, index, replies)?;
     push_word(text, "\n")
 }
 
-/// The replies to the call at a place, the first behind an arrow and each other one behind a bar.
+/// The replies to the call at an index, the first behind an arrow and each other one behind a bar.
 #[tactic(auto, unfolding(crate::specs::Calls::replies_behind))]
 fn push_replies(
     text: &mut String,
     p: usize,
-    place: usize,
+    index: usize,
     replies: &[Possible],
 ) -> Result<(), AllocError>
-    ensures { let given = replies_to p place replies.now in
+    ensures { let given = replies_to p index replies.now in
         OnOk result (string_bytes text.new
         ≡ string_bytes text.old ++ replies_behind (codes " -> ") given) }
 {
     let mut word = " -> ";
     for one in replies {
-        if is_to(one, p, place) {
+        if is_to(one, p, index) {
             push_behind(text, word, &one.reply)?;
             word = " | ";
         }
@@ -91,11 +91,11 @@ fn push_replies(
     Ok(())
 }
 
-/// Whether it is a reply to the call at a place of the partition's script.
-fn is_to(one: &Possible, p: usize, place: usize) -> bool
-    ensures { result ≡ is_to p place one.now }
+/// Whether it is a reply to the call at an index of the partition's script.
+fn is_to(one: &Possible, p: usize, index: usize) -> bool
+    ensures { result ≡ is_to p index one.now }
 {
-    one.partition == p && one.place == place
+    one.partition == p && one.index == index
 }
 
 /// A reply behind a word.

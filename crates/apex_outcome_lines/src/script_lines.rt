@@ -14,7 +14,7 @@ pub struct LineNumbers {
 }
 
 /// The numbers of a script's lines that have a call: those with a word that are no comment. Of a script that is read,
-/// the number at a place is that of the line of the call at that place.
+/// the number at an index is that of the line of the call at that index.
 pub fn call_lines(alloc: Global, script: &[u8]) -> Result<LineNumbers, AllocError>
     ensures numbers { IfOk result (λ lines. lines.numbers.items ≡ call_numbers script.now) }
     ensures calls { IfOk result

@@ -75,7 +75,7 @@ module _ (config : Configuration) (s : Seen) (p : ℕ) where
   received_served true given m ok = absurd (cc)
   received_served false given m ok = ok
 
-  -- an accepted send found a port with a free place
+  -- an accepted send found a port with room
   accepting : (id : ℕ) (port : Option Port) (m : List ℕ) → is_code_no_error (reply_of config s p (send_row config s id port m)) ≡ true
       → (q : Port) × (port ≡ Some q) × ((length (s.waiting id) == depth_of config q.channel) ≡ false)
   accepting id None m ok = absurd (cc)
@@ -136,7 +136,7 @@ module _ (config : Configuration) (h : History) (p : ℕ) (at : Moment) (id : �
       let kind : is_queuing config found.0.channel ≡ false = ap is_queue link.1 ∙ sym link.2 ∙ configured.1 in
       subst (λ (d : ℕ). is_queuing config d ≡ false) (channel_of_source (port_of config p id) found.0 c configured.0 source) kind
 
--- a sampling channel has no place
+-- a sampling channel has no room
 no_depth : (channel : Option Channel) → is_queue channel ≡ false → depth_in channel ≡ 0
 no_depth None kind = refl
 no_depth (Some channel) kind = by_kind channel.kind kind

@@ -1,11 +1,11 @@
--- Lists that are changed place by place, after another list.
+-- Lists that are changed item by item, after another list.
 use Rattle.std.proofs.Common.{◌≡◌, ◌≢◌, ⊎_elim, ℕ, ◌+◌, ◌<◌, ◌≤◌, List, length, set, Some, refl, sym, ap, ◌∙◌, subst, arith, length-set}
 use Rattle.std.specs.List.{slice_get}
 use Rattle.std.proofs.lemmas.Bool.{cases_eq}
 use Rattle.std.proofs.lemmas.Option.{slice_get_within}
 use Rattle.apex_ports.proofs.Stays.{slice_get-set_cases}
 
--- the first n places are changed as R says of what was there, of the other list's item, and of what is there; the rest stays
+-- the first n items are changed as R says of what was there, of the other list's item, and of what is there; the rest stays
 pub record IsDone {X Y : Type 0} (R : X → Y → X → Type 0) (n : ℕ) (old : List X) (other : List Y) (now : List X) : Type 0 where
   pub count : length now ≡ length old
   pub rest : (k : ℕ) (x : X) → n ≤ k → slice_get now k ≡ Some x → slice_get old k ≡ Some x
@@ -31,12 +31,12 @@ module _ {X Y : Type 0} (R : X → Y → X → Type 0) (old : List X) (other : L
         (mine was y (ap (λ (m : ℕ). slice_get old m) (sym here.0) ∙ at) (ap (λ (m : ℕ). slice_get other m) (sym here.0) ∙ listed)))
         (λ (there : (k ≢ n) × (slice_get now k ≡ Some x)).
         let apart = there.0 in
-        is.done k was y x (by_place k below apart) at listed there.1)
+        is.done k was y x (by_index k below apart) at listed there.1)
         (slice_get-set_cases now n new k x changed);
   }
     where
-      by_place : (k : ℕ) → k < n + 1 → k ≢ n → k < n
-      by_place k below apart = ⊎_elim (λ (same : k ≡ n). absurd (apart same)) (λ (other_place : k ≡ n → ⊥). omega (arith, below, other_place)) (cases_eq k n)
+      by_index : (k : ℕ) → k < n + 1 → k ≢ n → k < n
+      by_index k below apart = ⊎_elim (λ (same : k ≡ n). absurd (apart same)) (λ (other_index : k ≡ n → ⊥). omega (arith, below, other_index)) (cases_eq k n)
 
   -- all are changed
   pub all_done : (n : ℕ) (now : List X) → length other ≤ n → IsDone R n old other now

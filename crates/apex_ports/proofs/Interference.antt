@@ -49,7 +49,7 @@ fold-inside {B} f inside (e ∷ h) b stays = by_test (inside e.partition) refl (
     by_test false outside rest = rest b ∙ ap (λ c. fold f c h) (sym (stays b e outside))
 
 -- without entries that leave the channel the same is taken out of it
-taken-inside : (config : Configuration) (c : ℕ) (inside : ℕ → Bool) → ((e : Entry) → inside e.partition ≡ false → LeavesChannel config c e) → (before other : History) (taken : List Taken) (h : List Entry)
+pub taken-inside : (config : Configuration) (c : ℕ) (inside : ℕ → Bool) → ((e : Entry) → inside e.partition ≡ false → LeavesChannel config c e) → (before other : History) (taken : List Taken) (h : List Entry)
     → accepted_on config c other ≡ accepted_on config c before → taken_after config c other taken (entries_inside inside h) ≡ taken_after config c before taken h
 taken-inside config c inside leaves before other taken [] same = refl
 taken-inside config c inside leaves before other taken (e ∷ h) same = by_test (inside e.partition) refl (λ before other taken same. taken-inside config c inside leaves before other taken h same)
@@ -83,7 +83,7 @@ module _ (config : Configuration) (inside : ℕ → Bool) (closed : IsClosed con
   leaves_inside : (p : ℕ) → inside p ≡ true → (e : Entry) → inside e.partition ≡ false → LeavesPartition p e
   leaves_inside p here e outside = leaves_others e.partition e.at e.call e.reply p (λ same. absurd (let both : inside p ≡ inside e.partition = ap inside same in cc))
 
-  leaves_channel_inside : (p id : ℕ) (port : Port) → inside p ≡ true → port_of config p id ≡ Some port → (e : Entry) → inside e.partition ≡ false → LeavesChannel config port.channel e
+  pub leaves_channel_inside : (p id : ℕ) (port : Port) → inside p ≡ true → port_of config p id ≡ Some port → (e : Entry) → inside e.partition ≡ false → LeavesChannel config port.channel e
   leaves_channel_inside p id port here mine e outside =
       leaves_channel config port.channel e.partition e.at e.call e.reply
       (off_call config port.channel e.partition e.call

@@ -25,10 +25,10 @@ lawful_push config h p at call reply lawful within is k entry here = by_test (k 
 
     by_test : (b : Bool) → (k == length h) ≡ b → IsLawfulEntry config (take k (h ++ e ∷ [])) entry
     by_test true last =
-        let place : k ≡ length h = grind (arith, nat_tests) in
-        let same : Some entry ≡ Some e = sym here ∙ slice_get-last h e k place in
+        let index : k ≡ length h = grind (arith, nat_tests) in
+        let same : Some entry ≡ Some e = sym here ∙ slice_get-last h e k index in
         let is_e : e ≡ entry = cc in
-        let before : h ≡ take k (h ++ e ∷ []) = sym (ap (λ n. take n (h ++ e ∷ [])) place ∙ take-append_seam h (e ∷ [])) in
+        let before : h ≡ take k (h ++ e ∷ []) = sym (ap (λ n. take n (h ++ e ∷ [])) index ∙ take-append_seam h (e ∷ [])) in
         subst (λ (x : Entry). IsLawfulEntry config (take k (h ++ e ∷ [])) x) is_e (subst (λ (g : History). IsLawfulEntry config g e) before (within, is))
     by_test false earlier =
         let apart : k ≢ length h = grind (arith, nat_tests) in

@@ -1,4 +1,4 @@
--- What a kept state says at one place.
+-- What a kept state says at one index.
 use Rattle.std.proofs.Common.{◌≡◌, ℕ, ◌<◌, ◌≤◌, ◌-◌, ◌==◌, Bool, true, false, if◌then◌else◌, List, length, get_or, Bor, Option, Some, None, refl, sym, ap, ◌∙◌, arith}
 use Rattle.std.specs.List.{slice_get}
 use Rattle.std.specs.Option.{option_copied}
@@ -11,28 +11,28 @@ use Rattle.apex_config.specs.declared.channel.ChannelKind.TheVariants.{Queuing, 
 use Rattle.apex_config.specs.declared.limits.TheConstants.{DEPTH_LIMIT}
 use Rattle.apex_ports.specs.declared.partition.PartitionState.{PartitionState}
 use Rattle.apex_ports.specs.declared.channel.ChannelState.{ChannelState}
-use Rattle.apex_ports.specs.ChannelStates.{waiting_in, places_in}
+use Rattle.apex_ports.specs.ChannelStates.{waiting_in, ring_depth}
 use Rattle.apex_ports.specs.History.{History}
 use Rattle.apex_config.specs.declared.port.Port.{Port}
 use Rattle.apex_ports.specs.Channels.{waiting_on}
-use Rattle.apex_ports.specs.Ports.{IsPlace}
+use Rattle.apex_ports.specs.Ports.{IsIdentifier}
 use Rattle.apex_ports.specs.ReplyTable.{depth_of, depth_in}
 use Rattle.apex_ports.specs.Kept.{AreKept, IsPartitionKept, IsChannelKept}
 
 -- what an index reads
-pub place_of : {X : Type 0} (xs : List X) (k : ℕ) (x : X) → k < length xs → x ≡ get_or xs k x → slice_get xs k ≡ Some x
-place_of xs k x within is = slice_get-get_or xs k x within ∙ ap Some (sym is)
+pub at_index : {X : Type 0} (xs : List X) (k : ℕ) (x : X) → k < length xs → x ≡ get_or xs k x → slice_get xs k ≡ Some x
+at_index xs k x within is = slice_get-get_or xs k x within ∙ ap Some (sym is)
 
 -- what isn't there is not lent
 pub nothing_lent : {X : Type 0} (lent : Option (Bor X)) → option_copied lent ≡ None → lent ≡ None
 nothing_lent None e = refl
 nothing_lent (Some x) e = absurd (cc)
 
--- a configured port has a place in its partition's list
-pub is_place : (config : Configuration) (p id : ℕ) (port : Port) → port_of config p id ≡ Some port → IsPlace (ports_of config p) id
-is_place config p id port found = by_test (id == 0) refl found
+-- a configured port has an index in its partition's list
+pub is_identifier : (config : Configuration) (p id : ℕ) (port : Port) → port_of config p id ≡ Some port → IsIdentifier (ports_of config p) id
+is_identifier config p id port found = by_test (id == 0) refl found
   where
-    by_test : (b : Bool) → (id == 0) ≡ b → ◌≡◌ {A = Option Port} (if b then None else slice_get (ports_of config p) (id - 1)) (Some port) → IsPlace (ports_of config p) id
+    by_test : (b : Bool) → (id == 0) ≡ b → ◌≡◌ {A = Option Port} (if b then None else slice_get (ports_of config p) (id - 1)) (Some port) → IsIdentifier (ports_of config p) id
     by_test true zero h = absurd (cc)
     by_test false some h =
         let within = slice_get_within (ports_of config p) (id - 1) port h in
@@ -44,9 +44,9 @@ pub waiting_count_is : {A : Type 0} (config : Configuration) (history : History)
     → length (waiting_in state) ≡ length (waiting_on config c history)
 waiting_count_is config history c state kept = ap (λ (xs : List (List ℕ)). length xs) kept.waiting
 
--- there is no place where as many messages wait as the depth
+-- there is no room where as many messages wait as the depth
 pub full_is : {A : Type 0} (config : Configuration) (history : History) (c : ℕ) (state : ChannelState A) → IsChannelKept config history c state
-    → (length (waiting_in state) == places_in state) ≡ (length (waiting_on config c history) == depth_of config c)
+    → (length (waiting_in state) == ring_depth state) ≡ (length (waiting_on config c history) == depth_of config c)
 full_is config history c state kept = λ i. length (kept.waiting i) == kept.depth i
 
 depth_in_small : (channel : Option Channel) → ((c : Channel) → channel ≡ Some c → IsDepth c.kind) → depth_in channel ≤ DEPTH_LIMIT
@@ -62,15 +62,15 @@ pub depth_small : (config : Configuration) (c : ℕ) → IsConfiguration config 
 depth_small config c valid = depth_in_small (channel_of config c) (valid.depth c)
 
 module _ {A : Type 0} (config : Configuration) (history : History) (partitions : List (PartitionState A)) (channels : List (ChannelState A)) where
-  -- the state at a place, as an index reads it
+  -- the state at an index
   pub partition_at : AreKept config history partitions channels → (p : ℕ) (state : PartitionState A) → p < length config.partitions → state ≡ get_or partitions p state → IsPartitionKept config history p state
   partition_at kept p state within is =
       let all = kept.all_partitions in
       let inside : p < length partitions = omega arith in
-      kept.each_partition p state (place_of partitions p state inside is)
+      kept.each_partition p state (at_index partitions p state inside is)
 
   pub channel_at : AreKept config history partitions channels → (c : ℕ) (state : ChannelState A) → c < length config.channels → state ≡ get_or channels c state → IsChannelKept config history c state
   channel_at kept c state within is =
       let all = kept.all_channels in
       let inside : c < length channels = omega arith in
-      kept.each_channel c state (place_of channels c state inside is)
+      kept.each_channel c state (at_index channels c state inside is)

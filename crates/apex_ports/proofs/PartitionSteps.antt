@@ -130,11 +130,11 @@ created_keeps {A} config h partitions channels p at call number old new is_creat
 -- ---- sampling reads
 
 created_in_read : (b : Bool) (state : Option PortState) (flag created : Bool) (last : Validity) → (b ≡ true → flag ≡ created) → created_in state ≡ created → created_in (if b then Some (record { created = flag; last = last }) else state) ≡ (false || (created && not false))
-created_in_read b state flag created last mine was = by_place b mine ∙ keeps created
+created_in_read b state flag created last mine was = by_index b mine ∙ keeps created
   where
-    by_place : (b : Bool) → (b ≡ true → flag ≡ created) → created_in (if b then Some (record { created = flag; last = last }) else state) ≡ created
-    by_place true mine = mine refl
-    by_place false mine = was
+    by_index : (b : Bool) → (b ≡ true → flag ≡ created) → created_in (if b then Some (record { created = flag; last = last }) else state) ≡ created
+    by_index true mine = mine refl
+    by_index false mine = was
 
     keeps : (b : Bool) → b ≡ (false || (b && not false))
     keeps true = refl

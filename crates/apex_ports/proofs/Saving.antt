@@ -1,5 +1,5 @@
 -- What is saved of a state is kept as the state is, and a state has room for it.
-use Rattle.std.proofs.Common.{◌≡◌, ℕ, zero, suc, ◌<◌, ◌≤◌, Bool, List, [], ◌∷◌, ◌++◌, length, take, drop, Some, refl, sym, ap, ◌∙◌, subst, arith}
+use Rattle.std.proofs.Common.{◌≡◌, ℕ, zero, suc, ◌<◌, List, [], ◌∷◌, ◌++◌, length, take, drop, Some, refl, sym, ap, ◌∙◌, subst, arith}
 use Rattle.std.specs.List.{slice_get}
 use Rattle.std.proofs.Math.Seq.{take-append_seam}
 use Rattle.std.proofs.lemmas.Option.{slice_get_within}
@@ -9,8 +9,7 @@ use Rattle.apex_ports.specs.declared.partition.PartitionState.{PartitionState}
 use Rattle.apex_ports.specs.declared.channel.ChannelState.{ChannelState}
 use Rattle.apex_ports.specs.declared.saved_channel.SavedChannel.{SavedChannel}
 use Rattle.apex_ports.specs.declared.saved_channel.SavedChannel.TheVariants.{Queuing, Sampling}
-use Rattle.apex_ports.specs.ChannelStates.{has_queue, waiting_in, places_in}
-use Rattle.apex_ports.specs.Channels.{waiting_on}
+use Rattle.apex_ports.specs.ChannelStates.{has_queue, waiting_in, ring_depth}
 use Rattle.apex_ports.specs.History.{History}
 use Rattle.apex_ports.specs.Kept.{EachAt, IsPartitionKept, IsChannelKept, AreKept, state_at, created_in, last_in}
 use Rattle.apex_ports.specs.ReplyTable.{depth_of}
@@ -60,9 +59,9 @@ module _ {A : Type 0} (config : Configuration) where
   pub saved_kept : (h : History) (c : ℕ) (state : ChannelState A) (saved : SavedChannel A) → IsChannelKept config h c state → IsSavedFrom state saved
       → IsChannelKept config h c (restored (depth_of config c) saved)
   saved_kept h c state saved kept is =
-      subst (λ (places : ℕ). IsChannelKept config h c (restored places saved)) kept.depth (subst (λ (x : ChannelState A). IsChannelKept config h c x) is kept)
+      subst (λ (depth : ℕ). IsChannelKept config h c (restored depth saved)) kept.depth (subst (λ (x : ChannelState A). IsChannelKept config h c x) is kept)
 
-  -- the places make no difference to the kind and the messages
+  -- the depth makes no difference to the kind and the messages
   kind_alike : (m n : ℕ) (saved : SavedChannel A) → has_queue (restored m saved) ≡ has_queue (restored n saved)
   kind_alike m n (Queuing queue) = refl
   kind_alike m n (Sampling sample) = refl
@@ -78,15 +77,15 @@ module _ {A : Type 0} (config : Configuration) where
     room =
         let count = ap (λ (xs : List (List ℕ)). length xs) (waiting_alike 0 (depth_of config c) saved ∙ was.waiting) in
         let few = (always_conserved config h c sound).depth in
-        let places = kept.depth in
-        omega (arith, count, few, places);
+        let depth = kept.depth in
+        omega (arith, count, few, depth);
   }
 
   pub restored_kept : (h now : History) (c : ℕ) (was : ChannelState A) (saved : SavedChannel A) (state : ChannelState A) → IsChannelKept config now c was
-      → IsChannelKept config h c (restored (depth_of config c) saved) → state ≡ restored (places_in was) saved → IsChannelKept config h c state
+      → IsChannelKept config h c (restored (depth_of config c) saved) → state ≡ restored (ring_depth was) saved → IsChannelKept config h c state
   restored_kept h now c was saved state kept kept_saved is =
       subst (λ (x : ChannelState A). IsChannelKept config h c x) (sym is)
-      (subst (λ (places : ℕ). IsChannelKept config h c (restored places saved)) (sym kept.depth) kept_saved)
+      (subst (λ (depth : ℕ). IsChannelKept config h c (restored depth saved)) (sym kept.depth) kept_saved)
 
 -- ---- the whole
 

@@ -132,9 +132,9 @@ receives_no_clear config c e m received d = λ i. by_code (is_code_no_error e.re
         let none : message_received config c e ≡ None = (λ i. if is_receive config c e.partition e.call then without e.reply is i else None) ∙ none_or_none (is_receive config c e.partition e.call) in
         absurd (cc)
 
--- ---- lists, place by place
+-- ---- lists, item by item
 
--- the item at a place of a list with one item set
+-- the item at an index of a list with one item set
 pub slice_get-set_cases : {X : Type 0} (xs : List X) (i : ℕ) (y : X) (k : ℕ) (x : X) → slice_get (set xs i y) k ≡ Some x → ((k ≡ i) × (x ≡ y)) ⊎ ((k ≢ i) × (slice_get xs k ≡ Some x))
 slice_get-set_cases [] i y k x at = inr ((λ e. absurd (cc)), at)
 slice_get-set_cases (z ∷ xs) zero y zero x at = inl (refl, cc)
@@ -185,10 +185,10 @@ each_at_push {X} P xs n x count each mine k y at = by_test (k == n) refl
   where
     by_test : (b : Bool) → (k == n) ≡ b → P k y
     by_test true is =
-        let place : k ≡ n = grind (arith, nat_tests) in
-        let last : Some y ≡ Some x = sym at ∙ slice_get-last xs x k (place ∙ sym count) in
+        let index : k ≡ n = grind (arith, nat_tests) in
+        let last : Some y ≡ Some x = sym at ∙ slice_get-last xs x k (index ∙ sym count) in
         let same : x ≡ y = cc in
-        subst (λ (p : ℕ × X). P p.0 p.1) (λ i. (sym place i, same i)) mine
+        subst (λ (p : ℕ × X). P p.0 p.1) (λ i. (sym index i, same i)) mine
     by_test false is =
         let apart : k ≢ n = grind (arith, nat_tests) in
         each k y (sym (slice_get-push xs x k (λ e. apart (e ∙ count))) ∙ at)

@@ -14,9 +14,9 @@ waiting_in (Queuing queue) = queue.waiting.items
 waiting_in (Sampling sample) = []
 
 -- how many messages can wait
-abbrev pub places_in : {A : Type 0} → ChannelState A → ℕ
-places_in (Queuing queue) = queue.waiting.capacity
-places_in (Sampling sample) = 0
+abbrev pub ring_depth : {A : Type 0} → ChannelState A → ℕ
+ring_depth (Queuing queue) = queue.waiting.capacity
+ring_depth (Sampling sample) = 0
 
 abbrev pub accepted_in : {A : Type 0} → ChannelState A → ℕ
 accepted_in (Queuing queue) = queue.accepted

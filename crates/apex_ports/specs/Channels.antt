@@ -91,7 +91,7 @@ cleared_on config channel history = filter (λ taken. taken.cleared) (taken_on c
 abbrev pub messages_of : List Taken → List (List ℕ)
 messages_of taken = map (λ one. one.message) taken
 
--- the messages that wait: first in, first out, told apart by their place and not by their bytes
+-- the messages that wait: first in, first out, told apart by their index and not by their bytes
 abbrev pub waiting_on : Configuration → ℕ → History → List (List ℕ)
 waiting_on config channel history = drop (length (taken_on config channel history)) (accepted_on config channel history)
 

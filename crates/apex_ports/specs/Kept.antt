@@ -9,7 +9,7 @@ use Rattle.apex_ports.specs.declared.partition.PortState.{PortState}
 use Rattle.apex_ports.specs.declared.partition.PartitionState.{PartitionState}
 use Rattle.apex_ports.specs.declared.channel.ChannelState.{ChannelState}
 use Rattle.apex_ports.specs.declared.state.State.{State}
-use Rattle.apex_ports.specs.ChannelStates.{has_queue, waiting_in, places_in, accepted_in, received_in, cleared_in, sample_in}
+use Rattle.apex_ports.specs.ChannelStates.{has_queue, waiting_in, ring_depth, accepted_in, received_in, cleared_in, sample_in}
 use Rattle.apex_ports.specs.Counts.{count_of}
 use Rattle.apex_ports.specs.History.{History, entries_of}
 use Rattle.apex_ports.specs.Modes.{mode_of}
@@ -18,7 +18,7 @@ use Rattle.apex_ports.specs.Channels.{accepted_on, received_on, cleared_on, wait
 use Rattle.apex_ports.specs.ReplyTable.{depth_of}
 use Rattle.apex_ports.specs.Sound.{IsSound}
 
--- what holds of the item at each place
+-- what holds of the item at each index
 abbrev pub EachAt : {X : Type 0} → (ℕ → X → Type 0) → List X → Type 0
 EachAt {X} P xs = (k : ℕ) (x : X) → slice_get xs k ≡ Some x → P k x
 
@@ -46,7 +46,7 @@ pub record IsPartitionKept {A : Type 0} (config : Configuration) (history : Hist
 pub record IsChannelKept {A : Type 0} (config : Configuration) (history : History) (c : ℕ) (state : ChannelState A) : Type 0 where
   pub kind : has_queue state ≡ is_queuing config c
   pub waiting : waiting_in state ≡ waiting_on config c history
-  pub depth : places_in state ≡ depth_of config c
+  pub depth : ring_depth state ≡ depth_of config c
   pub accepted : accepted_in state ≡ count_of (accepted_on config c history)
   pub received : received_in state ≡ count_of (received_on config c history)
   pub cleared : cleared_in state ≡ count_of (cleared_on config c history)

@@ -1,5 +1,5 @@
 -- The history that a `Past` stands for.
-use Rattle.std.specs.Prelude.{ℕ, ◌+◌, [], ◌∷◌, ◌++◌}
+use Rattle.std.specs.Prelude.{◌+◌, [], ◌∷◌, ◌++◌}
 use Rattle.apex_ports.specs.declared.past.Latest.{Latest}
 use Rattle.apex_ports.specs.declared.past.Latest.TheVariants.{Nothing, Entry, Same}
 use Rattle.apex_ports.specs.History.{entry_of}

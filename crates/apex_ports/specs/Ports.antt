@@ -64,8 +64,8 @@ sampling_of_id config partition (Some id) = with_id id (sampling_only (port_of c
 abbrev pub sampling_named : Configuration → ℕ → List ℕ → Option NamedPort
 sampling_named config partition name = sampling_of_id config partition (id_named config partition name)
 
--- an identifier is a place in the list, counted from 1
-pub record IsPlace (ports : List Port) (id : ℕ) : Type 0 where
+-- an identifier is an index of the list, counted from 1
+pub record IsIdentifier (ports : List Port) (id : ℕ) : Type 0 where
   pub first : 0 < id
   pub last : id ≤ length ports
 

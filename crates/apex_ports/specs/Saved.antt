@@ -1,4 +1,4 @@
--- What saved ports say of the history: what the state says of it, without the places that stand empty.
+-- What saved ports say of the history: what the state says of it, without the room that stands empty.
 use Rattle.std.specs.Prelude.{ℕ, ◌≡◌, ◌≤◌, List, length, slice_get, Some}
 use Rattle.circular_buffer.specs.Buffer.{buffer}
 use Rattle.apex_config.specs.Configuration.{Configuration}
@@ -7,13 +7,13 @@ use Rattle.apex_ports.specs.declared.channel.ChannelState.{ChannelState}
 use Rattle.apex_ports.specs.declared.channel.ChannelState.TheVariants as state
 use Rattle.apex_ports.specs.declared.saved_channel.SavedChannel.{SavedChannel}
 use Rattle.apex_ports.specs.declared.saved_channel.SavedChannel.TheVariants as saved
-use Rattle.apex_ports.specs.ChannelStates.{has_queue, waiting_in, places_in}
+use Rattle.apex_ports.specs.ChannelStates.{has_queue, waiting_in, ring_depth}
 use Rattle.apex_ports.specs.History.{History}
 use Rattle.apex_ports.specs.Kept.{EachAt, IsPartitionKept, IsChannelKept, AreCounted}
 use Rattle.apex_ports.specs.ReplyTable.{depth_of}
 use Rattle.apex_ports.specs.Sound.{IsSound}
 
--- what holds of the items that stand at one place of both lists
+-- what holds of the items that stand at one index of both lists
 abbrev pub EachPair : {X Y : Type 0} → (X → Y → Type 0) → List X → List Y → Type 0
 EachPair {X} {Y} P xs ys = (k : ℕ) (x : X) (y : Y) → slice_get xs k ≡ Some x → slice_get ys k ≡ Some y → P x y
 
@@ -30,31 +30,31 @@ HasAsManyPorts state copy = length state.ports.items ≡ length copy.ports.items
 
 -- ---- channels
 
--- the state of the channel with this many places
+-- the state of the channel of this depth
 abbrev pub restored : {A : Type 0} → ℕ → SavedChannel A → ChannelState A
-restored places (saved.Queuing queue) = state.Queuing (record {
-  waiting = buffer queue.waiting.items places;
+restored depth (saved.Queuing queue) = state.Queuing (record {
+  waiting = buffer queue.waiting.items depth;
   accepted = queue.accepted;
   received = queue.received;
   cleared = queue.cleared;
 })
-restored places (saved.Sampling sample) = state.Sampling sample
+restored depth (saved.Sampling sample) = state.Sampling sample
 
 -- it is saved from the state
 abbrev pub IsSavedFrom : {A : Type 0} → ChannelState A → SavedChannel A → Type 0
-IsSavedFrom state saved = state ≡ restored (places_in state) saved
+IsSavedFrom state saved = state ≡ restored (ring_depth state) saved
 
 -- the channel is of the kind of the saved one, and has room for its messages
 pub record HasRoomFor {A : Type 0} (state : ChannelState A) (saved : SavedChannel A) : Type 0 where
   pub kind : has_queue state ≡ has_queue (restored 0 saved)
-  pub room : length (waiting_in (restored 0 saved)) ≤ places_in state
+  pub room : length (waiting_in (restored 0 saved)) ≤ ring_depth state
 
--- each channel is what was saved, with the places that it had
+-- each channel is what was saved, with the depth that it had
 abbrev pub AreRestored : {A : Type 0} → List (ChannelState A) → List (SavedChannel A) → List (ChannelState A) → Type 0
 AreRestored {A} old saved new =
     (c : ℕ) (was : ChannelState A) (one : SavedChannel A) (state : ChannelState A)
     → slice_get old c ≡ Some was → slice_get saved c ≡ Some one → slice_get new c ≡ Some state
-    → state ≡ restored (places_in was) one
+    → state ≡ restored (ring_depth was) one
 
 -- ---- the whole
 

@@ -9,7 +9,7 @@ use apex_types::{Message, Reply, Sample};
 use circular_buffer::HeapCircularBuffer;
 use std::alloc::{AllocError, Allocator};
 
-/// The messages that wait on a queuing channel, in a ring of as many places as its depth. The counts
+/// The messages that wait on a queuing channel, in a ring of its depth. The counts
 /// of accepted, received and cleared messages stay at the greatest number.
 #[derive(Drop)]
 pub(crate) struct Queue<A: Allocator> {
@@ -44,7 +44,7 @@ pub(crate) enum ChannelState<A: Allocator> {
 }
 
 impl<A: Allocator> ChannelState<A> {
-    ghost use Rattle.apex_ports.specs.ChannelStates.{has_queue, waiting_in, places_in, accepted_in, received_in, cleared_in, sample_in};
+    ghost use Rattle.apex_ports.specs.ChannelStates.{has_queue, waiting_in, ring_depth, accepted_in, received_in, cleared_in, sample_in};
 
     /// How many messages wait.
     pub(crate) fn waiting_count(&self) -> usize
@@ -56,19 +56,19 @@ impl<A: Allocator> ChannelState<A> {
         }
     }
 
-    /// The message at a place; place 0 has the oldest.
-    pub(crate) fn waiting(&self, place: usize) -> Option<&Message>
-        ensures { option_copied result ≡ slice_get (waiting_in self.now) place }
+    /// The message at an index; index 0 has the oldest.
+    pub(crate) fn waiting(&self, index: usize) -> Option<&Message>
+        ensures { option_copied result ≡ slice_get (waiting_in self.now) index }
     {
         match self {
-            ChannelState::Queuing(queue) => queue.waiting.get(place),
+            ChannelState::Queuing(queue) => queue.waiting.get(index),
             ChannelState::Sampling(_) => None,
         }
     }
 
-    /// Whether there is no place for one more message.
+    /// Whether there is no room for one more message.
     pub(crate) fn is_full(&self) -> bool
-        ensures { result ≡ (length (waiting_in self.now) == places_in self.now) }
+        ensures { result ≡ (length (waiting_in self.now) == ring_depth self.now) }
     {
         match self {
             ChannelState::Queuing(queue) => queue.waiting.is_full(),
@@ -77,8 +77,8 @@ impl<A: Allocator> ChannelState<A> {
     }
 
     /// How many messages can wait.
-    pub(crate) fn places(&self) -> usize
-        ensures { result ≡ places_in self.now }
+    pub(crate) fn depth(&self) -> usize
+        ensures { result ≡ ring_depth self.now }
     {
         match self {
             ChannelState::Queuing(queue) => queue.waiting.capacity(),
@@ -126,11 +126,11 @@ impl<A: Allocator> ChannelState<A> {
         }
     }
 
-    /// Puts a message last. There is a place for it.
+    /// Puts a message last. There is room for it.
     pub(crate) fn send(&mut self, message: &Message)
-        requires { length (waiting_in self.old) < places_in self.old }
+        requires { length (waiting_in self.old) < ring_depth self.old }
         ensures waiting { waiting_in self.new ≡ waiting_in self.old ++ message.now ∷ [] }
-        ensures places { places_in self.new ≡ places_in self.old }
+        ensures depth { ring_depth self.new ≡ ring_depth self.old }
         ensures accepted { accepted_in self.new ≡ min (accepted_in self.old + 1) (2 ^ 64 - 1) }
         ensures received { received_in self.new ≡ received_in self.old }
         ensures cleared { cleared_in self.new ≡ cleared_in self.old }
@@ -151,7 +151,7 @@ impl<A: Allocator> ChannelState<A> {
         requires { 0 < length (waiting_in self.old) }
         ensures reply { reply.new ≡ oldest_reply (waiting_in self.old) }
         ensures waiting { waiting_in self.new ≡ drop 1 (waiting_in self.old) }
-        ensures places { places_in self.new ≡ places_in self.old }
+        ensures depth { ring_depth self.new ≡ ring_depth self.old }
         ensures accepted { accepted_in self.new ≡ accepted_in self.old }
         ensures received { received_in self.new ≡ min (received_in self.old + 1) (2 ^ 64 - 1) }
         ensures cleared { cleared_in self.new ≡ cleared_in self.old }
@@ -176,7 +176,7 @@ impl<A: Allocator> ChannelState<A> {
     /// Discards the messages that wait.
     pub(crate) fn clear(&mut self)
         ensures waiting { waiting_in self.new ≡ [] }
-        ensures places { places_in self.new ≡ places_in self.old }
+        ensures depth { ring_depth self.new ≡ ring_depth self.old }
         ensures accepted { accepted_in self.new ≡ accepted_in self.old }
         ensures received { received_in self.new ≡ received_in self.old }
         ensures cleared { cleared_in self.new
@@ -194,7 +194,7 @@ impl<A: Allocator> ChannelState<A> {
     }
 }
 
-// Makes the reply an empty message. Not inlined, since the place of a new message is cleared where a function begins.
+// Makes the reply an empty message. Not inlined, since the room of a new message is cleared where a function begins.
 #[inline(never)]
 fn make_received(reply: &mut Reply)
     ensures { reply.new ≡ Received [] }

@@ -7,7 +7,7 @@ ghost use Rattle.apex_ports.specs.declared.rows.Row.TheVariants.{Created, Identi
 ghost use Rattle.apex_ports.specs.Decisions.{Decides};
 ghost use Rattle.apex_ports.specs.History.{entry_of};
 ghost use Rattle.apex_ports.specs.Kept.{IsKept, IsKeptWith};
-ghost use Rattle.apex_ports.specs.Ports.{IsPlace, queuing_named, sampling_named};
+ghost use Rattle.apex_ports.specs.Ports.{IsIdentifier, queuing_named, sampling_named};
 ghost use Rattle.apex_ports.specs.ReplyTable.{create_queuing_row, create_sampling_row, id_row, reply_of};
 ghost use Rattle.apex_ports.specs.Seen.{seen};
 
@@ -37,6 +37,38 @@ pub(crate) struct SamplingAttributes {
     pub(crate) refresh: u64,
 }
 
+impl QueuingAttributes {
+    /// The attributes of these numbers.
+    pub(crate) fn new(size: u32, depth: u32, direction: u32, discipline: u32) -> QueuingAttributes
+        ensures { result ≡ record {
+          size = size;
+          depth = depth;
+          direction = direction;
+          discipline = discipline;
+        } }
+    {
+        QueuingAttributes {
+            size,
+            depth,
+            direction,
+            discipline,
+        }
+    }
+}
+
+impl SamplingAttributes {
+    /// The attributes of these numbers.
+    pub(crate) fn new(size: u32, direction: u32, refresh: u64) -> SamplingAttributes
+        ensures { result ≡ record { size = size; direction = direction; refresh = refresh } }
+    {
+        SamplingAttributes {
+            size,
+            direction,
+            refresh,
+        }
+    }
+}
+
 /// The greatest QUEUING_DISCIPLINE: FIFO is 0, PRIORITY is 1.
 const PRIORITY: u32 = 1;
 
@@ -57,7 +89,7 @@ impl<A: Allocator> State<A> {
     ) -> Result<u32, Refusal>
         requires partition { partition < length config.now.partitions }
         requires kept { IsKept config.now self.now.history self.now }
-        ensures place { IfOk result (λ id. IsPlace (ports_of config.now partition) id) }
+        ensures identifier { IfOk result (λ id. IsIdentifier (ports_of config.now partition) id) }
         ensures decided { let named = queuing_named config.now partition name.now in
             let row = create_queuing_row config.now (seen config.now self.now.history partition)
             named asked.size asked.depth asked.direction asked.discipline in
@@ -95,7 +127,7 @@ impl<A: Allocator> State<A> {
     ) -> Result<u32, Refusal>
         requires partition { partition < length config.now.partitions }
         requires kept { IsKept config.now self.now.history self.now }
-        ensures place { IfOk result (λ id. IsPlace (ports_of config.now partition) id) }
+        ensures identifier { IfOk result (λ id. IsIdentifier (ports_of config.now partition) id) }
         ensures decided { let named = sampling_named config.now partition name.now in
             let row = create_sampling_row config.now (seen config.now self.now.history partition)
             named asked.size asked.direction asked.refresh in

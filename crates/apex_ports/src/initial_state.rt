@@ -1,4 +1,4 @@
-//! The state before the first call. All places that calls need are made here.
+//! The state before the first call. All room that calls need is made here.
 ghost use Rattle.std.specs.Prelude.{◌≡◌, ℕ, ◌<◌, [], false, length, IfOk};
 ghost use Rattle.apex_types.specs.declared.validity.Validity.TheVariants.{Invalid};
 ghost use Rattle.apex_ports.specs.Kept.{EachAt, IsPartitionKept, IsChannelKept, IsKept, created_in, last_in, state_at};

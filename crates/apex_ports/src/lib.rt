@@ -19,6 +19,7 @@ mod sampling;
 mod saved_channel;
 pub mod script;
 mod service;
+mod service_row;
 mod state;
 
 pub use crate::history::{Entry, Request};

@@ -3,7 +3,7 @@ ghost use Rattle.std.specs.Prelude.{◌≡◌, ◌<◌, true, false, length, Som
 ghost use Rattle.std.specs.Option.{option_copied};
 ghost use Rattle.apex_config.specs.Configuration.{port_of, ports_of, is_queuing_port};
 ghost use Rattle.apex_ports.specs.Kept.{IsKept};
-ghost use Rattle.apex_ports.specs.Ports.{IsPlace, is_queuing, queuing_only, queuing_named, sampling_named};
+ghost use Rattle.apex_ports.specs.Ports.{IsIdentifier, is_queuing, queuing_only, queuing_named, sampling_named};
 ghost use Rattle.apex_ports.specs.Seen.{seen, created_port, queuing_port, sampling_port};
 
 use crate::state::State;
@@ -91,7 +91,8 @@ pub(crate) fn queuing_named<'a>(
         (queuing_named config.now partition name.now ≡ None)
         (λ found. queuing_named config.now partition name.now
         ≡ Some (record { id = found.0; port = found.1.now })) }
-    ensures place { IfSome result (λ found. IsPlace (ports_of config.now partition) found.0) }
+    ensures identifier { IfSome result
+        (λ found. IsIdentifier (ports_of config.now partition) found.0) }
     ensures linked { IfSome result (λ found. found.1.now.channel < length config.now.channels) }
 {
     let id = config.port_named(partition, name)?;
@@ -113,7 +114,8 @@ pub(crate) fn sampling_named<'a>(
         (sampling_named config.now partition name.now ≡ None)
         (λ found. sampling_named config.now partition name.now
         ≡ Some (record { id = found.0; port = found.1.now })) }
-    ensures place { IfSome result (λ found. IsPlace (ports_of config.now partition) found.0) }
+    ensures identifier { IfSome result
+        (λ found. IsIdentifier (ports_of config.now partition) found.0) }
     ensures linked { IfSome result (λ found. found.1.now.channel < length config.now.channels) }
 {
     let id = config.port_named(partition, name)?;

@@ -46,7 +46,7 @@ impl<A: Allocator> PartitionState<A> {
             .copy_from_slice(saved.ports.as_slice());
     }
 
-    /// The state of the port of an identifier, which is its place, counted from 1.
+    /// The state of the port of an identifier, which is its index, counted from 1.
     pub(crate) fn port(&self, id: u32) -> Option<PortState>
         ensures { result ≡ state_at self.now.ports.items id }
     {

@@ -76,7 +76,7 @@ impl<A: Allocator> Ports<A> {
         reply
     }
 
-    /// The event of `call`, with the reply in the caller's place.
+    /// The event of `call`, with the answer in the caller's reply.
     pub fn call_into(&mut self, partition: usize, at: Moment, call: &Call, reply: &mut Reply)
         requires { partition < length self.old.config.partitions }
         ensures reply { reply.new

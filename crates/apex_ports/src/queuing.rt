@@ -38,7 +38,7 @@ impl<A: Allocator> State<A> {
         ensures channel { IfOk result (λ channel. channel < length config.now.channels) }
         ensures source { IfOk result
             (λ channel. is_source_of channel (port_of config.now partition id) ≡ true) }
-        ensures place { IfOk result
+        ensures free { IfOk result
             (λ c. length (waiting_on config.now c self.now.history) < depth_of config.now c) }
     {
         let Some(port) = self.queuing_port(config, partition, id) else {
@@ -103,7 +103,8 @@ impl<A: Allocator> State<A> {
         requires partition { partition < length config.now.partitions }
         requires kept { IsKept config.now self.now.history self.now }
         ensures decided { let here = seen config.now self.now.history partition in
-            Decides (clear_row (queuing_port config.now here partition id)) (λ _. row.Cleared) result }
+            let port = queuing_port config.now here partition id in
+            Decides (clear_row port) (λ _. row.Cleared) result }
         ensures channel { IfOk result (λ channel. channel < length config.now.channels) }
         ensures destination { IfOk result
             (λ channel. is_destination_of channel (port_of config.now partition id) ≡ true) }
@@ -117,7 +118,7 @@ impl<A: Allocator> State<A> {
         }
     }
 
-    /// SEND_QUEUING_MESSAGE, with the reply in its place.
+    /// SEND_QUEUING_MESSAGE, with its answer in `reply`.
     pub(crate) fn send(
         &mut self,
         config: &Config,
@@ -147,7 +148,7 @@ impl<A: Allocator> State<A> {
         }
     }
 
-    /// RECEIVE_QUEUING_MESSAGE, with the reply in its place.
+    /// RECEIVE_QUEUING_MESSAGE, with its answer in `reply`.
     pub(crate) fn receive(&mut self, config: &Config, partition: usize, id: u32, reply: &mut Reply)
         requires partition { partition < length config.now.partitions }
         requires sound { IsSound config.now self.old.history }
@@ -166,7 +167,7 @@ impl<A: Allocator> State<A> {
         }
     }
 
-    /// CLEAR_QUEUING_PORT, with the reply in its place.
+    /// CLEAR_QUEUING_PORT, with its answer in `reply`.
     pub(crate) fn clear(&mut self, config: &Config, partition: usize, id: u32, reply: &mut Reply)
         requires partition { partition < length config.now.partitions }
         requires sound { IsSound config.now self.old.history }
@@ -205,7 +206,7 @@ impl<A: Allocator> State<A> {
         let state = &self.channels[port.channel];
         Reply::QueuingStatus {
             waiting: state.waiting_count() as u32,
-            depth: state.places() as u32,
+            depth: state.depth() as u32,
             size: channel.size,
             direction: port.direction,
         }

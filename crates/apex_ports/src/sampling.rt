@@ -7,7 +7,7 @@ ghost use Rattle.apex_ports.specs.declared.rows.Row.TheVariants as row;
 ghost use Rattle.apex_ports.specs.Decisions.{Decides};
 ghost use Rattle.apex_ports.specs.History.{entry_of};
 ghost use Rattle.apex_ports.specs.Kept.{IsKept, IsKeptWith};
-ghost use Rattle.apex_ports.specs.Ports.{IsPlace, is_queuing, is_source_of};
+ghost use Rattle.apex_ports.specs.Ports.{IsIdentifier, is_queuing, is_source_of};
 ghost use Rattle.apex_ports.specs.ReplyTable.{last_reply, write_row, read_row, status_row, reply_of};
 ghost use Rattle.apex_ports.specs.Seen.{seen, sampling_port};
 ghost use Rattle.apex_ports.specs.Writes.{Writes, WritesNothing};
@@ -101,7 +101,7 @@ impl<A: Allocator> State<A> {
         ensures message { let here = seen config.now self.now.history partition in
             IfOk result (λ shown. last_reply shown.1 (here.sample id)
             ≡ Read shown.0.now shown.1) }
-        ensures place { IfOk result (λ _. IsPlace (ports_of config.now partition) id) }
+        ensures identifier { IfOk result (λ _. IsIdentifier (ports_of config.now partition) id) }
     {
         let Some(port) = self.sampling_port(config, partition, id) else {
             return Err(Refusal::NoSuchPort);
@@ -116,7 +116,7 @@ impl<A: Allocator> State<A> {
         Ok((&sample.message, validity))
     }
 
-    /// WRITE_SAMPLING_MESSAGE, with the reply in its place.
+    /// WRITE_SAMPLING_MESSAGE, with its answer in `reply`.
     pub(crate) fn write(
         &mut self,
         config: &Config,
@@ -148,7 +148,7 @@ impl<A: Allocator> State<A> {
         }
     }
 
-    /// READ_SAMPLING_MESSAGE, with the reply in its place.
+    /// READ_SAMPLING_MESSAGE, with its answer in `reply`.
     pub(crate) fn read(
         &mut self,
         config: &Config,

@@ -1,7 +1,7 @@
 //! What a channel came to, in as little memory as that takes: a message is kept without the room of the longest.
 ghost use Rattle.std.specs.Prelude.{◌≡◌, ◌≤◌, ◌++◌, length, option_copied, IfOk, OnOk};
 ghost use Rattle.circular_buffer.specs.Buffer.{buffer};
-ghost use Rattle.apex_ports.specs.ChannelStates.{places_in};
+ghost use Rattle.apex_ports.specs.ChannelStates.{ring_depth};
 ghost use Rattle.apex_ports.specs.Saved.{restored, IsSavedFrom, HasRoomFor};
 
 use crate::channel::{ChannelState, Queue};
@@ -132,10 +132,10 @@ impl<A: Allocator + Copy> ChannelState<A> {
 }
 
 impl<A: Allocator> ChannelState<A> {
-    /// Makes the channel what was saved. Its places stay.
+    /// Makes the channel what was saved. Its depth stays.
     pub(crate) fn restore(&mut self, saved: &SavedChannel<A>)
         requires { HasRoomFor self.old saved.now }
-        ensures { self.new ≡ restored (places_in self.old) saved.now }
+        ensures { self.new ≡ restored (ring_depth self.old) saved.now }
     {
         match (self, saved) {
             (ChannelState::Queuing(queue), SavedChannel::Queuing(saved)) => queue.restore(saved),

@@ -13,7 +13,7 @@ use apex_types::{Call, Moment, OutOfMemory};
 use std::alloc::Allocator;
 use std::sync::Wait;
 
-/// The places for observers of a channel.
+/// The room for observers of a channel.
 const OBSERVERS: usize = 1;
 
 /// The publishers of a board with the empty log.

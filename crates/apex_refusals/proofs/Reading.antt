@@ -8,9 +8,10 @@ use Rattle.apex_config.specs.Meaning.{RefusalData}
 use Rattle.apex_config.specs.declared.fault.ConfigFault.{ConfigFault}
 use Rattle.apex_config.specs.declared.place.Place.{Place}
 use Rattle.apex_refusals.specs.Documents.{document_of}
-use Rattle.apex_refusals.specs.Lines.{named_lines, AreFileLines, more_line, IsRefusalOf, AreMistakesIn}
+use Rattle.apex_refusals.specs.Lines.{named_lines, AreFileLines, IsRefusalOf, AreMistakesIn}
 use Rattle.apex_refusals.specs.ValueFindings.{ends_of}
-use Rattle.apex_refusals.specs.declared.mistakes.TheConstants.{MISTAKE_LIMIT}
+use Rattle.apex_mistake_words.specs.declared.more.TheConstants.{MISTAKE_LIMIT}
+use Rattle.apex_mistake_words.specs.More.{more_line}
 
 pub is_document : (text : List ℕ) (found : Members) → IsUtf8 text → parse_document text ≡ Some found → document_of text ≡ Some (table found)
 is_document text found utf8 parsed = rw (is_utf8-from_IsUtf8 text utf8, parsed) refl

@@ -3,7 +3,7 @@ use Rattle.std.specs.Prelude.{ℕ, ◌++◌, List, [], ◌∷◌, map, codes, Op
 use Rattle.apex_config.specs.Text.{ChannelText}
 use Rattle.apex_config.specs.Values.{key_word}
 use Rattle.apex_config.specs.declared.key.Key.{Key}
-use Rattle.apex_nearest.specs.Nearest.{nearest_of}
+use Rattle.apex_mistake_words.specs.Nearest.{nearest_of}
 use Rattle.apex_refusals.specs.Findings.{FoundData, text_found, number_found, table_found, WantedData, text_wanted, number_wanted, tables_wanted, kind_wanted, direction_wanted, channel_wanted, FindingData, wrong, unknown_key}
 
 -- the keys of a configuration

@@ -1,5 +1,5 @@
 -- The lines that tell a refusal.
-use Rattle.std.specs.Prelude.{ℕ, ◌≡◌, if◌then◌else◌, ◌++◌, ◌==◌, ◌-◌, List, [], codes, decimal, length, take, Option, Some, None, option_and_then}
+use Rattle.std.specs.Prelude.{ℕ, ◌≡◌, ◌++◌, ◌-◌, List, [], codes, length, take, Option, Some, None, option_and_then}
 use Rattle.std.specs.List.{flat_map, FoldsTo}
 use Rattle.toml.specs.Data.{Data}
 use Rattle.apex_config.specs.Ends.{EndsData}
@@ -20,7 +20,8 @@ use Rattle.apex_refusals.specs.PlaceLines.{IsLineNumber, key_there}
 use Rattle.apex_refusals.specs.Places.{value_of}
 use Rattle.apex_refusals.specs.ValueFindings.{ends_of, finding_in}
 use Rattle.apex_refusals.specs.Words.{finding_words, owner_words}
-use Rattle.apex_refusals.specs.declared.mistakes.TheConstants.{MISTAKE_LIMIT}
+use Rattle.apex_mistake_words.specs.declared.more.TheConstants.{MISTAKE_LIMIT}
+use Rattle.apex_mistake_words.specs.More.{more_line}
 use Rattle.apex_refusals.specs.declared.lines.Form.{Form}
 use Rattle.apex_refusals.specs.declared.lines.Form.TheVariants as forms
 
@@ -103,10 +104,7 @@ IsRefusalOf (Some document) refusal lines = lines ≡ named_lines (ends_of refus
 abbrev pub IsRefusalTold : List ℕ → RefusalData → List ℕ → Type 0
 IsRefusalTold text refusal lines = IsRefusalOf (document_of text) refusal lines
 
--- `and N more`, where more places were refused than are told
-abbrev pub more_line : ℕ → List ℕ
-more_line more = if more == 0 then [] else codes "and " ++ (decimal more ++ codes " more\n")
-
+-- the mistakes of a text that is TOML: the lines of the first places, and how many more there are
 abbrev pub AreMistakesIn : Data → List ℕ → List ℕ → RefusalData → List ℕ → Type 0
 AreMistakesIn document file text refusal told =
     (lines : List ℕ)

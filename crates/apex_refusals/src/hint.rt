@@ -5,7 +5,7 @@ ghost use Rattle.apex_refusals.specs.Hints.{nearest_hint, text_hint, hint_of};
 
 use crate::finding::{Finding, Found, Wanted};
 use apex_config::config_text::ChannelText;
-use apex_nearest::nearest;
+use apex_mistake_words::nearest;
 use std::alloc::{AllocError, Global};
 
 /// The keys of a configuration.

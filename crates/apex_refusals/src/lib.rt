@@ -17,5 +17,5 @@ mod printed;
 mod value_finding;
 
 pub use crate::lines::refusal_lines;
-pub use crate::mistakes::{MISTAKE_LIMIT, config_mistakes};
+pub use crate::mistakes::config_mistakes;
 pub use crate::path::PathOfPart;

@@ -1,19 +1,17 @@
 //! The mistakes of a configuration, told to people by file and line.
 ghost use Rattle.std.specs.Prelude.{◌≡◌, ◌++◌, take, string_bytes, IfOk, OnOk};
 ghost use Rattle.toml.specs.View.{view};
-ghost use Rattle.apex_refusals.specs.Lines.{more_line, AreMistakesIn, AreMistakes};
+ghost use Rattle.apex_refusals.specs.Lines.{AreMistakesIn, AreMistakes};
 
 use crate::file_lines::File;
 use crate::lines::{Form, push_lines};
 use crate::not_toml::line_and_column;
 use apex_config::place::Place;
 use apex_config::refusal::Refusal;
+use apex_mistake_words::{MISTAKE_LIMIT, push_more};
 use std::alloc::{AllocError, Global};
 use toml::Value;
 use toml::de::Error;
-
-/// The most mistakes that are told.
-pub const MISTAKE_LIMIT: usize = 20;
 
 /// A line for each place at which the text of a file was refused, at most `MISTAKE_LIMIT`, and then one that says how many
 /// more there are: the file, the line where it is known, the path, what stands there, what must stand there, and what was
@@ -76,16 +74,6 @@ fn first_of(places: &[Place]) -> &[Place]
     } else {
         places
     }
-}
-
-/// The line that says how many more there are.
-fn push_more(told: &mut String, more: usize) -> Result<(), AllocError>
-    ensures { OnOk result (string_bytes told.new ≡ string_bytes told.old ++ more_line more) }
-{
-    if more == 0 {
-        return Ok(());
-    }
-    writeln!(told, "and {more} more")
 }
 
 /// The line of a text that is no TOML: where the reader of TOML stopped, and why.

@@ -46,8 +46,8 @@ row_words values (row.Refused refusal) = refusal_words values refusal
 row_words values _ = []
 
 -- the words of a row for a call
-abbrev pub words_of : Configuration → ℕ → Call → Row → List ℕ
-words_of config p call row = row_words (values_of config p call) row
+abbrev pub row_words_for : Configuration → ℕ → Call → Row → List ℕ
+row_words_for config p call row = row_words (values_of config p call) row
 
 -- the row has words
 abbrev pub has_words : Row → Bool
@@ -57,4 +57,4 @@ has_words _ = false
 
 -- ` (WORDS)`, where the row has words
 unfoldable pub note_of : Configuration → ℕ → Call → Row → List ℕ
-note_of config p call row = if has_words row then codes " (" ++ words_of config p call row ++ codes ")" else []
+note_of config p call row = if has_words row then codes " (" ++ row_words_for config p call row ++ codes ")" else []

@@ -1,7 +1,7 @@
 //! The words of the rows of the reply table.
 ghost use Rattle.std.specs.Prelude.{◌≡◌, ◌<◌, ◌++◌, length, string_bytes, OnOk};
 ghost use Rattle.apex_row_words.specs.Pieces.{Values, piece_text, filled, values_of};
-ghost use Rattle.apex_row_words.specs.Words.{row_words, words_of, has_words, note_of};
+ghost use Rattle.apex_row_words.specs.Words.{row_words, row_words_for, has_words, note_of};
 
 use crate::call_values::push_call_value;
 use crate::piece::Piece;
@@ -23,7 +23,7 @@ pub fn push_words(
 ) -> Result<(), AllocError>
     requires { partition < length config.now.partitions }
     ensures { OnOk result (string_bytes text.new
-        ≡ string_bytes text.old ++ words_of config.now partition call.now row) }
+        ≡ string_bytes text.old ++ row_words_for config.now partition call.now row) }
 {
     push_filled(text, config, partition, call, row_pieces(row))
 }

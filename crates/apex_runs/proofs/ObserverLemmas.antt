@@ -25,7 +25,7 @@ module _ (config : Configuration) where
   no_fewer c true kind = omega (arith, after_queuing c kind)
   no_fewer c false kind = omega (arith, after_sampling c kind)
 
-  -- a sampling channel has a place that no later channel has
+  -- a sampling channel has an index that no later channel has
   pub earlier : (c d : ℕ) → is_queuing config c ≡ false → c < d → sampling_before config c < sampling_before config d
   earlier c zero kind before = absurd (omega arith)
   earlier c (suc d) kind before = by_test (earlier c d kind) (c == d) refl
@@ -59,24 +59,24 @@ module _ (config : Configuration) where
           shown d known (omega arith) sampling at
 
   -- one observer more shows its channel's sample
-  pub shown_past_sampling : (history : History) (observers : List Published) (c place : ℕ) (now : Published) → Shown history observers c → is_queuing config c ≡ false → place ≡ sampling_before config c
-      → last_of now.writes ≡ last_write_on config c history → Shown history (set observers place now) (c + 1)
-  shown_past_sampling history observers c place now shown kind here is d known before sampling at = by_test (d == c) refl
+  pub shown_past_sampling : (history : History) (observers : List Published) (c index : ℕ) (now : Published) → Shown history observers c → is_queuing config c ≡ false → index ≡ sampling_before config c
+      → last_of now.writes ≡ last_write_on config c history → Shown history (set observers index now) (c + 1)
+  shown_past_sampling history observers c index now shown kind here is d known before sampling at = by_test (d == c) refl
     where
-      apart_at : d ≢ c → sampling_before config d ≢ place
-      apart_at apart same = let earlier_place = earlier d c sampling (omega arith) in omega arith
+      apart_at : d ≢ c → sampling_before config d ≢ index
+      apart_at apart same = let earlier_index = earlier d c sampling (omega arith) in omega arith
 
       by_test : (b : Bool) → (d == c) ≡ b → last_of known.writes ≡ last_write_on config d history
       by_test true test =
           let same : d ≡ c = grind (arith, nat_tests) in
-          let at_place : sampling_before config d ≡ place = ap (sampling_before config) same ∙ sym here in
+          let at_index : sampling_before config d ≡ index = ap (sampling_before config) same ∙ sym here in
           ⊎_elim
           (λ own. ap (λ (one : Published). last_of one.writes) own.1 ∙ (is ∙ ap (λ e. last_write_on config e history) (sym same)))
-          (λ other. absurd (other.0 at_place))
-          (slice_get-set_cases observers place now (sampling_before config d) known at)
+          (λ other. absurd (other.0 at_index))
+          (slice_get-set_cases observers index now (sampling_before config d) known at)
       by_test false test =
           let apart : d ≢ c = grind (arith, nat_tests) in
           ⊎_elim
           (λ own. absurd (apart_at apart own.0))
           (λ other. shown d known (omega arith) sampling other.1)
-          (slice_get-set_cases observers place now (sampling_before config d) known at)
+          (slice_get-set_cases observers index now (sampling_before config d) known at)

@@ -1,5 +1,5 @@
 //! What the workers of a run share, behind a lock.
-ghost use Rattle.std.specs.Prelude.{◌≡◌, ◌↔◌, ◌≤◌, ◌∷◌, ◌++◌, [], length, IfOk, IfErr, IsErrOf, OnErr};
+ghost use Rattle.std.specs.Prelude.{◌≡◌, ◌↔◌, ◌≤◌, ◌∷◌, ◌++◌, [], length, IfOk, IfErr, IsErrOf, OnErr, OnOk};
 ghost use Rattle.apex_ports.specs.History.{entry_of};
 ghost use Rattle.apex_ports.specs.ReplyTable.{reply_to};
 ghost use Rattle.apex_runs.specs.Run.{IsBoardFault};
@@ -48,7 +48,7 @@ impl<A: Allocator> Model for Board<A> {
 }
 
 impl<A: Allocator + Copy> Board<A> {
-    /// New ports, with observers that have seen nothing, and places for the order of so many calls.
+    /// New ports, with observers that have seen nothing, and room for the order of so many calls.
     pub(crate) fn new<R: Wait>(
         rt: &R,
         alloc: A,
@@ -98,19 +98,20 @@ impl<A: Allocator> Board<A> {
         compare(ports, self.observers.as_mut_slice())
     }
 
-    /// One call of a partition. A refusal changes nothing.
-    fn ask<R: Wait>(
+    /// One call of a partition, with its reply in `reply`. A refusal changes no more than that.
+    fn ask_into<R: Wait>(
         &mut self,
         rt: &R,
         partition: usize,
         at: Moment,
         call: &Call,
-    ) -> Result<Reply, AskFault>
+        reply: &mut Reply,
+    ) -> Result<(), AskFault>
         // The reply is the reply table's, and the history gains just that entry.
-        ensures reply { IfOk result (λ reply.
-            reply ≡ reply_to self.old.config self.old.history partition at call.now) }
-        ensures entry { IfOk result (λ reply.
-            self.new.history ≡ self.old.history ++ entry_of partition at call.now reply ∷ []) }
+        ensures reply { OnOk result
+            (reply.new ≡ reply_to self.old.config self.old.history partition at call.now) }
+        ensures entry { OnOk result (self.new.history
+            ≡ self.old.history ++ entry_of partition at call.now reply.new ∷ []) }
         ensures config { self.new.config ≡ self.old.config }
         ensures partition { IsErrOf result AskFault.NoPartition
             ↔ (length self.old.config.partitions ≤ partition) }
@@ -125,7 +126,8 @@ impl<A: Allocator> Board<A> {
         match publish(rt, &mut self.publishers, &self.ports, partition, at, call) {
             Ok(()) => {
                 self.order.push_reserved(partition as u8);
-                Ok(self.ports.call(partition, at, call))
+                self.ports.call_into(partition, at, call, reply);
+                Ok(())
             }
             Err(_refused) => Err(AskFault::OutOfMemory),
         }
@@ -164,7 +166,6 @@ impl<A: Allocator> LockedBoard<A> {
 }
 
 impl<A: Allocator + Send + Sync> SharedBoard for LockedBoard<A> {
-    /// Holds the lock for this one call.
     fn ask<R: Wait>(
         &self,
         rt: &R,
@@ -172,8 +173,22 @@ impl<A: Allocator + Send + Sync> SharedBoard for LockedBoard<A> {
         at: Moment,
         call: &Call,
     ) -> Result<Reply, AskFault> {
+        let mut reply = Reply::NotMade;
+        self.ask_into(rt, partition, at, call, &mut reply)?;
+        Ok(reply)
+    }
+
+    /// Holds the lock for this one call.
+    fn ask_into<R: Wait>(
+        &self,
+        rt: &R,
+        partition: usize,
+        at: Moment,
+        call: &Call,
+        reply: &mut Reply,
+    ) -> Result<(), AskFault> {
         let mut guard = self.board.lock(rt);
-        let answer = guard.ask(rt, partition, at, call);
+        let answer = guard.ask_into(rt, partition, at, call, reply);
         MutexGuard::unlock(guard);
         answer
     }

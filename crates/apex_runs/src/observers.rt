@@ -21,14 +21,14 @@ pub(crate) fn compare<A: Allocator, B: Allocator>(
         ≡ map (λ known. known.channel) observers.old }
     ensures fault { IfErr result IsReadFault }
 {
-    let mut place = 0;
+    let mut index = 0;
     for c in 0..ports.config().channels() {
         if !ports.config().channel(c).kind.is_queuing() {
-            if place >= observers.len() {
+            if index >= observers.len() {
                 return Err(Fault::Run(RunFault::Stranger));
             }
-            compare_read(&mut observers[place], ports.last_sample(c))?;
-            place += 1;
+            compare_read(&mut observers[index], ports.last_sample(c))?;
+            index += 1;
         }
     }
     Ok(())

@@ -9,13 +9,13 @@ ghost use Rattle.apex_threads.specs.Collected.{IsCollected};
 use apex_ports::{Ports, RunFault};
 use apex_texts::{Fault, push_entry};
 use apex_threads::{PackedReplies, PackedScript, are_complete};
-use apex_types::{Call, Moment, Reply};
+use apex_types::{ANY_CALL, Call, Moment, Reply};
 use std::alloc::AllocError;
 
 /// Serves the calls of all scripts on new ports, the next one of the partition that the order names, and writes a line for
 /// each. The order has to name each partition as often as it has calls, and each reply has to be its worker's.
 ///
-/// It counts each partition's calls in the places given, which are 0 before.
+/// It counts each partition's calls in `counts`, which are 0 before.
 pub(crate) fn push_calls(
     text: &mut String,
     ports: &mut Ports,
@@ -37,6 +37,7 @@ pub(crate) fn push_calls(
     ensures short { length ports.new.history < 2 ^ 64 }
     ensures fault { IfErr result IsReportFault }
 {
+    let mut call = ANY_CALL;
     let mut reply = Reply::NotMade;
     let mut number: u64 = 0;
     for byte in order {
@@ -44,18 +45,18 @@ pub(crate) fn push_calls(
         if partition >= counts.len() {
             return Err(Fault::Run(RunFault::Stranger));
         }
-        let place = counts[partition];
+        let index = counts[partition];
         let script = &scripts[partition];
-        let Some((at, call)) = script.get(place) else {
+        let Some(at) = script.read(index, &mut call) else {
             return Err(Fault::Run(RunFault::Stranger));
         };
         number += 1;
         push_call(text, ports, number, partition, at, &call, &mut reply)?;
         let worker = &replies[partition];
-        if !worker.is_at(place, &reply) {
+        if !worker.is_at(index, &reply) {
             return Err(Fault::Run(RunFault::Stranger));
         }
-        counts[partition] = place + 1;
+        counts[partition] = index + 1;
     }
     if !are_complete(scripts, replies, counts) {
         return Err(Fault::Run(RunFault::Stranger));
@@ -63,7 +64,7 @@ pub(crate) fn push_calls(
     Ok(())
 }
 
-/// Serves a call, with its reply in the place given, and writes its line.
+/// Serves a call, with its reply in `reply`, and writes its line.
 fn push_call(
     text: &mut String,
     ports: &mut Ports,

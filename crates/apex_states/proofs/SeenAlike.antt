@@ -16,7 +16,7 @@ use Rattle.apex_ports.specs.Modes.{is_idle}
 use Rattle.apex_ports.specs.Ports.{is_created, NamedPort, queuing_only, sampling_only, with_id, queuing_of_id, queuing_named, sampling_of_id, sampling_named}
 use Rattle.apex_ports.specs.Seen.{Seen, seen, waiting_of, sample_of, created_port, queuing_port, sampling_port, validity_shown}
 use Rattle.apex_ports.specs.ReplyTable.{size_of, create_queuing_row, create_sampling_row, id_row, send_row, receive_row, clear_row, write_row, read_row, status_row, service_row, row_of, queuing_status_reply, sampling_status_reply, reply_of, reply_to}
-use Rattle.apex_ports.proofs.Lookups.{is_place}
+use Rattle.apex_ports.proofs.Lookups.{is_identifier}
 use Rattle.apex_states.specs.States.{IsSameState, last_shown}
 
 abbrev is_port : Option Port → Bool
@@ -187,7 +187,7 @@ module _ (config : Configuration) (p : ℕ) where
         (λ (none : port_of config p id ≡ None). (λ i. is_some (if is_created p id h then none i else None))
         ∙ (none_created (is_created p id h) ∙ sym ((λ i. is_some (if is_created p id other then none i else None)) ∙ none_created (is_created p id other))))
         (λ (found : (port : Port) × (port_of config p id ≡ Some port)).
-        ap (λ (b : Bool). is_some (if b then port_of config p id else None)) ((same.partitions p within).ports.created id (is_place config p id found.0 found.1)))
+        ap (λ (b : Bool). is_some (if b then port_of config p id else None)) ((same.partitions p within).ports.created id (is_identifier config p id found.0 found.1)))
         (port_cases id)
 
     last_same : (id : ℕ) → last_shown config h p id ≡ last_shown config other p id
@@ -196,7 +196,7 @@ module _ (config : Configuration) (p : ℕ) where
         (λ (none : port_of config p id ≡ None). (λ i. validity_shown (seen config h p) id (sampling_only (if is_created p id h then none i else None)))
         ∙ (shows_none (seen config h p) id (is_created p id h)
         ∙ sym ((λ i. validity_shown (seen config other p) id (sampling_only (if is_created p id other then none i else None))) ∙ shows_none (seen config other p) id (is_created p id other))))
-        (λ (found : (port : Port) × (port_of config p id ≡ Some port)). (same.partitions p within).ports.last id (is_place config p id found.0 found.1))
+        (λ (found : (port : Port) × (port_of config p id ≡ Some port)). (same.partitions p within).ports.last id (is_identifier config p id found.0 found.1))
         (port_cases id)
 
     channel_within : (id : ℕ) (port : Port) → port_of config p id ≡ Some port → port.channel < length config.channels

@@ -12,7 +12,7 @@ use Rattle.apex_config.specs.declared.port.Port.{Port}
 use Rattle.apex_ports.specs.declared.history.Entry.{Entry}
 use Rattle.apex_ports.specs.History.{History}
 use Rattle.apex_ports.specs.Modes.{mode_set, restarts}
-use Rattle.apex_ports.specs.Ports.{IsPlace, is_created, creates, sampling_only}
+use Rattle.apex_ports.specs.Ports.{IsIdentifier, is_created, creates, sampling_only}
 use Rattle.apex_ports.specs.Channels.{accepted_on, taken_on, taken_by, waiting_on, last_write_on, messages_of, message_accepted, sample_written, last_validity_of, validity_read}
 use Rattle.apex_ports.specs.Rules.{IsConserved}
 use Rattle.apex_ports.specs.Seen.{seen, sampling_port, validity_shown}
@@ -53,10 +53,10 @@ shown_alike false true false o read x y same = still_alike (sampling_only o) rea
 
 module _ (config : Configuration) (h other : History) (e : Entry) where
   module _ (p : ℕ) (same : IsSamePorts config h other p) where
-    created_step : (id : ℕ) → IsPlace (ports_of config p) id → is_created p id (h ++ e ∷ []) ≡ is_created p id (other ++ e ∷ [])
-    created_step id place =
+    created_step : (id : ℕ) → IsIdentifier (ports_of config p) id → is_created p id (h ++ e ∷ []) ≡ is_created p id (other ++ e ∷ [])
+    created_step id known =
         is_created-append p id h e
-        ∙ (ap (λ (b : Bool). creates p id e || (b && not (restarts p e))) (same.created id place) ∙ sym (is_created-append p id other e))
+        ∙ (ap (λ (b : Bool). creates p id e || (b && not (restarts p e))) (same.created id known) ∙ sym (is_created-append p id other e))
 
     shown_step : (history : History) (id : ℕ) → last_shown config (history ++ e ∷ []) p id
         ≡ shown_of (creates p id e || (is_created p id history && not (restarts p e))) (port_of config p id) (if creates p id e then Invalid else unwrap_or (validity_read p id e) (last_validity_of p id history))
@@ -64,12 +64,12 @@ module _ (config : Configuration) (h other : History) (e : Entry) where
         shown_is config (history ++ e ∷ []) p id
         ∙ (λ i. shown_of (is_created-append p id history e i) (port_of config p id) (last_validity_of-append p id history e i))
 
-    last_step : (id : ℕ) → IsPlace (ports_of config p) id → last_shown config (h ++ e ∷ []) p id ≡ last_shown config (other ++ e ∷ []) p id
-    last_step id place =
-        let created = same.created id place in
+    last_step : (id : ℕ) → IsIdentifier (ports_of config p) id → last_shown config (h ++ e ∷ []) p id ≡ last_shown config (other ++ e ∷ []) p id
+    last_step id known =
+        let created = same.created id known in
         let before : shown_of (is_created p id other) (port_of config p id) (last_validity_of p id h) ≡ shown_of (is_created p id other) (port_of config p id) (last_validity_of p id other) =
         ap (λ (b : Bool). shown_of b (port_of config p id) (last_validity_of p id h)) (sym created)
-        ∙ (sym (shown_is config h p id) ∙ (same.last id place ∙ shown_is config other p id)) in
+        ∙ (sym (shown_is config h p id) ∙ (same.last id known ∙ shown_is config other p id)) in
         shown_step h id
         ∙ (ap (λ (b : Bool). shown_of (creates p id e || (b && not (restarts p e))) (port_of config p id) (if creates p id e then Invalid else unwrap_or (validity_read p id e) (last_validity_of p id h))) created
         ∙ (shown_alike (creates p id e) (is_created p id other) (restarts p e) (port_of config p id) (validity_read p id e) (last_validity_of p id h) (last_validity_of p id other) before

@@ -4,7 +4,7 @@ use Rattle.apex_types.specs.declared.validity.Validity.{Validity}
 use Rattle.apex_config.specs.Configuration.{Configuration, ports_of}
 use Rattle.apex_ports.specs.History.{History}
 use Rattle.apex_ports.specs.Modes.{mode_of}
-use Rattle.apex_ports.specs.Ports.{IsPlace, is_created}
+use Rattle.apex_ports.specs.Ports.{IsIdentifier, is_created}
 use Rattle.apex_ports.specs.Channels.{waiting_on, last_write_on}
 use Rattle.apex_ports.specs.Seen.{seen, sampling_port, validity_shown}
 
@@ -15,8 +15,8 @@ last_shown config history p id =
 
 -- both histories created the same ports of the partition, and left them the same last validity
 pub record IsSamePorts (config : Configuration) (history other : History) (p : ℕ) : Type 0 where
-  pub created : (id : ℕ) → IsPlace (ports_of config p) id → is_created p id history ≡ is_created p id other
-  pub last : (id : ℕ) → IsPlace (ports_of config p) id → last_shown config history p id ≡ last_shown config other p id
+  pub created : (id : ℕ) → IsIdentifier (ports_of config p) id → is_created p id history ≡ is_created p id other
+  pub last : (id : ℕ) → IsIdentifier (ports_of config p) id → last_shown config history p id ≡ last_shown config other p id
 
 -- both histories left the partition in one state
 pub record IsSamePartition (config : Configuration) (history other : History) (p : ℕ) : Type 0 where

@@ -30,21 +30,21 @@ of_ok P (Ok y) x h is =
     subst P same h
 of_ok P (Err e) x h is = absurd cc
 
-abbrev IsPlace : Configuration → ℕ → Type 0
-IsPlace config place = place < length config.partitions
+abbrev IsPartition : Configuration → ℕ → Type 0
+IsPartition config p = p < length config.partitions
 
 abbrev IsKnown : Configuration → Request → Type 0
 IsKnown config request = request.partition < length config.partitions
 
-of_option : (config : Configuration) (fault : LineFault) (o : Option ℕ) → ((place : ℕ) → o ≡ Some place → IsPlace config place) → OfRead (IsPlace config) (or_fault fault o)
+of_option : (config : Configuration) (fault : LineFault) (o : Option ℕ) → ((p : ℕ) → o ≡ Some p → IsPartition config p) → OfRead (IsPartition config) (or_fault fault o)
 of_option config fault None h = tt
-of_option config fault (Some place) h = h place refl
+of_option config fault (Some p) h = h p refl
 
-named-place : (config : Configuration) (name : List ℕ) (place : ℕ) → partition_named config name ≡ Some place → IsPlace config place
-named-place config name place is = omega (arith, position_found (λ partition. bytes_eq partition.name name) config.partitions place is)
+named-known : (config : Configuration) (name : List ℕ) (p : ℕ) → partition_named config name ≡ Some p → IsPartition config p
+named-known config name p is = omega (arith, position_found (λ partition. bytes_eq partition.name name) config.partitions p is)
 
-partition-known : (config : Configuration) (word : List ℕ) → OfRead (IsPlace config) (partition_of config word)
-partition-known config word = of_option config faults.Partition (partition_named config word) (named-place config word)
+partition-known : (config : Configuration) (word : List ℕ) → OfRead (IsPartition config) (partition_of config word)
+partition-known config word = of_option config faults.Partition (partition_named config word) (named-known config word)
 
 request-known : (config : Configuration) (moment : List ℕ) (words : List (List ℕ)) → OfRead (IsKnown config) (request_at config moment words)
 unfolding request_at
@@ -52,9 +52,9 @@ request-known config moment words =
     of_step (IsKnown config) (word_at words) _ (λ partition _.
     of_step (IsKnown config) (word_at partition.1) _ (λ call _.
     of_step (IsKnown config) (moment_of moment) _ (λ at _.
-    of_step (IsKnown config) (partition_of config partition.0) _ (λ place is.
+    of_step (IsKnown config) (partition_of config partition.0) _ (λ p is.
     of_step (IsKnown config) (call_of call.0 call.1) _ (λ asked _.
-    of_ok (IsPlace config) (partition_of config partition.0) place (partition-known config partition.0) is)))))
+    of_ok (IsPartition config) (partition_of config partition.0) p (partition-known config partition.0) is)))))
 
 abbrev IsKnownIfSome : Configuration → Option Request → Type 0
 IsKnownIfSome config None = Unit {0}
@@ -83,8 +83,8 @@ lines-known config number (line ∷ rest) =
     before-known config number (item_of_line (request_at config) line) (items_from (request_at config) (number + 1) rest) (line-known config line) (lines-known config (number + 1) rest)
 
 -- a partition that is read is the configuration's
-pub place-known : (config : Configuration) (word : List ℕ) (place : ℕ) → Ok place ≡ partition_of config word → place < length config.partitions
-place-known config word place is = of_ok (IsPlace config) (partition_of config word) place (partition-known config word) (sym is)
+pub index-known : (config : Configuration) (word : List ℕ) (p : ℕ) → Ok p ≡ partition_of config word → p < length config.partitions
+index-known config word p is = of_ok (IsPartition config) (partition_of config word) p (partition-known config word) (sym is)
 
 -- each request that a reader of a trace answered has a partition
 pub trace-known : (config : Configuration) (text : List ℕ) (answer : Result (Vec Request) TraceFault) → IsTraceRead answer (trace_of config text) → IfOk answer (λ requests. HavePartitions config requests.items)

@@ -15,7 +15,7 @@ stays_great [] limit value great =
     rw above refl
 stays_great (byte ∷ rest) limit value great = stays limit value byte (is_digit byte) rest (stays_great rest limit (value * 10 + (byte - 48)) (omega arith))
 
--- the digit at a place makes the number too great
+-- the digit at an index makes the number too great
 pub grows_great : (limit value i : ℕ) (word : List ℕ) → i < length word → is_digit (get_or word i 0) ≡ true → limit < value * 10 + (get_or word i 0 - 48)
     → digits_after value (drop i word) ≡ digits_after 0 word → at_most limit (digits_after 0 word) ≡ None
 grows_great limit value i word inside digit great so_far =

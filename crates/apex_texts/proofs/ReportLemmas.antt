@@ -109,11 +109,11 @@ pub channel_end : (config : Configuration) (history : History) (c : ℕ) → len
 unfolding channel_lines
 channel_end config history c past = rw (drop_of_length-le config.channels past) refl
 
-pub message_cut : (messages : List (List ℕ)) (place : ℕ) (message : List ℕ) → slice_get messages place ≡ Some message
-    → messages_text (drop place messages) ≡ (codes " " ++ hex_text_of message) ++ messages_text (drop (place + 1) messages)
+pub message_cut : (messages : List (List ℕ)) (index : ℕ) (message : List ℕ) → slice_get messages index ≡ Some message
+    → messages_text (drop index messages) ≡ (codes " " ++ hex_text_of message) ++ messages_text (drop (index + 1) messages)
 unfolding messages_text
-message_cut messages place message is = rw (drop_at messages place message is) refl
+message_cut messages index message is = rw (drop_at messages index message is) refl
 
-pub message_end : (messages : List (List ℕ)) (place : ℕ) → length messages ≤ place → messages_text (drop place messages) ≡ []
+pub message_end : (messages : List (List ℕ)) (index : ℕ) → length messages ≤ index → messages_text (drop index messages) ≡ []
 unfolding messages_text
-message_end messages place past = rw (drop_of_length-le messages past) refl
+message_end messages index past = rw (drop_of_length-le messages past) refl

@@ -10,7 +10,7 @@ use Rattle.std.proofs.lemmas.List.Sums.{fails_before_first, passes_at_first}
 use Rattle.std.proofs.lemmas.List.Splits.{slice_split-cons_yes, slice_split_none, slice_split_first, length-slice_split}
 use Rattle.apex_texts.specs.Text.{is_line_feed, is_blank, words_of}
 
--- where `position` finds a place, it is the place of the first element that passes
+-- where `position` finds an index, it is that of the first element that passes
 pub position_found : {X : Type 0} (p : X → Bool) (xs : List X) (i : ℕ) → position p xs ≡ Some i → (position_or_len p xs < length xs) × (i ≡ position_or_len p xs)
 position_found p xs i found = grind (arith, found)
 
@@ -26,9 +26,9 @@ parts-cons x (y ∷ more) h = refl
 -- the first line ends at the first line feed
 pub lines_at : (text : List ℕ) (i : ℕ) → position is_line_feed text ≡ Some i → lines text ≡ strip_carriage_return (take i text) ∷ lines (drop (i + 1) text)
 lines_at text i found =
-    let place = position_found is_line_feed text i found in
-    let first = slice_split_first is_line_feed text 0 place.0 in
-    rw place.1 (ap lines_of_parts first ∙ parts-cons (before_first is_line_feed text) (slice_split is_line_feed (after_first is_line_feed text)) (omega (arith, length-slice_split is_line_feed (after_first is_line_feed text))))
+    let found_at = position_found is_line_feed text i found in
+    let first = slice_split_first is_line_feed text 0 found_at.0 in
+    rw found_at.1 (ap lines_of_parts first ∙ parts-cons (before_first is_line_feed text) (slice_split is_line_feed (after_first is_line_feed text)) (omega (arith, length-slice_split is_line_feed (after_first is_line_feed text))))
 
 -- without a line feed the text is its one line
 pub lines_last : (text : List ℕ) → eqb (length text) 0 ≡ false → position is_line_feed text ≡ None → lines text ≡ text ∷ []
@@ -72,12 +72,12 @@ part-word part parts some =
 -- a word ends at the first blank after it
 pub words_at : (line : List ℕ) (end : ℕ) → 0 < length line → is_blank (get_or line 0 0) ≡ false → position is_blank line ≡ Some end → words_of line ≡ take end line ∷ words_of (drop end line)
 words_at line end some word found =
-    let place = position_found is_blank line end found in
-    let first = slice_split_first is_blank line 0 place.0 in
+    let found_at = position_found is_blank line end found in
+    let first = slice_split_first is_blank line 0 found_at.0 in
     let long : 0 < length (before_first is_blank line) = omega (arith, length-take (position_or_len is_blank line) line, starts line some word) in
-    let at : drop (position_or_len is_blank line) line ≡ get_or line (position_or_len is_blank line) 0 ∷ after_first is_blank line = rw add-one (drop-cons line (position_or_len is_blank line) 0 place.0) in
-    let skip : words_of (drop (position_or_len is_blank line) line) ≡ words_of (after_first is_blank line) = ap words_of at ∙ words-blank (get_or line (position_or_len is_blank line) 0) (after_first is_blank line) (passes_at_first is_blank line 0 place.0) in
-    rw (place.1, skip) (ap (λ parts. filter (λ part. not (eqb (length part) 0)) parts) first ∙ part-word (before_first is_blank line) (slice_split is_blank (after_first is_blank line)) long)
+    let at : drop (position_or_len is_blank line) line ≡ get_or line (position_or_len is_blank line) 0 ∷ after_first is_blank line = rw add-one (drop-cons line (position_or_len is_blank line) 0 found_at.0) in
+    let skip : words_of (drop (position_or_len is_blank line) line) ≡ words_of (after_first is_blank line) = ap words_of at ∙ words-blank (get_or line (position_or_len is_blank line) 0) (after_first is_blank line) (passes_at_first is_blank line 0 found_at.0) in
+    rw (found_at.1, skip) (ap (λ parts. filter (λ part. not (eqb (length part) 0)) parts) first ∙ part-word (before_first is_blank line) (slice_split is_blank (after_first is_blank line)) long)
 
 -- a word that no blank follows is the whole line
 pub words_last : (line : List ℕ) → 0 < length line → is_blank (get_or line 0 0) ≡ false → position is_blank line ≡ None → words_of line ≡ line ∷ []
@@ -97,9 +97,9 @@ pub record FromWord (line rest : List ℕ) : Type 0 where
 
 pub from_word : (line rest : List ℕ) (start : ℕ) → position (λ byte. not (is_blank byte)) line ≡ Some start → rest ≡ drop start line → FromWord line rest
 from_word line rest start found is =
-    let place = position_found (λ byte. not (is_blank byte)) line start found in
-    let is' : rest ≡ drop (position_or_len (λ byte. not (is_blank byte)) line) line = is ∙ ap (λ (n : ℕ). drop n line) place.1 in
-    let passes = passes_at_first (λ byte. not (is_blank byte)) line 0 place.0 in
+    let found_at = position_found (λ byte. not (is_blank byte)) line start found in
+    let is' : rest ≡ drop (position_or_len (λ byte. not (is_blank byte)) line) line = is ∙ ap (λ (n : ℕ). drop n line) found_at.1 in
+    let passes = passes_at_first (λ byte. not (is_blank byte)) line 0 found_at.0 in
     record {
       some = omega (arith, ap length is', length-drop (position_or_len (λ byte. not (is_blank byte)) line) line);
       word = rw (is', get_or-drop, add-zero) (not-true (is_blank (get_or line (position_or_len (λ byte. not (is_blank byte)) line) 0)) passes);

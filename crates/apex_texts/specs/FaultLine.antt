@@ -10,7 +10,7 @@ use Rattle.apex_texts.specs.declared.fault.TraceFault.{TraceFault}
 use Rattle.apex_texts.specs.declared.fault.TraceFault.TheVariants as trace_faults
 use Rattle.apex_texts.specs.declared.fault.Fault.{Fault}
 use Rattle.apex_texts.specs.declared.fault.Fault.TheVariants as faults
-use Rattle.apex_texts.specs.LineFault.{fault_numbered, words_of}
+use Rattle.apex_texts.specs.LineFault.{fault_numbered, fault_words}
 
 -- want of memory, wherever it came
 abbrev pub memory_line : List ℕ
@@ -40,7 +40,7 @@ config_line fault = numbered_line (pass_of fault) (config_words fault)
 
 -- `: WORDS`, where a fault has the number
 abbrev pub words_after : Option LineFault → List ℕ
-words_after (Some fault) = codes ": " ++ words_of fault
+words_after (Some fault) = codes ": " ++ fault_words fault
 words_after None = []
 
 -- `line L fault N: WORDS`

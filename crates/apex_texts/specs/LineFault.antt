@@ -30,13 +30,13 @@ fault_numbered number =
     else None
 
 -- the printed words of a fault
-abbrev pub words_of : LineFault → List ℕ
-words_of NotAscii = codes "not ASCII"
-words_of TooFewWords = codes "too few words"
-words_of TooManyWords = codes "too many words"
-words_of Moment = codes "moment"
-words_of Partition = codes "partition"
-words_of UnknownCall = codes "unknown call"
-words_of Number = codes "number"
-words_of Name = codes "name"
-words_of Message = codes "message"
+abbrev pub fault_words : LineFault → List ℕ
+fault_words NotAscii = codes "not ASCII"
+fault_words TooFewWords = codes "too few words"
+fault_words TooManyWords = codes "too many words"
+fault_words Moment = codes "moment"
+fault_words Partition = codes "partition"
+fault_words UnknownCall = codes "unknown call"
+fault_words Number = codes "number"
+fault_words Name = codes "name"
+fault_words Message = codes "message"

@@ -9,7 +9,7 @@ use Rattle.apex_texts.specs.declared.fault.TraceFault.{TraceFault}
 use Rattle.apex_texts.specs.Arguments.{◌>>=◌, or_fault, word_at, moment_of, call_of}
 use Rattle.apex_texts.specs.Lines.{FaultyLine, items_of, IsRead}
 
--- PARTITION: the place of the partition whose name the word is
+-- PARTITION: the index of the partition whose name the word is
 abbrev pub partition_of : Configuration → List ℕ → Result ℕ LineFault
 partition_of config word = or_fault faults.Partition (partition_named config word)
 
@@ -19,9 +19,9 @@ request_at config moment words = do
   partition ← word_at words
   call ← word_at partition.1
   at ← moment_of moment
-  place ← partition_of config partition.0
+  p ← partition_of config partition.0
   asked ← call_of call.0 call.1
-  Ok (record { partition = place; at = at; call = asked })
+  Ok (record { partition = p; at = at; call = asked })
 
 -- the requests of a trace, or its first faulty line
 abbrev pub trace_of : Configuration → List ℕ → Result (List Request) FaultyLine

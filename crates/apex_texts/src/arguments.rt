@@ -114,9 +114,9 @@ pub fn service_at(word: &[u8]) -> Result<Service, LineFault>
     Service::named(word).ok_or(LineFault::UnknownCall)
 }
 
-/// Reads the call to a service, with the arguments that the words are, into its place. The words
+/// Reads the call to a service, with the arguments that the words are, into `call`. The words
 /// are walked once. After a fault any call may stand there.
-// A function clears the places of its values where it begins, those of functions inlined into it too. So each
+// A function clears the room of its values where it begins, those of functions inlined into it too. So each
 // function that makes a call with a message or a name isn't inlined.
 #[tactic(auto, unfolding(crate::specs::Arguments::call_with, crate::specs::Arguments::call_at))]
 pub fn read_call(service: Service, words: &[u8], call: &mut Call) -> Result<(), LineFault>
@@ -149,7 +149,7 @@ fn id_in(words: &[u8]) -> Result<u32, LineFault>
     number_of(one_word(words)?)
 }
 
-// The identifier that the first of two words is; the message that the second is goes into its place.
+// The identifier that the first of two words is; the message that the second is goes into `message`.
 #[tactic(auto, unfolding(crate::specs::Arguments::id_and_message))]
 fn id_and_message(words: &[u8], message: &mut Message) -> Result<u32, LineFault>
     ensures { Gives (λ id. (id, message.new)) result (id_and_message (words_of words.now)) }

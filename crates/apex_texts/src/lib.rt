@@ -21,7 +21,7 @@ pub use crate::fault::{Fault, TraceFault};
 pub use crate::line_fault::LineFault;
 pub use crate::replay::{replay_text, replay_trace};
 pub use crate::report_text::{push_entry, push_reply, push_totals};
-pub use crate::script::read_script;
+pub use crate::script::{read_script, read_script_line};
 pub use crate::service::{SERVICES, Service};
 pub use crate::text::next_line;
 pub use crate::trace::{ANY_REQUEST, read_trace, read_trace_line};

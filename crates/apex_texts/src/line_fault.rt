@@ -1,6 +1,6 @@
 //! What is wrong with a line of a trace or a script.
 ghost use Rattle.std.specs.Prelude.{◌≡◌, Some};
-ghost use Rattle.apex_texts.specs.LineFault.{number_of, fault_numbered, words_of};
+ghost use Rattle.apex_texts.specs.LineFault.{number_of, fault_numbered, fault_words};
 
 use std::error::Error;
 use std::fmt;
@@ -66,7 +66,7 @@ impl LineFault {
 
     /// The printed words of the fault.
     pub fn words(self) -> &'static str
-        ensures { result.now ≡ words_of self }
+        ensures { result.now ≡ fault_words self }
     {
         match self {
             LineFault::NotAscii => "not ASCII",
@@ -83,7 +83,7 @@ impl LineFault {
 }
 
 impl fmt::Display for LineFault {
-    ghost output = { λ fault. Some (words_of fault) };
+    ghost output = { λ fault. Some (fault_words fault) };
 
     fn fmt<W: fmt::Write>(&self, f: &mut fmt::Formatter<W>) -> fmt::Result {
         f.write_str(self.words())

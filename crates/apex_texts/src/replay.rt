@@ -78,7 +78,7 @@ fn push_calls(text: &mut String, ports: &mut Ports, trace: &[u8]) -> Result<(), 
     Ok(())
 }
 
-/// Serves a request, with its reply in the place given, and writes its line.
+/// Serves a request, with its reply in `reply`, and writes its line.
 fn push_call(
     text: &mut String,
     ports: &mut Ports,

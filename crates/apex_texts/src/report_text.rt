@@ -300,8 +300,8 @@ fn push_waiting(text: &mut String, ports: &Ports, c: usize) -> Result<(), AllocE
     ensures { let waiting = waiting_on ports.now.config c ports.now.history in
         OnOk result (string_bytes text.new ≡ string_bytes text.old ++ messages_text waiting) }
 {
-    for place in 0..ports.waiting_count(c) {
-        let message = ports.waiting(c, place).unwrap();
+    for index in 0..ports.waiting_count(c) {
+        let message = ports.waiting(c, index).unwrap();
         push_word(text, " ")?;
         push_message(text, message)?;
     }

@@ -11,7 +11,7 @@ use crate::line_fault::LineFault;
 use crate::lines::{LineForm, line_words, read_lines};
 use apex_config::Config;
 use apex_ports::Request;
-use apex_types::{Call, Moment};
+use apex_types::{ANY_CALL, Moment};
 use std::alloc::Global;
 
 /// The requests of a trace's lines, in order, or its first faulty line.
@@ -38,11 +38,11 @@ impl LineForm for TraceLine<'_> {
     }
 }
 
-/// A request into whose place others are read.
+/// A request that others are read into.
 pub const ANY_REQUEST: Request = Request {
     partition: 0,
     at: Moment(0),
-    call: Call::SetMode { mode: 0 },
+    call: ANY_CALL,
 };
 
 /// The request of a moment and the words after it.
@@ -54,7 +54,7 @@ fn request_at(config: &Config, moment: &[u8], words: &[u8]) -> Result<Request, L
     Ok(request)
 }
 
-/// Reads the request of a moment and the words after it into its place. After a fault any request
+/// Reads the request of a moment and the words after it into `request`. After a fault any request
 /// may stand there.
 #[tactic(auto, unfolding(crate::specs::Trace::request_at, crate::specs::Arguments::call_of))]
 fn read_request(
@@ -74,7 +74,7 @@ fn read_request(
     read_call(service_at(call)?, words, &mut request.call)
 }
 
-/// Reads the request of a line into its place, and answers whether the line has one: a line without
+/// Reads the request of a line into `request`, and answers whether the line has one: a line without
 /// words and a comment have none. After a fault any request may stand there.
 #[tactic(auto, unfolding(crate::specs::Lines::item_of_line))]
 pub fn read_trace_line(

@@ -24,7 +24,7 @@ module _ (bytes more : List ℕ) (named others : List Call) where
   same_call (packed.QueuingStatus id) is = refl
   same_call (packed.ClearQueuing id) is = refl
   same_call (packed.SetMode mode) is = refl
-  same_call (packed.Named place) is = ap (λ found. unwrap_or found (call.SetMode 0)) (slice_get_before named others place is)
+  same_call (packed.Named index) is = ap (λ found. unwrap_or found (call.SetMode 0)) (slice_get_before named others index is)
 
   call_still : (one : PackedCall) → IsPackedCall (length bytes) (length named) one → IsPackedCall (length (bytes ++ more)) (length (named ++ others)) one
   call_still (packed.WriteSampling id from to) is = part_still bytes more from to is
@@ -35,7 +35,7 @@ module _ (bytes more : List ℕ) (named others : List Call) where
   call_still (packed.QueuingStatus id) is = tt
   call_still (packed.ClearQueuing id) is = tt
   call_still (packed.SetMode mode) is = tt
-  call_still (packed.Named place) is = omega (arith, length-append named others)
+  call_still (packed.Named index) is = omega (arith, length-append named others)
 
   -- the calls are those of before
   pub same_calls : (all : List (Moment × PackedCall)) → ArePackedCalls (length bytes) (length named) all → map (timed_in (bytes ++ more) (named ++ others)) all ≡ map (timed_in bytes named) all
@@ -60,8 +60,8 @@ one_more_packed_call len count all at one are is k other here = by_test (k == le
   where
     by_test : (b : Bool) → (k == length all) ≡ b → IsPackedCall len count other.1
     by_test true test =
-        let place : k ≡ length all = grind (arith, nat_tests) in
-        let same : Some other ≡ Some (at, one) = sym here ∙ (ap (λ j. slice_get (all ++ (at, one) ∷ []) j) place ∙ slice_get_end all (at, one)) in
+        let index : k ≡ length all = grind (arith, nat_tests) in
+        let same : Some other ≡ Some (at, one) = sym here ∙ (ap (λ j. slice_get (all ++ (at, one) ∷ []) j) index ∙ slice_get_end all (at, one)) in
         let one_is : (at, one) ≡ other = cc in
         subst (λ (timed : Moment × PackedCall). IsPackedCall len count timed.1) one_is is
     by_test false test =

@@ -53,8 +53,8 @@ served_more h e p script own done is served next = record {
   replies = ap (map (λ entry. entry.reply)) (own_entry h e p is)
       ∙ (map-append (λ (entry : Entry). entry.reply) (entries_of p h) (e ∷ [])
       ∙ (ap (λ xs. xs ++ e.reply ∷ []) served.replies ∙ sym (take_one_more own done e.reply next.1)));
-  within_script = let place = slice_get_within script done (e.at, e.call) next.0 in omega arith;
-  within_replies = let place = slice_get_within own done e.reply next.1 in omega arith;
+  within_script = let within = slice_get_within script done (e.at, e.call) next.0 in omega arith;
+  within_replies = let within = slice_get_within own done e.reply next.1 in omega arith;
 }
 
 served_still : (h : History) (e : Entry) (p : ℕ) (script : List (Moment × Call)) (own : List Reply) (done : ℕ) → e.partition ≢ p → IsServed h p script own done → IsServed (h ++ e ∷ []) p script own done
@@ -179,7 +179,7 @@ own_entries h rest e p own =
     ∙ (filter-append (λ entry. entry.partition == p) (h ++ e ∷ []) rest
     ∙ (ap (λ xs. xs ++ entries_of p rest) (own_entry h e p own) ∙ append_assoc (entries_of p h) (e ∷ []) (entries_of p rest)))
 
--- the entry at a place is the next of its partition after those before it
+-- the entry at an index is the next of its partition after those before it
 pub next_of : (log : History) (scripts : List (List (Moment × Call))) (replies : List (List Reply)) (counts : List ℕ) (i : ℕ) (e : Entry) (script : List (Moment × Call)) (own : List Reply)
     → IsCollected log scripts replies → AreCounted (take i log) scripts replies counts → slice_get log i ≡ Some e → slice_get scripts e.partition ≡ Some script → slice_get replies e.partition ≡ Some own
     → IsNext e script own (get_or counts e.partition 0)

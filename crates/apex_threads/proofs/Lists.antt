@@ -1,4 +1,4 @@
--- Places in lists.
+-- Indexes in lists.
 use Rattle.std.proofs.Common.{◌≡◌, ℕ, zero, suc, ◌<◌, List, [], ◌∷◌, ◌++◌, length, Some, refl, arith}
 use Rattle.std.specs.List.{slice_get}
 

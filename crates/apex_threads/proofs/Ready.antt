@@ -7,7 +7,7 @@ use Rattle.apex_types.specs.declared.call.Call.{Call}
 use Rattle.apex_types.specs.declared.moment.Moment.{Moment}
 use Rattle.apex_types.specs.declared.reply.Reply.{Reply}
 use Rattle.apex_ports.specs.declared.run_fault.RunFault.{RunFault}
-use Rattle.apex_threads.specs.Places.{AreReady, AddsReplies}
+use Rattle.apex_threads.specs.Room.{AreReady, AddsReplies}
 use Rattle.apex_threads.proofs.Lists.{slice_get_end, slice_get_before}
 
 module _ (scripts : List (List (Moment × Call))) (lists : List (List Reply)) (last : List Reply) where
@@ -27,7 +27,7 @@ module _ (scripts : List (List (Moment × Call))) (lists : List (List Reply)) (l
 
   -- one more of them
   pub ready_more : AreReady scripts lists → length lists < length scripts → last ≡ [] → AreReady scripts (lists ++ last ∷ [])
-  ready_more ready place empty = record {
+  ready_more ready index empty = record {
     within = omega (arith, length-append lists (last ∷ []));
     each = λ p other here. by_test p other here (p == length lists) refl;
   }

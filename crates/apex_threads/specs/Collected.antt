@@ -29,10 +29,10 @@ pub record IsCollected (history : History) (scripts : List (List (Moment × Call
 abbrev pub IsCollectedFor : Configuration → List (List (Moment × Call)) → Configuration → History → List (List Reply) → Type 0
 IsCollectedFor config scripts board_config history replies = (board_config ≡ config) × IsCollected history scripts replies
 
--- the call and the reply at a place are those of the entry
+-- the call and the reply at an index are those of the entry
 abbrev pub IsNext : Entry → List (Moment × Call) → List Reply → ℕ → Type 0
-IsNext entry script replies place =
-    (slice_get script place ≡ Some (entry.at, entry.call)) × (slice_get replies place ≡ Some entry.reply)
+IsNext entry script replies index =
+    (slice_get script index ≡ Some (entry.at, entry.call)) × (slice_get replies index ≡ Some entry.reply)
 
 -- so many of the partition's calls, with their replies, are all that the history has of it
 pub record IsServed (history : History) (partition : ℕ) (script : List (Moment × Call)) (own : List Reply) (done : ℕ) : Type 0 where

@@ -6,5 +6,5 @@ pub mod PackedCalls
 pub mod PackedReplies
 pub mod Partition
 pub mod Parts
-pub mod Places
+pub mod Room
 pub mod Steps

@@ -17,7 +17,7 @@ call_in bytes named (packed.ReceiveQueuing id) = call.ReceiveQueuing id
 call_in bytes named (packed.QueuingStatus id) = call.QueuingStatus id
 call_in bytes named (packed.ClearQueuing id) = call.ClearQueuing id
 call_in bytes named (packed.SetMode mode) = call.SetMode mode
-call_in bytes named (packed.Named place) = unwrap_or (slice_get named place) (call.SetMode 0)
+call_in bytes named (packed.Named index) = unwrap_or (slice_get named index) (call.SetMode 0)
 
 abbrev pub timed_in : List ℕ → List Call → Moment × PackedCall → Moment × Call
 timed_in bytes named timed = (timed.0, call_in bytes named timed.1)
@@ -26,7 +26,7 @@ timed_in bytes named timed = (timed.0, call_in bytes named timed.1)
 abbrev pub IsPackedCall : ℕ → ℕ → PackedCall → Type 0
 IsPackedCall len count (packed.WriteSampling id from to) = IsPart len from to
 IsPackedCall len count (packed.SendQueuing id from to) = IsPart len from to
-IsPackedCall len count (packed.Named place) = place < count
+IsPackedCall len count (packed.Named index) = index < count
 IsPackedCall len count other = Unit {0}
 
 -- so it is of all calls

@@ -8,7 +8,7 @@ use apex_types::{Direction, Reply, ReturnCode, Validity};
 use std::alloc::{AllocError, Allocator, Global};
 use std::marker::Model;
 
-/// A reply without the bytes of its message: these stand elsewhere, from one place to before another.
+/// A reply without the bytes of its message: these stand elsewhere, from one index to before another.
 #[derive(Clone, Copy, Debug)]
 pub(crate) enum Packed {
     NotMade,
@@ -37,7 +37,7 @@ pub(crate) enum Packed {
     },
 }
 
-/// The replies to the calls of one partition, in order. A message takes as many bytes as it has, and not the place of the
+/// The replies to the calls of one partition, in order. A message takes as many bytes as it has, and not the room of the
 /// longest one. A contract sees them as a list.
 #[derive(Debug, Drop)]
 pub struct PackedReplies<A: Allocator = Global> {
@@ -58,8 +58,8 @@ impl<A: Allocator> Model for PackedReplies<A> {
 }
 
 impl<A: Allocator + Copy> PackedReplies<A> {
-    /// No replies, with places for so many. Their messages take memory when they come.
-    pub fn with_places(alloc: A, replies: usize) -> Result<PackedReplies<A>, AllocError>
+    /// No replies, with room for so many. Their messages take memory when they come.
+    pub fn with_room(alloc: A, replies: usize) -> Result<PackedReplies<A>, AllocError>
         ensures { IfOk result (λ packed. packed ≡ []) }
     {
         Ok(PackedReplies {
@@ -88,21 +88,21 @@ impl<A: Allocator> PackedReplies<A> {
         Ok(())
     }
 
-    /// The reply at a place; place 0 has the oldest.
-    pub fn get(&self, place: usize) -> Option<Reply>
-        ensures { result ≡ slice_get self.now place }
+    /// The reply at an index; index 0 has the oldest.
+    pub fn get(&self, index: usize) -> Option<Reply>
+        ensures { result ≡ slice_get self.now index }
     {
-        match self.replies.get(place) {
+        match self.replies.get(index) {
             Some(packed) => Some(unpack(self.bytes.as_slice(), *packed)),
             None => None,
         }
     }
 
-    /// Whether the reply at a place is this one.
-    pub fn is_at(&self, place: usize, reply: &Reply) -> bool
-        ensures { IsTrue result ↔ (slice_get self.now place ≡ Some reply.now) }
+    /// Whether the reply at an index is this one.
+    pub fn is_at(&self, index: usize, reply: &Reply) -> bool
+        ensures { IsTrue result ↔ (slice_get self.now index ≡ Some reply.now) }
     {
-        match self.replies.get(place) {
+        match self.replies.get(index) {
             Some(packed) => is_packed(self.bytes.as_slice(), packed, reply),
             None => false,
         }
@@ -123,7 +123,7 @@ fn is_packed(bytes: &[u8], packed: &Packed, reply: &Reply) -> bool
     }
 }
 
-// Not inlined, since the place of an unpacked reply is cleared where a function begins.
+// Not inlined, since the room of an unpacked reply is cleared where a function begins.
 #[inline(never)]
 fn is_unpacked(bytes: &[u8], packed: Packed, reply: &Reply) -> bool
     requires { IsPacked (length bytes.now) packed }

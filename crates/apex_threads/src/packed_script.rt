@@ -1,15 +1,17 @@
 //! Scripts, packed.
-ghost use Rattle.std.specs.Prelude.{◌≡◌, ◌+◌, ◌^◌, ◌<◌, ◌∷◌, ◌++◌, ℕ, List, [], length, slice_get, IfOk, IfSome, OnOk, OnErr};
+ghost use Rattle.std.specs.Prelude.{◌≡◌, ◌+◌, ◌^◌, ◌<◌, ◌∷◌, ◌++◌, ℕ, List, [], length, slice_get, None, Some, MatchOption, IfOk, IfSome, OnOk, OnErr};
 ghost use Rattle.apex_types.specs.declared.call.Call.{Call};
+ghost use Rattle.apex_types.specs.declared.call.Call.TheVariants as calls;
 ghost use Rattle.apex_threads.specs.PackedCalls.{call_in, IsPackedCall};
+ghost use Rattle.apex_threads.specs.Parts.{between, IsPart};
 
-use crate::parts::{message_at, push_message};
+use crate::parts::{push_message, read_message};
 use apex_ports::Script;
-use apex_types::{Call, Moment};
+use apex_types::{ANY_CALL, Call, Message, Moment};
 use std::alloc::{AllocError, Allocator, Global};
 use std::marker::Model;
 
-/// A call without the bytes of its message: these stand elsewhere, from one place to before another. A call that names a
+/// A call without the bytes of its message: these stand elsewhere, from one index to before another. A call that names a
 /// port stands elsewhere whole.
 #[derive(Clone, Copy, Debug)]
 pub(crate) enum PackedCall {
@@ -21,10 +23,10 @@ pub(crate) enum PackedCall {
     QueuingStatus { id: u32 },
     ClearQueuing { id: u32 },
     SetMode { mode: u32 },
-    Named { place: usize },
+    Named { index: usize },
 }
 
-/// The calls of one partition, in order, each with its moment. A message takes as many bytes as it has, and not the place of
+/// The calls of one partition, in order, each with its moment. A message takes as many bytes as it has, and not the room of
 /// the longest one. A contract sees them as a list.
 #[derive(Debug, Drop)]
 pub struct PackedScript<A: Allocator = Global> {
@@ -91,16 +93,26 @@ impl<A: Allocator> PackedScript<A> {
         Ok(())
     }
 
-    /// The call at a place, with its moment; place 0 has the first.
-    pub fn get(&self, place: usize) -> Option<(Moment, Call)>
-        ensures call { result ≡ slice_get self.now place }
-        ensures within { IfSome result (λ _. place + 1 < 2 ^ 64) }
+    /// The call at an index, with its moment; index 0 has the first.
+    pub fn get(&self, index: usize) -> Option<(Moment, Call)>
+        ensures { result ≡ slice_get self.now index }
     {
-        match self.calls.get(place) {
-            Some((at, packed)) => Some((
-                *at,
-                unpack_call(self.bytes.as_slice(), self.named.as_slice(), *packed),
-            )),
+        let mut call = ANY_CALL;
+        let at = self.read(index, &mut call)?;
+        Some((at, call))
+    }
+
+    /// Reads the call at an index into `call`, and answers its moment. Where there is none, any call may stand there.
+    pub fn read(&self, index: usize, call: &mut Call) -> Option<Moment>
+        ensures call { MatchOption result (slice_get self.now index ≡ None)
+            (λ at. slice_get self.now index ≡ Some (at, call.new)) }
+        ensures within { IfSome result (λ _. index + 1 < 2 ^ 64) }
+    {
+        match self.calls.get(index) {
+            Some((at, packed)) => {
+                unpack_call(self.bytes.as_slice(), self.named.as_slice(), *packed, call);
+                Some(*at)
+            }
             None => None,
         }
     }
@@ -110,8 +122,8 @@ impl<A: Allocator> PackedScript<A> {
         ensures { IfOk result (λ script. script ≡ self.now) }
     {
         let mut calls = Vec::with_capacity(alloc, self.len())?;
-        for place in 0..self.len() {
-            match self.get(place) {
+        for index in 0..self.len() {
+            match self.get(index) {
                 Some(timed) => calls.push_reserved(timed),
                 None => unreachable!(),
             }
@@ -182,33 +194,66 @@ fn pack_call<A: Allocator>(
         | Call::SamplingId { .. }
         | Call::CreateQueuing { .. }
         | Call::QueuingId { .. } => {
-            let place = named.len();
+            let index = named.len();
             named.push(call.copy())?;
-            PackedCall::Named { place }
+            PackedCall::Named { index }
         }
     })
 }
 
-/// The call, with its message out of the bytes, or out of the named ones.
-fn unpack_call(bytes: &[u8], named: &[Call], packed: PackedCall) -> Call
+/// Reads the call into `call`, with its message out of the bytes, or out of the named ones.
+// A function clears the room of its values where it begins, those of functions inlined into it too. So each function that
+// makes a call with a message isn't inlined, and a call of the same service keeps its room.
+fn unpack_call(bytes: &[u8], named: &[Call], packed: PackedCall, call: &mut Call)
     requires { IsPackedCall (length bytes.now) (length named.now) packed }
-    ensures { result ≡ call_in bytes.now named.now packed }
+    ensures { call.new ≡ call_in bytes.now named.now packed }
 {
     match packed {
-        PackedCall::WriteSampling { id, from, to } => Call::WriteSampling {
-            id,
-            message: message_at(bytes, from, to),
-        },
-        PackedCall::SendQueuing { id, from, to } => Call::SendQueuing {
-            id,
-            message: message_at(bytes, from, to),
-        },
-        PackedCall::ReadSampling { id } => Call::ReadSampling { id },
-        PackedCall::SamplingStatus { id } => Call::SamplingStatus { id },
-        PackedCall::ReceiveQueuing { id } => Call::ReceiveQueuing { id },
-        PackedCall::QueuingStatus { id } => Call::QueuingStatus { id },
-        PackedCall::ClearQueuing { id } => Call::ClearQueuing { id },
-        PackedCall::SetMode { mode } => Call::SetMode { mode },
-        PackedCall::Named { place } => named[place].copy(),
+        PackedCall::WriteSampling { id, from, to } => unpack_write(id, bytes, from, to, call),
+        PackedCall::SendQueuing { id, from, to } => unpack_send(id, bytes, from, to, call),
+        PackedCall::ReadSampling { id } => *call = Call::ReadSampling { id },
+        PackedCall::SamplingStatus { id } => *call = Call::SamplingStatus { id },
+        PackedCall::ReceiveQueuing { id } => *call = Call::ReceiveQueuing { id },
+        PackedCall::QueuingStatus { id } => *call = Call::QueuingStatus { id },
+        PackedCall::ClearQueuing { id } => *call = Call::ClearQueuing { id },
+        PackedCall::SetMode { mode } => *call = Call::SetMode { mode },
+        PackedCall::Named { index } => copy_call(&named[index], call),
     }
+}
+
+#[inline(never)]
+fn unpack_write(port: u32, bytes: &[u8], from: usize, to: usize, call: &mut Call)
+    requires { IsPart (length bytes.now) from to }
+    ensures { call.new ≡ calls.WriteSampling port (between from to bytes.now) }
+{
+    if !matches!(call, Call::WriteSampling { .. }) {
+        let message = Message::empty();
+        *call = Call::WriteSampling { id: 0, message };
+    }
+    if let Call::WriteSampling { id, message } = call {
+        *id = port;
+        read_message(bytes, from, to, message);
+    }
+}
+
+#[inline(never)]
+fn unpack_send(port: u32, bytes: &[u8], from: usize, to: usize, call: &mut Call)
+    requires { IsPart (length bytes.now) from to }
+    ensures { call.new ≡ calls.SendQueuing port (between from to bytes.now) }
+{
+    if !matches!(call, Call::SendQueuing { .. }) {
+        let message = Message::empty();
+        *call = Call::SendQueuing { id: 0, message };
+    }
+    if let Call::SendQueuing { id, message } = call {
+        *id = port;
+        read_message(bytes, from, to, message);
+    }
+}
+
+#[inline(never)]
+fn copy_call(other: &Call, call: &mut Call)
+    ensures { call.new ≡ other.now }
+{
+    *call = other.copy();
 }

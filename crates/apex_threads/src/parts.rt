@@ -5,7 +5,7 @@ ghost use Rattle.apex_threads.specs.Parts.{between, IsPart};
 use apex_types::Message;
 use std::alloc::{AllocError, Allocator};
 
-/// Puts a message behind the bytes, and answers between which places it stands.
+/// Puts a message behind the bytes, and answers between which indexes it stands.
 pub(crate) fn push_message<A: Allocator>(
     bytes: &mut Vec<u8, A>,
     message: &Message,
@@ -21,13 +21,23 @@ pub(crate) fn push_message<A: Allocator>(
     Ok((from, bytes.len()))
 }
 
-/// The message between two places.
+/// The message between two indexes.
 pub(crate) fn message_at(bytes: &[u8], from: usize, to: usize) -> Message
     requires { IsPart (length bytes.now) from to }
     ensures { result ≡ between from to bytes.now }
 {
-    match Message::from_bytes(&bytes[from..to]) {
-        Ok(message) => message,
+    let mut message = Message::empty();
+    read_message(bytes, from, to, &mut message);
+    message
+}
+
+/// Reads the message between two indexes into `message`.
+pub(crate) fn read_message(bytes: &[u8], from: usize, to: usize, message: &mut Message)
+    requires { IsPart (length bytes.now) from to }
+    ensures { message.new ≡ between from to bytes.now }
+{
+    match message.read_bytes(&bytes[from..to]) {
+        Ok(()) => {}
         Err(_too_long) => unreachable!(),
     }
 }

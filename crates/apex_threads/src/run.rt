@@ -2,7 +2,7 @@
 ghost use Rattle.std.specs.Prelude.{◌≡◌, ◌≤◌, [], length, vec_len, vec_capacity, IfOk, IfErr};
 ghost use Rattle.std.specs.Thread.{IsSync, IsSend};
 ghost use Rattle.apex_threads.specs.Held.{NamesHeldCall};
-ghost use Rattle.apex_threads.specs.Places.{AreReady};
+ghost use Rattle.apex_threads.specs.Room.{AreReady};
 
 use crate::gate::Gate;
 use crate::packed::PackedReplies;
@@ -40,7 +40,7 @@ pub fn run_over<
     run_all(rt, board, gate, scripts, empty, room)
 }
 
-/// An empty list for each script, with places for all replies to it.
+/// An empty list for each script, with room for all replies to it.
 fn lists_for<A: Allocator + Copy>(
     alloc: A,
     scripts: &[PackedScript<A>],
@@ -50,7 +50,7 @@ fn lists_for<A: Allocator + Copy>(
 {
     let mut lists = Vec::with_capacity(alloc, scripts.len())?;
     for script in scripts {
-        let list = PackedReplies::with_places(alloc, script.len())?;
+        let list = PackedReplies::with_room(alloc, script.len())?;
         lists.push_reserved(list);
     }
     Ok(lists)
@@ -67,7 +67,7 @@ fn run_all<R: Threads + Wait + Sync, S: SharedBoard, G: Gate, A: Allocator + Sen
 ) -> Result<Vec<PackedReplies<A>, A>, RunFault>
     requires ready { AreReady scripts.now empty.items }
     requires none { room.items ≡ [] }
-    requires places { vec_len empty ≤ vec_capacity room }
+    requires fits { vec_len empty ≤ vec_capacity room }
     ensures count { IfOk result (λ replies. vec_len replies ≡ vec_len empty) }
     ensures held { IfErr result (NamesHeldCall (G.may_refuse gate.now) scripts.now) }
 {
@@ -77,7 +77,7 @@ fn run_all<R: Threads + Wait + Sync, S: SharedBoard, G: Gate, A: Allocator + Sen
         move |scope| -> Result<Vec<PackedReplies<A>, A>, RunFault>
             requires ready { AreReady scripts.now empty.items }
             requires none { room.items ≡ [] }
-            requires places { vec_len empty ≤ vec_capacity room }
+            requires fits { vec_len empty ≤ vec_capacity room }
             ensures count { IfOk result (λ replies. vec_len replies ≡ vec_len empty) }
             ensures held { IfErr result
                 (NamesHeldCall (G.may_refuse gate.entry.now) scripts.entry.now) }

@@ -24,4 +24,17 @@ pub trait SharedBoard: Sync {
         at: Moment,
         call: &Call,
     ) -> Result<Reply, AskFault>;
+
+    /// The call of `ask`, with its reply in `reply`. A board that can answers there without moving a reply.
+    fn ask_into<R: Wait>(
+        &self,
+        rt: &R,
+        partition: usize,
+        at: Moment,
+        call: &Call,
+        reply: &mut Reply,
+    ) -> Result<(), AskFault> {
+        *reply = self.ask(rt, partition, at, call)?;
+        Ok(())
+    }
 }

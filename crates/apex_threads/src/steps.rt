@@ -66,13 +66,14 @@ impl<'a, S: SharedBoard, G: Gate> Steps<'a, S, G> {
         Ok(())
     }
 
-    /// Asks the board for the call that the gate let through.
+    /// Asks the board for the call that the gate let through, with the reply in `reply`.
     pub(crate) fn ask<R: Wait>(
         &mut self,
         rt: &R,
         at: Moment,
         call: &Call,
-    ) -> Result<Reply, AskFault>
+        reply: &mut Reply,
+    ) -> Result<(), AskFault>
         requires turn { self.old.passed ≡ self.old.asked + 1 }
         ensures asked { self.new.asked ≡ self.old.asked + 1 }
         ensures passed { self.new.passed ≡ self.old.passed }
@@ -80,7 +81,7 @@ impl<'a, S: SharedBoard, G: Gate> Steps<'a, S, G> {
         ensures same { IsOfSameWorker self.old self.new }
     {
         self.asked += 1;
-        self.board.ask(rt, self.partition, at, call)
+        self.board.ask_into(rt, self.partition, at, call, reply)
     }
 
     /// Lets the gate hear of the call that was asked.

@@ -1,7 +1,7 @@
 //! One worker: it makes the calls of its partition's script, one after the other.
 ghost use Rattle.std.specs.Prelude.{◌≡◌, ◌<◌, [], length, IfOk, IfErr, OnOk};
 ghost use Rattle.apex_threads.specs.Held.{NamesHeldCall};
-ghost use Rattle.apex_threads.specs.Places.{AnswersAll};
+ghost use Rattle.apex_threads.specs.Room.{AnswersAll};
 ghost use Rattle.apex_threads.specs.Steps.{IsBetweenCalls};
 
 use crate::gate::Gate;
@@ -10,6 +10,7 @@ use crate::packed_script::PackedScript;
 use crate::shared::SharedBoard;
 use crate::steps::Steps;
 use apex_ports::RunFault;
+use apex_types::{ANY_CALL, Reply};
 use std::alloc::Allocator;
 use std::sync::Wait;
 
@@ -50,8 +51,10 @@ fn make_calls<R: Wait, S: SharedBoard, G: Gate, A: Allocator>(
         (NamesHeldCall (G.may_refuse steps.old.gate.now) scripts.now) }
 {
     let script = &scripts[partition];
+    let mut call = ANY_CALL;
+    let mut reply = Reply::NotMade;
     for done in 0..script.len() {
-        let Some((at, call)) = script.get(done) else {
+        let Some(at) = script.read(done, &mut call) else {
             unreachable!();
         };
         if steps.pass().is_err() {
@@ -60,9 +63,10 @@ fn make_calls<R: Wait, S: SharedBoard, G: Gate, A: Allocator>(
                 n: done + 1,
             });
         }
-        let answer = steps.ask(rt, at, &call);
+        let answer = steps.ask(rt, at, &call, &mut reply);
         steps.tell();
-        replies.push(&answer?)?;
+        answer?;
+        replies.push(&reply)?;
     }
     Ok(replies)
 }

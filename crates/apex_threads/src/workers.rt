@@ -4,7 +4,7 @@ ghost use Rattle.std.specs.Result.{ForOk};
 ghost use Rattle.std.specs.Thread.{IsSync, IsSend};
 ghost use Rattle.apex_threads.specs.Held.{NamesHeldCall};
 ghost use Rattle.apex_threads.specs.Order.{first_fault};
-ghost use Rattle.apex_threads.specs.Places.{AreReady, AddsReplies};
+ghost use Rattle.apex_threads.specs.Room.{AreReady, AddsReplies};
 
 use crate::gate::Gate;
 use crate::packed::PackedReplies;
@@ -56,9 +56,9 @@ pub(crate) fn run_workers<
 ) -> Result<Vec<PackedReplies<A>, A>, RunFault>
     requires ready { AreReady scripts.now empty.items }
     requires none { all.items ≡ [] }
-    requires places { vec_len empty ≤ vec_capacity all }
+    requires fits { vec_len empty ≤ vec_capacity all }
     ensures count { IfOk result (λ replies. vec_len replies ≡ vec_len empty) }
-    ensures places { IfOk result (λ replies. vec_capacity replies ≡ vec_capacity all) }
+    ensures capacity { IfOk result (λ replies. vec_capacity replies ≡ vec_capacity all) }
     ensures held { IfErr result (NamesHeldCall (G.may_refuse gate.entry.now) scripts.entry.now) }
 {
     let Some(replies) = empty.pop() else {

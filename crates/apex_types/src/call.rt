@@ -66,6 +66,9 @@ pub enum Call {
     },
 }
 
+/// A call that others are read into.
+pub const ANY_CALL: Call = Call::SetMode { mode: 0 };
+
 impl Call {
     /// An equal call.
     pub fn copy(&self) -> Call

@@ -16,7 +16,7 @@ pub mod sample;
 pub mod taken;
 pub mod validity;
 
-pub use crate::call::Call;
+pub use crate::call::{ANY_CALL, Call};
 pub use crate::direction::Direction;
 pub use crate::message::{HEX_LIMIT, HexFault, MESSAGE_LIMIT, Message, TooLong};
 pub use crate::mode::Mode;

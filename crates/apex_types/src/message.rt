@@ -72,9 +72,20 @@ impl Message {
             (λ message. (message ≡ bytes.now) × (length bytes.now ≤ MESSAGE_LIMIT))
             (λ _. MESSAGE_LIMIT < length bytes.now) }
     {
-        let mut copied = ArrayVec::new();
-        match copied.try_extend_from_slice(bytes) {
-            Ok(()) => Ok(Message { bytes: copied }),
+        let mut message = Message::empty();
+        message.read_bytes(bytes)?;
+        Ok(message)
+    }
+
+    /// Makes the message one of these bytes; it takes no more time than they need. After a fault any message may stand there.
+    pub fn read_bytes(&mut self, bytes: &[u8]) -> Result<(), TooLong>
+        ensures { MatchResult result
+            (λ _. (self.new ≡ bytes.now) × (length bytes.now ≤ MESSAGE_LIMIT))
+            (λ _. MESSAGE_LIMIT < length bytes.now) }
+    {
+        self.bytes.clear();
+        match self.bytes.try_extend_from_slice(bytes) {
+            Ok(()) => Ok(()),
             Err(_) => Err(TooLong),
         }
     }
@@ -88,7 +99,7 @@ impl Message {
         Ok(message)
     }
 
-    /// Reads as `from_hex` does, into the message's own place. After a fault any message may stand there.
+    /// Reads as `from_hex` does, into this message. After a fault any message may stand there.
     pub fn read_hex(&mut self, text: &str) -> Result<(), HexFault>
         ensures { MatchResult result (λ _. message_of_hex text.now ≡ Ok self.new)
             (λ fault. message_of_hex text.now ≡ Err fault) }
@@ -164,7 +175,7 @@ impl Message {
         message
     }
 
-    /// Makes the message equal to another. Only the other's bytes are copied, and not the place of the longest message.
+    /// Makes the message equal to another. Only the other's bytes are copied, and not the room of the longest message.
     pub fn copy_from(&mut self, other: &Message)
         ensures { self.new ≡ other.now }
     {

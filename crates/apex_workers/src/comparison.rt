@@ -6,7 +6,7 @@ ghost use Rattle.apex_threads.specs.Collected.{IsNext, AreCounted, IsCollected, 
 use apex_board::{Board, Entry};
 use apex_config::Config;
 use apex_threads::{PackedReplies, PackedScript, are_complete};
-use apex_types::{Call, Moment};
+use apex_types::{ANY_CALL, Call, Moment};
 use std::alloc::Allocator;
 
 /// Whether the board has the configuration, and its log the calls of each partition's script with the replies to them.
@@ -27,7 +27,7 @@ pub(crate) fn is_collected_for<A: Allocator>(
 
 /// Whether the log has the calls of each partition's script with the replies to them, each once and in order.
 ///
-/// It goes over the log once, and counts each partition's calls in the places given, which are 0 before.
+/// It goes over the log once, and counts each partition's calls in `counts`, which are 0 before.
 pub fn is_collected<A: Allocator>(
     log: &[Entry],
     scripts: &[PackedScript<A>],
@@ -53,13 +53,14 @@ fn count_entries<A: Allocator>(
     ensures counted { OnTrue result (AreCounted log.now scripts.now replies.now counts.new) }
     ensures refused { OnFalse result (¬ IsCollected log.now scripts.now replies.now) }
 {
+    let mut call = ANY_CALL;
     for entry in log {
         let p = entry.partition;
         if p >= counts.len() {
             return false;
         }
         let done = counts[p];
-        if !is_next(entry, &scripts[p], &replies[p], done) {
+        if !is_next(entry, &scripts[p], &replies[p], done, &mut call) {
             return false;
         }
         counts[p] = done + 1;
@@ -81,21 +82,23 @@ fn is_same_call(call: &Call, other: &Call) -> bool
     call == other
 }
 
-/// Whether the call at a place of the script, with the reply at the same place, is the entry's.
+/// Whether the call at an index of the script, with the reply at the same index, is the entry's. The script's call is read
+/// into `call`.
 fn is_next<A: Allocator>(
     entry: &Entry,
     script: &PackedScript<A>,
     replies: &PackedReplies<A>,
-    place: usize,
+    index: usize,
+    call: &mut Call,
 ) -> bool
-    ensures next { IsTrue result ↔ IsNext entry.now script.now replies.now place }
-    ensures within { OnTrue result (place + 1 < 2 ^ 64) }
+    ensures next { IsTrue result ↔ IsNext entry.now script.now replies.now index }
+    ensures within { OnTrue result (index + 1 < 2 ^ 64) }
 {
-    match script.get(place) {
-        Some((at, call)) => {
+    match script.read(index, call) {
+        Some(at) => {
             is_same_moment(at, entry.at)
-                && is_same_call(&call, &entry.call)
-                && replies.is_at(place, &entry.reply)
+                && is_same_call(call, &entry.call)
+                && replies.is_at(index, &entry.reply)
         }
         None => false,
     }

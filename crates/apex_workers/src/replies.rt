@@ -59,8 +59,8 @@ fn unpack<A: Allocator + Copy>(
     ensures { IfOk result (λ replies. replies ≡ packed.now) }
 {
     let mut replies = Vec::with_capacity(alloc, packed.len())?;
-    for place in 0..packed.len() {
-        match packed.get(place) {
+    for index in 0..packed.len() {
+        match packed.get(index) {
             Some(reply) => replies.push_reserved(reply),
             None => unreachable!(),
         }

@@ -79,8 +79,9 @@ pub(crate) const ORDERS: &str = "\
 Each partition makes the calls of its script in order, and nothing else says which call comes first: the moments of
 calls of different partitions don't. Of each call, by the line of its script, all replies are told that it gets in some
 order, and no others; of each queuing channel from the lowest to the highest of its counts in the end. Then come the
-number of states that calls can lead to, and that of different ends. Where there are more states than the bound, nothing
-is told, and the status is 5.
+number of states that calls can lead to, and that of different ends. Where the partitions that have calls fall into
+several groups that share no channel, there is such a last line for each group, with the names of its partitions. Where
+there are more states than the bound, nothing is told, and the status is 5.
 
 Example:
   $ ./dekarino orders examples/orders/config.toml FMS=examples/orders/fms.script DSP=examples/orders/dsp.script

@@ -59,9 +59,9 @@ pub(crate) fn outcomes_as_json(
             Some(of) => of.numbers.as_slice(),
             None => &[],
         };
-        for (place, (at, call)) in script.calls.iter().enumerate() {
-            let line = numbers.get(place).copied().unwrap_or(0);
-            let replies = replies_to(alloc, p, place, outcomes.replies.as_slice())?;
+        for (index, (at, call)) in script.calls.iter().enumerate() {
+            let line = numbers.get(index).copied().unwrap_or(0);
+            let replies = replies_to(alloc, p, index, outcomes.replies.as_slice())?;
             push_call(alloc, &mut text, config, p, line, *at, call, replies)?;
         }
     }
@@ -115,16 +115,16 @@ fn push_call(
     push_object(alloc, text, &object)
 }
 
-/// The replies to a partition's call at a place, in the words of a report.
+/// The replies to a partition's call at an index, in the words of a report.
 fn replies_to(
     alloc: Global,
     p: usize,
-    place: usize,
+    index: usize,
     replies: &[Possible],
 ) -> Result<Vec<String>, AllocError> {
     let mut texts = Vec::new(alloc);
     for one in replies {
-        if one.partition == p && one.place == place {
+        if one.partition == p && one.index == index {
             let mut text = String::new(alloc);
             push_reply(&mut text, &one.reply)?;
             texts.push(text)?;

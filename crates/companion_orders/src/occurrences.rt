@@ -62,23 +62,23 @@ fn possible_in(config: &Config, lines: &[LineNumbers], words: &str) -> Option<Po
     let (name, line) = call.trim().split_once(':')?;
     let partition = config.partition_called(name.as_bytes())?;
     let line: usize = line.parse().ok()?;
-    let place = place_of(lines.get(partition)?, line)?;
+    let index = index_of(lines.get(partition)?, line)?;
     let mut reply = Reply::NotMade;
     match read_reply(said.as_bytes(), &mut reply) {
         Ok(()) => Some(Possible {
             partition,
-            place,
+            index,
             reply,
         }),
         Err(_) => None,
     }
 }
 
-/// The place of the call that stands on the line.
-fn place_of(lines: &LineNumbers, line: usize) -> Option<usize> {
-    for (place, number) in lines.numbers.iter().enumerate() {
+/// The index of the call that stands on the line.
+fn index_of(lines: &LineNumbers, line: usize) -> Option<usize> {
+    for (index, number) in lines.numbers.iter().enumerate() {
         if *number == line {
-            return Some(place);
+            return Some(index);
         }
     }
     None
@@ -135,7 +135,7 @@ fn push_next(
     let script = &scripts[p];
     match step(ports, scripts, p) {
         None => Ok(()),
-        Some(one) => match script.calls.get(one.place) {
+        Some(one) => match script.calls.get(one.index) {
             None => Ok(()),
             Some((at, call)) => push_logged(text, config, p, *at, call, &one.reply),
         },

@@ -161,7 +161,7 @@ fn push_answered<'a>(
         text: str::from_utf8(answered.line).ok(),
         reply: reply_word(answered.reply),
         row: row_name(answered.row),
-        words: words_of(alloc, config, request, answered.row)?,
+        words: row_words(alloc, config, request, answered.row)?,
         id: values.id,
         message: message_in(alloc, answered.reply)?,
         validity: values.validity,
@@ -184,7 +184,7 @@ fn reply_word(reply: &Reply) -> &'static str {
 }
 
 /// The words of a call's row, where it has some.
-fn words_of(
+fn row_words(
     alloc: Global,
     config: &Config,
     request: &Request,

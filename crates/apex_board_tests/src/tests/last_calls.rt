@@ -15,53 +15,53 @@ fn last_read(
     alloc: Global,
     module: Module,
     partition: u32,
-    place: u32,
+    index: u32,
 ) -> Result<(Row, Validity), Fail>
     requires partition { partition < 32 }
-    requires place { place < 32 }
+    requires index { index < 32 }
 {
     let validity = if module.at == 0 {
         Validity::Invalid
     } else {
         Validity::Valid
     };
-    let message = message_of(alloc, channel_at(partition, place), ROUNDS - 1)?;
+    let message = message_of(alloc, channel_at(partition, index), ROUNDS - 1)?;
     let shown = Reply::Read { message, validity };
     let at = u64::MAX - module.at;
-    Ok(((partition as usize, at, read(place + 1), shown), validity))
+    Ok(((partition as usize, at, read(index + 1), shown), validity))
 }
 
-fn direction_at(place: u32) -> Direction {
-    if place < 2 {
+fn direction_at(index: u32) -> Direction {
+    if index < 2 {
         Direction::Source
     } else {
         Direction::Destination
     }
 }
 
-fn sampling_status(module: Module, partition: u32, place: u32, last: Validity) -> Row
-    requires { place < 32 }
+fn sampling_status(module: Module, partition: u32, index: u32, last: Validity) -> Row
+    requires { index < 32 }
 {
     let reply = Reply::SamplingStatus {
         refresh: REFRESH,
         size: SIZE,
-        direction: direction_at(place),
+        direction: direction_at(index),
         last,
     };
-    let call = Call::SamplingStatus { id: place + 1 };
+    let call = Call::SamplingStatus { id: index + 1 };
     (partition as usize, module.at, call, reply)
 }
 
-fn queuing_status(module: Module, partition: u32, place: u32) -> Row
-    requires { place < 32 }
+fn queuing_status(module: Module, partition: u32, index: u32) -> Row
+    requires { index < 32 }
 {
     let reply = Reply::QueuingStatus {
         waiting: 0,
         depth: DEPTH,
         size: SIZE,
-        direction: direction_at(place),
+        direction: direction_at(index),
     };
-    let call = Call::QueuingStatus { id: place + 1 };
+    let call = Call::QueuingStatus { id: index + 1 };
     (partition as usize, module.at, call, reply)
 }
 
@@ -70,33 +70,33 @@ fn push_sampling(
     alloc: Global,
     module: Module,
     partition: u32,
-    place: u32,
+    index: u32,
 ) -> Result<(), Fail>
     requires partition { partition < 32 }
-    requires place { place < 32 }
+    requires index { index < 32 }
 {
     let mut last = Validity::Invalid;
-    if place >= 2 {
-        let (row, validity) = last_read(alloc, module, partition, place)?;
+    if index >= 2 {
+        let (row, validity) = last_read(alloc, module, partition, index)?;
         rows.push(row)?;
         last = validity;
     }
-    rows.push(sampling_status(module, partition, place, last))?;
+    rows.push(sampling_status(module, partition, index, last))?;
     Ok(())
 }
 
 // A port tells the identifier of its name.
-fn identifier(alloc: Global, module: Module, partition: u32, place: u32) -> Result<Row, Fail>
+fn identifier(alloc: Global, module: Module, partition: u32, index: u32) -> Result<Row, Fail>
     requires partition { partition < 32 }
-    requires place { place < 32 }
+    requires index { index < 32 }
 {
-    let name = Name::read(port_name(alloc, place)?.as_str())?;
-    let call = if module.is_queuing(channel_at(partition, place)) {
+    let name = Name::read(port_name(alloc, index)?.as_str())?;
+    let call = if module.is_queuing(channel_at(partition, index)) {
         Call::QueuingId { name }
     } else {
         Call::SamplingId { name }
     };
-    Ok((partition as usize, module.at, call, Reply::Id(place + 1)))
+    Ok((partition as usize, module.at, call, Reply::Id(index + 1)))
 }
 
 fn push_last_calls(
@@ -107,13 +107,13 @@ fn push_last_calls(
 ) -> Result<(), Fail>
     requires { partition < 32 }
 {
-    for place in 0..module.ports() {
-        if module.is_queuing(channel_at(partition, place)) {
-            rows.push(queuing_status(module, partition, place))?;
+    for index in 0..module.ports() {
+        if module.is_queuing(channel_at(partition, index)) {
+            rows.push(queuing_status(module, partition, index))?;
         } else {
-            push_sampling(rows, alloc, module, partition, place)?;
+            push_sampling(rows, alloc, module, partition, index)?;
         }
-        rows.push(identifier(alloc, module, partition, place)?)?;
+        rows.push(identifier(alloc, module, partition, index)?)?;
     }
     Ok(())
 }

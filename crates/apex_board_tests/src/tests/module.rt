@@ -58,24 +58,24 @@ pub(crate) fn destination_id(channel: u32) -> u32 {
     3 + channel % 2
 }
 
-/// Which channel a port has, by its place from 0. Places 0 and 1 are the sources of two channels, 2 and 3 the
+/// Which channel a port has, by its index from 0. Indexes 0 and 1 are the sources of two channels, 2 and 3 the
 /// destinations of the next partition's two, and the others further destinations of the last 32 channels.
-pub(crate) fn channel_at(partition: u32, place: u32) -> u32
+pub(crate) fn channel_at(partition: u32, index: u32) -> u32
     requires partition { partition < 32 }
-    requires place { place < 32 }
+    requires index { index < 32 }
 {
-    if place < 4 {
-        (2 * partition + place) % CHANNELS
+    if index < 4 {
+        (2 * partition + index) % CHANNELS
     } else {
-        32 + (28 * partition + place) % 32
+        32 + (28 * partition + index) % 32
     }
 }
 
-/// The name of the port at a place from 0.
-pub(crate) fn port_name(alloc: Global, place: u32) -> Result<String, Fail>
-    requires { place < 32 }
+/// The name of the port at an index from 0.
+pub(crate) fn port_name(alloc: Global, index: u32) -> Result<String, Fail>
+    requires { index < 32 }
 {
-    let number = place + 10;
+    let number = index + 10;
     Ok(format!(in alloc; "PORT_OF_TWENTY_EIGHT_LETTERS{number}")?)
 }
 
@@ -100,14 +100,14 @@ fn channel_kind(module: Module, channel: u32) -> &'static str {
     }
 }
 
-fn port_text(alloc: Global, module: Module, partition: u32, place: u32) -> Result<String, Fail>
+fn port_text(alloc: Global, module: Module, partition: u32, index: u32) -> Result<String, Fail>
     requires partition { partition < 32 }
-    requires place { place < 32 }
+    requires index { index < 32 }
 {
-    let channel = channel_at(partition, place);
+    let channel = channel_at(partition, index);
     let kind = port_kind(module, channel);
-    let direction = if place < 2 { "source" } else { "destination" };
-    let name = port_name(alloc, place)?;
+    let direction = if index < 2 { "source" } else { "destination" };
+    let name = port_name(alloc, index)?;
     let channel = channel_name(alloc, channel)?;
     Ok(format!(in alloc;
         "[[partition.port]]\nname = \"{name}\"\ndirection = \"{direction}\"\nchannel = \"{channel}\"\nkind = {kind}\n"
@@ -121,8 +121,8 @@ fn partition_text(alloc: Global, module: Module, partition: u32) -> Result<Strin
     let mut text = format!(in alloc;
         "[[partition]]\nname = \"PARTITION_OF_THIRTY_LETTERS_{number}\"\n"
     )?;
-    for place in 0..module.ports() {
-        let port = port_text(alloc, module, partition, place)?;
+    for index in 0..module.ports() {
+        let port = port_text(alloc, module, partition, index)?;
         text.push_str(port.as_str())?;
     }
     Ok(text)
@@ -148,26 +148,26 @@ pub(crate) fn module_text(alloc: Global, module: Module) -> Result<String, Fail>
     Ok(text)
 }
 
-fn creation(alloc: Global, module: Module, partition: u32, place: u32) -> Result<Row, Fail>
+fn creation(alloc: Global, module: Module, partition: u32, index: u32) -> Result<Row, Fail>
     requires partition { partition < 32 }
-    requires place { place < 32 }
+    requires index { index < 32 }
 {
-    let name = port_name(alloc, place)?;
-    let direction = if place < 2 { 0 } else { 1 };
-    let call = if module.is_queuing(channel_at(partition, place)) {
+    let name = port_name(alloc, index)?;
+    let direction = if index < 2 { 0 } else { 1 };
+    let call = if module.is_queuing(channel_at(partition, index)) {
         create_queuing(name.as_str(), SIZE, DEPTH, direction, 0)?
     } else {
         create_sampling(name.as_str(), SIZE, direction, REFRESH)?
     };
-    Ok((partition as usize, module.at, call, Reply::Id(place + 1)))
+    Ok((partition as usize, module.at, call, Reply::Id(index + 1)))
 }
 
 /// Each partition creates its ports and goes into NORMAL.
 pub(crate) fn creations(alloc: Global, module: Module) -> Result<Vec<Row>, Fail> {
     let mut rows = Vec::new(alloc);
     for partition in 0..32 {
-        for place in 0..module.ports() {
-            rows.push(creation(alloc, module, partition, place)?)?;
+        for index in 0..module.ports() {
+            rows.push(creation(alloc, module, partition, index)?)?;
         }
         rows.push((partition as usize, module.at, mode(3), NO_ERROR))?;
     }

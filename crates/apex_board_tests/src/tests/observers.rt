@@ -167,7 +167,7 @@ fn hundred_writes_within_room(rt: HostRuntime) -> Result<(), Fail> {
     written
 }
 
-// The port is created again and again, until the log has no free place.
+// The port is created again and again, until the log has no spare room.
 fn fill_log<A: Allocator, R: Abort + Wait>(rt: &R, board: &mut Board<A>) -> Result<(), Fail>
     ensures { books_of board.new.published ≡ books_of board.old.published }
 {

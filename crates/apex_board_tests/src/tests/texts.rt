@@ -1,4 +1,4 @@
-//! The configurations of the examples, and the places of their partitions and channels.
+//! The configurations of the examples, and the indexes of their partitions and channels.
 
 pub(crate) const FMS: usize = 0;
 
@@ -52,7 +52,7 @@ kind = \"sampling\"
 size = 4
 ";
 
-/// The queuing channel NAV alone, with 512 places.
+/// The queuing channel NAV alone, of depth 512.
 pub(crate) const DEEP: &str = "[[partition]]
 name = \"FMS\"
 [[partition.port]]

@@ -143,8 +143,8 @@ pub(crate) fn with_greatest_counts(alloc: Global) -> Result<String, Fail> {
     for partition in 0..32 {
         let heading = format!(in alloc; "[[partition]]\nname = \"P{partition}\"\n")?;
         text.push_str(heading.as_str())?;
-        for place in 0..32 {
-            let port = numbered_port(alloc, 32 * partition + place)?;
+        for index in 0..32 {
+            let port = numbered_port(alloc, 32 * partition + index)?;
             text.push_str(port.as_str())?;
         }
     }

@@ -63,9 +63,9 @@ fn long_names_are_cut(rt: HostRuntime) -> Result<(), Fail> {
     let alloc = rt.alloc();
     let mut name = String::new(alloc);
     let mut shown = String::new(alloc);
-    for place in 0..1000 {
+    for index in 0..1000 {
         name.push('\u{20ac}')?;
-        if place < 64 {
+        if index < 64 {
             shown.push_str("\\u{20ac}")?;
         }
     }

@@ -14,7 +14,7 @@ use std::alloc::{AllocError, Allocator, Global};
 use std::marker::Model;
 use std::snapshot::Snapshot;
 
-/// What ports came to: their modes, created ports, messages, samples and counts, without the places that stand
+/// What ports came to: their modes, created ports, messages, samples and counts, without the room that stands
 /// empty and without the configuration. To a contract they are what the ports were, the configuration and the history.
 #[derive(Drop)]
 pub struct SavedPorts<A: Allocator = Global> {

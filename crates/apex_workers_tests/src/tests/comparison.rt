@@ -25,7 +25,7 @@ fn entry_of(partition: usize, mode: u32, code: ReturnCode) -> Entry {
 }
 
 fn replies_of(alloc: Global, codes: &[ReturnCode]) -> Result<PackedReplies, AllocError> {
-    let mut replies = PackedReplies::with_places(alloc, codes.len())?;
+    let mut replies = PackedReplies::with_room(alloc, codes.len())?;
     for code in codes {
         replies.push(&Reply::Code(*code))?;
     }

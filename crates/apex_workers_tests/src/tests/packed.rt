@@ -41,7 +41,7 @@ const REPLIES: u16 = 1000;
 #[test]
 fn packed_replies_are_what_was_given(rt: HostRuntime) -> Result<(), Fail> {
     let alloc = rt.alloc();
-    let mut packed = PackedReplies::with_places(alloc, 0)?;
+    let mut packed = PackedReplies::with_room(alloc, 0)?;
     for number in 0..REPLIES {
         let reply = reply_of(alloc, number)?;
         packed.push(&reply)?;
@@ -60,7 +60,7 @@ fn packed_replies_are_what_was_given(rt: HostRuntime) -> Result<(), Fail> {
 #[test]
 fn no_other_reply_is_taken_for_a_packed_one(rt: HostRuntime) -> Result<(), Fail> {
     let alloc = rt.alloc();
-    let mut packed = PackedReplies::with_places(alloc, 3)?;
+    let mut packed = PackedReplies::with_room(alloc, 3)?;
     let message = message_of(alloc, 1, 4)?;
     packed.push(&Reply::Received(message.copy()))?;
     packed.push(&Reply::Code(ReturnCode::NoError))?;
@@ -79,8 +79,8 @@ fn no_other_reply_is_taken_for_a_packed_one(rt: HostRuntime) -> Result<(), Fail>
         Reply::NotMade,
     ];
     for other in &others {
-        for place in 0..4 {
-            assert!(rt; !packed.is_at(place, other));
+        for index in 0..4 {
+            assert!(rt; !packed.is_at(index, other));
         }
     }
     Ok(())

@@ -5,7 +5,7 @@ use Rattle.apex_config.specs.Configuration.{Configuration}
 use Rattle.apex_ports.specs.declared.history.Request.{Request}
 use Rattle.apex_ports.specs.History.{History}
 use Rattle.apex_ports.specs.Writes.{WritesNothing}
-use Rattle.apex_ports.proofs.Lookups.{place_of}
+use Rattle.apex_ports.proofs.Lookups.{at_index}
 use Rattle.apex_ports.proofs.Stays.{none_or_none}
 use Rattle.apex_board.specs.OnRequests.{is_write}
 use Rattle.apex_board.proofs.requests.run_list.Goals as goal
@@ -31,6 +31,6 @@ returns-in-Err-clause-succeeds g c none enough =
 pub returns-in-Err-clause-stopped_room : goal.returns-in-Err-clause-stopped_room
 returns-in-Err-clause-stopped_room g c nothing =
     let request = c.index-requests-done.result in
-    let here = nothing request (place_of _ _ request c.loop-done-test.true c.index-requests-done.is) in
+    let here = nothing request (at_index _ _ request c.loop-done-test.true c.index-requests-done.is) in
     let was : WritesNothing c.loop-done.board.config c.loop-done.board.log request.partition request.call = rw (← c.in-Err.ensures.config, ← c.in-Err.ensures.refused) here in
     used_up c.loop-done.board.room c.args.board.now.room c.loop-done.done (c.in-Err.ensures.succeeds was) c.loop-done.invariant.room

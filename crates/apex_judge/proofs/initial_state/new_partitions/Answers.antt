@@ -11,7 +11,7 @@ loop-p-preserved g c =
       shown = rw push (each_at_push (IsPartitionShown c.args.config.now []) c.loop-p.partitions.items c.loop-p.p _ c.loop-p.invariant.count c.loop-p.invariant.shown (record {
         mode = refl;
         ports = c.in_ok-new_ports.ensures.count ∙ c.ports.ensures.count;
-        created = λ id place. c.in_ok-new_ports.ensures.created id;
-        last = λ id place. c.in_ok-new_ports.ensures.last id;
+        created = λ id known. c.in_ok-new_ports.ensures.created id;
+        last = λ id known. c.in_ok-new_ports.ensures.last id;
       }));
     }

@@ -1,9 +1,7 @@
-use Rattle.std.proofs.Common.{◌≡◌, ℕ, ◌+◌, ◌++◌, Bool, true, false, List, [], length, take, drop, sym, ap, ◌∙◌, subst, arith, rules}
+use Rattle.std.proofs.Common.{◌≡◌, ℕ, ◌++◌, Bool, List, [], length, take, drop, sym, ap, ◌∙◌, subst, arith, rules}
 use Rattle.std.specs.Prelude.{replicate}
 use Rattle.std.specs.List.{filter}
 use Rattle.std.proofs.lemmas.Bool.{false≢true}
-use Rattle.std.proofs.lemmas.Grind.{common_steps}
-use Rattle.apex_log_orders.specs.declared.answer.Answer.{Answer}
 use Rattle.apex_log_orders.specs.declared.answer.Answer.TheVariants.{Order, NoOrder, Undecided}
 use Rattle.apex_log_orders.specs.declared.answer.CallPlace.{CallPlace}
 use Rattle.apex_log_orders.specs.LogOrders.{Logs, entries_at}

@@ -1,7 +1,7 @@
 use Rattle.std.proofs.Common.{◌≡◌, ◌<◌, if◌then◌else◌, length, Some, sym, ap, ◌∙◌, arith}
 use Rattle.std.specs.List.{slice_get}
 use Rattle.apex_ports.specs.History.{History}
-use Rattle.apex_ports.proofs.Lookups.{place_of}
+use Rattle.apex_ports.proofs.Lookups.{at_index}
 use Rattle.apex_log_orders.proofs.EndCounts.{received_more}
 use Rattle.apex_log_orders.proofs.ends.count_received.Goals as goal
 use Rattle.apex_log_orders.proofs.ends.count_received.Goals.{then-is_received_on, else-is_received_on}
@@ -16,7 +16,7 @@ loop-i-preserved c =
     let all = c.requires in
     let viewed = ap (λ (es : History). length es) c.log.view_is in
     let within : i < length items = omega (arith, test, all, viewed) in
-    let here : slice_get log i ≡ Some e = ap (λ (es : History). slice_get es i) (sym c.log.view_is) ∙ place_of items i e within c.index.ensures in
+    let here : slice_get log i ≡ Some e = ap (λ (es : History). slice_get es i) (sym c.log.view_is) ∙ at_index items i e within c.index.ensures in
     let more = received_more c.args.config.now c.args.channel log i e here in
     let before = c.loop-i.invariant.count in
     let few = c.loop-i.invariant.few in

@@ -3,7 +3,7 @@ use Rattle.std.specs.List.{slice_get}
 use Rattle.std.proofs.lemmas.Bool.{false≢true, cases_lt}
 use Rattle.apex_ports.specs.declared.history.Entry.{Entry}
 use Rattle.apex_ports.specs.History.{History}
-use Rattle.apex_ports.proofs.Lookups.{place_of}
+use Rattle.apex_ports.proofs.Lookups.{at_index}
 use Rattle.apex_log_orders.specs.Stuck.{Writes}
 use Rattle.apex_log_orders.proofs.reads.none_writes.Goals as goal
 
@@ -22,7 +22,7 @@ loop-k-preserved c k entry from below at =
     (λ (now : i ≤ k).
     let same : i ≡ k = omega (arith, below, now) in
     let within : i < length items = omega (arith, test, all, viewed) in
-    let here : slice_get c.args.log.now i ≡ Some c.index.result.now = ap (λ (es : History). slice_get es i) (sym c.log.view_is) ∙ place_of items i c.index.result.now within c.index.ensures in
+    let here : slice_get c.args.log.now i ≡ Some c.index.result.now = ap (λ (es : History). slice_get es i) (sym c.log.view_is) ∙ at_index items i c.index.result.now within c.index.ensures in
     let both : Some c.index.result.now ≡ Some entry = sym here ∙ (ap (slice_get c.args.log.now) same ∙ at) in
     let is : c.index.result.now ≡ entry = cc in
     subst (λ (x : Entry). Writes c.args.config.now c.args.channel c.args.message.now x → ⊥) is (c.writes.ensures (λ holds. false≢true (sym c.if-writes.false ∙ holds))))

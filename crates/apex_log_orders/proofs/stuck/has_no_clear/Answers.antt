@@ -1,6 +1,6 @@
 use Rattle.std.proofs.Common.{◌≡◌, ◌+◌, ℕ, suc, take, refl, sym, ◌∙◌, subst, arith}
 use Rattle.apex_ports.specs.WithoutClears.{HasNoClear}
-use Rattle.apex_ports.proofs.Lookups.{place_of}
+use Rattle.apex_ports.proofs.Lookups.{at_index}
 use Rattle.apex_orders.proofs.Lists.{take_whole}
 use Rattle.apex_log_orders.proofs.OwnEntries.{no_clear_more}
 use Rattle.apex_log_orders.proofs.stuck.has_no_clear.Goals as goal
@@ -12,7 +12,7 @@ pub loop-entry-preserved : goal.loop-entry-preserved
 loop-entry-preserved c =
     let items = c.deref-entry-items.result.now in
     let i = c.loop-entry.entry-index in
-    let here = place_of items i c.entry-item.result c.loop-entry-test.true c.entry-item.is in
+    let here = at_index items i c.entry-item.result c.loop-entry-test.true c.entry-item.is in
     let is : suc i ≡ i + 1 = omega arith in
     subst (λ (n : ℕ). HasNoClear (take n items)) is
     (no_clear_more items i c.entry-item.result here (sym c.asks_clear.ensures ∙ c.if-asks_clear.false) c.loop-entry.invariant)

@@ -3,7 +3,7 @@ use Rattle.std.specs.Option.{unwrap_or}
 use Rattle.std.proofs.lemmas.Bool.{cases_lt}
 use Rattle.apex_ports.specs.History.{History}
 use Rattle.apex_ports.specs.WithoutClears.{HasNoClear}
-use Rattle.apex_ports.proofs.Lookups.{place_of}
+use Rattle.apex_ports.proofs.Lookups.{at_index}
 use Rattle.apex_orders.proofs.Lists.{none_beyond}
 use Rattle.apex_log_orders.specs.LogOrders.{log_in}
 use Rattle.apex_log_orders.proofs.stuck.have_no_clear.Goals as goal
@@ -19,7 +19,7 @@ loop-log-preserved c q few =
     (λ (before : q < i). c.loop-log.invariant q before)
     (λ (now : i ≤ q).
     let same : i ≡ q = omega (arith, few, now) in
-    let here : log_in logs i ≡ c.log-item.result = ap (λ (o : Option History). unwrap_or o []) (place_of logs i c.log-item.result c.loop-log-test.true c.log-item.is) in
+    let here : log_in logs i ≡ c.log-item.result = ap (λ (o : Option History). unwrap_or o []) (at_index logs i c.log-item.result c.loop-log-test.true c.log-item.is) in
     subst (λ (n : ℕ). HasNoClear (log_in logs n)) same (subst HasNoClear (sym here) (c.has_no_clear.ensures c.if-not-has_no_clear.false)))
     (cases_lt q i)
 

@@ -6,7 +6,7 @@ use Rattle.apex_ports.specs.Channels.{accepted_on, received_on, message_received
 use Rattle.apex_ports.specs.Ports.{is_destination_of}
 use Rattle.apex_ports.specs.ReplyTable.{depth_of, depth_in}
 use Rattle.apex_config.specs.Configuration.{port_of}
-use Rattle.apex_ports.proofs.Lookups.{place_of}
+use Rattle.apex_ports.proofs.Lookups.{at_index}
 use Rattle.apex_log_orders.specs.LogOrders.{log_in}
 use Rattle.apex_log_orders.specs.Stuck.{HasEnd}
 use Rattle.apex_log_orders.proofs.EndCounts.{received_from}
@@ -37,10 +37,10 @@ returns c holds =
     let other = c.requires.other in
     let within = c.requires.partition in
     let count = walk.made.count in
-    let there : log_in logs q ≡ c.index-logs-place.result = ap (λ (o : Option History). unwrap_or o []) (place_of logs q c.index-logs-place.result (omega (arith, all, other)) c.index-logs-place.is) in
-    let here : log_in logs p ≡ c.index-logs-p.result = ap (λ (o : Option History). unwrap_or o []) (place_of logs p c.index-logs-p.result (omega (arith, all, within)) c.index-logs-p.is) in
+    let there : log_in logs q ≡ c.index-logs-place.result = ap (λ (o : Option History). unwrap_or o []) (at_index logs q c.index-logs-place.result (omega (arith, all, other)) c.index-logs-place.is) in
+    let here : log_in logs p ≡ c.index-logs-p.result = ap (λ (o : Option History). unwrap_or o []) (at_index logs p c.index-logs-p.result (omega (arith, all, within)) c.index-logs-p.is) in
     let both : Some c.index.result.now ≡ Some (length (entries_of p front)) =
-    sym (place_of c.args.walk.now.made.items p c.index.result.now (omega (arith, count, within)) c.index.ensures) ∙ walk.made.each p within in
+    sym (at_index c.args.walk.now.made.items p c.index.result.now (omega (arith, count, within)) c.index.ensures) ∙ walk.made.each p within in
     let made : c.index.result.now ≡ length (entries_of p front) = cc in
     let accepted : c.count_accepted-accepted.result ≡ length (accepted_on config s (take j (log_in logs q))) =
     c.count_accepted-accepted.ensures ∙ ap (λ (log : History). length (accepted_on config s (take j log))) (sym there) in

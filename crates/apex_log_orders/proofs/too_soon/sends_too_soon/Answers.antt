@@ -5,7 +5,7 @@ use Rattle.apex_ports.specs.History.{History, entries_of}
 use Rattle.apex_ports.specs.Channels.{accepted_on, received_on, message_accepted}
 use Rattle.apex_ports.specs.Ports.{is_source_of}
 use Rattle.apex_config.specs.Configuration.{port_of}
-use Rattle.apex_ports.proofs.Lookups.{place_of}
+use Rattle.apex_ports.proofs.Lookups.{at_index}
 use Rattle.apex_log_orders.specs.LogOrders.{log_in}
 use Rattle.apex_log_orders.specs.Stuck.{HasEnd}
 use Rattle.apex_log_orders.proofs.EndCounts.{sent_on}
@@ -35,10 +35,10 @@ returns c holds =
     let other = c.requires.other in
     let within = c.requires.partition in
     let count = walk.made.count in
-    let there : log_in logs q ≡ c.index-logs-place.result = ap (λ (o : Option History). unwrap_or o []) (place_of logs q c.index-logs-place.result (omega (arith, all, other)) c.index-logs-place.is) in
-    let here : log_in logs p ≡ c.index-logs-p.result = ap (λ (o : Option History). unwrap_or o []) (place_of logs p c.index-logs-p.result (omega (arith, all, within)) c.index-logs-p.is) in
+    let there : log_in logs q ≡ c.index-logs-place.result = ap (λ (o : Option History). unwrap_or o []) (at_index logs q c.index-logs-place.result (omega (arith, all, other)) c.index-logs-place.is) in
+    let here : log_in logs p ≡ c.index-logs-p.result = ap (λ (o : Option History). unwrap_or o []) (at_index logs p c.index-logs-p.result (omega (arith, all, within)) c.index-logs-p.is) in
     let both : Some c.index.result.now ≡ Some (length (entries_of p front)) =
-    sym (place_of c.args.walk.now.made.items p c.index.result.now (omega (arith, count, within)) c.index.ensures) ∙ walk.made.each p within in
+    sym (at_index c.args.walk.now.made.items p c.index.result.now (omega (arith, count, within)) c.index.ensures) ∙ walk.made.each p within in
     let made : c.index.result.now ≡ length (entries_of p front) = cc in
     let received : c.count_received-received.result ≡ length (received_on config s (take j (log_in logs q))) =
     c.count_received-received.ensures ∙ ap (λ (log : History). length (received_on config s (take j log))) (sym there) in

@@ -1,11 +1,11 @@
-use Rattle.std.proofs.Common.{◌≡◌, ⊎_elim, ◌<◌, ℕ, List, length, Some, slice_index_or, arith, refl, ap, sym, ◌∙◌, subst}
+use Rattle.std.proofs.Common.{◌≡◌, ⊎_elim, ◌<◌, ℕ, length, Some, slice_index_or, arith, refl, ap, sym, ◌∙◌, subst}
 use Rattle.std.specs.List.{slice_get}
 use Rattle.std.proofs.lemmas.Bool.{cases_eq, false≢true}
 use Rattle.std.proofs.lemmas.Option.{slice_get_within, slice_get-get_or}
 use Rattle.apex_config.specs.Configuration.{Configuration}
 use Rattle.apex_ports.specs.History.{History}
 use Rattle.apex_ports.specs.PortsView.{PortsView}
-use Rattle.apex_ports.proofs.Lookups.{place_of}
+use Rattle.apex_ports.proofs.Lookups.{at_index}
 use Rattle.apex_orders.specs.declared.trial.Trial.{Trial}
 use Rattle.apex_orders.specs.Known.{IsTrialOf}
 use Rattle.apex_orders.specs.Orders.{history_of}
@@ -22,21 +22,21 @@ pub go_to-requires-clause-saved : goal.go_to-requires-clause-saved
 go_to-requires-clause-saved c =
     let config = c.args.config.now in
     let orders = c.args.orders.now in
-    let places = c.places-k-items.result.now in
-    let k = slice_index_or places c.loop-k.k-index 0 in
+    let indexes = c.indexes-k-items.result.now in
+    let k = slice_index_or indexes c.loop-k.k-index 0 in
     let item = c.index-orders-k.result in
     let within : k < length orders = let inside = slice_get_within c.args.points.now.marks k c.args.mark (c.stands_at.ensures.0 c.if-stands_at.true) in let count = c.requires.points.marked.count in omega (arith, inside, count) in
     saved_here config c.args.scripts.now orders c.args.points.now c.args.points.now c.requires.points k item c.saved_at.result
-    (place_of orders k item within c.index-orders-k.is) c.saved_at.ensures.place c.saved_at.ensures.ports
+    (at_index orders k item within c.index-orders-k.is) c.saved_at.ensures.index c.saved_at.ensures.ports
 
 pub returns-then-is_same_point-clause-known : goal.returns-then-is_same_point-clause-known
 returns-then-is_same_point-clause-known c =
     let orders = c.args.orders.now in
-    let places = c.places-k-items.result.now in
-    let k = slice_index_or places c.loop-k.k-index 0 in
+    let indexes = c.indexes-k-items.result.now in
+    let k = slice_index_or indexes c.loop-k.k-index 0 in
     let item = c.index-orders-k.result in
     let within : k < length orders = let inside = slice_get_within c.args.points.now.marks k c.args.mark (c.stands_at.ensures.0 c.if-stands_at.true) in let count = c.requires.points.marked.count in omega (arith, inside, count) in
-    let at : slice_get orders k ≡ Some item = place_of orders k item within c.index-orders-k.is in
+    let at : slice_get orders k ≡ Some item = at_index orders k item within c.index-orders-k.is in
     let ports = c.loop-k.invariant.ports in
     let configured : c.loop-k.trial.ports.config ≡ c.args.config.now = ap (λ (v : PortsView). v.config) ports ∙ c.requires.trial.ports in
     let made : c.loop-k.trial.ports.history ≡ c.args.trial.now.ports.history = ap (λ (v : PortsView). v.history) ports in
@@ -65,10 +65,10 @@ loop-k-preserved c = record {
       let scripts = c.args.scripts.now in
       let orders = c.args.orders.now in
       let h = c.args.trial.now.ports.history in
-      let places = c.places-k-items.result.now in
+      let indexes = c.indexes-k-items.result.now in
       let i = c.loop-k.k-index in
-      let k = slice_index_or places i 0 in
-      let here : slice_get places i ≡ Some k = slice_get-get_or places i 0 c.loop-k-test.true in
+      let k = slice_index_or indexes i 0 in
+      let here : slice_get indexes i ≡ Some k = slice_get-get_or indexes i 0 c.loop-k-test.true in
       let marked : slice_get c.args.points.now.marks n ≡ Some c.args.mark =
       c.requires.points.marked.each n order at ∙ ap Some (sym (c.requires.mark ∙ same_mark config h (history_of config scripts order) met)) in
       let ports = c.loop-k.invariant.ports in
@@ -76,13 +76,13 @@ loop-k-preserved c = record {
       let made : c.loop-k.trial.ports.history ≡ h = ap (λ (v : PortsView). v.history) ports in
       ⊎_elim
       (λ (now : j ≡ i).
-      let one : Some k ≡ Some n = sym here ∙ (ap (λ (m : ℕ). slice_get places m) (sym now) ∙ listed) in
+      let one : Some k ≡ Some n = sym here ∙ (ap (λ (m : ℕ). slice_get indexes m) (sym now) ∙ listed) in
       let is : k ≡ n = cc in
       elim c.if-stands_at.branch [
         | then-stands_at+in_ok-go_to+else-is_same_point w ↦
             let item = w.index-orders-k.result in
             let within : k < length orders = let inside = slice_get_within orders n order at in omega (arith, inside, is) in
-            let there : slice_get orders k ≡ Some item = place_of orders k item within w.index-orders-k.is in
+            let there : slice_get orders k ≡ Some item = at_index orders k item within w.index-orders-k.is in
             let both : Some item ≡ Some order = sym there ∙ (ap (λ (m : ℕ). slice_get orders m) is ∙ at) in
             let same : order ≡ item = cc in
             let led : history_of config scripts order ≡ w.go_to.new.ports.history = ap (history_of config scripts) same ∙ sym w.in_ok-go_to.ensures.after.history in
@@ -101,11 +101,11 @@ returns-clause-known c = (
   λ known. absurd (
       let config = c.args.config.now in
       let n = known.here.0 in
-      let places = c.places-k-items.result.now in
+      let indexes = c.indexes-k-items.result.now in
       let marked : slice_get c.args.points.now.marks n ≡ Some c.args.mark =
       c.requires.points.marked.each n known.order known.here.1 ∙ ap Some (sym (c.requires.mark ∙ same_mark config c.args.trial.now.ports.history (history_of config c.args.scripts.now known.order) known.same)) in
-      let listed = c.places-k-items.ensures n marked in
-      let within : listed.0 < length places = slice_get_within places listed.0 n listed.1 in
+      let listed = c.indexes-k-items.ensures n marked in
+      let within : listed.0 < length indexes = slice_get_within indexes listed.0 n listed.1 in
       c.loop-k.invariant.others listed.0 n known.order (omega (arith, within, c.loop-k-test.false)) listed.1 known.here.1 known.same
       ),
 )

@@ -1,7 +1,7 @@
 use Rattle.std.proofs.Common.{◌≡◌, ◌++◌, ◌∷◌, [], List, ℕ, ap, sym, ◌∙◌, subst}
 use Rattle.std.proofs.lemmas.Bool.{false≢true}
 use Rattle.apex_ports.specs.PortsView.{PortsView}
-use Rattle.apex_orders.specs.Known.{IsTrialOf, IsAfter, ArePoints}
+use Rattle.apex_orders.specs.Known.{IsAfter, ArePoints}
 use Rattle.apex_orders.specs.Marks.{mark_of}
 use Rattle.apex_orders.specs.Orders.{history_of}
 use Rattle.apex_orders.specs.Searching.{Knows, AreApart, Keeps}

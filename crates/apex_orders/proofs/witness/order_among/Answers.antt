@@ -2,7 +2,7 @@ use Rattle.std.proofs.Common.{◌≡◌, ◌+◌, ◌++◌, ◌∷◌, [], List,
 use Rattle.std.specs.List.{slice_get}
 use Rattle.std.proofs.lemmas.List.{take_more}
 use Rattle.std.proofs.lemmas.Bool.{false≢true}
-use Rattle.apex_ports.proofs.Lookups.{place_of}
+use Rattle.apex_ports.proofs.Lookups.{at_index}
 use Rattle.apex_orders.specs.Outcomes.{IsGivenBy}
 use Rattle.apex_orders.specs.Searching.{IsGivenBehind, IsGivenByAnOrder}
 use Rattle.apex_orders.proofs.WitnessLemmas.{longer_gives, given_by_none, not_given_longer}
@@ -32,6 +32,6 @@ returns-then-branch c =
     let one = c.args.one.now in
     let i = c.loop-order.order-index in
     let item = c.order-item.result in
-    let at : slice_get orders i ≡ Some item = place_of orders i item c.loop-order-test.true c.order-item.is in
+    let at : slice_get orders i ≡ Some item = at_index orders i item c.loop-order-test.true c.order-item.is in
     subst (IsGivenBy config scripts one) (sym (c.in_ok-given.ensures ∙ c.in_ok-longer.ensures))
     (longer_gives config scripts c.partitions.ensures.valid item one (c.requires.orders i item at) (c.in_ok-gives.ensures.0 c.if-branch.true))

@@ -32,20 +32,20 @@ loop-byte-preserved c =
     let replies = c.args.replies.now in
     let counts = c.loop-byte.counts in
     let p = c.from-partition.result in
-    let place = get_or counts p 0 in
+    let index = get_or counts p 0 in
     let script = c.index-scripts-partition.result in
     let worker = c.index-replies-partition.result in
-    let e = entry_of p c.in-Some.at c.in-Some.call c.push_call.new.reply in
+    let e = entry_of p c.in-Some.at c.read.new.call c.push_call.new.reply in
     let all = c.loop-byte.invariant.counted.all in
     let each = c.requires.each in
     let script_at : slice_get scripts p ≡ Some script = slice_get_read scripts (length scripts) p script refl (omega arith) c.index-scripts-partition.is in
     let own_at : slice_get replies p ≡ Some worker = slice_get_read replies (length replies) p worker refl (omega arith) c.index-replies-partition.is in
-    let next : IsNext e script worker place = (sym c.get.ensures.call ∙ c.in-Some.is, c.if-not-is_at.ensures.0 refl) in
+    let next : IsNext e script worker index = (c.in-Some.ensures.call, c.if-not-is_at.ensures.0 refl) in
     let before = c.loop-byte.invariant.number in
     let longer : length c.push_call.new.ports.history ≡ length history + 1 = ap length c.push_call.ensures.history ∙ length-append history (e ∷ []) in
     let so_far = c.loop-byte.invariant.length in
     record {
-      counted = subst (λ (h : History). AreCounted h scripts replies (set counts p (place + 1))) (sym c.push_call.ensures.history)
+      counted = subst (λ (h : History). AreCounted h scripts replies (set counts p (index + 1))) (sym c.push_call.ensures.history)
           (counted_more history e scripts replies counts script worker c.loop-byte.invariant.counted script_at own_at next);
       config = c.push_call.ensures.config ∙ c.loop-byte.invariant.config;
       sound = c.push_call.ensures.sound;

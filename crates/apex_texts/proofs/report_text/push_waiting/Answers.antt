@@ -6,13 +6,13 @@ use Rattle.apex_ports.specs.Channels.{waiting_on}
 use Rattle.apex_texts.proofs.ReportLemmas.{grows, complete, message_cut, message_end}
 use Rattle.apex_texts.proofs.report_text.push_waiting.Goals as goal
 
-pub loop-place-preserved : goal.loop-place-preserved
-loop-place-preserved c =
+pub loop-index-preserved : goal.loop-index-preserved
+loop-index-preserved c =
     let messages = waiting_on c.args.ports.now.config c.args.c c.args.ports.now.history in
-    let found : slice_get messages c.loop-place.place ≡ Some c.unwrap-message.result.now = sym c.waiting.ensures.message ∙ ap option_copied c.unwrap-message.ensures in
-    let grown : string_bytes c.push_message.new.text ≡ string_bytes c.loop-place.text ++ (codes " " ++ hex_text_of c.unwrap-message.result.now) =
-    rw (c.in_ok-push_message.ensures, c.in_ok-push_word.ensures) (append_assoc (string_bytes c.loop-place.text) (codes " ") (hex_text_of c.unwrap-message.result.now)) in
-    grows (string_bytes c.loop-place.text) (string_bytes c.push_message.new.text) _ _ _ _ grown (message_cut messages c.loop-place.place c.unwrap-message.result.now found) c.loop-place.invariant
+    let found : slice_get messages c.loop-index.index ≡ Some c.unwrap-message.result.now = sym c.waiting.ensures.message ∙ ap option_copied c.unwrap-message.ensures in
+    let grown : string_bytes c.push_message.new.text ≡ string_bytes c.loop-index.text ++ (codes " " ++ hex_text_of c.unwrap-message.result.now) =
+    rw (c.in_ok-push_message.ensures, c.in_ok-push_word.ensures) (append_assoc (string_bytes c.loop-index.text) (codes " ") (hex_text_of c.unwrap-message.result.now)) in
+    grows (string_bytes c.loop-index.text) (string_bytes c.push_message.new.text) _ _ _ _ grown (message_cut messages c.loop-index.index c.unwrap-message.result.now found) c.loop-index.invariant
 
 pub returns : goal.returns
-returns c = complete (string_bytes c.loop-place.text) _ _ (message_end (waiting_on c.args.ports.now.config c.args.c c.args.ports.now.history) c.loop-place.place (rw c.waiting_count-place-end.ensures.count at c.loop-place-test.false)) c.loop-place.invariant
+returns c = complete (string_bytes c.loop-index.text) _ _ (message_end (waiting_on c.args.ports.now.config c.args.c c.args.ports.now.history) c.loop-index.index (rw c.waiting_count-index-end.ensures.count at c.loop-index-test.false)) c.loop-index.invariant

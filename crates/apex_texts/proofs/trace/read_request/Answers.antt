@@ -1,6 +1,6 @@
 use Rattle.std.proofs.Common.{Result, Ok, Err}
 use Rattle.std.specs.Prelude.{OnOk}
-use Rattle.apex_texts.proofs.KnownLemmas.{place-known}
+use Rattle.apex_texts.proofs.KnownLemmas.{index-known}
 use Rattle.apex_texts.proofs.trace.read_request.Goals as goal
 
 on_ok : {T E P : Type 0} (result : Result T E) → P → OnOk result P
@@ -8,4 +8,4 @@ on_ok (Ok x) holds = holds
 on_ok (Err fault) holds = tt
 
 pub returns-clause-known : goal.returns-clause-known
-returns-clause-known c = on_ok c.read_call.result (place-known c.args.config.now c.in_ok-partition.partition.now c.in_ok-request-2.field-0 c.in_ok-request-2.ensures)
+returns-clause-known c = on_ok c.read_call.result (index-known c.args.config.now c.in_ok-partition.partition.now c.in_ok-request-2.field-0 c.in_ok-request-2.ensures)

@@ -34,12 +34,12 @@ fn log_of(alloc: Global, first: &[First]) -> Result<Vec<Entry>, Fail> {
     Ok(log)
 }
 
-/// A log that begins so has departures at these places.
-fn departs<R: Abort + AllocGlobal>(rt: &R, first: &[First], places: &[usize]) -> Result<(), Fail> {
+/// A log that begins so has departures at these indexes.
+fn departs<R: Abort + AllocGlobal>(rt: &R, first: &[First], indexes: &[usize]) -> Result<(), Fail> {
     let log = log_of(rt.alloc(), first)?;
     same(rt, log.len(), 10_002usize.saturating_add(first.len()));
     let found = departs_at(rt.alloc(), log.as_slice())?;
-    same(rt, found.as_slice(), places);
+    same(rt, found.as_slice(), indexes);
     Ok(())
 }
 
@@ -105,7 +105,7 @@ fn more_accepted_than_the_depth(rt: HostRuntime) -> Result<(), Fail> {
         row: Row::Refused(Refusal::QueueFull),
         reply: Reply::Code(ReturnCode::NotAvailable),
     };
-    same(&rt, found.first().map(|departure| departure.place), Some(4));
+    same(&rt, found.first().map(|departure| departure.index), Some(4));
     holds(
         &rt,
         found

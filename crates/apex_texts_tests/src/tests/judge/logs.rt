@@ -88,13 +88,13 @@ pub fn go_on(log: &mut Vec<Entry>, rounds: u32) -> Result<(), Fail> {
     Ok(())
 }
 
-/// The places of the departures of a log.
+/// The indexes of the departures of a log.
 pub fn departs_at(alloc: Global, log: &[Entry]) -> Result<Vec<usize>, Fail> {
-    let mut places = Vec::new(alloc);
+    let mut indexes = Vec::new(alloc);
     for departure in departures(alloc, log)?.iter() {
-        places.push(departure.place)?;
+        indexes.push(departure.index)?;
     }
-    Ok(places)
+    Ok(indexes)
 }
 
 /// The departures of a log; none where it has a partition that the module hasn't.

@@ -29,16 +29,16 @@ fn try_order<R: Abort + AllocGlobal>(
         rest /= PARTITIONS;
         assert!(rt; p < scripts.len());
         assert!(rt; p < ports.config().partitions());
-        let place = ports.calls(p) as usize;
+        let index = ports.calls(p) as usize;
         let script = &scripts[p];
-        if place >= script.calls.len() {
+        if index >= script.calls.len() {
             return Ok(false);
         }
-        let (at, call) = &script.calls[place];
+        let (at, call) = &script.calls[index];
         let reply = ports.call(p, *at, call);
         own.push(Possible {
             partition: p,
-            place,
+            index,
             reply,
         })?;
     }

@@ -41,12 +41,12 @@ fn calls_to<R: Abort + AllocGlobal>(
     for p in order.partitions() {
         assert!(rt; *p < scripts.len());
         assert!(rt; *p < ports.config().partitions());
-        let place = ports.calls(*p) as usize;
+        let index = ports.calls(*p) as usize;
         let script = &scripts[*p];
-        assert!(rt; place < script.calls.len());
-        let (at, call) = &script.calls[place];
+        assert!(rt; index < script.calls.len());
+        let (at, call) = &script.calls[index];
         let reply = ports.call(*p, *at, call);
-        is_last = *p == one.partition && place == one.place && reply == one.reply;
+        is_last = *p == one.partition && index == one.index && reply == one.reply;
     }
     holds(rt, is_last);
     assert!(rt; ports.config().partitions() == 3);
@@ -57,7 +57,7 @@ fn calls_to<R: Abort + AllocGlobal>(
 fn calls_up_to<R: Abort + AllocGlobal>(
     rt: &R,
     partition: usize,
-    place: usize,
+    index: usize,
     reply: Reply,
 ) -> Result<Option<(u64, u64)>, Fail> {
     let alloc: Global = rt.alloc();
@@ -65,7 +65,7 @@ fn calls_up_to<R: Abort + AllocGlobal>(
     let scripts = race(alloc)?;
     let one = Possible {
         partition,
-        place,
+        index,
         reply,
     };
     calls_to(rt, &config, scripts.as_slice(), &one)
@@ -129,7 +129,7 @@ fn below_the_states_it_is_undecided(rt: HostRuntime) -> Result<(), Fail> {
     let scripts = race(alloc)?;
     let one = Possible {
         partition: 0,
-        place: 1,
+        index: 1,
         reply: Reply::Code(ReturnCode::NoError),
     };
     assert!(rt; scripts.len() == config.partitions());

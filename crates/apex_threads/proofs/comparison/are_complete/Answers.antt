@@ -7,7 +7,7 @@ use Rattle.apex_threads.proofs.comparison.are_complete.Goals as goal
 pub returns-then-not-is_complete : goal.returns-then-not-is_complete
 returns-then-not-is_complete g c =
     let p = c.loop-p.p in
-    let place = c.loop-p-test.true in
+    let within = c.loop-p-test.true in
     let counts = c.requires.counts in
     let each = c.requires.each in
     let script_at : slice_get c.args.scripts.now p ≡ Some c.index-scripts-p.result =

@@ -5,5 +5,5 @@ abbrev pub invariant-loop-script : goal.invariant-loop-script
 invariant-loop-script g l = record {
   items : l.all.items ≡ take l.script-index l.scripts;
   count : vec_len l.all ≡ l.script-index;
-  places : length l.scripts ≤ vec_capacity l.all;
+  room : length l.scripts ≤ vec_capacity l.all;
 }

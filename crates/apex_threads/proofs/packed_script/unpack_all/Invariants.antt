@@ -5,5 +5,5 @@ abbrev pub invariant-loop-calls : goal.invariant-loop-calls
 invariant-loop-calls g l = record {
   items : l.all.items ≡ take l.calls-index l.packed;
   count : vec_len l.all ≡ l.calls-index;
-  places : length l.packed ≤ vec_capacity l.all;
+  room : length l.packed ≤ vec_capacity l.all;
 }

@@ -1,6 +1,6 @@
 use Rattle.std.proofs.Common.{◌<◌, List, length, sym, subst, arith}
 use Rattle.apex_types.specs.declared.reply.Reply.{Reply}
-use Rattle.apex_threads.specs.Places.{AreReady}
+use Rattle.apex_threads.specs.Room.{AreReady}
 use Rattle.apex_threads.proofs.Ready.{ready_more}
 use Rattle.apex_threads.proofs.run.lists_for.Goals as goal
 
@@ -11,11 +11,11 @@ loop-script-preserved g c =
     let len = c.push_reserved.ensures.len in
     let capacity = c.push_reserved.ensures.capacity in
     let count = c.loop-script.invariant.count in
-    let places = c.loop-script.invariant.places in
+    let room = c.loop-script.invariant.room in
     let within : length before.items < length scripts = omega (arith, before.ok.0) in
     record {
       ready = subst (λ (lists : List (List Reply)). AreReady scripts lists) (sym c.push_reserved.ensures.items)
           (ready_more scripts before.items c.in_ok-list.list c.loop-script.invariant.ready within c.in_ok-list.ensures);
       count = omega arith;
-      places = omega arith;
+      room = omega arith;
     }

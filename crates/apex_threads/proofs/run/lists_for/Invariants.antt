@@ -1,10 +1,10 @@
 use Rattle.std.proofs.Common.{◌≡◌, ◌≤◌, length, vec_len, vec_capacity}
-use Rattle.apex_threads.specs.Places.{AreReady}
+use Rattle.apex_threads.specs.Room.{AreReady}
 use Rattle.apex_threads.proofs.run.lists_for.Given as goal
 
 abbrev pub invariant-loop-script : goal.invariant-loop-script
 invariant-loop-script g l = record {
   ready : AreReady l.scripts l.lists.items;
   count : vec_len l.lists ≡ l.script-index;
-  places : length l.scripts ≤ vec_capacity l.lists;
+  room : length l.scripts ≤ vec_capacity l.lists;
 }

@@ -1,6 +1,6 @@
 use Rattle.std.proofs.Common.{rules, ◌≡◌, ◌∙◌, ◌+◌, IfOk, subst, sym, length, ◌<◌, vec_len, arith}
 use denote.Param.Send.{sendable}
-use Rattle.apex_threads.specs.Places.{AreReady}
+use Rattle.apex_threads.specs.Room.{AreReady}
 use Rattle.apex_threads.proofs.Ready.{ready_front, ready_last, partition_within, one_more_reply}
 use Rattle.apex_threads.proofs.workers.+run_workers.Goals as goal
 
@@ -9,7 +9,7 @@ spawn_with-started-requires-clause-runs g t c κs within =
     let scripts = c.args.scripts.now in
     let front = c.pop.new.self in
     let ready = subst (AreReady scripts) c.in-Some.ensures.items c.requires.ready in
-    let place : length front.items ≡ c.len-partition.result = sym (c.len-partition.ensures ∙ front.ok.0) in
+    let count : length front.items ≡ c.len-partition.result = sym (c.len-partition.ensures ∙ front.ok.0) in
     let within_scripts : length front.items < length scripts = partition_within scripts front.items c.in-Some.replies ready in (
       omega arith,
       (ready_last scripts front.items c.in-Some.replies ready, search (rules, sendable)),

@@ -5,5 +5,5 @@ abbrev pub invariant-loop-replies : goal.invariant-loop-replies
 invariant-loop-replies g l = record {
   items : l.all.items ≡ take l.replies-index l.packed;
   count : vec_len l.all ≡ l.replies-index;
-  places : length l.packed ≤ vec_capacity l.all;
+  room : length l.packed ≤ vec_capacity l.all;
 }

@@ -13,7 +13,7 @@ push_reserved-requires g c =
     let channel = c.in-Some.ensures.channel (length c.args.config.now.channels) c.requires.channel in
     let within : c.in-Some.channel < length c.args.self.now.journals.items = omega arith in
     let sent : message_accepted c.args.config.now c.in-Some.channel c.args.entry.now ≡ Some c.in-Some.message.now = c.in-Some.ensures.found c.args.config.now c.requires.port c.in-Some.channel ∙ found_here c.in-Some.channel c.in-Some.message.now in
-    let room = c.requires.place c.in-Some.channel c.in-Some.message.now (accepted_is_sent c.args.config.now c.args.entry.now c.in-Some.channel c.in-Some.message.now sent) in
+    let room = c.requires.fits c.in-Some.channel c.in-Some.message.now (accepted_is_sent c.args.config.now c.args.entry.now c.in-Some.channel c.in-Some.message.now sent) in
     let enough = room c.in-Some-index_mut.journal (journal_here _ c.in-Some.channel _ within c.index_mut.ensures.value ∙ c.in-Some-index_mut.is) in
     omega arith
 
@@ -35,7 +35,7 @@ returns-clause-recorded g c =
     let sent : message_accepted c.args.config.now c.in-Some.channel c.args.entry.now ≡ Some c.in-Some.message.now = c.in-Some.ensures.found c.args.config.now c.requires.port c.in-Some.channel ∙ found_here c.in-Some.channel c.in-Some.message.now in
     let pushed = c.push_reserved.ensures.items ∙ (λ i. is.accepted i ++ c.copy.ensures i ∷ []) in
     let capacity = c.push_reserved.ensures.capacity in
-    let places = is.places in
+    let fits = is.fits in
     journal_set _ _ _ _ _ _ c.in-Some.channel _ c.requires.recorded within is.queuing
     (pushed ∙ sym (accepted-one c.args.config.now c.args.self.now.log.items c.args.entry.now c.in-Some.channel c.in-Some.message.now sent)) is.taken (omega arith)
     (only_accepted c.args.config.now c.args.self.now.log.items c.args.entry.now c.in-Some.channel c.in-Some.message.now (c.in-Some.ensures.found c.args.config.now c.requires.port)) (λ d apart. refl)

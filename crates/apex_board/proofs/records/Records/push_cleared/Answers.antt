@@ -22,12 +22,12 @@ clear-requires-clause-taken g c =
     let taken : length c.in-Some-index_mut.journal.taken.items ≡ length _ = ap length is.taken in
     omega (arith, c.in-Some-index_mut.journal.accepted.ok.0, c.in-Some-index_mut.journal.taken.ok.0)
 
-pub clear-requires-clause-places : goal.clear-requires-clause-places
-clear-requires-clause-places g c =
+pub clear-requires-clause-room : goal.clear-requires-clause-room
+clear-requires-clause-room g c =
     let all = c.requires.recorded.all in
     let channel = c.in-Some.ensures.channel (length c.args.config.now.channels) c.requires.channel in
     let within : c.in-Some.channel < length c.args.self.now.journals.items = omega arith in
-    c.requires.recorded.places c.in-Some.channel c.in-Some-index_mut.journal (journal_here _ c.in-Some.channel _ within c.index_mut.ensures.value ∙ c.in-Some-index_mut.is)
+    c.requires.recorded.fits c.in-Some.channel c.in-Some-index_mut.journal (journal_here _ c.in-Some.channel _ within c.index_mut.ensures.value ∙ c.in-Some-index_mut.is)
 
 pub returns-in-Some-index_mut-clause-recorded : goal.returns-in-Some-index_mut-clause-recorded
 returns-in-Some-index_mut-clause-recorded g c =
@@ -38,7 +38,7 @@ returns-in-Some-index_mut-clause-recorded g c =
     let here : (c.in-Some.channel == c.in-Some.channel) ≡ true = grind (arith, nat_tests) in
     let rest = taken-rest c.args.config.now c.args.self.now.log.items c.args.entry.now c.in-Some.channel (c.in-Some.ensures.found c.args.config.now c.requires.port c.in-Some.channel ∙ here) in
     let capacity = c.clear.ensures.capacity in
-    let places = is.places in
+    let fits = is.fits in
     journal_set _ _ _ _ _ _ c.in-Some.channel c.clear.new.self c.requires.recorded within is.queuing (rw c.clear.ensures.accepted is.accepted)
     (c.clear.ensures.taken ∙ ((λ i. is.taken i ++ map as_cleared (drop (length (is.taken i)) (is.accepted i))) ∙ sym rest)) (rw c.clear.ensures.accepted (omega arith))
     (λ d apart. refl) (only_cleared c.args.config.now c.args.self.now.log.items c.args.entry.now c.in-Some.channel c.requires.received (c.in-Some.ensures.found c.args.config.now c.requires.port))

@@ -14,7 +14,7 @@ push_reserved-requires g c =
     let less = receives_within c.args.config.now c.args.self.now.log.items c.args.entry.now c.in-Some.channel c.in-Some.message.now c.requires.sound received in
     let accepted : length c.in-Some-index_mut.journal.accepted.items ≡ length _ = ap length is.accepted in
     let taken : length c.in-Some-index_mut.journal.taken.items ≡ length _ = ap length is.taken in
-    let places = is.places in
+    let fits = is.fits in
     omega (arith, c.in-Some-index_mut.journal.accepted.ok.0, c.in-Some-index_mut.journal.accepted.ok.1, c.in-Some-index_mut.journal.taken.ok.0)
 
 pub unreachable-requires : goal.unreachable-requires
@@ -35,7 +35,7 @@ returns-clause-recorded g c =
     let received : message_received c.args.config.now c.in-Some.channel c.args.entry.now ≡ Some c.in-Some.message.now = c.in-Some.ensures.found c.args.config.now c.requires.port c.in-Some.channel ∙ found_here c.in-Some.channel c.in-Some.message.now in
     let pushed = c.push_reserved.ensures.items ∙ (λ i. is.taken i ++ as_received (c.copy.ensures i) ∷ []) in
     let capacity = c.push_reserved.ensures.capacity in
-    let places = is.places in
+    let fits = is.fits in
     journal_set _ _ _ _ _ _ c.in-Some.channel _ c.requires.recorded within is.queuing is.accepted
     (pushed ∙ sym (taken-one c.args.config.now c.args.self.now.log.items c.args.entry.now c.in-Some.channel c.in-Some.message.now received)) (omega arith)
     (λ d apart. refl) (only_received c.args.config.now c.args.self.now.log.items c.args.entry.now c.in-Some.channel c.in-Some.message.now (c.in-Some.ensures.found c.args.config.now c.requires.port))

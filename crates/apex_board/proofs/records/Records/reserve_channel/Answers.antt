@@ -16,12 +16,12 @@ make_room-requires-clause-taken g c =
     let taken : length c.in-Some.journal.taken.items ≡ length _ = ap length is.taken in
     omega (arith, less, accepted, taken, c.in-Some.journal.accepted.ok.0, c.in-Some.journal.taken.ok.0)
 
-pub make_room-requires-clause-places : goal.make_room-requires-clause-places
-make_room-requires-clause-places g c =
+pub make_room-requires-clause-room : goal.make_room-requires-clause-room
+make_room-requires-clause-room g c =
     let all = c.requires.recorded.all in
     let channel = c.requires.channel in
     let within : c.args.channel < length c.args.self.now.journals.items = omega arith in
-    c.requires.recorded.places c.args.channel c.in-Some.journal (journal_here _ c.args.channel _ within c.index_mut.ensures.value ∙ c.in-Some.is)
+    c.requires.recorded.fits c.args.channel c.in-Some.journal (journal_here _ c.args.channel _ within c.index_mut.ensures.value ∙ c.in-Some.is)
 
 pub returns-in-Some-clause-recorded : goal.returns-in-Some-clause-recorded
 returns-in-Some-clause-recorded g c =
@@ -29,7 +29,7 @@ returns-in-Some-clause-recorded g c =
     let channel = c.requires.channel in
     let within : c.args.channel < length c.args.self.now.journals.items = omega arith in
     let is = journal_is _ _ _ _ c.args.channel c.in-Some.journal c.requires.recorded (journal_here _ c.args.channel _ within c.index_mut.ensures.value ∙ c.in-Some.is) in
-    journal_set _ _ _ _ _ _ c.args.channel c.make_room.new.self c.requires.recorded within is.queuing (c.make_room.ensures.accepted ∙ is.accepted) (c.make_room.ensures.taken ∙ is.taken) c.make_room.ensures.places
+    journal_set _ _ _ _ _ _ c.args.channel c.make_room.new.self c.requires.recorded within is.queuing (c.make_room.ensures.accepted ∙ is.accepted) (c.make_room.ensures.taken ∙ is.taken) c.make_room.ensures.room
     (λ d apart. refl) (λ d apart. refl)
 
 pub returns-in-Some-clause-grows : goal.returns-in-Some-clause-grows

@@ -5,7 +5,7 @@ use Rattle.std.specs.Vec.{vec_len}
 use Rattle.std.proofs.lemmas.List.{nil_from_length}
 use Rattle.apex_config.specs.Configuration.{Configuration}
 use Rattle.apex_ports.specs.History.{History, entries_of}
-use Rattle.apex_ports.proofs.Lookups.{place_of}
+use Rattle.apex_ports.proofs.Lookups.{at_index}
 use Rattle.apex_log_orders.specs.declared.answer.CallPlace.{CallPlace}
 use Rattle.apex_log_orders.specs.declared.choice.Choice.{Choice}
 use Rattle.apex_log_orders.specs.LogOrders.{Logs, IsBeginning, IsOrder, entries_at}
@@ -40,7 +40,7 @@ counted_there config logs walk is path last cut count at =
     let within = (own_last config logs walk is path last cut).within in
     let inside : last.partition < length walk.made.items = let all = is.made.count in omega (arith, within, all) in
     let both : Some count ≡ Some (suc (length (entries_of last.partition (entries_at logs path)))) =
-    sym (place_of walk.made.items last.partition count inside at) ∙ counted config logs walk is path last cut in
+    sym (at_index walk.made.items last.partition count inside at) ∙ counted config logs walk is path last cut in
     cc
 
 pub overflow_sub-index_mut : goal.overflow_sub-index_mut

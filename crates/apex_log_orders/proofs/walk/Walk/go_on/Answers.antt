@@ -3,7 +3,7 @@ use Rattle.std.specs.List.{slice_get}
 use Rattle.std.specs.Option.{unwrap_or}
 use Rattle.apex_ports.specs.declared.history.Entry.{Entry}
 use Rattle.apex_ports.specs.History.{History, entries_of}
-use Rattle.apex_ports.proofs.Lookups.{place_of}
+use Rattle.apex_ports.proofs.Lookups.{at_index}
 use Rattle.apex_log_orders.specs.declared.answer.CallPlace.{CallPlace}
 use Rattle.apex_log_orders.specs.declared.choice.Choice.{Choice}
 use Rattle.apex_log_orders.specs.LogOrders.{IsBeginning, log_in, entry_at, entries_at}
@@ -26,17 +26,17 @@ returns c =
     let goes : GoesOn config logs h p e = c.requires.possible.1 in
     let within : p < length config.partitions = subst (λ (n : ℕ). n < length config.partitions) goes.own goes.lawful.0 in
     let inside : p < length c.args.self.now.made.items = let count = walk.made.count in omega (arith, within, count) in
-    let counted : Some index ≡ Some (length (entries_of p h)) = sym (place_of c.args.self.now.made.items p index inside c.index-index.ensures) ∙ walk.made.each p within in
+    let counted : Some index ≡ Some (length (entries_of p h)) = sym (at_index c.args.self.now.made.items p index inside c.index-index.ensures) ∙ walk.made.each p within in
     let is : index ≡ length (entries_of p h) = cc in
     let here : entry_at logs (record { partition = p; index = index }) ≡ Some e = ap (λ (n : ℕ). slice_get (log_in logs p) n) is ∙ goes.next in
     let log = c.index-logs-p.result in
     let some_log : p < length logs = let all = walk.all in omega (arith, within, all) in
-    let at : slice_get logs p ≡ Some log = place_of logs p log some_log c.index-logs-p.is in
+    let at : slice_get logs p ≡ Some log = at_index logs p log some_log c.index-logs-p.is in
     let count : c.len.result ≡ length c.log.inside.entries.items = search rules in
     let further : index < length c.log.inside.entries.items = let prove = c.if-prove.false in omega (arith, count, prove) in
     let seen : slice_get (log_in logs p) index ≡ Some c.index-entry.result.now =
     ap (λ (o : Option History). slice_get (unwrap_or o []) index) at
-    ∙ (ap (λ (es : History). slice_get es index) (sym c.log.view_is) ∙ place_of c.log.inside.entries.items index c.index-entry.result.now further c.index-entry.ensures) in
+    ∙ (ap (λ (es : History). slice_get es index) (sym c.log.view_is) ∙ at_index c.log.inside.entries.items index c.index-entry.result.now further c.index-entry.ensures) in
     let both : Some e ≡ Some c.index-entry.result.now = sym here ∙ seen in
     let same : e ≡ c.index-entry.result.now = cc in
     let more : suc (length (entries_of p h)) ≡ index + 1 = omega (arith, is) in

@@ -7,6 +7,6 @@ use Rattle.apex_observers.proofs.publishers.Publishers.tell.Given as goal
 abbrev pub invariant-loop-entry : goal.invariant-loop-entry
 invariant-loop-entry g l = record {
   observers : AreObservers l.self l.observers;
-  place : l.place ≡ length (sampling_of (take l.entry-index l.self));
-  told : (k : ℕ) (published known : Published) → k < l.place → slice_get (sampling_of l.self) k ≡ Some published → slice_get l.observers k ≡ Some known → IsPrefix published.writes known.writes;
+  index : l.index ≡ length (sampling_of (take l.entry-index l.self));
+  told : (k : ℕ) (published known : Published) → k < l.index → slice_get (sampling_of l.self) k ≡ Some published → slice_get l.observers k ≡ Some known → IsPrefix published.writes known.writes;
 }

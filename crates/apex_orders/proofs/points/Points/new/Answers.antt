@@ -1,4 +1,4 @@
-use Rattle.std.proofs.Common.{◌≡◌, ◌++◌, ◌∷◌, [], List, ℕ, length, refl, sym, ap, ◌∙◌, subst, arith}
+use Rattle.std.proofs.Common.{◌≡◌, [], List, ℕ, length, refl, sym, ap, ◌∙◌, subst, arith}
 use Rattle.apex_ports.specs.PortsView.{PortsView}
 use Rattle.apex_orders.specs.declared.points.Points.{Points}
 use Rattle.apex_orders.specs.Known.{IsAfter, ArePoints}

@@ -5,7 +5,7 @@ use Rattle.apex_ports.specs.Kept.{AreCounted, AreKept}
 use Rattle.apex_ports.specs.Sound.{IsSound}
 use Rattle.apex_ports.proofs.Counts.{counted-push}
 use Rattle.apex_ports.proofs.LawfulSteps.{sound-push}
-use Rattle.apex_ports.proofs.Lookups.{place_of}
+use Rattle.apex_ports.proofs.Lookups.{at_index}
 use Rattle.apex_ports.proofs.ports.Ports.call_into.Goals as goal
 
 pub invariant_of-self : goal.invariant_of-self
@@ -17,7 +17,7 @@ invariant_of-self g c =
     let all = c.self.invariant.counted.all in
     let inside : c.args.partition < length c.self.inside.calls.items = omega arith in
     let counted = counted-push c.self.inside.config h c.self.inside.calls.items c.args.partition c.args.at c.args.call.now c.answer.new.reply c.index.result.now c.saturating_add.result
-    c.self.invariant.counted (place_of _ _ _ inside c.index.ensures) c.saturating_add.ensures in
+    c.self.invariant.counted (at_index _ _ _ inside c.index.ensures) c.saturating_add.ensures in
     record {
       sound = subst (IsSound c.self.inside.config) (sym grown) (sound-push _ _ c.args.partition c.args.at c.args.call.now c.answer.new.reply c.self.invariant.sound within c.answer.ensures.reply);
       kept = subst (λ (past : History). AreKept c.self.inside.config past c.answer.new.self.partitions.items c.answer.new.self.channels.items) (sym grown) c.answer.ensures.kept;

@@ -1,4 +1,4 @@
-use Rattle.std.proofs.Common.{◌≡◌, ℕ, List, length, sym, ap, ◌∙◌, subst, arith}
+use Rattle.std.proofs.Common.{◌≡◌, ℕ, List, length, sym, ap, ◌∙◌, subst}
 use Rattle.apex_config.specs.Configuration.{Configuration}
 use Rattle.apex_ports.specs.declared.channel.ChannelState.{ChannelState}
 use Rattle.apex_ports.specs.declared.partition.PartitionState.{PartitionState}

@@ -4,7 +4,7 @@ use Rattle.std.proofs.lemmas.Option.{slice_get_within}
 use Rattle.apex_ports.specs.declared.partition.PartitionState.{PartitionState}
 use Rattle.apex_ports.specs.Saved.{IsSameTable}
 use Rattle.apex_ports.proofs.InPlace.{one_done, all_done}
-use Rattle.apex_ports.proofs.Lookups.{place_of}
+use Rattle.apex_ports.proofs.Lookups.{at_index}
 use Rattle.apex_ports.proofs.Saving.{item_at}
 use Rattle.apex_ports.proofs.ports.saved.restore_partitions.Goals as goal
 
@@ -14,7 +14,7 @@ loop-p-preserved g c =
     let p = c.loop-p.p in
     let item = c.index-saved-p.result in
     let within : p < length saved = omega arith in
-    let here : slice_get saved p ≡ Some item = place_of saved p item within c.index-saved-p.is in
+    let here : slice_get saved p ≡ Some item = at_index saved p item within c.index-saved-p.is in
     one_done (λ was one now. IsSameTable one now) c.args.partitions.now saved p c.loop-p.partitions c.restore.new.self c.loop-p.invariant
     (λ was one at listed.
     let both : Some item ≡ Some one = sym here ∙ listed in

@@ -1,5 +1,3 @@
-use Rattle.std.proofs.Common.{ℕ}
-use Rattle.apex_ports.specs.declared.partition.PartitionState.{PartitionState}
 use Rattle.apex_ports.specs.Saved.{IsSameTable}
 use Rattle.apex_ports.proofs.InPlace.{IsDone}
 use Rattle.apex_ports.proofs.ports.saved.restore_partitions.Given as goal

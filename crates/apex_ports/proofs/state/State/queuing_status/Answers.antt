@@ -18,11 +18,11 @@ overflow_cast-result-2 g c =
     let state = channel_at _ _ _ _ c.requires.kept _ _ c.in-Some.ensures.linked c.index-state.ensures in
     let small = depth_small c.args.config.now c.in-Some.port.now.channel c.channel-channel.ensures.valid in
     let depth = state.depth in
-    omega (arith, c.places.ensures)
+    omega (arith, c.depth.ensures)
 
 pub returns : goal.returns
 returns g c =
     let state = channel_at _ _ _ _ c.requires.kept _ _ c.in-Some.ensures.linked c.index-state.ensures in
     let waiting : c.waiting_count.result ≡ length (waiting_on c.args.config.now c.in-Some.port.now.channel c.args.self.now.history) = c.waiting_count.ensures ∙ waiting_count_is _ _ _ _ state in
-    let depth : c.places.result ≡ depth_of c.args.config.now c.in-Some.port.now.channel = c.places.ensures ∙ state.depth in
+    let depth : c.depth.result ≡ depth_of c.args.config.now c.in-Some.port.now.channel = c.depth.ensures ∙ state.depth in
     search rules

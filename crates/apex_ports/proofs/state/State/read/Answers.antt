@@ -12,7 +12,7 @@ pub set_port-requires-clause-last : goal.set_port-requires-clause-last
 set_port-requires-clause-last g c =
     let was = partition_at _ _ _ _ c.requires.kept c.args.partition c.index_mut.result.now c.requires.partition c.index_mut.ensures.value in
     let ports = was.ports in
-    let last = c.in-Ok.ensures.place.last in
+    let last = c.in-Ok.ensures.identifier.last in
     omega (arith, ports, last)
 
 pub returns-clause-kept : goal.returns-clause-kept

@@ -25,7 +25,7 @@ returns-in-Ok-clause-kept g c at =
     let oldest = oldest_of (waiting_in c.index_mut.result.now) some in
     rw (c.receive.ensures.reply, oldest.2)
     (received_keeps _ _ _ _ _ at _ c.in-Ok.channel oldest.0 c.index_mut.result.now c.receive.new.self c.requires.kept conserved c.in-Ok.ensures.destination was oldest.1
-    c.receive.ensures.waiting c.receive.ensures.places c.receive.ensures.accepted c.receive.ensures.received c.receive.ensures.cleared c.receive.ensures.sample c.receive.ensures.kind)
+    c.receive.ensures.waiting c.receive.ensures.depth c.receive.ensures.accepted c.receive.ensures.received c.receive.ensures.cleared c.receive.ensures.sample c.receive.ensures.kind)
 
 pub returns-in-Err-clause-kept : goal.returns-in-Err-clause-kept
 returns-in-Err-clause-kept g c at =

@@ -1,6 +1,6 @@
 use Rattle.std.proofs.Common.{rules, ◌≡◌, Some, None, sym, ◌∙◌}
 use Rattle.apex_ports.specs.Channels.{last_write_on}
-use Rattle.apex_ports.proofs.Lookups.{channel_at, is_place}
+use Rattle.apex_ports.proofs.Lookups.{channel_at, is_identifier}
 use Rattle.apex_ports.proofs.state.State.sample_shown.Goals as goal
 
 pub returns-in_default-sample-clause-decided : goal.returns-in_default-sample-clause-decided
@@ -21,5 +21,5 @@ returns-clause-message g c =
     let last : last_write_on c.args.config.now c.in-Some.port.now.channel c.args.self.now.history ≡ Some c.in-Some-sample.sample.now = sym state.sample ∙ sym c.in-Some-sample.ensures in
     search rules
 
-pub returns-clause-place : goal.returns-clause-place
-returns-clause-place g c = is_place c.args.config.now c.args.partition c.args.id c.in-Some.port.now c.in-Some.ensures.configured
+pub returns-clause-identifier : goal.returns-clause-identifier
+returns-clause-identifier g c = is_identifier c.args.config.now c.args.partition c.args.id c.in-Some.port.now c.in-Some.ensures.configured

@@ -18,8 +18,8 @@ returns-clause-decided g c =
     let full : (length (waiting_on c.args.config.now c.in-Some.port.now.channel c.args.self.now.history) == depth_of c.args.config.now c.in-Some.port.now.channel) ≡ false = sym (full_is _ _ _ _ state) ∙ (sym c.is_full.ensures ∙ c.if-is_full.false) in
     search rules
 
-pub returns-clause-place : goal.returns-clause-place
-returns-clause-place g c =
+pub returns-clause-free : goal.returns-clause-free
+returns-clause-free g c =
     let state = channel_at _ _ _ _ c.requires.kept _ _ c.in-Some.ensures.linked c.index.ensures in
     let full : (length (waiting_on c.args.config.now c.in-Some.port.now.channel c.args.self.now.history) == depth_of c.args.config.now c.in-Some.port.now.channel) ≡ false = sym (full_is _ _ _ _ state) ∙ (sym c.is_full.ensures ∙ c.if-is_full.false) in
     let within = (always_conserved c.args.config.now c.args.self.now.history c.in-Some.port.now.channel c.requires.sound).depth in

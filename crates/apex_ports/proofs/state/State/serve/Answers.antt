@@ -20,10 +20,10 @@ id_told config s p row (Ok id) reply decided told = told ∙ sym (ap (reply_of c
 id_told config s p row (Err refusal) reply decided told = told ∙ sym (ap (reply_of config s p) decided)
 
 pub returns-in-CreateSampling-clause-reply : goal.returns-in-CreateSampling-clause-reply
-returns-in-CreateSampling-clause-reply g c = rw c.in-CreateSampling.is c.create_sampling.ensures.reply
+returns-in-CreateSampling-clause-reply g c = rw c.in-CreateSampling.is (rw c.new-asked.ensures at c.create_sampling.ensures.reply)
 
 pub returns-in-CreateSampling-clause-kept : goal.returns-in-CreateSampling-clause-kept
-returns-in-CreateSampling-clause-kept g c = rw c.in-CreateSampling.is (c.create_sampling.ensures.kept c.args.at)
+returns-in-CreateSampling-clause-kept g c = rw c.in-CreateSampling.is (rw c.new-asked.ensures at (c.create_sampling.ensures.kept c.args.at))
 
 pub returns-in-WriteSampling-clause-reply : goal.returns-in-WriteSampling-clause-reply
 returns-in-WriteSampling-clause-reply g c = rw c.in-WriteSampling.is c.write.ensures.reply
@@ -50,10 +50,10 @@ pub returns-in-SamplingStatus-clause-kept : goal.returns-in-SamplingStatus-claus
 returns-in-SamplingStatus-clause-kept g c = rw (c.in-SamplingStatus.is, c.sampling_status.ensures) (quiet_keeps _ _ _ _ _ c.args.at _ _ c.requires.kept (status_is_quiet c.args.config.now (seen c.args.config.now c.args.self.now.history c.args.partition) c.args.partition _ (SamplingStatus c.in-SamplingStatus.id) (sampling_port c.args.config.now (seen c.args.config.now c.args.self.now.history c.args.partition) c.args.partition c.in-SamplingStatus.id) (sampling_status_is_quiet c.args.config.now (seen c.args.config.now c.args.self.now.history c.args.partition) c.args.partition _ c.in-SamplingStatus.id (sampling_port c.args.config.now (seen c.args.config.now c.args.self.now.history c.args.partition) c.args.partition c.in-SamplingStatus.id))))
 
 pub returns-in-CreateQueuing-clause-reply : goal.returns-in-CreateQueuing-clause-reply
-returns-in-CreateQueuing-clause-reply g c = rw c.in-CreateQueuing.is c.create_queuing.ensures.reply
+returns-in-CreateQueuing-clause-reply g c = rw c.in-CreateQueuing.is (rw c.new-asked-in-CreateQueuing.ensures at c.create_queuing.ensures.reply)
 
 pub returns-in-CreateQueuing-clause-kept : goal.returns-in-CreateQueuing-clause-kept
-returns-in-CreateQueuing-clause-kept g c = rw c.in-CreateQueuing.is (c.create_queuing.ensures.kept c.args.at)
+returns-in-CreateQueuing-clause-kept g c = rw c.in-CreateQueuing.is (rw c.new-asked-in-CreateQueuing.ensures at (c.create_queuing.ensures.kept c.args.at))
 
 pub returns-in-SendQueuing-clause-reply : goal.returns-in-SendQueuing-clause-reply
 returns-in-SendQueuing-clause-reply g c = rw c.in-SendQueuing.is c.send.ensures.reply
