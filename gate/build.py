@@ -23,7 +23,7 @@ ROOT = os.path.dirname(HERE)
 # For how long a command may take to end once it is told to.
 SECONDS_TO_END = 10
 # What is not on the longest chain gets the processors that the chain leaves.
-BEHIND = ["nice", "-n", "10"]
+BEHIND = ["nice", "-n", "19"]
 
 
 class Build:

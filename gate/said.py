@@ -17,7 +17,12 @@ class Line:
     """A line with its place: a file of the crate and a number."""
 
     def __init__(self, text, path, number, said):
-        self.text, self.path, self.number, self.said = text, path, number, said
+        self.text, self.path, self.number, self.said, self.copy = text, path, number, said, None
+
+    def move(self, path, number, copy):
+        """Gives it another place, which is of a function's copy if one is given."""
+        self.text = self.text.replace(f"{self.path}:{self.number}:", f"{path}:{number}:", 1)
+        self.path, self.number, self.copy = path, number, copy
 
     def is_front_end(self):
         """Whether the text was refused before any proof: it does not parse, a name isn't found, a type doesn't fit."""
@@ -56,6 +61,10 @@ class Said:
     def callers(self):
         """Returns the functions, by their names below the crate, that call one which is not proved."""
         return set(re.findall(r"^fn \w+?::(\S+): .*\bit calls `", self.text, re.M))
+
+    def sound(self):
+        """Returns the functions, by their names below the crate, that are proved, or not only for what they call."""
+        return set(re.findall(r"^fn \w+?::(\S+): (?:proved\b|no proof: it calls `|not proved; it calls `)", self.text, re.M))
 
     def goals(self):
         return [it for it in self.lines if it.is_goal()]

@@ -1,6 +1,8 @@
-"""Tries the must-fail edits of a crate: many in one check, where each changes another function, and alone what such a
-check does not tell apart. An edit counts as refused only where the prover names a goal that it did not prove."""
+"""Tries the must-fail edits of a crate: many in one check, where each changes another function or a copy of one, and
+alone what such a check does not tell apart. An edit counts as refused only where the prover names a goal that it did not
+prove."""
 import edits
+import function_copies
 
 
 class Verdict:
@@ -26,7 +28,7 @@ def own_lines(edit, lines, sources):
     is_own = lambda line: line.path.startswith(folders) or any(
         line.path == path and top <= line.number <= end for path, top, end in spans
     )
-    return [it for it in lines if is_own(it)]
+    return [it for it in lines if it.copy is None and is_own(it)]
 
 
 def judged_alone(told):
@@ -49,10 +51,12 @@ def judged_alone(told):
 class Trials:
     """The trials of one crate's edits."""
 
-    def __init__(self, tried, sources, check, tell=lambda edit, verdict: None):
-        """tried: the edits; sources: the texts of the crate's source files by path; check: gets the texts of changed
-        files, and the names of the functions to check, or none for the whole crate; and returns what was said."""
-        self.left, self.sources, self.check, self.tell = list(tried), sources, check, tell
+    def __init__(self, crate, tried, sources, check, tell=lambda edit, verdict: None):
+        """crate: its name; tried: the edits; sources: the texts of the crate's source files by path; check: gets the
+        texts of changed and new files, and the names of the functions to check, or none for the whole crate; and
+        returns what was said."""
+        self.crate, self.sources, self.check, self.tell = crate, sources, check, tell
+        self.left = list(tried)
         self.verdicts, self.checks, self.seen = {}, 0, set()
 
     def run(self):
@@ -61,39 +65,56 @@ class Trials:
         # once more, since the goals of a function can wait for the proof of one that it calls
         self.round()
         for edit in list(self.left):
-            self.end(edit, judged_alone(self.checked([edit], [])))
+            self.end(edit, judged_alone(self.checked(edits.merged([edit], self.sources), [])))
         return self.verdicts
 
     def round(self):
         """Tries all that is left and changes only bodies, many in each check, but none twice with the same others."""
-        for batch in edits.batches(self.left):
-            names = tuple(it.name for it in batch)
-            if batch[0].functions and names not in self.seen:
+        found = [it for it in edits.batches(self.left) if it[0].functions]
+        beside = [it for batch in found[1:] for it in batch if function_copies.can_be_copied(it, self.sources)]
+        for at, batch in enumerate(found):
+            here = [it for it in batch if it not in beside]
+            names = tuple(it.name for it in here)
+            if names and names not in self.seen:
                 self.seen.add(names)
-                self.try_batch(batch)
+                self.try_batch(here, [] if at else beside)
 
-    def try_batch(self, batch):
-        names = self.names(batch)
-        told = self.checked(batch, names)
+    def try_batch(self, batch, beside=()):
+        """Tries in one check the edits of the batch in place, and those beside in copies of their functions."""
+        copies, names = function_copies.Copies(self.crate, beside, self.sources), self.names(batch)
+        texts = copies.written(edits.merged(batch, self.sources))
+        told = self.checked(texts, names and [*names, *copies.names()])
         if names and told.status == 2:
             # (the prover knows one of the functions by another name)
-            told = self.checked(batch, [])
+            told = self.checked(texts, [])
+        copies.place(told.lines)
         if told.is_judged():
             self.tell_goals(batch, told)
+            self.tell_copies(copies, told)
             return
         # what the front end refuses is told by its line, and the others are tried without it
-        wrong = {edit: own_lines(edit, told.wrong_shapes(), self.sources) for edit in batch}
-        for edit in [it for it in batch if wrong[it]]:
+        of_shape = told.wrong_shapes()
+        wrong = {edit: own_lines(edit, of_shape, self.sources) for edit in batch}
+        wrong.update({edit: copies.own(edit, of_shape) for edit in beside})
+        for edit in [it for it in wrong if wrong[it]]:
             self.end(edit, by_shape(wrong[edit][0]))
-        rest = [it for it in batch if not wrong[it]]
-        if len(rest) < len(batch) and len(rest) > 1:
-            self.try_batch(rest)
+        rest, rest_beside = ([it for it in those if not wrong[it]] for those in (batch, beside))
+        if any(wrong.values()) and rest and len(rest) + len(rest_beside) > 1:
+            self.try_batch(rest, rest_beside)
+
+    def tell_copies(self, copies, told):
+        """Ends the trial of each edit whose copy has a goal that is not proved, where the function as it stands has
+        none."""
+        for edit in copies.of_edits:
+            own = copies.own(edit, told.goals())
+            if own and copies.stands(edit, told):
+                self.end(edit, refused(own[0]))
 
     def tell_goals(self, batch, told):
         """Ends the trial of each edit that has a goal of its own. Where a function that no edit changes has one too, a
         caller's goal may be open for what it calls, so that no such edit is counted."""
         goals = {edit: own_lines(edit, told.goals(), self.sources) for edit in batch}
-        has_stray = any(all(goal not in own for own in goals.values()) for goal in told.goals())
+        has_stray = any(it.copy is None and all(it not in own for own in goals.values()) for it in told.goals())
         callers = told.callers()
         for edit in [it for it in batch if goals[it]]:
             names = self.names([edit])
@@ -105,9 +126,9 @@ class Trials:
         folders = [it.proofs(self.sources) for edit in batch for it in edit.functions]
         return ["::".join(it.split("/")[1:-1]) for it in folders] if all(folders) else []
 
-    def checked(self, batch, names):
+    def checked(self, texts, names):
         self.checks += 1
-        return self.check(edits.merged(batch, self.sources), names)
+        return self.check(texts, names)
 
     def end(self, edit, verdict):
         self.left.remove(edit)

@@ -129,7 +129,7 @@ class Verification:
             else:
                 tried.append(edit)
         with tempfile.TemporaryDirectory(prefix="kept-", dir=self.room) as kept:
-            trials.Trials(tried, sources, check_of(rt, crate, jobs, kept), self.tell_edit).run()
+            trials.Trials(crate.name, tried, sources, check_of(rt, crate, jobs, kept), self.tell_edit).run()
 
     def tell_edit(self, edit, verdict):
         if verdict.is_refused:
@@ -210,10 +210,21 @@ def texts_of(folder):
 
 
 def check_of(rt, crate, jobs, kept):
-    """Returns the check of the crate with other texts, over what its checks before it proved in this run."""
+    """Returns the check of a copy of the crate with other and more texts, over what its checks before it proved in this
+    run."""
     def check(texts, names):
-        only = [word for name in names for word in ("--only", name)]
-        ran = rt.checked(crate, texts, ["--jobs", str(jobs), *only], kept)
+        with tempfile.TemporaryDirectory(prefix="dekarino-edit-") as room:
+            for part in filter(lambda it: os.path.isdir(f"{crate.folder}/{it}"), rt.rtlib.PARTS):
+                shutil.copytree(f"{crate.folder}/{part}", f"{room}/{part}")
+            for path, text in texts.items():
+                os.makedirs(os.path.dirname(f"{room}/{path}"), exist_ok=True)
+                with open(f"{room}/{path}", "w", encoding="utf-8") as file:
+                    file.write(text)
+            flags = ["--jobs", str(jobs), *(word for name in names for word in ("--only", name))]
+            words = [rt.rtlib.RATTLE, "check", *crate.words(flags, keeps=False), "--incremental", kept]
+            ran = subprocess.run([*rt.rtlib.guarded(), *words], cwd=room, stdin=subprocess.DEVNULL,
+                                 stdout=subprocess.PIPE, stderr=subprocess.STDOUT, encoding="utf-8", errors="replace",
+                                 check=False)
         return said.Said(ran.stdout, ran.returncode)
 
     return check
