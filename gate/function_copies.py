@@ -97,8 +97,16 @@ class Copies:
         """Returns those of the placed lines that are of the edit's copy."""
         return [it for it in lines if it.copy is self.of_edits[edit]]
 
+    def whole_of(self, edit):
+        """Returns the copy, as it stands, of the function that the edit changes."""
+        (of,) = edit.functions
+        return self.whole[of.path, of.head]
+
+    def are_named(self, edit, lines):
+        """Whether one of the placed lines is of the edit's copy, or of the copy as it stands."""
+        return any(it.copy in (self.of_edits[edit], self.whole_of(edit)) for it in lines)
+
     def stands(self, edit, told):
         """Whether the check proved all of the function that the edit changes, where it is copied as it stands."""
-        (of,) = edit.functions
-        whole = self.whole[of.path, of.head]
+        whole = self.whole_of(edit)
         return whole.prover_name() in told.sound() and all(it.copy is not whole for it in told.goals())

@@ -56,7 +56,7 @@ class Trials:
         texts of changed and new files, and the names of the functions to check, or none for the whole crate; and
         returns what was said."""
         self.crate, self.sources, self.check, self.tell = crate, sources, check, tell
-        self.left = list(tried)
+        self.left, self.in_place = list(tried), []
         self.verdicts, self.checks, self.seen = {}, 0, set()
 
     def run(self):
@@ -71,7 +71,8 @@ class Trials:
     def round(self):
         """Tries all that is left and changes only bodies, many in each check, but none twice with the same others."""
         found = [it for it in edits.batches(self.left) if it[0].functions]
-        beside = [it for batch in found[1:] for it in batch if function_copies.can_be_copied(it, self.sources)]
+        can_be_copied = lambda it: it not in self.in_place and function_copies.can_be_copied(it, self.sources)
+        beside = [it for batch in found[1:] for it in batch if can_be_copied(it)]
         for at, batch in enumerate(found):
             here = [it for it in batch if it not in beside]
             names = tuple(it.name for it in here)
@@ -95,11 +96,14 @@ class Trials:
         # what the front end refuses is told by its line, and the others are tried without it
         of_shape = told.wrong_shapes()
         wrong = {edit: own_lines(edit, of_shape, self.sources) for edit in batch}
-        wrong.update({edit: copies.own(edit, of_shape) for edit in beside})
-        for edit in [it for it in wrong if wrong[it]]:
+        for edit in [it for it in batch if wrong[it]]:
             self.end(edit, by_shape(wrong[edit][0]))
-        rest, rest_beside = ([it for it in those if not wrong[it]] for those in (batch, beside))
-        if any(wrong.values()) and rest and len(rest) + len(rest_beside) > 1:
+        # (that of a copy may be for the copy, so its edit waits to be tried in place)
+        in_place = [it for it in beside if copies.are_named(it, of_shape)]
+        self.in_place += in_place
+        rest = [it for it in batch if not wrong[it]]
+        rest_beside = [it for it in beside if it not in in_place]
+        if (len(rest) < len(batch) or in_place) and len(rest) + len(rest_beside) > 1:
             self.try_batch(rest, rest_beside)
 
     def tell_copies(self, copies, told):
