@@ -210,21 +210,14 @@ def texts_of(folder):
 
 
 def check_of(rt, crate, jobs, kept):
-    """Returns the check of a copy of the crate with other and more texts, over what its checks before it proved in this
+    """Returns the check of the crate, a copy, with other and more texts, over what its checks before it proved in this
     run."""
     def check(texts, names):
-        with tempfile.TemporaryDirectory(prefix="dekarino-edit-") as room:
-            for part in filter(lambda it: os.path.isdir(f"{crate.folder}/{it}"), rt.rtlib.PARTS):
-                shutil.copytree(f"{crate.folder}/{part}", f"{room}/{part}")
-            for path, text in texts.items():
-                os.makedirs(os.path.dirname(f"{room}/{path}"), exist_ok=True)
-                with open(f"{room}/{path}", "w", encoding="utf-8") as file:
-                    file.write(text)
-            flags = ["--jobs", str(jobs), *(word for name in names for word in ("--only", name))]
-            words = [rt.rtlib.RATTLE, "check", *crate.words(flags, keeps=False), "--incremental", kept]
-            ran = subprocess.run([*rt.rtlib.guarded(), *words], cwd=room, stdin=subprocess.DEVNULL,
-                                 stdout=subprocess.PIPE, stderr=subprocess.STDOUT, encoding="utf-8", errors="replace",
-                                 check=False)
+        for path in texts:
+            # (rt copies the crate's folders, and then writes the texts into these)
+            os.makedirs(os.path.dirname(f"{crate.folder}/{path}"), exist_ok=True)
+        only = [word for name in names for word in ("--only", name)]
+        ran = rt.checked(crate, texts, ["--jobs", str(jobs), *only], kept)
         return said.Said(ran.stdout, ran.returncode)
 
     return check
