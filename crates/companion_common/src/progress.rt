@@ -1,4 +1,7 @@
 //! Showing people how far a long search is.
+ghost use Rattle.std.specs.Prelude.{Some};
+ghost use Rattle.companion_common.specs.Reached.{reached_words};
+
 use std::fmt;
 use std::fmt::{Display, Formatter};
 use std::io::{IsTerminal, Write};
@@ -17,6 +20,8 @@ pub enum Reached {
 }
 
 impl Display for Reached {
+    ghost output = { λ reached. Some (reached_words reached) };
+
     fn fmt<W: fmt::Write>(&self, f: &mut Formatter<W>) -> fmt::Result {
         match self {
             Reached::Calls { placed, dead_ends } => {

@@ -1,4 +1,9 @@
 //! Why a task isn't done.
+ghost use Rattle.std.specs.Prelude.{◌≡◌};
+ghost use Rattle.apex_files.specs.declared.refusal.Refusal.TheVariants.{Text};
+ghost use Rattle.companion_common.specs.declared.unfinished.Unfinished.TheVariants.{FaultyLog, Refused};
+ghost use Rattle.companion_common.specs.Unfinished.{log_refusal, want_of_memory};
+
 use apex_files::Refusal;
 use apex_logs::{FaultyLine, LogError};
 use apex_texts::Fault;
@@ -33,12 +38,16 @@ pub enum Unfinished<'a> {
 }
 
 impl<'a> From<FaultyLine> for Unfinished<'a> {
+    ghost from_gives = { λ faulty given. given ≡ FaultyLog faulty };
+
     fn from(faulty: FaultyLine) -> Unfinished<'a> {
         Unfinished::FaultyLog(faulty)
     }
 }
 
 impl<'a> From<LogError> for Unfinished<'a> {
+    ghost from_gives = { λ error given. given ≡ log_refusal error };
+
     fn from(error: LogError) -> Unfinished<'a> {
         match error {
             LogError::Line(faulty) => Unfinished::from(faulty),
@@ -48,24 +57,32 @@ impl<'a> From<LogError> for Unfinished<'a> {
 }
 
 impl<'a> From<Refusal<'a>> for Unfinished<'a> {
+    ghost from_gives = { λ refusal given. given ≡ Refused refusal };
+
     fn from(refusal: Refusal<'a>) -> Unfinished<'a> {
         Unfinished::Refused(refusal)
     }
 }
 
 impl<'a> From<Fault> for Unfinished<'a> {
+    ghost from_gives = { λ fault given. given ≡ Refused (Text fault) };
+
     fn from(fault: Fault) -> Unfinished<'a> {
         Unfinished::Refused(Refusal::Text(fault))
     }
 }
 
 impl<'a> From<AllocError> for Unfinished<'a> {
+    ghost from_gives = { λ _ given. given ≡ want_of_memory };
+
     fn from(refused: AllocError) -> Unfinished<'a> {
         Unfinished::Refused(Refusal::from(refused))
     }
 }
 
 impl<'a> From<OutOfMemory> for Unfinished<'a> {
+    ghost from_gives = { λ _ given. given ≡ want_of_memory };
+
     fn from(_: OutOfMemory) -> Unfinished<'a> {
         Unfinished::from(AllocError)
     }
