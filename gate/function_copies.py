@@ -1,5 +1,5 @@
-"""Copies of functions that stand beside them under names of their own, with the same clauses and the same proof, so that
-several edits of one function are tried in one check. The crate's own functions call no copy."""
+"""Copies of functions that stand beside them under names of their own, with the same clauses and the same proof, so
+that several edits of one function are tried in one check. The crate's own functions call no copy."""
 import re
 
 # What a copy's name ends in, before the number of its edit, and at the copy of a function as it stands.
@@ -80,7 +80,7 @@ class Copies:
         return texts
 
     def place(self, lines):
-        """Gives each line that a check of the written texts said its place in the sources, and its copy if it has one."""
+        """Gives each line of a check of the written texts its place in the sources, and its copy if it has one."""
         for line in lines:
             path, number, more = line.path, line.number, 0
             for it in self.all():
@@ -109,4 +109,4 @@ class Copies:
     def stands(self, edit, told):
         """Whether the check proved all of the function that the edit changes, where it is copied as it stands."""
         whole = self.whole_of(edit)
-        return whole.prover_name() in told.sound() and all(it.copy is not whole for it in told.goals())
+        return whole.prover_name() in told.proved_but_for_calls() and all(it.copy is not whole for it in told.goals())

@@ -62,9 +62,10 @@ class Said:
         """Returns the functions, by their names below the crate, that call one which is not proved."""
         return set(re.findall(r"^fn \w+?::(\S+): .*\bit calls `", self.text, re.M))
 
-    def sound(self):
-        """Returns the functions, by their names below the crate, that are proved, or not only for what they call."""
-        return set(re.findall(r"^fn \w+?::(\S+): (?:proved\b|no proof: it calls `|not proved; it calls `)", self.text, re.M))
+    def proved_but_for_calls(self):
+        """Returns the functions, by their names below the crate, that are proved, or would be if what they call were."""
+        ends = r"(?:proved\b|no proof: it calls `|not proved; it calls `)"
+        return set(re.findall(rf"^fn \w+?::(\S+): {ends}", self.text, re.M))
 
     def goals(self):
         return [it for it in self.lines if it.is_goal()]

@@ -1,6 +1,6 @@
 """Tries the must-fail edits of a crate: many in one check, where each changes another function or a copy of one, and
-alone what such a check does not tell apart. An edit counts as refused only where the prover names a goal that it did not
-prove."""
+alone what such a check does not tell apart. An edit counts as refused only where the prover names a goal that it did
+not prove."""
 import edits
 import function_copies
 

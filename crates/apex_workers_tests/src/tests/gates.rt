@@ -143,7 +143,8 @@ pub(crate) struct Refuses {
 }
 
 impl Gate for Refuses {
-    ghost may_refuse = { λ gate partition n. (gate.one ≡ (partition, n)) ⊎ (gate.other ≡ (partition, n)) };
+    ghost may_refuse = { λ gate partition n. (gate.one ≡ (partition, n))
+        ⊎ (gate.other ≡ (partition, n)) };
 
     fn pass(&self, partition: usize, n: usize) -> Result<(), Held> {
         if self.one == (partition, n) || self.other == (partition, n) {
