@@ -1,8 +1,10 @@
 """Runs the toolchain's own gate, `rt ci`, and shows what it says: of a crate that is proved the lines of rt alone."""
+import os
 import re
 import subprocess
 import threading
 
+import crates
 import usage
 
 ENDED = re.compile(r"rt: (\w+)(: its tests are)? (proved|NOT PROVED)\b")
@@ -34,9 +36,11 @@ class Gate:
 
     def follow(self):
         words = [f"{self.kit}/bin/rt", "ci"]
+        # With RT_JOBS each check has one job: each further one would load the libraries again.
+        room = {**os.environ, "RT_JOBS": str(crates.lanes())}
         with open(self.log, "w", encoding="utf-8") as log, subprocess.Popen(
-            words, cwd=self.folder, stdin=subprocess.DEVNULL, stdout=subprocess.PIPE, stderr=subprocess.STDOUT,
-            universal_newlines=True, errors="replace",
+            words, cwd=self.folder, env=room, stdin=subprocess.DEVNULL, stdout=subprocess.PIPE,
+            stderr=subprocess.STDOUT, universal_newlines=True, errors="replace",
         ) as ran:
             try:
                 for line in ran.stdout:

@@ -32,6 +32,10 @@ TABLE = os.path.join(HERE, "test_durations.txt")
 # What is run over the programs and the library, in this order.
 TESTS = ("gate", "edits", "examples", "runs", "dekarino", "judge", "judge_apart", "orders", "mistakes", "drawings", "documents",
          "apexports_script", "sweep_memory", "c_interface", "python", "package")
+# The first of these that is over the libraries for C.
+FIRST_WITH_LIBRARIES = "c_interface"
+# Many checks run side by side, each with one job: each further one would load the libraries again.
+ONE_JOB = ["--jobs", "1"]
 # What a test counts in the order of tasks, where a crate's edits count as many as they are.
 BEFORE_EDITS = 1000
 
@@ -97,7 +101,7 @@ class Verification:
 
     def build_library(self, rt, crate):
         """Builds a static library over the libraries that the gate proved."""
-        words = [*crate.words(["--jobs", str(crates.lanes())], keeps=False), "--toolchain", f"{self.kit}/toolchain"]
+        words = [*crate.words(ONE_JOB, keeps=False), "--toolchain", f"{self.kit}/toolchain"]
         words = [rt.rtlib.RATTLE, "build", *words, "--backend", "llvm", "-o", f"out/lib{crate.name}.a"]
         status, text = self.ran(f"library of {crate.name}", [*rt.rtlib.guarded(), *words], crate.folder)
         if status:
@@ -112,7 +116,7 @@ class Verification:
         if status:
             self.fail(f"tests/{name} ended with the status {status}")
 
-    def try_edits(self, rt, crate, jobs):
+    def try_edits(self, rt, crate):
         """Tries the must-fail edits of a crate."""
         folder = f"{self.edits}/crates/{crate.name}"
         good, bad = rt.edits_of(types.SimpleNamespace(folder=folder))
@@ -129,7 +133,7 @@ class Verification:
             else:
                 tried.append(edit)
         with tempfile.TemporaryDirectory(prefix="kept-", dir=self.room) as kept:
-            trials.Trials(crate.name, tried, sources, check_of(rt, crate, jobs, kept), self.tell_edit).run()
+            trials.Trials(crate.name, tried, sources, check_of(rt, crate, kept), self.tell_edit).run()
 
     def tell_edit(self, edit, verdict):
         if verdict.is_refused:
@@ -140,10 +144,14 @@ class Verification:
             self.fail(f"must-fail {edit.name}: {verdict.words}")
 
     def tasks(self, rt, known, with_edits):
-        """Returns the work that is left once all is proved: the tests in turn, which are begun first, and each crate's
-        edits beside them, first where there are most."""
-        found, after = {}, []
+        """Returns the work that is left once all is proved: the libraries for C and the tests in turn, which are begun
+        first, and each crate's edits beside them, first where there are most."""
+        found, after, libraries = {}, [], []
+        for crate in [it for it in known if it.is_static]:
+            libraries.append(f"the library of {crate.name}")
+            found[libraries[-1]] = crates.Task([], BEFORE_EDITS, lambda jobs, it=crate: self.build_library(rt, it))
         for name in TESTS:
+            after = [*after, *libraries] if name == FIRST_WITH_LIBRARIES else after
             found[f"tests/{name}"] = crates.Task(after, BEFORE_EDITS, lambda jobs, it=name: self.run_test(it))
             after = [f"tests/{name}"]
         for crate in known if with_edits else []:
@@ -151,7 +159,7 @@ class Verification:
             if os.path.isdir(folder):
                 count = len(os.listdir(folder))
                 found[f"the edits of {crate.name}"] = crates.Task(
-                    [], count, lambda jobs, it=crate: self.try_edits(rt, it, jobs))
+                    [], count, lambda jobs, it=crate: self.try_edits(rt, it))
         return found
 
     def do(self, tasks, shown):
@@ -183,8 +191,6 @@ class Verification:
             stored = progress.durations(TABLE)
             with progress.Progress(after, crates.lanes(), (), stored, kind="parts", prefix="test: ") as shown:
                 if self.prove(shown) and self.take_programs():
-                    for crate in [it for it in known if it.is_static]:
-                        self.build_library(rt, crate)
                     self.do(tasks, shown)
             heading = f"The seconds that each part took in a run of ./test{' all' if with_edits else ''}."
             progress.write_durations(f"{self.root}/out/durations.txt", heading, shown.took)
@@ -209,7 +215,7 @@ def texts_of(folder):
     return found
 
 
-def check_of(rt, crate, jobs, kept):
+def check_of(rt, crate, kept):
     """Returns the check of the crate, a copy, with other and more texts, over what its checks before it proved in this
     run."""
     def check(texts, names):
@@ -217,7 +223,7 @@ def check_of(rt, crate, jobs, kept):
             # (rt copies the crate's folders, and then writes the texts into these)
             os.makedirs(os.path.dirname(f"{crate.folder}/{path}"), exist_ok=True)
         only = [word for name in names for word in ("--only", name)]
-        ran = rt.checked(crate, texts, ["--jobs", str(jobs), *only], kept)
+        ran = rt.checked(crate, texts, [*ONE_JOB, *only], kept)
         return said.Said(ran.stdout, ran.returncode)
 
     return check

@@ -17,5 +17,3 @@ pub mod queuing;
 pub mod readers;
 mod rows;
 pub mod sampling;
-#[cfg(test)]
-mod tests;
