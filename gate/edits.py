@@ -7,6 +7,8 @@ OWNER = re.compile(r"^ *(?:pub(?:\([^)]*\))? )?(?:unsafe )?(?:impl|trait|mod)\b"
 # The head of a block of methods, and that of one for a trait without arguments.
 METHODS = re.compile(r"^ *(?:unsafe )?impl(?:<.*?>)? (\w+)")
 OF_TRAIT = re.compile(r"^ *(?:unsafe )?impl(?:<.*?>)? (\w+) for (\w+)")
+# The line by which an edit of a definition names a function whose contract it breaks.
+BREAKS = re.compile(r"^# Breaks: (\S+)$", re.M)
 
 
 class Function:
@@ -97,9 +99,10 @@ def functions_of(path, text):
 class Edit:
     """An edit that was read: the lines that it changes, by file and number, and the functions that they stand in."""
 
-    def __init__(self, name, changes, functions):
-        """name: CRATE/FILE; functions: None where a change stands outside of a body."""
-        self.name, self.changes, self.functions = name, changes, functions
+    def __init__(self, name, changes, functions, breaks):
+        """name: CRATE/FILE; functions: None where a change stands outside of a body; breaks: the name of a function
+        that the edit itself tells as broken, or None."""
+        self.name, self.changes, self.functions, self.breaks = name, changes, functions, breaks
 
 
 def changed_lines(old, new):
@@ -123,11 +126,18 @@ def bodies_of(changes, sources):
     return found
 
 
-def read(name, texts, sources):
+def read(name, texts, sources, breaks=None):
     """Returns the edit with these new texts of files in place of the sources, or None where it changes nothing."""
     changes = {path: changed_lines(sources[path], text) for path, text in texts.items()}
     changes = {path: lines for path, lines in changes.items() if lines}
-    return Edit(name, changes, bodies_of(changes, sources)) if changes else None
+    return Edit(name, changes, bodies_of(changes, sources), breaks) if changes else None
+
+
+def broken_by(file):
+    """Returns the name of the function that the text of an edit tells as broken, or None."""
+    with open(file, encoding="utf-8", errors="replace") as text:
+        found = BREAKS.search(text.read())
+    return found and found[1]
 
 
 def merged(edits, sources):

@@ -65,8 +65,17 @@ class Trials:
         # once more, since the goals of a function can wait for the proof of one that it calls
         self.round()
         for edit in list(self.left):
-            self.end(edit, judged_alone(self.checked(edits.merged([edit], self.sources), [])))
+            self.end(edit, self.alone(edit))
         return self.verdicts
+
+    def alone(self, edit):
+        """Returns the verdict on an edit that is tried alone: by the function that it tells as broken, if that has a
+        goal that is not proved, and else by the whole crate."""
+        texts = edits.merged([edit], self.sources)
+        told = edit.breaks and self.checked(texts, [edit.breaks])
+        if told and told.is_judged() and told.goals() and not told.wrong_shapes():
+            return refused(told.goals()[0])
+        return judged_alone(self.checked(texts, []))
 
     def round(self):
         """Tries all that is left and changes only bodies, many in each check, but none twice with the same others."""

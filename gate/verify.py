@@ -127,7 +127,7 @@ class Verification:
         for file in good:
             name = f"{crate.name}/{os.path.basename(file)}"
             texts, why = rt.read_edit(file, crate.folder)
-            edit = None if why else edits.read(name, texts, sources)
+            edit = None if why else edits.read(name, texts, sources, edits.broken_by(file))
             if edit is None:
                 self.fail(f"must-fail {name}: {why or 'it changes nothing'}")
             else:
