@@ -49,11 +49,32 @@ pub(crate) fn program<'a>(alloc: Global) -> Result<Command<'a>, AllocError> {
     )
 }
 
-fn json<'a>(alloc: Global) -> Arg<'a> {
-    Arg::new(alloc, JSON)
-        .long(JSON)
+/// An option without a value.
+fn flag<'a>(alloc: Global, name: &'a str, help: &'a str) -> Arg<'a> {
+    Arg::new(alloc, name)
+        .long(name)
         .action(ArgAction::SetTrue)
-        .help(help::JSON)
+        .help(help)
+}
+
+/// An option with a value.
+fn option<'a>(alloc: Global, name: &'a str, value: &'a str, help: &'a str) -> Arg<'a> {
+    Arg::new(alloc, name)
+        .long(name)
+        .value_name(value)
+        .help(help)
+}
+
+/// An argument of one file or more.
+fn files<'a>(alloc: Global, name: &'a str, help: &'a str) -> Arg<'a> {
+    Arg::new(alloc, name)
+        .required(true)
+        .num_args(1..)
+        .help(help)
+}
+
+fn json<'a>(alloc: Global) -> Arg<'a> {
+    flag(alloc, JSON, help::JSON)
 }
 
 fn config<'a>(alloc: Global) -> Arg<'a> {
@@ -76,14 +97,12 @@ pub(crate) fn explain_alone<'a>(alloc: Global) -> Result<Command<'a>, AllocError
 }
 
 fn explain<'a>(alloc: Global) -> Result<Command<'a>, AllocError> {
-    let calls = Arg::new(alloc, CALLS).required(true).num_args(1..).help(
-        "The file of a trace, or the file of a script for each partition that has one",
-    );
+    let calls = "The file of a trace, or the file of a script for each partition that has one";
     Command::new(alloc, "explain")
         .about("Tells each call of a trace or a run beside its reply")
         .after_help(help::EXPLAIN)
         .arg(config(alloc))?
-        .arg(calls)?
+        .arg(files(alloc, CALLS, calls))?
         .arg(json(alloc))
 }
 
@@ -101,29 +120,15 @@ pub(crate) fn judge_alone<'a>(alloc: Global) -> Result<Command<'a>, AllocError> 
 }
 
 fn judge<'a>(alloc: Global) -> Result<Command<'a>, AllocError> {
-    let logs = Arg::new(alloc, LOGS).required(true).num_args(1..).help(
-        "The file of a log, or the file of a log for each partition that has one",
-    );
-    let first = Arg::new(alloc, FIRST)
-        .long(FIRST)
-        .action(ArgAction::SetTrue)
-        .help(help::FIRST);
-    let order = Arg::new(alloc, ORDER)
-        .long(ORDER)
-        .value_name("FILE")
-        .help(help::ORDER);
-    let steps = Arg::new(alloc, STEPS)
-        .long(STEPS)
-        .value_name("N")
-        .help(help::STEPS);
+    let logs = "The file of a log, or the file of a log for each partition that has one";
     Command::new(alloc, "judge")
         .about("Tells where the replies of recorded logs depart from the standard")
         .after_help(help::JUDGE)
         .arg(config(alloc))?
-        .arg(logs)?
-        .arg(first)?
-        .arg(order)?
-        .arg(steps)?
+        .arg(files(alloc, LOGS, logs))?
+        .arg(flag(alloc, FIRST, help::FIRST))?
+        .arg(option(alloc, ORDER, "FILE", help::ORDER))?
+        .arg(option(alloc, STEPS, "N", help::STEPS))?
         .arg(json(alloc))
 }
 
@@ -133,30 +138,15 @@ pub(crate) fn orders_alone<'a>(alloc: Global) -> Result<Command<'a>, AllocError>
 }
 
 fn orders<'a>(alloc: Global) -> Result<Command<'a>, AllocError> {
-    let scripts = Arg::new(alloc, SCRIPTS)
-        .required(true)
-        .num_args(1..)
-        .help("The file of a script for each partition that has one");
-    let states = Arg::new(alloc, STATES)
-        .long(STATES)
-        .value_name("N")
-        .help(help::STATES);
-    let when = Arg::new(alloc, WHEN)
-        .long(WHEN)
-        .value_name("CALL = REPLY")
-        .help(help::WHEN);
-    let never = Arg::new(alloc, NEVER)
-        .long(NEVER)
-        .value_name("CALL = REPLY")
-        .help(help::NEVER);
+    let scripts = "The file of a script for each partition that has one";
     Command::new(alloc, "orders")
         .about("Tells what scripts can come to over every order of their calls")
         .after_help(help::ORDERS)
         .arg(config(alloc))?
-        .arg(scripts)?
-        .arg(states)?
-        .arg(when)?
-        .arg(never)?
+        .arg(files(alloc, SCRIPTS, scripts))?
+        .arg(option(alloc, STATES, "N", help::STATES))?
+        .arg(option(alloc, WHEN, "CALL = REPLY", help::WHEN))?
+        .arg(option(alloc, NEVER, "CALL = REPLY", help::NEVER))?
         .arg(json(alloc))
 }
 
