@@ -1,5 +1,6 @@
-# Tells whether a program or a static library is built from the sources, and by the toolchain, that are there now.
-# For the scripts 'apexports', 'dekarino' and 'package' and for 'test', which set root to the checkout.
+# Tells whether a program or a static library is built from the sources, and by the toolchain, that are there now, and
+# unpacks the prebuilt programs where they are those of these sources. For the scripts 'apexports', 'dekarino', 'package',
+# 'python/build' and 'c/build' and for 'test', which set root to the checkout.
 
 # Prints the names of all programs, the crates with a main.
 programs() {
@@ -43,27 +44,152 @@ find_toolchain() {
     return 1
 }
 
-# archive [FILE]: all that the toolchain itself compares before it builds, and the file, as one stream of bytes. Its
-# order is that of no locale, so that it is the same in each.
+# archive [FILE..]: all sources, and the files, as one stream of bytes. Its order is that of no locale, so that it is the
+# same in each.
 archive() (
     export LC_ALL=C
     cd "$root" && TAR_OPTIONS='' exec tar -c --format=gnu --sort=name --mtime=@0 --owner=:0 --group=:0 --mode=0 \
-        crates.txt crates/*/src crates/*/specs crates/*/proofs "$@" -C "$toolchain" WHAT
+        crates.txt crates/*/src crates/*/specs crates/*/proofs "$@"
 )
+
+# archive_built [FILE]: all that the toolchain itself compares before it builds, and the file.
+archive_built() {
+    archive "$@" -C "$toolchain" WHAT
+}
 
 # Whether the program is the one of the last record, and all that it was built from is as it was.
 is_built() {
     test "$kind" "$program" && [ -f "$record/archive" ] &&
-        archive "${program#"$root/"}" 2> /dev/null | cmp -s - "$record/archive"
+        archive_built "${program#"$root/"}" 2> /dev/null | cmp -s - "$record/archive"
 }
 
 # record_build FILE: records that the program was built from what the archive in the file has, if that is still there,
 # and the line of the toolchain.
 record_build() {
-    mkdir -p "$record" && archive "${program#"$root/"}" > "$record/archive.$$" &&
-        archive | cmp -s - "$1" && cp "$toolchain/WHAT" "$record/WHAT.$$" &&
+    mkdir -p "$record" && archive_built "${program#"$root/"}" > "$record/archive.$$" &&
+        archive_built | cmp -s - "$1" && cp "$toolchain/WHAT" "$record/WHAT.$$" &&
         "$toolchain/bin/rt" version > "$record/toolchain" && mv -f "$record/WHAT.$$" "$record/WHAT" &&
         mv -f "$record/archive.$$" "$record/archive" && return
     rm -f "$record/WHAT.$$" "$record/archive.$$"
     return 1
+}
+
+# Prints the names of the programs and of the static library that are not built from these sources.
+not_built() {
+    of_each print_not_built
+}
+
+print_not_built() {
+    is_built || printf ' %s' "${program##*/}"
+}
+
+# The prebuilt programs, and the shared object of the C interface: the archive that holds them, and the text that names
+# the sources and the toolchain that they were proved with, and the SHA-256 of each.
+packed=prebuilt/x86_64-linux.tar.gz
+origin=prebuilt/BUILT_FROM
+
+# Prints the SHA-256 and the name of each source, in an order of no locale.
+list_sources() (
+    export LC_ALL=C
+    cd "$root" && find crates.txt crates/*/src crates/*/specs crates/*/proofs ! -type d | sort | xargs sha256sum
+)
+
+# origin_of WORD: prints what the text says of the sources or of the toolchain.
+origin_of() {
+    sed -n "s/^$1 //p" "$root/$origin"
+}
+
+# Prints the folders that the prebuilt programs may be unpacked in, the first choice first.
+places() {
+    printf '%s\n' "$root/out/prebuilt"
+    [ -z "${XDG_CACHE_HOME:-${HOME:-}}" ] ||
+        printf '%s\n' "${XDG_CACHE_HOME:-$HOME/.cache}/dekarino/$(origin_of sources)"
+    shared_place
+}
+
+# Prints the last of these folders. It is below one that all can write.
+shared_place() {
+    [ -d "${TMPDIR:-}" ] || TMPDIR=/tmp
+    printf '%s\n' "$TMPDIR/dekarino-$(id -u)/$(origin_of sources)"
+}
+
+# is_own FOLDER: whether nobody else made the folder, where that may be.
+is_own() {
+    [ "$1" = "$(shared_place)" ] || return 0
+    [ -O "${1%/*}" ] && [ ! -L "${1%/*}" ] && [ "$(stat -c %a "${1%/*}")" = 700 ]
+}
+
+archive_unpacked() {
+    archive "$origin" -C "$place" apexports dekarino libdekarino.so
+}
+
+# Whether the prebuilt programs of just these sources are unpacked, as they were when they were compared. Sets place to
+# their folder.
+is_unpacked() {
+    [ -f "$root/$origin" ] || return
+    while read -r place; do
+        [ -f "$place/archive" ] && is_own "$place" &&
+            archive_unpacked 2> /dev/null | cmp -s - "$place/archive" && return
+    done << END
+$(places)
+END
+    return 1
+}
+
+# Makes the first of the folders that can be made, and a folder for this run in it. Sets place and new to these.
+find_place() {
+    while read -r place; do
+        (umask 077 && mkdir -p "${place%/*}") 2> /dev/null && mkdir -p "$place" 2> /dev/null && is_own "$place" &&
+            new=$(mktemp -d "$place/unpacking.XXXXXX" 2> /dev/null) && return
+    done << END
+$(places)
+END
+    return 1
+}
+
+# first_other_source LIST: prints the first file in which the sources differ from those of the list.
+first_other_source() {
+    { printf '%s\n' "$1" && list_sources; } 2> /dev/null | LC_ALL=C sort | uniq -u | sed 's/^[^ ]*  *//' |
+        LC_ALL=C sort | head -n 1
+}
+
+# Unpacks into the folder new, compares, and puts what was compared into place. Where that fails, why says it.
+unpack_into_place() {
+    why="and $packed is damaged: what it holds is not what $origin names"
+    gzip -dc "$root/$packed" > "$new/packed" 2> /dev/null && grep '^[0-9a-f]\{64\}  ' "$root/$origin" > "$new/sums" &&
+        (cd "$new" && tar -x -f packed && sha256sum -c sums) > /dev/null 2>&1 || return
+    why="and the prebuilt one cannot be written to $place: see that its disk has room"
+    for each in apexports dekarino libdekarino.so; do
+        chmod 755 "$new/$each" && mv -f "$new/$each" "$place/$each" || return
+    done
+    archive_unpacked > "$new/archive" && mv -f "$new/archive" "$place/archive"
+}
+
+# Unpacks the prebuilt programs where they are those of these sources. Where it doesn't, why says the reason, if there are
+# prebuilt programs.
+unpack() {
+    why=
+    [ -f "$root/$origin" ] && [ -f "$root/$packed" ] || return
+    if [ "$(list_sources 2> /dev/null | sha256sum)" != "$(origin_of sources)  -" ]; then
+        why="and $packed is damaged: it cannot be unpacked"
+        list=$(gzip -dc "$root/$packed" 2> /dev/null | tar -xO -f - sources 2> /dev/null) || return
+        why="and the prebuilt one is that of other sources, which differ first in $(first_other_source "$list")"
+        return 1
+    fi
+    why="and the prebuilt one cannot be unpacked, since no folder for it can be written:"
+    why="$why $(places | paste -s -d ' ' -)"
+    find_place || return
+    trap 'rm -rf "$new"; exit 125' HUP INT TERM
+    unpack_into_place
+    unpacked=$?
+    rm -rf "$new"
+    trap - HUP INT TERM
+    return "$unpacked"
+}
+
+# Sets program to the one that is built from these sources, or else to the prebuilt one.
+is_ready() {
+    is_built && return
+    is_unpacked || unpack || return
+    program=$place/$name
 }

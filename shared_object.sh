@@ -1,5 +1,6 @@
-# Makes the shared object of the C interface, for the scripts 'package' and 'python/build', which set root
-# and toolchain.
+# Makes what is handed out of what was built, for the scripts 'package', 'prebuilt/update', 'python/build' and 'c/build',
+# which set root and have fail: programs without symbols, and the libraries of the C interface. By the toolchain's own
+# tools, so that the bytes and the C library that is wanted hang on it alone.
 
 # set_version: the version, which is the first one of the changes, and the name of the shared object.
 set_version() {
@@ -8,9 +9,17 @@ set_version() {
     [ -n "$version" ]
 }
 
+# strip_to PROGRAM TO: the program without its symbols.
+strip_to() {
+    tools=$(mktemp -d) && ln -s "$toolchain/toolchain/bin/clang" "$tools/llvm-strip" &&
+        "$tools/llvm-strip" -s -o "$2" "$1"
+    stripped=$?
+    rm -rf "$tools"
+    return "$stripped"
+}
+
 # make_libraries LIBRARY FOLDER: all objects that a program in C has to link, in one archive, and these as a shared
-# object that shows the functions of apex_ports.h alone. By the toolchain's own tools, so that the bytes and the C
-# library that is wanted hang on it alone.
+# object that shows the functions of apex_ports.h alone.
 make_libraries() {
     tools=$toolchain/toolchain
     {
@@ -19,6 +28,28 @@ make_libraries() {
         echo 'local: *; };'
     } > "$2/shown"
     "$tools/bin/llvm-ar" qcsDL "$2/libdekarino.a" "$1" "$toolchain/c/liblibc_c.a" &&
-        "$tools/bin/ld.lld" -shared -z defs -z now --build-id=none -soname "$soname" --version-script "$2/shown" \
+        "$tools/bin/ld.lld" -shared -s -z defs -z now --build-id=none -soname "$soname" --version-script "$2/shown" \
             --whole-archive "$2/libdekarino.a" --no-whole-archive "$tools/lib/libc.so.6" -o "$2/$soname"
+}
+
+# provide_shared_object FOLDER: leaves libdekarino.so in the folder: made of the static library where that is built from
+# the sources that are there, else the prebuilt one where it is of these sources, else of the library that is proved and
+# built now.
+provide_shared_object() {
+    set_version || fail "CHANGES.md has no line '## VERSION'"
+    mkdir -p "$1" && work=$(mktemp -d "$1/building.XXXXXX") || fail "$1 cannot be written"
+    trap 'rm -rf "$work"' EXIT
+    of_library apex_c
+    why=
+    if find_toolchain && is_built; then
+        make_libraries "$program" "$work"
+    elif is_unpacked || unpack; then
+        cp "$place/libdekarino.so" "$work/$soname"
+    elif [ "$toolchain" = "$record" ]; then
+        fail "the library is not built from these sources${why:+, $why}, and there is no command rt to build it:" \
+            "put the toolchain's bin folder into PATH, or name the toolchain in RATTLE_KIT"
+    else
+        (cd "$crate" && rt lib >&2) && make_libraries "$program" "$work"
+    fi && mv -f "$work/$soname" "$1/libdekarino.so" ||
+        fail "the shared object could not be made: mend what is said above, and run this again"
 }

@@ -18,23 +18,32 @@ def part_of(crate, is_tests):
 class Gate:
     """One run of `rt ci`: its counts, and how much time of the processors it took."""
 
-    def __init__(self, kit, folder, log, usage_of, out, shown):
-        """folder: the repository; log: the file that gets all lines; usage_of: what looks on; out: shows a line; shown:
-        the progress, with a part for each crate and for the tests of each."""
-        self.kit, self.folder, self.log, self.usage, self.out, self.shown = kit, folder, log, usage_of, out, shown
-        self.block, self.closing, self.seconds, self.lock = None, None, 0, threading.Lock()
+    def __init__(self, kit, folder, log, usage_of, counts, parts):
+        """folder: the repository; log: the file that gets all lines; usage_of: what looks on; counts: what passed and
+        failed; parts: the names of each crate and of the tests of each."""
+        self.kit, self.folder, self.log, self.usage, self.counts, self.parts = kit, folder, log, usage_of, counts, parts
+        self.block, self.closing, self.proved, self.seconds, self.lock = None, None, 0, 0, threading.Lock()
 
-    def run(self):
-        """Returns the numbers of what passed and failed."""
-        self.usage.begun = self.begun
-        status = self.follow()
+    def run(self, clock, shown):
+        """Runs it in the time that the clock leaves, and shows how far it is. Returns whether all passed."""
+        self.shown, self.usage.begun = shown, self.begun
+        status = self.follow(clock)
         if self.closing is None:
-            self.out(f"test: FAILED: rt ci ended with the status {status} and without its closing line: see {self.log}")
-            return 0, 1
+            self.counts.passes(self.proved)
+            self.counts.fails(self.why_unfinished(status, clock))
+            return False
         passed, failed = map(int, self.closing)
-        return passed, max(failed, 1) if status else failed
+        self.counts.passes(passed)
+        self.counts.adds_failures(max(failed, 1) if status else failed)
+        return self.counts.failed == 0
 
-    def follow(self):
+    def why_unfinished(self, status, clock):
+        if clock.is_up():
+            return (f"the {clock.minutes:g} minutes were up when {self.proved} of {len(self.parts)} proofs and tests of crates "
+                    "were done: run this again, which takes over what is proved, or give it more time")
+        return f"rt ci ended with the status {status} and without its closing line: see {self.log}"
+
+    def follow(self, clock):
         words = [f"{self.kit}/bin/rt", "ci"]
         # With RT_JOBS each check has one job: each further one would load the libraries again.
         room = {**os.environ, "RT_JOBS": str(crates.lanes())}
@@ -42,6 +51,7 @@ class Gate:
             words, cwd=self.folder, env=room, stdin=subprocess.DEVNULL, stdout=subprocess.PIPE,
             stderr=subprocess.STDOUT, universal_newlines=True, errors="replace",
         ) as ran:
+            cancel = clock.when_up(ran.terminate)
             try:
                 for line in ran.stdout:
                     log.write(line)
@@ -51,13 +61,14 @@ class Gate:
                 ran.terminate()
                 raise
             self.seconds = usage.waited(ran)
+            cancel()
         return ran.returncode
 
     def begun(self, work):
         crate, kind = work
         part = part_of(crate, kind == "tests")
         with self.lock:
-            if part in self.shown.after and part not in self.shown.done and part not in self.shown.running:
+            if part in self.parts and part not in self.shown.done and part not in self.shown.running:
                 self.shown.begin(part)
 
     def take(self, line):
@@ -75,12 +86,12 @@ class Gate:
             for it in self.block or []:
                 if ended[3] != "proved" or it.startswith("rt: "):
                     self.show(it)
-            self.block = None
+            self.block, self.proved = None, self.proved + (ended[3] == "proved")
             self.end(part_of(ended[1], bool(ended[2])), f"{'are' if ended[2] else 'is'} {ended[3]}")
 
     def end(self, part, how):
         with self.lock:
-            if part in self.shown.after:
+            if part in self.parts:
                 if part not in self.shown.running:
                     self.shown.begin(part)
                 self.shown.end(part, how)
@@ -88,4 +99,4 @@ class Gate:
     def show(self, line):
         if self.shown.is_terminal:
             self.shown.write("\r\033[K")
-        self.out(line)
+        self.counts.say(line)

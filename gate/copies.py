@@ -9,7 +9,7 @@ APART = ("must-fail", "out")
 NAMES = ("crates.txt", "HANDLES", "BUILD.bazel", "MODULE.bazel")
 # The shell's words that archive the sources of the folder $2, as built_from.sh of the checkout $1 does, and those that
 # record a program or a library.
-ARCHIVE = '. "$1/built_from.sh" && root=$2 && find_toolchain && archive'
+ARCHIVE = '. "$1/built_from.sh" && root=$2 && find_toolchain && archive_built'
 RECORD = 'root=$1 && . "$1/built_from.sh" && find_toolchain && "of_$2" "$3" && record_build "$4"'
 
 

@@ -1,5 +1,6 @@
 """How much time of the processors the prover takes for each crate, by looking at the processes below this one."""
 import os
+import signal
 import threading
 
 TICKS = os.sysconf("SC_CLK_TCK")
@@ -105,3 +106,11 @@ def table(usage, parts):
     lines.append("minutes of a core")
     lines += [f"{part:26}{minutes:9.1f}" for part, minutes in parts.items()]
     return [*lines, f"{'in all':26}{sum(parts.values()):9.1f}"]
+
+
+def kill_group(process):
+    """Ends a process and all of its group."""
+    try:
+        os.killpg(process, signal.SIGKILL)
+    except OSError:
+        pass

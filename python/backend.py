@@ -1,9 +1,10 @@
 """By what pip installs the package 'dekarino' from this folder: offline, and with nothing but Python (PEP 517). What is
-installed has the shared object beside it, and each program where that is built."""
+installed has the shared object beside it, and the programs that are there; in a checkout python/build puts them here."""
 import base64
 import hashlib
 import pathlib
 import re
+import subprocess
 import zipfile
 
 HERE = pathlib.Path(__file__).resolve().parent
@@ -17,23 +18,16 @@ def version():
     return re.search(r"^## (\d[\d.]*)$", (ROOT / "CHANGES.md").read_text(), re.M)[1]
 
 
-def first_of(*places):
-    """The first of the places where there is a file, or None."""
-    return next((place for place in places if place.is_file()), None)
-
-
 def contents():
     """What is installed: the path of each file by its name there."""
-    library = first_of(ROOT / "c/libdekarino.so", HERE / "out/libdekarino.so")
-    if library is None:
-        raise SystemExit(f"there is no shared object to install: make it by {HERE / 'build'}")
-    found = {f"dekarino/{it.name}": it for it in sorted((HERE / "dekarino").iterdir()) if it.is_file()}
-    found["dekarino/libdekarino.so"] = library
     is_package = (ROOT / "BUILT_FROM").exists()
-    for name in PROGRAMS:
-        program = first_of(ROOT / (name if is_package else f"crates/{name}/out/{name}"))
-        if program:
-            found[f"dekarino/{name}"] = program
+    if not is_package and subprocess.run([HERE / "build"], stdin=subprocess.DEVNULL, check=False).returncode:
+        raise SystemExit(f"there is no shared object to install: see what {HERE / 'build'} says above")
+    built = ROOT / "c" if is_package else HERE / "out"
+    found = {f"dekarino/{it.name}": it for it in sorted((HERE / "dekarino").iterdir()) if it.is_file()}
+    found["dekarino/libdekarino.so"] = built / "libdekarino.so"
+    programs = ROOT if is_package else built
+    found.update({f"dekarino/{name}": programs / name for name in PROGRAMS if (programs / name).is_file()})
     return found
 
 

@@ -1,21 +1,19 @@
 /* c_refused_memory CONFIG: opens with every request for memory refused in turn, and with all refused from each on,
  * until an opening meets no refusal. Each refused opening has to answer want of memory, leave the handle closed and
  * give all memory back. The words of a refused call and what is told of a faulty configuration are asked for likewise.
- * Then come calls with all memory refused, which have to ask for none. Prints the numbers. Linked with --wrap for
- * malloc, calloc, realloc and free. */
+ * Then come calls with all memory refused, which have to ask for none. Prints the numbers. Its malloc and the like stand
+ * in the place of the C library's, for the static library and for the shared object. */
 #include "../c/apex_ports.h"
 #include "c_test.h"
+#include <stdlib.h>
 
 enum { CALLS = 10000 };
 
-void *__real_malloc(size_t size);
-void *__real_calloc(size_t count, size_t size);
-void *__real_realloc(void *block, size_t size);
-void __real_free(void *block);
-void *__wrap_malloc(size_t size);
-void *__wrap_calloc(size_t count, size_t size);
-void *__wrap_realloc(void *block, size_t size);
-void __wrap_free(void *block);
+/* What glibc has beneath its own. */
+void *__libc_malloc(size_t size);
+void *__libc_calloc(size_t count, size_t size);
+void *__libc_realloc(void *block, size_t size);
+void __libc_free(void *block);
 
 /* The requests so far, which of them are refused, how many were, and how many blocks are held. */
 static unsigned long asked, refuse_from, refuse_to, refused;
@@ -28,27 +26,27 @@ static bool is_refused(void) {
     return is;
 }
 
-void *__wrap_malloc(size_t size) {
-    void *block = is_refused() ? NULL : __real_malloc(size);
+void *malloc(size_t size) {
+    void *block = is_refused() ? NULL : __libc_malloc(size);
     held += block != NULL;
     return block;
 }
 
-void *__wrap_calloc(size_t count, size_t size) {
-    void *block = is_refused() ? NULL : __real_calloc(count, size);
+void *calloc(size_t count, size_t size) {
+    void *block = is_refused() ? NULL : __libc_calloc(count, size);
     held += block != NULL;
     return block;
 }
 
-void *__wrap_realloc(void *block, size_t size) {
-    void *other = is_refused() ? NULL : __real_realloc(block, size);
+void *realloc(void *block, size_t size) {
+    void *other = is_refused() ? NULL : __libc_realloc(block, size);
     held += block == NULL && other != NULL;
     return other;
 }
 
-void __wrap_free(void *block) {
+void free(void *block) {
     held -= block != NULL;
-    __real_free(block);
+    __libc_free(block);
 }
 
 static void refuse(unsigned long from, unsigned long to) {

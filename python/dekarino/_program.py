@@ -136,15 +136,15 @@ class Judgement:
 
 
 def find_program(name: str) -> pathlib.Path:
-    """The path of a program: in this folder, built in a checkout, or in an unpacked package."""
-    places = [FOLDER / name, ROOT / "crates" / name / "out" / name]
+    """The path of a program: in this folder, where python/build of a checkout puts it, or in an unpacked package."""
+    places = [FOLDER / name, ROOT / "python/out" / name]
     if (ROOT / "BUILT_FROM").exists():
         places.append(ROOT / name)
     for place in places:
         if place.exists():
             return place
-    raise LibraryError(f"there is no program at {', '.join(map(str, places))}: make it by `./{name} --version` in a "
-                       "checkout")
+    raise LibraryError(f"there is no program at {', '.join(map(str, places))}: make it by python/build in a checkout, "
+                       f"and by `./{name} --version` before that where it is not built")
 
 
 @contextlib.contextmanager

@@ -1,0 +1,60 @@
+"""What a verification counts, and the time that it has."""
+import threading
+import time
+
+
+class Counts:
+    """What passed, failed and was skipped. Lines and counts come from many threads."""
+
+    def __init__(self):
+        self.passed = self.failed = self.skipped = 0
+        self.lock = threading.Lock()
+
+    def say(self, line):
+        with self.lock:
+            print(line, flush=True)
+
+    def passes(self, count=1):
+        with self.lock:
+            self.passed += count
+
+    def adds_failures(self, count):
+        with self.lock:
+            self.failed += count
+
+    def fails(self, line):
+        self.adds_failures(1)
+        self.say(f"test: FAILED: {line}")
+
+    def skips(self, line, count=1):
+        with self.lock:
+            self.skipped += count
+        self.say(f"test: SKIPPED: {line}")
+
+    def closing(self):
+        skipped = f", {self.skipped} skipped" if self.skipped else ""
+        return f"{self.passed} passed, {self.failed} failed{skipped}"
+
+
+class Clock:
+    """The minutes that a verification has, or None for as many as it takes."""
+
+    def __init__(self, minutes=None):
+        self.minutes = minutes
+        self.ends = None if minutes is None else time.monotonic() + 60 * minutes
+
+    def left(self):
+        """Returns the seconds that are left, or None."""
+        return None if self.ends is None else max(self.ends - time.monotonic(), 0)
+
+    def is_up(self):
+        return self.left() == 0
+
+    def when_up(self, work):
+        """Has the work done once the time is up. Returns what cancels it."""
+        if self.ends is None:
+            return lambda: None
+        timer = threading.Timer(self.left(), work)
+        timer.daemon = True
+        timer.start()
+        return timer.cancel

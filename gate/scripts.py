@@ -1,0 +1,74 @@
+"""The tests that run the programs and the libraries: the scripts of tests/, side by side. They prove nothing."""
+import os
+import re
+import subprocess
+
+import crates
+import usage
+
+# Each script, those first that take longest, and those after which it is run.
+TESTS = {
+    "sweep_memory": (), "c_interface": (), "apexports_script": (), "orders": (), "gate": (), "judge_apart": (),
+    "prebuilt": (), "python": ("c_interface",), "package": ("python",), "runs": (), "judge": (), "run_cases": (),
+    "examples": (), "dekarino": (), "mistakes": (), "drawings": (), "documents": (),
+}
+# Those that want the toolchain, or more minutes, and the words that they are run with.
+WHOLE = {"edits": (), "sweep_memory": ("all",)}
+# The status of a script that can try nothing here.
+SKIPPED = 77
+SAID_SKIPPED = re.compile(r"^(\w+: SKIPPED: .*)$", re.M)
+
+
+class Scripts:
+    """One run of the scripts, and the minutes of processors that each took."""
+
+    def __init__(self, root, counts, clock, is_whole):
+        self.root, self.counts, self.clock, self.is_whole, self.minutes = root, counts, clock, is_whole, {}
+        # (what would change how the scripts find their parts)
+        self.environment = {it: text for it, text in os.environ.items() if it not in ("CDPATH", "PYTHONSAFEPATH")}
+
+    def tasks(self, shown):
+        """Returns the scripts as tasks that begin when nothing else is left to do before them."""
+        after = {**TESTS, **({"edits": ()} if self.is_whole else {})}
+        seconds = {name: len(after) - at for at, name in enumerate(after)}
+        return {f"tests/{name}": crates.Task([f"tests/{it}" for it in after[name]], seconds[name],
+                                             lambda jobs, it=name: self.run(it, shown)) for name in after}
+
+    def run(self, name, shown):
+        shown.begin(f"tests/{name}")
+        try:
+            self.try_script(name)
+        except OSError as error:
+            self.counts.fails(f"tests/{name} could not be run: {error}")
+        shown.end(f"tests/{name}")
+        return True
+
+    def try_script(self, name):
+        words = WHOLE.get(name, ()) if self.is_whole else ()
+        if self.clock.is_up():
+            self.counts.fails(f"tests/{name} was not run: the {self.clock.minutes:g} minutes were up")
+            return
+        ran = subprocess.Popen([f"{self.root}/tests/{name}", *words], cwd=self.root, env=self.environment,
+                               stdin=subprocess.DEVNULL, stdout=subprocess.PIPE, stderr=subprocess.STDOUT,
+                               universal_newlines=True, errors="replace", start_new_session=True)
+        cancel = self.clock.when_up(lambda: usage.kill_group(ran.pid))
+        text = ran.stdout.read()
+        self.minutes[f"tests/{name}"] = usage.waited(ran) / 60
+        cancel()
+        self.tell(name, ran.returncode, text)
+
+    def tell(self, name, status, text):
+        skipped = SAID_SKIPPED.findall(text)
+        said = SAID_SKIPPED.sub("", text).strip("\n")
+        if said:
+            self.counts.say(said)
+        for line in skipped:
+            self.counts.skips(line.replace(": SKIPPED", "", 1))
+        if status == SKIPPED:
+            if not skipped:
+                self.counts.skips(f"tests/{name}")
+        elif status:
+            was_up = f", since the {self.clock.minutes:g} minutes were up" if status < 0 and self.clock.is_up() else ""
+            self.counts.fails(f"tests/{name} ended with the status {status}{was_up}")
+        else:
+            self.counts.passes()
