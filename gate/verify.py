@@ -160,7 +160,7 @@ def main(words):
             run_scripts(ROOT, counted)
     except (Exception, SystemExit):
         traceback.print_exc()
-        counted.fails("the verification itself broke off, as is told on standard error")
+        counted.fails("the verification itself broke off: see standard error")
     print(counted.closing())
     return 1 if counted.failed or not counted.passed else 0
 
