@@ -1,8 +1,12 @@
 //! Standard output and standard error that take little, are interrupted or fail.
-use super::program::FakeFiles;
+use super::program::{COUNTED, FakeFiles};
 use apex_tasks::program;
+use std::alloc::Global;
 use std::io;
 use std::io::{ErrorKind, Write};
+use std::process::Abort;
+use std::sync::Wait;
+use std::thread::Threads;
 
 /// Why an output fails.
 #[derive(Clone, Copy, Debug, PartialEq, Eq)]
@@ -21,6 +25,16 @@ struct Output {
     taken: Vec<u8>,
     failure: Failure,
     interrupted: bool,
+}
+
+impl Output {
+    fn new(alloc: Global, failure: Failure) -> Output {
+        Output {
+            taken: Vec::new(alloc),
+            failure,
+            interrupted: false,
+        }
+    }
 }
 
 impl Write for Output {
@@ -47,48 +61,28 @@ impl Write for Output {
     }
 }
 
-/// A failure of standard output, and the bytes, the line and the status that it then ends in.
-const OUTCOMES: [(Failure, &str, &str, u8); 4] = [
-    (
-        Failure::Never,
-        "ok partitions 3 ports 4 channels 2\n",
-        "",
-        0,
-    ),
-    (Failure::After(0), "", "cannot write\n", 3),
-    (Failure::After(7), "ok part", "cannot write\n", 3),
-    (
-        Failure::AtFlush,
-        "ok partitions 3 ports 4 channels 2\n",
-        "cannot write\n",
-        3,
-    ),
-];
+/// The program gives these bytes to an output that fails so, ends with the status, and tells the line.
+fn gives<R: Abort + AllocGlobal + Threads + Wait + Sync>(
+    rt: &R,
+    failure: Failure,
+    written: &str,
+    told: &str,
+    status: u8,
+) {
+    let alloc: Global = rt.alloc();
+    let words = ["apexports", "check", "module.toml"];
+    let mut output = Output::new(alloc, failure);
+    let mut errors = Output::new(alloc, Failure::Never);
+    let got = program(rt, alloc, &words, &FakeFiles, &mut output, &mut errors);
+    assert_eq!(rt; output.taken.as_slice(), written.as_bytes());
+    assert_eq!(rt; errors.taken.as_slice(), told.as_bytes());
+    assert_eq!(rt; got, status);
+}
 
 #[test]
 fn outputs_that_take_a_byte_a_write(rt: HostRuntime) {
-    let words = ["apexports", "check", "base.toml"];
-    for (failure, written, told, status) in OUTCOMES {
-        let mut output = Output {
-            taken: Vec::new(rt.alloc()),
-            failure,
-            interrupted: false,
-        };
-        let mut errors = Output {
-            taken: Vec::new(rt.alloc()),
-            failure: Failure::Never,
-            interrupted: false,
-        };
-        let got = program(
-            &rt,
-            rt.alloc(),
-            &words,
-            &FakeFiles,
-            &mut output,
-            &mut errors,
-        );
-        assert_eq!(rt; output.taken.as_slice(), written.as_bytes());
-        assert_eq!(rt; errors.taken.as_slice(), told.as_bytes());
-        assert_eq!(rt; got, status);
-    }
+    gives(&rt, Failure::Never, COUNTED, "", 0);
+    gives(&rt, Failure::After(0), "", "cannot write\n", 3);
+    gives(&rt, Failure::After(7), "ok part", "cannot write\n", 3);
+    gives(&rt, Failure::AtFlush, COUNTED, "cannot write\n", 3);
 }
