@@ -1,6 +1,6 @@
 //! What no program asks of a configuration: another one, and the lines of a refusal by names alone.
 use super::texts::REDUCED;
-use apex_config::Config;
+use apex_config::{ChannelKind, Config, PortKind};
 use apex_refusals::refusal_lines;
 use apex_types::Name;
 use std::alloc::Global;
@@ -26,6 +26,14 @@ fn a_copy_is_equal(rt: HostRuntime) -> Result<(), Fail> {
     let other = Config::read(rt.alloc(), b"[[partition]]\nname = \"FMS\"\n")?;
     assert!(rt; other != config);
     Ok(())
+}
+
+#[test]
+fn kinds_have_their_numbers(rt: HostRuntime) {
+    let queue = ChannelKind::Queuing { depth: 2 };
+    let port = PortKind::Sampling { refresh: 50 };
+    assert_eq!(rt; (queue.depth(), ChannelKind::Sampling.depth()), (2, 0));
+    assert_eq!(rt; (port.refresh(), PortKind::Queuing.refresh()), (50, 0));
 }
 
 /// The refusal of a text is told by these lines, of the text that is given.
@@ -71,7 +79,10 @@ fn every_place_is_told_by_names(rt: HostRuntime) -> Result<(), Fail> {
     let text = b"partition = [1,1,1,1,1,1,1,1,1,1,1,1,1,1,1,1,1,1,1,1,1,1,1,1]";
     let mut lines = String::new(rt.alloc());
     for number in 1..25 {
-        writeln!(lines, "partition number {number}: it is 1; it must be a table")?;
+        writeln!(
+            lines,
+            "partition number {number}: it is 1; it must be a table"
+        )?;
     }
     is_told(&rt, text, text, lines.as_str())
 }
