@@ -1,5 +1,5 @@
 //! The line of a search on a clock and an output that stand in for the system's.
-use companion_tasks::{Progress, ProgressLine, Reached};
+use companion_common::{Progress, ProgressLine, Reached};
 use std::cell::Cell;
 use std::io;
 use std::io::{IsTerminal, Write};
