@@ -1,6 +1,6 @@
 //! What no program asks of a configuration: another one, and the lines of a refusal by names alone.
 use super::texts::REDUCED;
-use apex_config::{ChannelKind, Config, PortKind};
+use apex_config::{ChannelKind, Config, ConfigFault, PortKind};
 use apex_refusals::refusal_lines;
 use apex_types::Name;
 use std::alloc::Global;
@@ -34,6 +34,35 @@ fn kinds_have_their_numbers(rt: HostRuntime) {
     let port = PortKind::Sampling { refresh: 50 };
     assert_eq!(rt; (queue.depth(), ChannelKind::Sampling.depth()), (2, 0));
     assert_eq!(rt; (port.refresh(), PortKind::Queuing.refresh()), (50, 0));
+}
+
+/// Each fault with its number and its words.
+const FAULTS: [(ConfigFault, Option<u32>, &str); 11] = [
+    (ConfigFault::NotToml, Some(1), "not TOML"),
+    (ConfigFault::Shape, Some(2), "shape"),
+    (ConfigFault::BadName, Some(3), "name"),
+    (ConfigFault::NameTwice, Some(4), "name twice"),
+    (ConfigFault::OutOfRange, Some(5), "number out of range"),
+    (ConfigFault::UnknownChannel, Some(6), "unknown channel"),
+    (
+        ConfigFault::KindDiffers,
+        Some(7),
+        "kind of port and channel differ",
+    ),
+    (ConfigFault::Sources, Some(8), "not exactly one source"),
+    (ConfigFault::Destinations, Some(9), "destinations"),
+    (ConfigFault::Counts, Some(10), "count out of limits"),
+    (ConfigFault::OutOfMemory, None, "out of memory"),
+];
+
+#[test]
+fn faults_print_their_words(rt: HostRuntime) -> Result<(), Fail> {
+    for (fault, number, words) in FAULTS {
+        assert_eq!(rt; fault.number(), number);
+        let printed = fault.to_string(rt.alloc())?;
+        assert_eq!(rt; printed.as_str(), words);
+    }
+    Ok(())
 }
 
 /// The refusal of a text is told by these lines, of the text that is given.

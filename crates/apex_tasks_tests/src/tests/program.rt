@@ -1,4 +1,6 @@
 //! The whole program on files that stand in for the system's: reads that fail, are interrupted or give a byte each.
+ghost use Rattle.std.specs.Prelude.{◌≤◌, length};
+
 use apex_tasks::{Opener, program};
 use std::alloc::Global;
 use std::io;
@@ -40,7 +42,9 @@ pub struct FakeFile {
 
 impl FakeFile {
     /// Gives what is left of a text, at most so many bytes.
-    fn give(&mut self, text: &str, most: usize, buf: &mut [u8]) -> usize {
+    fn give(&mut self, text: &str, most: usize, buf: &mut [u8]) -> usize
+        ensures { result ≤ length buf.new }
+    {
         let rest = text.as_bytes().get(self.given..).unwrap_or(b"");
         let count = rest.len().min(buf.len()).min(most);
         buf[..count].copy_from_slice(&rest[..count]);
@@ -49,7 +53,9 @@ impl FakeFile {
     }
 
     /// Gives so many spaces.
-    fn give_spaces(&mut self, count: usize, buf: &mut [u8]) -> usize {
+    fn give_spaces(&mut self, count: usize, buf: &mut [u8]) -> usize
+        ensures { result ≤ length buf.new }
+    {
         let count = count.min(buf.len());
         for byte in &mut buf[..count] {
             *byte = b' ';
@@ -64,9 +70,13 @@ impl Read for FakeFile {
         self.reads = self.reads.saturating_add(1);
         match self.content {
             Content::Text(text) => Ok(self.give(text, text.len(), buf)),
-            Content::Interrupted(_) if self.reads % 2 == 1 => interrupted(),
+            Content::Interrupted(_) if self.reads % 2 == 1 => {
+                Err(io::Error::from(ErrorKind::Interrupted))
+            }
             Content::Interrupted(text) => Ok(self.give(text, 7, buf)),
-            Content::Interrupts(count) if self.reads <= count => interrupted(),
+            Content::Interrupts(count) if self.reads <= count => {
+                Err(io::Error::from(ErrorKind::Interrupted))
+            }
             Content::Interrupts(_) => Ok(0),
             Content::WantsMemory => Err(io::Error::from(ErrorKind::OutOfMemory)),
             Content::FailsAfter(limit) if self.given >= limit => {
@@ -82,10 +92,6 @@ impl Read for FakeFile {
             }
         }
     }
-}
-
-fn interrupted() -> io::Result<usize> {
-    Err(io::Error::from(ErrorKind::Interrupted))
 }
 
 /// The paths of the tests.
