@@ -1,5 +1,5 @@
-//! The tests of the crates of texts, rows, explanations, logs, orders and drawings, apart from them: a crate with tests is
-//! proved twice. They are one crate, since each crate of tests costs a minute before its first test.
+//! Tests of public calls that no program reaches, and the callers of two pages, apart from their crates: a crate with tests
+//! is proved twice. What programs show stands below `tests/cases`, and at full size in `tests/sizes`.
 #![tactic(auto)]
 
 #[cfg(test)]

@@ -1,23 +1,10 @@
-//! Tests from outside: what each text gives, with values that were worked out by hand.
-mod caller;
-mod clears;
-mod creation;
-mod drawings;
-mod explanations;
-mod interference;
-mod judge;
-mod largest;
-mod largest_faults;
-mod lines;
-mod logs;
-mod long_trace;
-mod orders;
+//! Tests from outside, with values that were worked out by hand.
+mod departures;
+mod escapes;
+mod fault_lines;
+mod log_caller;
 mod places;
-mod queuing;
-mod rows;
+mod replays;
 mod same;
-mod sampling;
-mod scripts;
-mod tables;
+mod script_caller;
 mod texts;
-mod words;

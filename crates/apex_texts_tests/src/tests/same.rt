@@ -2,6 +2,7 @@
 //! place.
 use std::fmt::{Debug, Display};
 use std::process::Abort;
+use std::test::Fail;
 
 /// Both are equal.
 pub fn same<T: Debug + PartialEq + Copy>(rt: &impl Abort, found: T, wanted: T) {
@@ -23,7 +24,13 @@ pub fn holds(rt: &impl Abort, is: bool) {
     assert!(rt; is);
 }
 
-/// This is so, and where it isn't, the place is told.
-pub fn holds_at<P: Display + Copy>(rt: &impl Abort, is: bool, place: P) {
-    assert!(rt; is, "at {place}");
+/// The value prints this line.
+pub fn prints<R: Abort + AllocGlobal, T: Display>(
+    rt: &R,
+    value: &T,
+    line: &str,
+) -> Result<(), Fail> {
+    let printed = format!(in rt.alloc(); "{value}")?;
+    same(rt, printed.as_str(), line);
+    Ok(())
 }
