@@ -1,7 +1,10 @@
 -- What is wrong at a place of a configuration, as plain data: what stands there, and what must stand there.
 use Rattle.std.specs.Prelude.{ℕ, ℤ, Bool, List}
+use Rattle.toml.specs.Data.{Data}
+use Rattle.toml.specs.View.{view}
 use Rattle.apex_types.specs.declared.direction.Direction.{Direction}
 use Rattle.apex_config.specs.declared.key.Key.{Key}
+use Rattle.apex_config.specs.declared.place.Part.{Part}
 use Rattle.apex_refusals.specs.declared.finding.Finding.{Finding}
 use Rattle.apex_refusals.specs.declared.finding.Finding.TheVariants as finding
 use Rattle.apex_refusals.specs.declared.finding.Found.{Found}
@@ -29,12 +32,12 @@ pub data WantedData : Type 0 where
   channel_wanted : WantedData
   kind_of_wanted : List ℕ → List ℕ → WantedData
 
--- what is wrong
+-- what is wrong; an unknown key has the words for the keys that the table of its part takes
 pub data FindingData : Type 0 where
   missing : Key → WantedData → FindingData
   wrong : Key → FoundData → WantedData → FindingData
   no_table : FoundData → FindingData
-  unknown_key : List ℕ → List ℕ → FindingData
+  unknown_key : List ℕ → List ℕ → Part → Data → FindingData
   name_twice : List ℕ → ℕ → FindingData
   no_end : Direction → List ℕ → FindingData
   one_of_ends : Direction → List ℕ → ℕ → FindingData
@@ -64,7 +67,7 @@ abbrev pub finding_data : Finding → FindingData
 finding_data (finding.Missing key wanted) = missing key (wanted_data wanted)
 finding_data (finding.Wrong key found wanted) = wrong key (found_data found) (wanted_data wanted)
 finding_data (finding.NoTable found) = no_table (found_data found)
-finding_data (finding.UnknownKey key keys) = unknown_key key.now keys.now
+finding_data (finding.UnknownKey key keys part value) = unknown_key key.now keys.now part (view value.now)
 finding_data (finding.NameTwice name first) = name_twice name.now first
 finding_data (finding.NoEnd direction wanted) = no_end direction wanted.now
 finding_data (finding.OneOfEnds direction channel count) = one_of_ends direction channel.now count

@@ -61,7 +61,7 @@ finding_at_key key wanted (Some value) = wrong key (found_of value) wanted
 abbrev pub form_finding_in : Part → Spot → Data → Option FindingData
 form_finding_in part spots.Whole value = Some (no_table (found_of value))
 form_finding_in part (spots.At key) value = Some (finding_at_key key (wanted_at part key) (value_at key value))
-form_finding_in part (spots.Unknown number) value = option_map (λ key. unknown_key key (known_keys part value)) (key_numbered number value)
+form_finding_in part (spots.Unknown number) value = option_map (λ key. unknown_key key (known_keys part value) part value) (key_numbered number value)
 
 -- what is wrong with the form at a place; nothing where the document doesn't have it
 abbrev pub form_finding : Data → Place → Option FindingData

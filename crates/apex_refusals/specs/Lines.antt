@@ -14,7 +14,7 @@ use Rattle.apex_config.specs.declared.place.Place.{Place}
 use Rattle.apex_refusals.specs.Documents.{document_of}
 use Rattle.apex_refusals.specs.Findings.{FindingData}
 use Rattle.apex_refusals.specs.Heads.{head_of}
-use Rattle.apex_refusals.specs.Hints.{hint_of}
+use Rattle.apex_refusals.specs.Hints.{hint_of, SaysHint}
 use Rattle.apex_refusals.specs.NotToml.{IsNotToml}
 use Rattle.apex_refusals.specs.PlaceLines.{IsLineNumber, key_there}
 use Rattle.apex_refusals.specs.Places.{value_of}
@@ -60,19 +60,20 @@ named_lines ends fault document places = flat_map (named_line ends fault documen
 
 -- ---- lines by file
 
--- `FILE:LINE: PATH: OWNER: WHAT IS WRONG`, and what was most likely meant
-abbrev pub file_line : EndsData → ConfigFault → Data → Place → FindingData → List ℕ → Option ℕ → List ℕ
-file_line ends fault document place finding file number =
+-- `FILE:LINE: PATH: OWNER: WHAT IS WRONG`, and the words for what was most likely meant
+abbrev pub file_line : ConfigFault → Data → Place → FindingData → List ℕ → Option ℕ → List ℕ → List ℕ
+file_line fault document place finding file number hint =
     head_of document place file number
     ++ (owner_of fault document place.part ++ (codes ": " ++ finding_words finding))
-    ++ hint_of ends.config.channels finding
+    ++ hint
     ++ codes "\n"
 
 -- what is found has a line, with the number of the place's line in the text
 abbrev pub AddsFileLine : EndsData → ConfigFault → Data → Place → FindingData → List ℕ → List ℕ → List ℕ → List ℕ → Type 0
 AddsFileLine ends fault document place finding file text before after =
     (number : Option ℕ) × IsLineNumber text place.part (key_there document place) number
-    × (after ≡ before ++ file_line ends fault document place finding file number)
+    × (hint : List ℕ) × SaysHint (hint_of ends.config.channels finding) hint
+    × (after ≡ before ++ file_line fault document place finding file number hint)
 
 abbrev pub IsLineOfFinding : EndsData → ConfigFault → Data → Place → Option FindingData → List ℕ → List ℕ → List ℕ → List ℕ → Type 0
 IsLineOfFinding ends fault document place None file text before after = after ≡ before

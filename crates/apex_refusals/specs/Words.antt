@@ -39,7 +39,7 @@ abbrev pub finding_words : FindingData → List ℕ
 finding_words (missing key wanted) = codes "`" ++ (key_word key ++ (codes "` is missing; it must be " ++ wanted_words wanted))
 finding_words (wrong key found wanted) = codes "`" ++ (key_word key ++ (codes "` is " ++ (found_words found ++ (codes "; it must be " ++ wanted_words wanted))))
 finding_words (no_table found) = codes "it is " ++ (found_words found ++ codes "; it must be a table")
-finding_words (unknown_key key keys) = quoted_key key ++ (codes " is an unknown key; the keys are " ++ keys)
+finding_words (unknown_key key keys part value) = quoted_key key ++ (codes " is an unknown key; the keys are " ++ keys)
 finding_words (name_twice name first) =
     codes "`name` is \"" ++ (name ++ (codes "\", the name of number " ++ (decimal first ++ codes "; it must be another")))
 finding_words (no_end direction wanted) = codes "no port is its " ++ (direction_word direction ++ (codes "; " ++ (wanted ++ codes " must be")))

@@ -4,7 +4,8 @@ ghost use Rattle.toml.specs.View.{view};
 ghost use Rattle.apex_refusals.specs.Lines.{IsFileLine, AreFileLines};
 
 use crate::head::push_head;
-use crate::hint::push_hint;
+use crate::hint::hint_of;
+use crate::hint_words::push_hint;
 use crate::lines::{finding_in, owner_of};
 use crate::value_finding::ReadText;
 use apex_config::fault::ConfigFault;
@@ -37,7 +38,8 @@ fn push_file_line<'a>(
             push_head(alloc, told, file.name, file.text, document, place)?;
             let owner = owner_of(document, fault, place.part);
             write!(told, "{owner}: {finding}")?;
-            push_hint(alloc, told, &finding, read.channels())?;
+            let hint = hint_of(alloc, &finding, read.channels())?;
+            push_hint(told, hint)?;
             told.push_str("\n")
         }
         None => Ok(()),

@@ -7,6 +7,7 @@ ghost use Rattle.apex_refusals.specs.Words.{found_words, wanted_words, direction
 
 use crate::printed::{Quoted, QuotedKey};
 use apex_config::key::Key;
+use apex_config::place::Part;
 use apex_types::Direction;
 use std::fmt;
 use toml::Value;
@@ -108,10 +109,12 @@ pub enum Finding<'a> {
     },
     /// What must be a table is none.
     NoTable(Found<'a>),
-    /// A key stands there that the table doesn't take. `keys` says which it takes.
+    /// A key stands there that the table of this part doesn't take. `keys` says which it takes.
     UnknownKey {
         key: &'a str,
         keys: &'static str,
+        part: Part,
+        table: &'a Value,
     },
     /// The name stood before. `first` is the number of the first that has it, from 1.
     NameTwice {
@@ -160,7 +163,7 @@ impl fmt::Display for Finding<'_> {
                 write!(f, "`{}` is {found}; it must be {wanted}", key.word())
             }
             Finding::NoTable(found) => write!(f, "it is {found}; it must be a table"),
-            Finding::UnknownKey { key, keys } => {
+            Finding::UnknownKey { key, keys, .. } => {
                 write!(
                     f,
                     "{} is an unknown key; the keys are {keys}",

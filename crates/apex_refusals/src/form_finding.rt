@@ -81,6 +81,8 @@ pub fn form_finding<'a>(document: &'a Value, place: Place) -> Option<Finding<'a>
         Spot::Unknown { number } => Some(Finding::UnknownKey {
             key: key_numbered(value, number)?,
             keys: known_keys(place.part, value),
+            part: place.part,
+            table: value,
         }),
     }
 }

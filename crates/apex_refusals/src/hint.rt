@@ -1,81 +1,89 @@
 //! What was most likely meant at a place of a configuration.
-ghost use Rattle.std.specs.Prelude.{◌≡◌, ◌++◌, map, string_bytes, IfOk, OnOk};
+ghost use Rattle.std.specs.Prelude.{◌≡◌, map, option_map, IfOk};
+ghost use Rattle.toml.specs.View.{view};
 ghost use Rattle.apex_refusals.specs.Findings.{wanted_data, finding_data};
-ghost use Rattle.apex_refusals.specs.Hints.{nearest_hint, text_hint, hint_of};
+ghost use Rattle.apex_refusals.specs.Hints.{hint_data, nearest_hint, text_hint, hint_of};
 
 use crate::finding::{Finding, Found, Wanted};
+use crate::key_hint::unknown_hint;
 use apex_config::config_text::ChannelText;
+use apex_config::key::Key;
 use apex_mistake_words::nearest;
 use std::alloc::{AllocError, Global};
 
-/// The keys of a configuration.
-const KEYS: [&'static str; 9] = [
-    "partition",
-    "port",
-    "channel",
-    "name",
-    "kind",
-    "direction",
-    "size",
-    "depth",
-    "refresh",
-];
+/// What was most likely meant.
+#[derive(Clone, Copy)]
+pub enum Hint<'a> {
+    /// This known word.
+    Near(&'a str),
+    /// This key, which stands at other parts only.
+    Elsewhere(&'a str),
+    /// A text, which stands in quotes.
+    InQuotes,
+    /// A number, which stands without quotes.
+    WithoutQuotes,
+    /// An array of tables.
+    Tables(Key),
+}
 
 const KINDS: [&'static str; 2] = ["queuing", "sampling"];
 
 const DIRECTIONS: [&'static str; 2] = ["source", "destination"];
 
-/// Writes what was most likely meant, where something can be said of it.
-pub fn push_hint(
+/// What was most likely meant, where something can be said of it.
+pub fn hint_of<'a>(
     alloc: Global,
-    told: &mut String,
-    finding: &Finding<'_>,
-    channels: &[ChannelText<'_>],
-) -> Result<(), AllocError>
-    ensures { OnOk result (string_bytes told.new
-        ≡ string_bytes told.old ++ hint_of channels.now (finding_data finding.now)) }
+    finding: &Finding<'a>,
+    channels: &[ChannelText<'a>],
+) -> Result<Option<Hint<'a>>, AllocError>
+    ensures { IfOk result (λ hint.
+        option_map hint_data hint ≡ hint_of channels.now (finding_data finding.now)) }
 {
     match finding {
-        Finding::UnknownKey { key, .. } => push_nearest(alloc, told, key, &KEYS),
+        Finding::UnknownKey {
+            key,
+            part,
+            table,
+            ..
+        } => unknown_hint(alloc, *part, table, key),
         Finding::Wrong {
             found: Found::Text(text),
             wanted,
             ..
-        } => push_text_hint(alloc, told, text, *wanted, channels),
+        } => text_hint(alloc, text, *wanted, channels),
         Finding::Wrong {
             found: Found::Number(_),
             wanted: Wanted::Text | Wanted::Kind | Wanted::Direction,
             ..
-        } => told.push_str("; a text stands in quotes"),
+        } => Ok(Some(Hint::InQuotes)),
         Finding::Wrong {
             key,
             found: Found::Table,
             wanted: Wanted::Tables,
-        } => write!(told, "; write `[[{}]]` for each", key.word()),
-        _ => Ok(()),
+        } => Ok(Some(Hint::Tables(*key))),
+        _ => Ok(None),
     }
 }
 
 /// What was most likely meant by a text.
-fn push_text_hint(
+fn text_hint<'a>(
     alloc: Global,
-    told: &mut String,
     text: &str,
     wanted: Wanted<'_>,
-    channels: &[ChannelText<'_>],
-) -> Result<(), AllocError>
-    ensures { OnOk result (string_bytes told.new ≡ string_bytes told.old
-        ++ text_hint channels.now text.now (wanted_data wanted.entry)) }
+    channels: &[ChannelText<'a>],
+) -> Result<Option<Hint<'a>>, AllocError>
+    ensures { IfOk result (λ hint. option_map hint_data hint
+        ≡ text_hint channels.now text.now (wanted_data wanted.entry)) }
 {
     match wanted {
-        Wanted::Kind => push_nearest(alloc, told, text, &KINDS),
-        Wanted::Direction => push_nearest(alloc, told, text, &DIRECTIONS),
-        Wanted::WholeNumber => told.push_str("; a number stands without quotes"),
+        Wanted::Kind => nearest_word(alloc, text, &KINDS),
+        Wanted::Direction => nearest_word(alloc, text, &DIRECTIONS),
+        Wanted::WholeNumber => Ok(Some(Hint::WithoutQuotes)),
         Wanted::ChannelName => {
             let names = names_of(alloc, channels)?;
-            push_nearest(alloc, told, text, names.as_slice())
+            nearest_hint(alloc, text, names.as_slice())
         }
-        _ => Ok(()),
+        _ => Ok(None),
     }
 }
 
@@ -92,17 +100,31 @@ fn names_of<'a>(alloc: Global, channels: &[ChannelText<'a>]) -> Result<Vec<&'a s
 }
 
 /// The nearest of the known words.
-fn push_nearest(
+fn nearest_hint<'a>(
     alloc: Global,
-    told: &mut String,
     word: &str,
-    known: &[&str],
-) -> Result<(), AllocError>
-    ensures { OnOk result (string_bytes told.new ≡ string_bytes told.old
-        ++ nearest_hint word.now (map (λ name. name.now) known.now)) }
+    known: &[&'a str],
+) -> Result<Option<Hint<'a>>, AllocError>
+    ensures { IfOk result (λ hint. option_map hint_data hint
+        ≡ nearest_hint word.now (map (λ name. name.now) known.now)) }
 {
     match nearest(alloc, word.as_bytes(), known)? {
-        Some(known) => write!(told, "; did you mean `{known}`?"),
-        None => Ok(()),
+        Some(known) => Ok(Some(Hint::Near(known))),
+        None => Ok(None),
+    }
+}
+
+/// The nearest of words that are known whatever the text.
+fn nearest_word<'a>(
+    alloc: Global,
+    word: &str,
+    known: &[&'static str],
+) -> Result<Option<Hint<'a>>, AllocError>
+    ensures { IfOk result (λ hint. option_map hint_data hint
+        ≡ nearest_hint word.now (map (λ name. name.now) known.now)) }
+{
+    match nearest(alloc, word.as_bytes(), known)? {
+        Some(known) => Ok(Some(Hint::Near(known))),
+        None => Ok(None),
     }
 }

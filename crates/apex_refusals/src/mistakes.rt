@@ -1,9 +1,10 @@
 //! The mistakes of a configuration, told to people by file and line.
-ghost use Rattle.std.specs.Prelude.{◌≡◌, ◌++◌, take, string_bytes, IfOk, OnOk};
+ghost use Rattle.std.specs.Prelude.{◌≡◌, take, string_bytes, IfOk};
 ghost use Rattle.toml.specs.View.{view};
 ghost use Rattle.apex_refusals.specs.Lines.{AreMistakesIn, AreMistakes};
 
 use crate::file_lines::File;
+use crate::header::header_at;
 use crate::lines::{Form, push_lines};
 use crate::not_toml::line_and_column;
 use apex_config::place::Place;
@@ -94,6 +95,9 @@ fn push_not_toml(
     )?;
     if let Some(words) = other_form(text) {
         write!(told, "; {words}")?;
+    }
+    if let Some(header) = header_at(text, span.start) {
+        write!(told, "; write `{header}` for each")?;
     }
     told.push('\n')
 }
