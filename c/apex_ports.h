@@ -72,7 +72,8 @@ uint32_t apex_configuration_fault(const uint8_t *text, size_t text_length, uint8
                                   uint64_t *path_length);
 
 /* Likewise, with a line of ASCII in place of the path for each place that the fault has: what holds it, what is wrong
- * there, and what must be there (docs/FORMATS.md). Each line ends in a line feed.
+ * there, and what must be there (docs/FORMATS.md); of more than 20 places for the first 20, and then `and N more`. Each
+ * line ends in a line feed.
  * Assumed: `text` points to `text_length` bytes and `buffer` to `buffer_length`. */
 uint32_t apex_configuration_mistakes(const uint8_t *text, size_t text_length, uint8_t *buffer, size_t buffer_length,
                                      uint64_t *lines_length);

@@ -32,7 +32,8 @@ class NoCallError(ValueError):
 
 class ConfigError(ValueError):
     """The configuration was refused, by a fault with its number. Where a module was to be opened, `place` is the path
-    of the fault's first place, and `lines` tell of each place what holds it, what is wrong, and what must be there."""
+    of the fault's first place, and `lines` tell of each place what holds it, what is wrong, and what must be there; of
+    more than 20 places they tell the first 20, and then how many more there are."""
 
     def __init__(self, number: int, words: str, place: Optional[str] = None, lines: Tuple[str, ...] = ()) -> None:
         super().__init__(number, words, place, lines)

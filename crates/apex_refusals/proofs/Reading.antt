@@ -25,10 +25,12 @@ no_document text refused = none_in text (is_utf8 text) refl refused
 
 -- what was told of a refusal, from an empty text on
 module _ (document : Data) (refusal : RefusalData) (fault : ConfigFault) (places : List Place) (old : List ℕ) where
-  pub lines_told : (new : List ℕ) → old ≡ [] → ◌≡◌ {A = RefusalData} (record { fault = fault; places = places }) refusal
-      → new ≡ old ++ named_lines (ends_of fault document) fault document places → IsRefusalOf (Some document) refusal new
-  lines_told new empty same told =
-      subst (λ (r : RefusalData). IsRefusalOf (Some document) r new) same (told ∙ ap (λ (text : List ℕ). text ++ named_lines (ends_of fault document) fault document places) empty)
+  pub lines_told : (lines new : List ℕ) → old ≡ [] → ◌≡◌ {A = RefusalData} (record { fault = fault; places = places }) refusal
+      → lines ≡ old ++ named_lines (ends_of fault document) fault document (take MISTAKE_LIMIT places) → new ≡ lines ++ more_line (length places - MISTAKE_LIMIT)
+      → IsRefusalOf (Some document) refusal new
+  lines_told lines new empty same told more =
+      subst (λ (r : RefusalData). IsRefusalOf (Some document) r new) same
+      (more ∙ ap (λ (text : List ℕ). text ++ more_line (length places - MISTAKE_LIMIT)) (told ∙ ap (λ (text : List ℕ). text ++ named_lines (ends_of fault document) fault document (take MISTAKE_LIMIT places)) empty))
 
   pub mistakes_told : (file text lines new : List ℕ) → old ≡ [] → ◌≡◌ {A = RefusalData} (record { fault = fault; places = places }) refusal
       → AreFileLines file text (ends_of fault document) fault document old (take MISTAKE_LIMIT places) lines → new ≡ lines ++ more_line (length places - MISTAKE_LIMIT)

@@ -1,11 +1,12 @@
 -- What was most likely meant at a place of a configuration, as plain data. The words for it have no definition.
-use Rattle.std.specs.Prelude.{ℕ, ◌≡◌, Bool, true, false, ◌||◌, if◌then◌else◌, ◌++◌, List, [], ◌∷◌, map, codes, is_none, Option, Some, None, option_map, option_and_then}
+use Rattle.std.specs.Prelude.{ℕ, ◌≡◌, Bool, true, false, ◌||◌, if◌then◌else◌, ◌++◌, List, [], ◌∷◌, map, take, codes, is_none, Option, Some, None, option_map, option_and_then}
 use Rattle.std.specs.Str.{bytes_eq}
 use Rattle.toml.specs.Data.{Data, get}
 use Rattle.apex_config.specs.Form.{is_known, channel_keys, port_keys}
 use Rattle.apex_config.specs.Text.{ChannelText}
 use Rattle.apex_config.specs.declared.key.Key.{Key}
 use Rattle.apex_config.specs.declared.key.Key.TheVariants as key
+use Rattle.apex_config.specs.declared.limits.TheConstants.{CHANNEL_LIMIT}
 use Rattle.apex_config.specs.declared.place.Part.{Part}
 use Rattle.apex_config.specs.declared.place.Part.TheVariants as parts
 use Rattle.apex_mistake_words.specs.Nearest.{nearest_of}
@@ -74,12 +75,16 @@ directions = codes "source" ∷ codes "destination" ∷ []
 abbrev pub nearest_hint : List ℕ → List (List ℕ) → Option HintData
 nearest_hint word known = option_map near (nearest_of word known)
 
+-- the names of as many channels as a configuration can have
+abbrev pub channel_names : List ChannelText → List (List ℕ)
+channel_names channels = map (λ channel. channel.name) (take CHANNEL_LIMIT channels)
+
 -- where a text stands
 abbrev pub text_hint : List ChannelText → List ℕ → WantedData → Option HintData
 text_hint channels text kind_wanted = nearest_hint text kinds
 text_hint channels text direction_wanted = nearest_hint text directions
 text_hint channels text number_wanted = Some without_quotes
-text_hint channels text channel_wanted = nearest_hint text (map (λ channel. channel.name) channels)
+text_hint channels text channel_wanted = nearest_hint text (channel_names channels)
 text_hint channels text _ = None
 
 -- where a number stands

@@ -99,9 +99,10 @@ IsTold (forms.File file) fault document places before after =
 
 abbrev pub IsRefusalOf : Option Data → RefusalData → List ℕ → Type 0
 IsRefusalOf None refusal lines = IsNotToml lines
-IsRefusalOf (Some document) refusal lines = lines ≡ named_lines (ends_of refusal.fault document) refusal.fault document refusal.places
+IsRefusalOf (Some document) refusal lines =
+    lines ≡ named_lines (ends_of refusal.fault document) refusal.fault document (take MISTAKE_LIMIT refusal.places) ++ more_line (length refusal.places - MISTAKE_LIMIT)
 
--- the lines of a refused text, each by the names of what holds its place
+-- the lines of a refused text, each by the names of what holds its place, and how many more there are
 abbrev pub IsRefusalTold : List ℕ → RefusalData → List ℕ → Type 0
 IsRefusalTold text refusal lines = IsRefusalOf (document_of text) refusal lines
 

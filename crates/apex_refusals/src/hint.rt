@@ -1,5 +1,5 @@
 //! What was most likely meant at a place of a configuration.
-ghost use Rattle.std.specs.Prelude.{◌≡◌, map, option_map, IfOk};
+ghost use Rattle.std.specs.Prelude.{◌≡◌, map, take, option_map, IfOk};
 ghost use Rattle.toml.specs.View.{view};
 ghost use Rattle.apex_refusals.specs.Findings.{wanted_data, finding_data};
 ghost use Rattle.apex_refusals.specs.Hints.{hint_data, nearest_hint, text_hint, hint_of};
@@ -8,6 +8,7 @@ use crate::finding::{Finding, Found, Wanted};
 use crate::key_hint::unknown_hint;
 use apex_config::config_text::ChannelText;
 use apex_config::key::Key;
+use apex_config::limits::CHANNEL_LIMIT;
 use apex_mistake_words::nearest;
 use std::alloc::{AllocError, Global};
 
@@ -80,10 +81,21 @@ fn text_hint<'a>(
         Wanted::Direction => nearest_word(alloc, text, &DIRECTIONS),
         Wanted::WholeNumber => Ok(Some(Hint::WithoutQuotes)),
         Wanted::ChannelName => {
-            let names = names_of(alloc, channels)?;
+            let names = names_of(alloc, first_channels(channels))?;
             nearest_hint(alloc, text, names.as_slice())
         }
         _ => Ok(None),
+    }
+}
+
+/// As many channels as a configuration can have.
+fn first_channels<'t, 'a>(channels: &'t [ChannelText<'a>]) -> &'t [ChannelText<'a>]
+    ensures { result.now ≡ take CHANNEL_LIMIT channels.now }
+{
+    if channels.len() > CHANNEL_LIMIT {
+        &channels[..CHANNEL_LIMIT]
+    } else {
+        channels
     }
 }
 

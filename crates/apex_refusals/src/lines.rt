@@ -1,10 +1,10 @@
 //! The lines that tell a refusal: what stands at each of its places, and what must stand there.
-ghost use Rattle.std.specs.Prelude.{◌≡◌, ◌++◌, string_bytes, option_map, IfOk, OnOk};
+ghost use Rattle.std.specs.Prelude.{◌≡◌, ◌++◌, take, string_bytes, option_map, Some, IfOk, OnOk};
 ghost use Rattle.std.specs.Option.{option_copied};
 ghost use Rattle.toml.specs.View.{view};
 ghost use Rattle.apex_refusals.specs.Findings.{finding_data};
 ghost use Rattle.apex_refusals.specs.ValueFindings.{direction_of, finding_in};
-ghost use Rattle.apex_refusals.specs.Lines.{name_of, partition_name_of, own_name_of, named_line, named_lines, IsTold, IsRefusalTold};
+ghost use Rattle.apex_refusals.specs.Lines.{name_of, partition_name_of, own_name_of, named_line, named_lines, IsTold, IsRefusalOf, IsRefusalTold};
 
 use crate::file_lines::{File, push_file_lines};
 use crate::finding::Finding;
@@ -21,6 +21,7 @@ use apex_config::key::Key;
 use apex_config::place::{Part, Place};
 use apex_config::refusal::Refusal;
 use apex_config::value::text_at;
+use apex_mistake_words::{MISTAKE_LIMIT, push_more};
 use apex_types::Direction;
 use std::alloc::{AllocError, Global};
 use toml::Value;
@@ -161,26 +162,46 @@ pub fn push_lines(
     }
 }
 
-/// A line for each place at which a text was refused: what holds it, what stands there, and what must stand there. The
-/// text is the one that was read; of another, places that it doesn't have are left out. The only error is that an
-/// allocation was refused.
+/// The places that are told.
+pub fn first_of(places: &[Place]) -> &[Place]
+    ensures { result.now ≡ take MISTAKE_LIMIT places.now }
+{
+    if places.len() > MISTAKE_LIMIT {
+        &places[..MISTAKE_LIMIT]
+    } else {
+        places
+    }
+}
+
+/// The lines of a text that is TOML.
+fn lines_in(alloc: Global, document: &Value, refusal: &Refusal) -> Result<String, AllocError>
+    ensures { IfOk result (λ lines.
+        IsRefusalOf (Some (view document.now)) refusal.now (string_bytes lines)) }
+{
+    let mut lines = String::new(alloc);
+    let places = refusal.places.as_slice();
+    push_lines(
+        alloc,
+        &mut lines,
+        document,
+        refusal.fault,
+        first_of(places),
+        Form::Names,
+    )?;
+    push_more(&mut lines, places.len().saturating_sub(MISTAKE_LIMIT))?;
+    Ok(lines)
+}
+
+/// A line for each place at which a text was refused, at most `MISTAKE_LIMIT`, and then one that says how many more there
+/// are: what holds the place, what stands there, and what must stand there. The text is the one that was read; of another,
+/// places that it doesn't have are left out. The only error is that an allocation was refused.
 pub fn refusal_lines(alloc: Global, text: &[u8], refusal: &Refusal) -> Result<String, AllocError>
     ensures { IfOk result (λ lines. IsRefusalTold text.now refusal.now (string_bytes lines)) }
 {
     match toml::table_from_slice(alloc, text) {
         Ok(table) => {
             let document = Value::Table(table);
-            let mut lines = String::new(alloc);
-            let places = refusal.places.as_slice();
-            push_lines(
-                alloc,
-                &mut lines,
-                &document,
-                refusal.fault,
-                places,
-                Form::Names,
-            )?;
-            Ok(lines)
+            lines_in(alloc, &document, refusal)
         }
         Err(error) if error.is_memory() => Err(AllocError),
         Err(error) => not_toml(alloc, text, &error),

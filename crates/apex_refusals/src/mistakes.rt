@@ -1,13 +1,12 @@
 //! The mistakes of a configuration, told to people by file and line.
-ghost use Rattle.std.specs.Prelude.{◌≡◌, take, string_bytes, IfOk};
+ghost use Rattle.std.specs.Prelude.{string_bytes, IfOk};
 ghost use Rattle.toml.specs.View.{view};
 ghost use Rattle.apex_refusals.specs.Lines.{AreMistakesIn, AreMistakes};
 
 use crate::file_lines::File;
 use crate::header::header_at;
-use crate::lines::{Form, push_lines};
+use crate::lines::{Form, first_of, push_lines};
 use crate::not_toml::line_and_column;
-use apex_config::place::Place;
 use apex_config::refusal::Refusal;
 use apex_mistake_words::{MISTAKE_LIMIT, push_more};
 use std::alloc::{AllocError, Global};
@@ -64,17 +63,6 @@ fn mistakes_in(
     )?;
     push_more(&mut told, places.len().saturating_sub(MISTAKE_LIMIT))?;
     Ok(told)
-}
-
-/// The places that are told.
-fn first_of(places: &[Place]) -> &[Place]
-    ensures { result.now ≡ take MISTAKE_LIMIT places.now }
-{
-    if places.len() > MISTAKE_LIMIT {
-        &places[..MISTAKE_LIMIT]
-    } else {
-        places
-    }
 }
 
 /// The line of a text that is no TOML: where the reader of TOML stopped, and why.
