@@ -20,7 +20,7 @@ pub struct File<'f> {
     pub text: &'f [u8],
 }
 
-/// Writes the line of a place.
+/// Writes the line of a place, whose number is looked for from the line `near` on.
 fn push_file_line<'a>(
     alloc: Global,
     told: &mut String,
@@ -29,13 +29,14 @@ fn push_file_line<'a>(
     fault: ConfigFault,
     place: Place,
     file: File<'_>,
+    near: &mut usize,
 ) -> Result<(), AllocError>
     ensures { OnOk result (IsFileLine file.entry.name.now file.entry.text.now read.now fault
         (view document.now) (string_bytes told.old) place (string_bytes told.new)) }
 {
     match finding_in(document, read, fault, place) {
         Some(finding) => {
-            push_head(alloc, told, file.name, file.text, document, place)?;
+            push_head(alloc, told, file.name, file.text, document, place, near)?;
             let owner = owner_of(document, fault, place.part);
             write!(told, "{owner}: {finding}")?;
             let hint = hint_of(alloc, &finding, read.channels())?;
@@ -59,8 +60,9 @@ pub fn push_file_lines<'a>(
     ensures { OnOk result (AreFileLines file.entry.name.now file.entry.text.now read.now fault
         (view document.now) (string_bytes told.old) places.now (string_bytes told.new)) }
 {
+    let mut near: usize = 0;
     for place in places {
-        push_file_line(alloc, told, document, read, fault, *place, file)?;
+        push_file_line(alloc, told, document, read, fault, *place, file, &mut near)?;
     }
     Ok(())
 }

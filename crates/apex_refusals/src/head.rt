@@ -37,7 +37,8 @@ fn push_path(told: &mut String, part: Part, key: Option<&str>) -> Result<(), All
     }
 }
 
-/// Writes the head of a place's line, with the number of its line in the text where that can be told.
+/// Writes the head of a place's line, with the number of its line in the text where that can be told, which is looked for
+/// from the line `near` on.
 pub fn push_head(
     alloc: Global,
     told: &mut String,
@@ -45,11 +46,12 @@ pub fn push_head(
     text: &[u8],
     document: &Value,
     place: Place,
+    near: &mut usize,
 ) -> Result<(), AllocError>
     ensures { OnOk result (AddsHead (view document.now) place file.now text.now
         (string_bytes told.old) (string_bytes told.new)) }
 {
-    let number = line_of(alloc, text, place.part, key_there(document, place))?;
+    let number = line_of(alloc, text, place.part, key_there(document, place), near)?;
     told.push_str(file)?;
     push_number(told, number)?;
     told.push_str(": ")?;

@@ -1,5 +1,5 @@
 //! The line of a text on which a part of its document begins to stand.
-ghost use Rattle.std.specs.Prelude.{◌≡◌, ◌≤◌, ◌++◌, option_map, length, IfOk};
+ghost use Rattle.std.specs.Prelude.{◌≡◌, ◌≤◌, ◌<◌, ◌+◌, ◌++◌, option_map, length, IfOk};
 ghost use Rattle.std.specs.Option.{option_copied};
 ghost use Rattle.toml.specs.View.{view};
 ghost use Rattle.apex_refusals.specs.Documents.{document_of};
@@ -83,13 +83,28 @@ fn first_lines<'a>(text: &'a [u8], ends: &[usize], number: usize) -> &'a [u8]
     text.get(..end).unwrap_or(text)
 }
 
+/// The line that is looked at next, of those between two: this one, if it is one of them, and otherwise the middle.
+fn between(look: usize, without: usize, with: usize) -> usize
+    requires apart { without + 1 < with }
+    ensures behind { without < result }
+    ensures before { result < with }
+{
+    if without < look && look < with {
+        look
+    } else {
+        without + (with - without) / 2
+    }
+}
+
 /// The line of a part or of a key in it, from 1: with it the place stands in the lines so far, and without it it doesn't.
-/// None in a text that is too long, or without the place.
+/// None in a text that is too long, or without the place. It is looked for from the line `near` on, by steps that double,
+/// and then by halves; `near` becomes the line that is found, so that places one after the other need few looks.
 pub(crate) fn line_of(
     alloc: Global,
     text: &[u8],
     part: Part,
     key: Option<&str>,
+    near: &mut usize,
 ) -> Result<Option<usize>, AllocError>
     ensures { IfOk result (IsLineNumber text.now part (option_copied key.entry)) }
 {
@@ -99,14 +114,22 @@ pub(crate) fn line_of(
     let ends = ends_of_lines(alloc, text)?;
     let mut without: usize = 0;
     let mut with = ends.len();
+    let mut look = near.saturating_sub(1);
+    let mut step: usize = 1;
     while with - without > 1 {
-        let middle = without + (with - without) / 2;
+        let middle = between(look, without, with);
         let begin = first_lines(text, ends.as_slice(), middle);
         if stands_in(alloc, begin, part, key)? {
             with = middle;
+            look = 0;
         } else {
             without = middle;
+            if look == middle {
+                look = middle.saturating_add(step);
+                step = step.saturating_mul(2);
+            }
         }
     }
+    *near = with;
     Ok(Some(with))
 }
