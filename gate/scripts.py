@@ -9,7 +9,7 @@ import usage
 # Each script, those first that take longest, and those after which it is run.
 TESTS = {
     "sweep_memory": (), "c_interface": (), "apexports_script": (), "orders": (), "gate": (), "judge_apart": (),
-    "sizes": (), "largest_configurations": (), "prebuilt": (), "python": ("c_interface",), "package": ("python",),
+    "hostile_sizes": (), "sizes": (), "largest_configurations": (), "prebuilt": (), "python": ("c_interface",), "package": ("python",),
     "runs": (), "judge": (), "run_cases": (), "examples": (), "dekarino": (), "mistakes": (), "drawings": (),
     "documents": (),
 }
