@@ -4,6 +4,7 @@ pub mod Law
 pub mod Names
 pub mod Pieces
 pub mod PortValues
+pub mod Replies
 pub mod Services
 pub mod Table
 pub mod Words

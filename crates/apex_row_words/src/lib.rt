@@ -9,11 +9,13 @@ mod names;
 mod piece;
 mod port_values;
 mod refusals;
+pub mod replies;
 mod services;
 mod table;
 mod words;
 
 pub use crate::names::row_name;
+pub use crate::replies::{can_give, can_give_code};
 pub use crate::services::{accepted_words, refusals_of, standard_name};
 pub use crate::table::{push_condition, push_row_pattern, push_rows, push_service_rows};
 pub use crate::words::{push_note, push_words};
