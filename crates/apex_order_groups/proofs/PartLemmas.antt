@@ -13,11 +13,12 @@ use Rattle.apex_ports.proofs.Interference.{independent}
 use Rattle.apex_groups.specs.Groups.{IsPart}
 use Rattle.apex_groups.proofs.Exchanged.{here_inside, no_list, none_outside}
 use Rattle.apex_groups.proofs.Inside.{all_inside, entries_go, entries_stay}
+use Rattle.apex_orders.specs.declared.asked.Asked.{Asked}
 use Rattle.apex_orders.specs.declared.orders_fault.OrdersFault.{OrdersFault}
 use Rattle.apex_orders.specs.declared.orders_fault.OrdersFault.TheVariants.{TooManyStates, OutOfMemory}
 use Rattle.apex_orders.specs.declared.replies.Possible.{Possible}
 use Rattle.apex_orders.specs.Orders.{Scripts, script_of, calls_of, IsBeginning, IsWay}
-use Rattle.apex_orders.specs.Outcomes.{AreEnds, AreReplies, CanOccur, HasMorePoints, IsGivenBy, IsUndecided}
+use Rattle.apex_orders.specs.Outcomes.{AreEnds, AreReplies, CanBeAnswered, CanOccur, HasMorePoints, IsAnsweredBy, IsUndecided}
 use Rattle.apex_orders.specs.declared.outcomes.Outcomes.{Outcomes}
 use Rattle.apex_orders.proofs.Completing.{answered_on, begins_of, finish}
 use Rattle.apex_orders.proofs.Lists.{take_whole}
@@ -53,10 +54,10 @@ module _ (config : Configuration) (inside : ℕ → Bool) (scripts part : Script
   found_of (Ok found) replies ends = record { part = part; is = is; replies = replies; ends = ends }
   found_of (Err fault) replies ends = replies
 
-  pub answer_of : (one : Possible) (result : Result (Option (List ℕ)) OrdersFault) → IfOk result (λ answer. IfSome answer (λ order. IsGivenBy config part one order))
-      → IfOk result (λ answer. IfNone answer (CanOccur config part one → ⊥)) → IfOk result (IsAnswerOf config inside scripts one)
-  answer_of one (Ok answer) found never = record { part = part; is = is; found = found; never = never }
-  answer_of one (Err fault) found never = found
+  pub answer_of : (asked : Asked) (result : Result (Option (List ℕ)) OrdersFault) → IfOk result (λ answer. IfSome answer (λ order. IsAnsweredBy config part asked order))
+      → IfOk result (λ answer. IfNone answer (CanBeAnswered config part asked → ⊥)) → IfOk result (IsAnswerOf config inside scripts asked)
+  answer_of asked (Ok answer) found never = record { part = part; is = is; found = found; never = never }
+  answer_of asked (Err fault) found never = found
 
   -- ---- beginnings
 
@@ -110,6 +111,13 @@ module _ (config : Configuration) (inside : ℕ → Bool) (scripts part : Script
     way = entries_inside inside can.way;
     is_way = way_inside closed can.way can.is_way;
     reply = ap (λ (es : History). slice_get (map (λ (entry : Entry). entry.reply) es) one.index) (entries_stay inside one.partition here can.way) ∙ can.reply;
+  }
+
+  pub answered_in_part : IsClosed config inside → (asked : Asked) → inside asked.partition ≡ true → CanBeAnswered config scripts asked → CanBeAnswered config part asked
+  answered_in_part closed asked here can = record {
+    one = can.one;
+    answers = can.answers;
+    occurs = occurs_in_part closed can.one (ap inside can.answers.partition ∙ here) can.occurs;
   }
 
   pub occurs_in_all : IsConfiguration config → length scripts ≡ length config.partitions → (one : Possible) → CanOccur config part one → CanOccur config scripts one

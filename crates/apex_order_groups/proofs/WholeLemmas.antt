@@ -12,9 +12,10 @@ use Rattle.apex_ports.specs.History.{History, entries_of}
 use Rattle.apex_ports.specs.Interference.{entries_inside}
 use Rattle.apex_groups.specs.Groups.{IsPart}
 use Rattle.apex_groups.proofs.Exchanged.{here_inside, none_outside}
+use Rattle.apex_orders.specs.declared.asked.Asked.{Asked}
 use Rattle.apex_orders.specs.declared.replies.Possible.{Possible}
 use Rattle.apex_orders.specs.Orders.{Scripts, script_of, calls_of, IsBeginning, IsOrder, IsWay, entries_for, next_entries, continued, history_of, times}
-use Rattle.apex_orders.specs.Outcomes.{EndsWith, IsGivenBy}
+use Rattle.apex_orders.specs.Outcomes.{EndsWith, IsAnsweredBy, IsGivenBy}
 use Rattle.apex_orders.specs.Possibles.{Has}
 use Rattle.apex_orders.proofs.Completing.{IsAnswered, grows, way_of}
 use Rattle.apex_orders.proofs.Lists.{none_past}
@@ -156,6 +157,13 @@ module _ (config : Configuration) (inside : ℕ → Bool) (scripts part : Script
         reply = subst (λ (h : History). IsAnswered h one) (sym same) given.reply;
         last = subst (λ (h : History). EndsWith h one) (sym same) given.last;
       }
+
+  pub answered_inside : (asked : Asked) (order : List ℕ) → IsAnsweredBy config part asked order → IsAnsweredBy config scripts asked (filter inside order)
+  answered_inside asked order answered = record {
+    one = answered.one;
+    answers = answered.answers;
+    given = given_inside answered.one order answered.given;
+  }
 
   -- ---- with all other calls behind them
 

@@ -5,9 +5,10 @@ use Rattle.apex_ports.specs.History.{History}
 use Rattle.apex_ports.specs.Interference.{entries_inside}
 use Rattle.apex_groups.specs.Groups.{IsPart, group_of, in_group}
 use Rattle.apex_orders.specs.Orders.{Scripts, IsWay, history_of}
-use Rattle.apex_orders.specs.Outcomes.{AreEnds, AreReplies, CanOccur, IsGivenBy}
+use Rattle.apex_orders.specs.Outcomes.{AreEnds, AreReplies, CanBeAnswered, CanOccur, IsAnsweredBy}
 use Rattle.apex_orders.specs.Points.{IsSamePoint}
 use Rattle.apex_orders.specs.Possibles.{Has}
+use Rattle.apex_orders.specs.declared.asked.Asked.{Asked}
 use Rattle.apex_orders.specs.declared.outcomes.Outcomes.{Outcomes}
 use Rattle.apex_orders.specs.declared.replies.Possible.{Possible}
 
@@ -33,11 +34,11 @@ pub record IsFoundOf (config : Configuration) (inside : ℕ → Bool) (scripts :
   pub ends : AreEnds config part found.ends.items
 
 -- what an answer says of the scripts of the partitions inside
-pub record IsAnswerOf (config : Configuration) (inside : ℕ → Bool) (scripts : Scripts) (one : Possible) (answer : Option (List ℕ)) : Type 0 where
+pub record IsAnswerOf (config : Configuration) (inside : ℕ → Bool) (scripts : Scripts) (asked : Asked) (answer : Option (List ℕ)) : Type 0 where
   pub part : Scripts
   pub is : IsPart inside scripts part
-  pub found : IfSome answer (λ order. IsGivenBy config part one order)
-  pub never : IfNone answer (¬ CanOccur config part one)
+  pub found : IfSome answer (λ order. IsAnsweredBy config part asked order)
+  pub never : IfNone answer (¬ CanBeAnswered config part asked)
 
 -- ---- the groups searched so far
 

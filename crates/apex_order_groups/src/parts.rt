@@ -7,7 +7,7 @@ ghost use Rattle.apex_order_groups.specs.Parts.{IsAnswerOf, IsFoundOf};
 use apex_config::Config;
 use apex_groups::{Groups, exchange};
 use apex_orders::{
-    Listener, Order, OrdersFault, Outcomes, Possible, all_outcomes_telling, order_giving_telling,
+    Asked, Listener, Order, OrdersFault, Outcomes, all_outcomes_telling, order_giving_telling,
 };
 use apex_ports::Script;
 use std::alloc::{AllocError, Global};
@@ -51,7 +51,7 @@ pub(crate) fn outcomes_of<L: Listener>(
     found
 }
 
-/// An order of the calls of one group that gives the reply. `part` is as for `outcomes_of`.
+/// An order of the calls of one group that answers the question. `part` is as for `outcomes_of`.
 pub(crate) fn order_of<L: Listener>(
     alloc: Global,
     config: &Config,
@@ -59,7 +59,7 @@ pub(crate) fn order_of<L: Listener>(
     group: usize,
     scripts: &mut [Script],
     part: &mut [Script],
-    one: &Possible,
+    asked: &Asked,
     bound: usize,
     listener: &mut L,
 ) -> Result<Option<Order>, OrdersFault>
@@ -67,11 +67,11 @@ pub(crate) fn order_of<L: Listener>(
     requires part { part.old ≡ replicate (length config.now.partitions) [] }
     ensures scripts { scripts.new ≡ scripts.old }
     ensures found { let inside = in_group groups.now.of_partitions.items group in
-        IfOk result (IsAnswerOf config.now inside scripts.old one.now) }
+        IfOk result (IsAnswerOf config.now inside scripts.old asked.now) }
     ensures undecided { IsUndecided config.now scripts.old bound result }
 {
     exchange(groups, group, scripts, part);
-    let found = order_giving_telling(alloc, config, part, one, bound, listener);
+    let found = order_giving_telling(alloc, config, part, asked, bound, listener);
     exchange(groups, group, scripts, part);
     found
 }

@@ -1,15 +1,16 @@
 -- The steps of a search.
-use Rattle.std.proofs.Common.{◌≡◌, ◌⊎◌, ⊎_elim, ℕ, ◌<◌, List, [], ◌∷◌, ◌++◌, length, Some, refl, sym, ap, ◌∙◌, subst, arith, append-nil}
+use Rattle.std.proofs.Common.{◌≡◌, ◌⊎◌, ⊎_elim, ℕ, ◌<◌, List, [], ◌∷◌, ◌++◌, length, Option, Some, refl, sym, ap, ◌∙◌, subst, arith, append-nil}
 use Rattle.std.specs.List.{slice_get}
 use Rattle.std.proofs.lemmas.Option.{slice_get_within, slice_get-get_or}
 use Rattle.apex_types.specs.declared.reply.Reply.{Reply}
 use Rattle.apex_config.specs.Configuration.{Configuration}
 use Rattle.apex_ports.specs.History.{History}
+use Rattle.apex_orders.specs.declared.asked.Asked.{Asked}
 use Rattle.apex_orders.specs.declared.replies.Possible.{Possible}
 use Rattle.apex_orders.specs.Orders.{Scripts, IsOrder, next_entries, history_of}
 use Rattle.apex_orders.specs.Points.{IsSamePoint}
 use Rattle.apex_orders.specs.Possibles.{Has}
-use Rattle.apex_orders.specs.Searching.{Knows, Keeps, Includes, AreOrders, AreApart, IsTried, HasTried, IsFound, AreFound}
+use Rattle.apex_orders.specs.Searching.{Knows, Keeps, Includes, AreOrders, AreApart, IsUnansweredAt, IsTried, HasTried, IsFound, AreFound}
 use Rattle.apex_orders.specs.Steps.{MakesNothing, Makes}
 use Rattle.apex_orders.proofs.Lists.{at_seam, stays_before, before_or_last}
 use Rattle.apex_orders.proofs.Walks.{continued-append, none_ordered, joined, one_ordered}
@@ -136,6 +137,10 @@ module _ (config : Configuration) (scripts : Scripts) where
   same_index old new k order keeps within at =
       let was = slice_get-get_or old k order within in
       was ∙ (sym (keeps k _ was) ∙ at)
+
+  pub unanswered_kept : (asked : Option Asked) (old new : List (List ℕ)) (k : ℕ) → Keeps old new → k < length old
+      → IsUnansweredAt config scripts asked old k → IsUnansweredAt config scripts asked new k
+  unanswered_kept asked old new k keeps within unanswered order at = unanswered order (same_index old new k order keeps within at)
 
   pub has_tried_kept : (old new : List (List ℕ)) (replies more : List Possible) (k : ℕ) → Keeps old new → Includes replies more → k < length old
       → HasTried config scripts old replies k → HasTried config scripts new more k

@@ -1,16 +1,16 @@
 -- An order in which a call gets a reply.
-use Rattle.std.proofs.Common.{◌≡◌, ⊎_elim, ℕ, List, [], ◌∷◌, ◌++◌, Option, Some, None, refl, sym, ap, ◌∙◌, subst}
-use Rattle.std.specs.List.{slice_get}
-use Rattle.std.specs.Option.{MatchOption, IfNone}
+use Rattle.std.proofs.Common.{◌≡◌, ℕ, List, [], ◌∷◌, ◌++◌, Option, Some, None, refl, sym, ap, ◌∙◌, subst}
+use Rattle.std.proofs.lemmas.Option.{slice_get_within}
 use Rattle.apex_config.specs.Configuration.{Configuration, IsConfiguration}
 use Rattle.apex_ports.specs.History.{History, entry_of}
+use Rattle.apex_orders.specs.declared.asked.Asked.{Asked}
 use Rattle.apex_orders.specs.declared.replies.Possible.{Possible}
 use Rattle.apex_orders.specs.Orders.{Scripts, IsOrder, IsBeginning, next_entries, history_of}
-use Rattle.apex_orders.specs.Outcomes.{IsGivenBy}
-use Rattle.apex_orders.specs.Searching.{IsGivenBehind, IsGivenByAnOrder}
-use Rattle.apex_orders.proofs.Lists.{before_or_last}
+use Rattle.apex_orders.specs.Outcomes.{CanBeAnswered, IsAnsweredBy, IsGivenBy}
+use Rattle.apex_orders.specs.Searching.{HasEnded, IsAnsweredBehind, IsGivenBehind, IsSearched, IsSearchedInVain}
+use Rattle.apex_orders.proofs.Following.{AreShort}
 use Rattle.apex_orders.proofs.Walks.{good_next, is_beginning}
-use Rattle.apex_orders.proofs.Completing.{IsAnswered, good_history, made_is_answered}
+use Rattle.apex_orders.proofs.Completing.{IsAnswered, given_of_occurs, good_history, made_is_answered}
 use Rattle.apex_orders.proofs.SearchLemmas.{behind, longer_is_order}
 
 module _ (config : Configuration) (scripts : Scripts) where
@@ -37,19 +37,28 @@ module _ (config : Configuration) (scripts : Scripts) where
         };
       }
 
-  -- no order gives it where none did before, and the last doesn't
-  pub given_by_none : (one : Possible) → IsGivenByAnOrder config scripts [] one → ⊥
-  given_by_none one by = absurd (let at = by.here.1 in cc)
+  -- ---- questions
 
-  pub not_given_longer : (orders : List (List ℕ)) (order : List ℕ) (one : Possible) → (IsGivenByAnOrder config scripts orders one → ⊥)
-      → (IsGivenBehind config scripts order one → ⊥) → IsGivenByAnOrder config scripts (orders ++ order ∷ []) one → ⊥
-  not_given_longer orders order one none other by =
-      ⊎_elim
-      (λ (before : slice_get orders by.here.0 ≡ Some by.order). none (record { order = by.order; here = (by.here.0, before); given = by.given }))
-      (λ (last : _ × (order ≡ by.order)). other (subst (λ (o : List ℕ). IsGivenBehind config scripts o one) (sym last.1) by.given))
-      (before_or_last orders order by.here.0 by.order by.here.1)
+  pub longer_answers : IsConfiguration config → (asked : Asked) (order : List ℕ) → IsOrder config order → IsAnsweredBehind config scripts asked order
+      → IsAnsweredBy config scripts asked (order ++ asked.partition ∷ [])
+  longer_answers valid asked order is answered = record {
+    one = answered.one;
+    answers = answered.answers;
+    given = subst (λ (p : ℕ). IsGivenBy config scripts answered.one (order ++ p ∷ [])) answered.answers.partition (longer_gives valid order answered.one is answered.given);
+  }
 
--- what is said where there is no value may be weakened
-pub none_weaker : {X : Type 0} (o : Option X) (P Q : Type 0) (R : X → Type 0) → (P → Q) → MatchOption o P R → IfNone o Q
-none_weaker None P Q R f p = f p
-none_weaker (Some x) P Q R f p = tt
+  -- what was answered behind none of the orders of an ended search is answered by no way
+  pub never_answered : IsConfiguration config → AreShort scripts → (asked : Asked) (orders : List (List ℕ)) (replies : List Possible)
+      → IsSearchedInVain config scripts (Some asked) orders replies → CanBeAnswered config scripts asked → ⊥
+  never_answered valid short asked orders replies ended can =
+      let by = given_of_occurs config scripts valid short orders replies ended.searched can.one can.occurs in
+      ended.unanswered by.here.0 (slice_get_within orders by.here.0 by.order by.here.1) by.order by.here.1
+      (record { one = can.one; answers = can.answers; given = by.given })
+
+  -- ---- what a search ended with
+
+  -- where nothing is asked, all was searched
+  pub searched_all : (orders : List (List ℕ)) (replies : List Possible) (answer : Option (List ℕ)) → HasEnded config scripts None orders replies answer
+      → IsSearched config scripts orders replies
+  searched_all orders replies None ended = ended.searched
+  searched_all orders replies (Some order) ended = absurd ended

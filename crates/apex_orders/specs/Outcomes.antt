@@ -1,8 +1,14 @@
 -- All that can happen to scripts, over every order of their calls.
 use Rattle.std.specs.Prelude.{ℕ, ◌≡◌, ◌<◌, ◌↔◌, List, [], ◌∷◌, ◌++◌, length, slice_get, Some, Result, Err}
+use Rattle.apex_types.specs.Reply.{code_of}
+use Rattle.apex_types.specs.declared.reply.Reply.{Reply}
+use Rattle.apex_types.specs.declared.reply.Reply.TheVariants as reply
 use Rattle.apex_config.specs.Configuration.{Configuration}
 use Rattle.apex_ports.specs.declared.history.Entry.{Entry}
 use Rattle.apex_ports.specs.History.{History, entries_of}
+use Rattle.apex_orders.specs.declared.asked.Admitted.{Admitted}
+use Rattle.apex_orders.specs.declared.asked.Admitted.TheVariants as admitted
+use Rattle.apex_orders.specs.declared.asked.Asked.{Asked}
 use Rattle.apex_orders.specs.declared.orders_fault.OrdersFault.{OrdersFault}
 use Rattle.apex_orders.specs.declared.orders_fault.OrdersFault.TheVariants.{TooManyStates}
 use Rattle.apex_orders.specs.declared.replies.Possible.{Possible}
@@ -31,6 +37,38 @@ pub record IsGivenBy (config : Configuration) (scripts : Scripts) (one : Possibl
   pub begins : IsBeginning config scripts (history_of config scripts order)
   pub reply : slice_get (replies_of one.partition (history_of config scripts order)) one.index ≡ Some one.reply
   pub last : EndsWith (history_of config scripts order) one
+
+-- ---- questions
+
+-- what a reply asks for: a code alone stands for every reply with that code
+abbrev pub admitted_by : Reply → Admitted
+admitted_by (reply.Code code) = admitted.Code code
+admitted_by one = admitted.Reply one
+
+-- the reply is the one that is admitted, or has the code
+abbrev pub Admits : Admitted → Reply → Type 0
+Admits (admitted.Reply one) given = given ≡ one
+Admits (admitted.Code code) given = code_of given ≡ Some code
+
+-- the reply is to the call that is asked of, and admitted
+pub record Answers (asked : Asked) (one : Possible) : Type 0 where
+  pub partition : one.partition ≡ asked.partition
+  pub index : one.index ≡ asked.index
+  pub reply : Admits asked.admitted one.reply
+
+-- some way of all calls gives the call that is asked of an admitted reply
+pub record CanBeAnswered (config : Configuration) (scripts : Scripts) (asked : Asked) : Type 0 where
+  pub one : Possible
+  pub answers : Answers asked one
+  pub occurs : CanOccur config scripts one
+
+-- the calls in this order are a beginning, which ends with the call that is asked of, and gives it an admitted reply
+pub record IsAnsweredBy (config : Configuration) (scripts : Scripts) (asked : Asked) (order : List ℕ) : Type 0 where
+  pub one : Possible
+  pub answers : Answers asked one
+  pub given : IsGivenBy config scripts one order
+
+-- ---- all replies and ends
 
 -- these are the replies that calls can get, and no others
 abbrev pub AreReplies : Configuration → Scripts → List Possible → Type 0

@@ -1,12 +1,14 @@
 -- What a search has found.
-use Rattle.std.specs.Prelude.{ℕ, ◌≡◌, ◌<◌, ◌≤◌, List, ◌∷◌, [], ◌++◌, length, slice_get, Some, Result, Err}
+use Rattle.std.specs.Prelude.{ℕ, ◌≡◌, ◌<◌, ◌≤◌, List, ◌∷◌, [], ◌++◌, length, slice_get, Option, Some, None, IfSome, MatchOption, Result, Err}
 use Rattle.apex_config.specs.Configuration.{Configuration}
 use Rattle.apex_ports.specs.Counts.{count_of}
 use Rattle.apex_ports.specs.History.{History, entries_of}
+use Rattle.apex_orders.specs.declared.asked.Asked.{Asked}
 use Rattle.apex_orders.specs.declared.replies.Possible.{Possible}
 use Rattle.apex_orders.specs.declared.orders_fault.OrdersFault.{OrdersFault}
 use Rattle.apex_orders.specs.declared.orders_fault.OrdersFault.TheVariants.{TooManyStates}
 use Rattle.apex_orders.specs.Orders.{Scripts, script_of, IsOrder, history_of}
+use Rattle.apex_orders.specs.Outcomes.{Answers, IsAnsweredBy}
 use Rattle.apex_orders.specs.Points.{IsSamePoint}
 use Rattle.apex_orders.specs.Possibles.{Has}
 use Rattle.apex_orders.specs.Steps.{Makes}
@@ -74,6 +76,34 @@ pub record IsSearched (config : Configuration) (scripts : Scripts) (orders : Lis
   pub valid : AreOrders config orders
   pub found : AreFound config scripts replies
   pub tried : (k : ℕ) → k < length orders → HasTried config scripts orders replies k
+
+-- behind the order, the call that is asked of is its partition's next one, and gets an admitted reply
+pub record IsAnsweredBehind (config : Configuration) (scripts : Scripts) (asked : Asked) (order : List ℕ) : Type 0 where
+  pub one : Possible
+  pub answers : Answers asked one
+  pub given : IsGivenBehind config scripts order one
+
+-- where something is asked, it isn't answered behind the order
+abbrev pub IsUnanswered : Configuration → Scripts → Option Asked → List ℕ → Type 0
+IsUnanswered config scripts asked order = IfSome asked (λ one. ¬ IsAnsweredBehind config scripts one order)
+
+-- nor behind the order at the index
+abbrev pub IsUnansweredAt : Configuration → Scripts → Option Asked → List (List ℕ) → ℕ → Type 0
+IsUnansweredAt config scripts asked orders k = (order : List ℕ) → slice_get orders k ≡ Some order → IsUnanswered config scripts asked order
+
+-- the search has come to its end without an answer
+pub record IsSearchedInVain (config : Configuration) (scripts : Scripts) (asked : Option Asked) (orders : List (List ℕ)) (replies : List Possible) : Type 0 where
+  pub searched : IsSearched config scripts orders replies
+  pub unanswered : (k : ℕ) → k < length orders → IsUnansweredAt config scripts asked orders k
+
+-- where something is asked, the order answers it; where nothing is, there is no such order
+abbrev pub IsAnswer : Configuration → Scripts → Option Asked → List ℕ → Type 0
+IsAnswer config scripts None order = ⊥
+IsAnswer config scripts (Some asked) order = IsAnsweredBy config scripts asked order
+
+-- the search has an answer, or has come to its end without one
+abbrev pub HasEnded : Configuration → Scripts → Option Asked → List (List ℕ) → List Possible → Option (List ℕ) → Type 0
+HasEnded config scripts asked orders replies answer = MatchOption answer (IsSearchedInVain config scripts asked orders replies) (IsAnswer config scripts asked)
 
 -- each partition has made all calls of its script
 abbrev pub HasMadeAll : Configuration → Scripts → History → Type 0

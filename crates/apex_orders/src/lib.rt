@@ -1,6 +1,8 @@
 //! All that can happen to scripts of a module, over every order of their calls.
 #![tactic(auto)]
 
+mod answer;
+pub mod asked;
 mod listener;
 mod longest;
 mod mark;
@@ -17,6 +19,7 @@ pub mod step;
 mod trial;
 pub mod witness;
 
+pub use crate::asked::{Admitted, Asked};
 pub use crate::listener::{Listener, Nobody};
 pub use crate::order::Order;
 pub use crate::orders_fault::OrdersFault;

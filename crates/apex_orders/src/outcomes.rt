@@ -60,7 +60,7 @@ pub fn all_outcomes_telling<L: Listener>(
 {
     let partitions = config.partitions();
     prove!(scripts.len() == partitions);
-    let found = match search(alloc, config, scripts, bound, listener) {
+    let found = match search(alloc, config, scripts, None, bound, listener) {
         Err(fault) => return Err(fault),
         Ok(found) => found,
     };

@@ -85,7 +85,7 @@ impl Points {
     }
 
     /// What the ports were at the index, where it is saved.
-    fn saved_at(&self, k: usize) -> Option<&SavedPorts>
+    pub(crate) fn saved_at(&self, k: usize) -> Option<&SavedPorts>
         ensures index { IfSome result (λ _. self.now.first ≤ k) }
         ensures ports { IfSome result (λ ports.
             slice_get self.now.saved.items (k - self.now.first) ≡ Some ports.now) }

@@ -83,13 +83,14 @@ fn call_mark(one: &Possible) -> u64 {
 }
 
 /// Whether they are equal.
-pub(crate) fn is_same_possible(a: &Possible, b: &Possible) -> bool
+fn is_same_possible(a: &Possible, b: &Possible) -> bool
     ensures { IsTrue result ↔ (a.now ≡ b.now) }
 {
     a.index == b.index && a.partition == b.partition && is_same_reply(&a.reply, &b.reply)
 }
 
-fn is_same_reply(a: &Reply, b: &Reply) -> bool
+/// Whether they are equal.
+pub(crate) fn is_same_reply(a: &Reply, b: &Reply) -> bool
     ensures { IsTrue result ↔ (a.now ≡ b.now) }
 {
     a == b

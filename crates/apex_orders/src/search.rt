@@ -1,10 +1,13 @@
 //! The search of all points that orders lead to.
 ghost use Rattle.std.specs.Prelude.{◌≡◌, ◌<◌, ◌≤◌, ◌++◌, [], ◌∷◌, ℕ, List, length, IfOk, OnOk, IfSome};
+ghost use Rattle.std.specs.Option.{option_copied};
 ghost use Rattle.apex_orders.specs.Known.{ArePoints, IsAfter, IsTrialOf};
 ghost use Rattle.apex_orders.specs.Orders.{IsOrder, history_of, script_of};
 ghost use Rattle.apex_orders.specs.Possibles.{Has};
-ghost use Rattle.apex_orders.specs.Searching.{Knows, AreOrders, AreApart, AreFound, IsTried, HasTried, Includes, Keeps, IsSearched, IsGivenUp};
+ghost use Rattle.apex_orders.specs.Searching.{Knows, AreOrders, AreApart, AreFound, HasEnded, IsTried, HasTried, Includes, Keeps, IsGivenUp};
 
+use crate::answer::answer_behind;
+use crate::asked::Asked;
 use crate::listener::{Level, Listener};
 use crate::longest::longest_script;
 use crate::mark::mark_of;
@@ -19,24 +22,29 @@ use apex_ports::{SavedPorts, Script};
 use apex_types::OutOfMemory;
 use std::alloc::Global;
 
-/// What a search has found: one order to each point, and the replies.
+/// What a search has found: one order to each point, and the replies; or the order that answers a question, at which it
+/// ended.
 #[derive(Drop)]
 pub(crate) struct Found {
     pub(crate) orders: Vec<PackedOrder>,
     pub(crate) replies: Vec<Possible>,
+    pub(crate) answer: Option<PackedOrder>,
 }
 
-/// Searches on from each point, in the order in which they are found, until none is left.
+/// Searches on from each point, in the order in which they are found, until none is left, or until one order answers
+/// what is asked.
 pub(crate) fn search<L: Listener>(
     alloc: Global,
     config: &Config,
     scripts: &[Script],
+    asked: Option<&Asked>,
     bound: usize,
     listener: &mut L,
 ) -> Result<Found, OrdersFault>
     requires { length scripts.now ≡ length config.now.partitions }
-    ensures searched { IfOk result (λ found.
-        IsSearched config.now scripts.now found.orders.items found.replies.items) }
+    ensures ended { let asked = option_copied asked.entry in
+        IfOk result (λ found. HasEnded config.now scripts.now asked
+        found.orders.items found.replies.items found.answer) }
     ensures short { OnOk result ((p : ℕ) → length (script_of scripts.now p) ≤ usize.MAX) }
     ensures given_up { IsGivenUp config.now scripts.now bound result }
 {
@@ -48,6 +56,17 @@ pub(crate) fn search<L: Listener>(
     let mut level = Level::new();
     let mut i = 0;
     while i < orders.len() {
+        let known = orders.as_slice();
+        if let Some(order) = answer_behind(
+            alloc, config, scripts, asked, known, &points, &mut trial, i,
+        )? {
+            let replies = replies.into_found();
+            return Ok(Found {
+                orders,
+                replies,
+                answer: Some(order),
+            });
+        }
         if orders.len() > bound {
             return Err(OrdersFault::TooManyStates);
         }
@@ -65,7 +84,11 @@ pub(crate) fn search<L: Listener>(
         i += 1;
     }
     let replies = replies.into_found();
-    Ok(Found { orders, replies })
+    Ok(Found {
+        orders,
+        replies,
+        answer: None,
+    })
 }
 
 /// The order of no calls alone.

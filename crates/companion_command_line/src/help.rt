@@ -83,6 +83,9 @@ number of states that calls can lead to, and that of different ends. Where the p
 several groups that share no channel, there is such a last line for each group, with the names of its partitions. Where
 there are more states than the bound, nothing is told, and the status is 5.
 
+A question NAME:LINE = REPLY is about the call on a line of a partition's script. A return code alone stands for every
+reply with that code. The first order that gives such a reply ends the search.
+
 Example:
   $ ./dekarino orders examples/orders/config.toml FMS=examples/orders/fms.script DSP=examples/orders/dsp.script
   FMS:2 10 create-queuing NAV_OUT 4 1 0 0 -> NO_ERROR id 1

@@ -33,6 +33,8 @@ pub enum Unfinished<'a> {
     NotSo { text: Vec<u8> },
     /// This is told, and nothing is claimed: the steps of a search were too few.
     NotDecided { text: Vec<u8> },
+    /// The words of `--when` or `--never` are no question, for this reason.
+    NoQuestion { words: &'a str, reason: String },
     /// The orders of scripts lead to more states than these, so nothing is claimed.
     TooManyStates { states: usize },
 }

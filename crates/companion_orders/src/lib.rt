@@ -4,6 +4,8 @@
 mod json_outcomes;
 mod occurrences;
 mod outcomes;
+mod question_faults;
+mod questions;
 mod scripted;
 mod shown;
 

@@ -1,27 +1,26 @@
-//! Whether a call of scripts gets a reply in some order.
+//! Whether a call of scripts gets a reply that a question admits in some order.
 ghost use Rattle.std.specs.Prelude.{◌≡◌, length};
 ghost use Rattle.apex_ports.specs.Sound.{IsSound};
 
 use crate::outcomes::not_found;
+use crate::questions::question_in;
 use crate::shown::Shown;
 use apex_call_words::push_logged;
 use apex_config::Config;
-use apex_files::Refusal;
-use apex_logs::read_reply;
 use apex_order_groups::order_giving_apart;
+use apex_orders::Order;
 use apex_orders::step::step;
-use apex_orders::{Order, Possible};
 use apex_outcome_lines::LineNumbers;
 use apex_ports::{Ports, Script};
-use apex_types::{OutOfMemory, Reply};
+use apex_types::OutOfMemory;
 use companion_command_line::Question;
 use companion_common::{Progress, Unfinished};
 use std::alloc::{AllocError, Global};
 
-/// What is told where no order gives the reply.
+/// What is told where no order gives such a reply.
 const NEVER: &[u8] = b"never\n";
 
-/// The answer to a question: an order in which the call gets the reply, as a log, or that there is none.
+/// The answer to a question: an order in which the call gets an admitted reply, as a log, or that there is none.
 pub(crate) fn occurrence<'a, P: Progress>(
     alloc: Global,
     config: &Config,
@@ -37,11 +36,12 @@ pub(crate) fn occurrence<'a, P: Progress>(
         Question::When(words) => (words, true),
         Question::Never(words) => (words, false),
     };
-    let Some(one) = possible_in(config, lines, words) else {
-        return Err(Unfinished::Refused(Refusal::Argument(words)));
+    let asked = match question_in(alloc, config, scripts, lines, words) {
+        Ok(asked) => asked,
+        Err(unfinished) => return Err(unfinished),
     };
     let mut shown = Shown { progress };
-    let order = match order_giving_apart(alloc, config, scripts, &one, states, &mut shown) {
+    let order = match order_giving_apart(alloc, config, scripts, &asked, states, &mut shown) {
         Ok(order) => order,
         Err(fault) => return Err(not_found(fault, states)),
     };
@@ -54,34 +54,6 @@ pub(crate) fn occurrence<'a, P: Progress>(
     } else {
         Err(Unfinished::NotSo { text })
     }
-}
-
-/// The reply that words `NAME:LINE = REPLY` name, to the call of that line of the partition's script.
-fn possible_in(config: &Config, lines: &[LineNumbers], words: &str) -> Option<Possible> {
-    let (call, said) = words.split_once('=')?;
-    let (name, line) = call.trim().split_once(':')?;
-    let partition = config.partition_called(name.as_bytes())?;
-    let line: usize = line.parse().ok()?;
-    let index = index_of(lines.get(partition)?, line)?;
-    let mut reply = Reply::NotMade;
-    match read_reply(said.as_bytes(), &mut reply) {
-        Ok(()) => Some(Possible {
-            partition,
-            index,
-            reply,
-        }),
-        Err(_) => None,
-    }
-}
-
-/// The index of the call that stands on the line.
-fn index_of(lines: &LineNumbers, line: usize) -> Option<usize> {
-    for (index, number) in lines.numbers.iter().enumerate() {
-        if *number == line {
-            return Some(index);
-        }
-    }
-    None
 }
 
 fn answer_text(

@@ -86,6 +86,7 @@ fn finish<W: Write, E: Write>(
             return faulty_own_log(file, faulty, errors);
         }
         Err(Unfinished::NotWritten(file)) => return not_written(file, errors),
+        Err(Unfinished::NoQuestion { words, reason }) => return no_question(words, &reason, errors),
         Err(Unfinished::TooManyStates { states }) => return too_many_states(states, errors),
     };
     match (print(output, text.as_slice()), refusal) {
@@ -126,6 +127,12 @@ fn faulty_own_log<E: Write>(file: &str, faulty: FaultyLine, errors: &mut E) -> u
 fn not_written<E: Write>(file: &str, errors: &mut E) -> u8 {
     let _ = writeln!(errors, "cannot write {file}");
     NOT_WRITTEN
+}
+
+/// Says why words are no question, and answers the status.
+fn no_question<E: Write>(words: &str, reason: &str, errors: &mut E) -> u8 {
+    let _ = writeln!(errors, "argument fault: {words}: {reason}");
+    MISUSED
 }
 
 /// Says that the orders of scripts lead to more states than the bound, and answers the status.

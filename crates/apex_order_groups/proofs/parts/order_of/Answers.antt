@@ -18,7 +18,7 @@ returns-clause-found g c =
     let part = c.exchange.new.other in
     let inside : ℕ → Bool = in_group c.args.groups.now.of_partitions.items c.args.group in
     let put : AreExchanged inside (replicate (length config.partitions) []) scripts part = subst (λ (none : Scripts). AreExchanged inside none scripts part) c.requires.part c.exchange.ensures.other in
-    answer_of config inside scripts part (put_in inside scripts (length config.partitions) part put) c.args.one.now c.order_giving_telling-found.result
+    answer_of config inside scripts part (put_in inside scripts (length config.partitions) part put) c.args.asked.now c.order_giving_telling-found.result
     c.order_giving_telling-found.ensures.found c.order_giving_telling-found.ensures.never
 
 pub returns-clause-undecided : goal.returns-clause-undecided

@@ -1,29 +1,29 @@
 use Rattle.std.proofs.Common.{ℕ, Bool, Some, None, sym, ◌∙◌, subst}
 use Rattle.apex_groups.specs.Groups.{in_group}
-use Rattle.apex_orders.specs.Outcomes.{IsGivenBy}
+use Rattle.apex_orders.specs.Outcomes.{IsAnsweredBy}
 use Rattle.apex_order_groups.specs.Parts.{IsAnswerOf}
 use Rattle.apex_order_groups.proofs.GroupSteps.{is_in}
-use Rattle.apex_order_groups.proofs.PartLemmas.{occurs_in_part}
-use Rattle.apex_order_groups.proofs.WholeLemmas.{given_inside}
+use Rattle.apex_order_groups.proofs.PartLemmas.{answered_in_part}
+use Rattle.apex_order_groups.proofs.WholeLemmas.{answered_inside}
 use Rattle.apex_order_groups.proofs.witness.order_in_group.Goals as goal
 
 pub returns-in-Ok-None-clause-never : goal.returns-in-Ok-None-clause-never
 returns-in-Ok-None-clause-never g c = λ can.
     let config = c.args.config.now in
     let scripts = c.args.scripts.now in
-    let one = c.args.one.now in
+    let asked = c.args.asked.now in
     let groups = c.args.groups.now.of_partitions.items in
     let group = c.of_partition-group.result in
     let inside : ℕ → Bool = in_group groups group in
-    let answer : IsAnswerOf config inside scripts one None = subst (IsAnswerOf config inside scripts one) c.in-Ok-None.field-0-is c.in-Ok-None.ensures.found in
-    answer.never (occurs_in_part config inside scripts answer.part answer.is (c.requires.apart.closed group) one (is_in groups group one.partition (sym c.of_partition-group.ensures)) can)
+    let answer : IsAnswerOf config inside scripts asked None = subst (IsAnswerOf config inside scripts asked) c.in-Ok-None.field-0-is c.in-Ok-None.ensures.found in
+    answer.never (answered_in_part config inside scripts answer.part answer.is (c.requires.apart.closed group) asked (is_in groups group asked.partition (sym c.of_partition-group.ensures)) can)
 
 pub returns-clause-found : goal.returns-clause-found
 returns-clause-found g c =
     let config = c.args.config.now in
     let scripts = c.args.scripts.now in
-    let one = c.args.one.now in
+    let asked = c.args.asked.now in
     let order = c.in-Ok-Some.order in
     let inside : ℕ → Bool = in_group c.args.groups.now.of_partitions.items c.of_partition-group.result in
-    let answer : IsAnswerOf config inside scripts one (Some order) = subst (IsAnswerOf config inside scripts one) c.in-Ok-Some.field-0-is c.in-Ok-Some.ensures.found in
-    subst (IsGivenBy config scripts one) (sym (c.new.ensures ∙ c.in_ok-own-in-Ok-Some.ensures)) (given_inside config inside scripts answer.part answer.is one order answer.found)
+    let answer : IsAnswerOf config inside scripts asked (Some order) = subst (IsAnswerOf config inside scripts asked) c.in-Ok-Some.field-0-is c.in-Ok-Some.ensures.found in
+    subst (IsAnsweredBy config scripts asked) (sym (c.new.ensures ∙ c.in_ok-own-in-Ok-Some.ensures)) (answered_inside config inside scripts answer.part answer.is asked order answer.found)

@@ -3,6 +3,7 @@ use Rattle.apex_orders.specs.Searching.{AreEndsOf}
 use Rattle.apex_orders.specs.Orders.{history_of}
 use Rattle.apex_orders.proofs.Completing.{are_replies, are_ends}
 use Rattle.apex_orders.proofs.EndLemmas.{full_of_made, made_of_full, undecided_of}
+use Rattle.apex_orders.proofs.WitnessLemmas.{searched_all}
 use Rattle.apex_orders.proofs.outcomes.all_outcomes_telling.Goals as goal
 
 pub returns-in-Err-clause-undecided : goal.returns-in-Err-clause-undecided
@@ -11,14 +12,14 @@ returns-in-Err-clause-undecided g c =
 
 pub returns-clause-replies : goal.returns-clause-replies
 returns-clause-replies g c =
-    let searched = c.in-Ok.ensures.searched in
+    let searched = searched_all c.args.config.now c.args.scripts.now c.in-Ok.found.orders.items c.in-Ok.found.replies.items c.in-Ok.found.answer c.in-Ok.ensures.ended in
     are_replies c.args.config.now c.args.scripts.now c.partitions-partitions.ensures.valid c.in-Ok.ensures.short c.in-Ok.found.orders.items c.in-Ok.found.replies.items searched c.requires
 
 pub returns-clause-ends : goal.returns-clause-ends
 returns-clause-ends g c =
     let config = c.args.config.now in
     let scripts = c.args.scripts.now in
-    let searched = c.in-Ok.ensures.searched in
+    let searched = searched_all c.args.config.now c.args.scripts.now c.in-Ok.found.orders.items c.in-Ok.found.replies.items c.in-Ok.found.answer c.in-Ok.ensures.ended in
     let short = c.in-Ok.ensures.short in
     let ends = subst (λ (orders : List (List ℕ)). AreEndsOf config scripts orders c.in_ok-ends.ends.items) c.as_slice.ensures.value c.in_ok-ends.ensures.ends in
     are_ends config scripts c.partitions-partitions.ensures.valid short c.in-Ok.found.orders.items c.in-Ok.found.replies.items searched c.requires c.in_ok-ends.ends.items

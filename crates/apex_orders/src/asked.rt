@@ -1,0 +1,58 @@
+//! What is asked of a call of a script.
+ghost use Rattle.std.specs.Prelude.{◌≡◌, ◌↔◌, IsTrue};
+ghost use Rattle.apex_orders.specs.Outcomes.{Admits, Answers, admitted_by};
+
+use crate::replies::{Possible, is_same_reply};
+use apex_types::{Reply, ReturnCode};
+
+/// The replies that a question admits.
+#[derive(Debug, Drop, PartialEq, Eq)]
+pub enum Admitted {
+    /// This reply alone.
+    Reply(Reply),
+    /// Every reply with this return code.
+    Code(ReturnCode),
+}
+
+/// A question: whether a call of a script can get an admitted reply.
+#[derive(Debug, Drop, PartialEq, Eq)]
+pub struct Asked {
+    /// The partition's number, from 0.
+    pub partition: usize,
+    /// The index of the call in the partition's script, from 0.
+    pub index: usize,
+    pub admitted: Admitted,
+}
+
+impl Admitted {
+    /// What a reply asks for: a return code alone stands for every reply with that code, and another reply for itself.
+    pub fn of(reply: Reply) -> Admitted
+        ensures { result ≡ admitted_by reply }
+    {
+        match reply {
+            Reply::Code(code) => Admitted::Code(code),
+            _ => Admitted::Reply(reply),
+        }
+    }
+
+    /// Whether the reply is admitted.
+    pub fn admits(&self, reply: &Reply) -> bool
+        ensures { IsTrue result ↔ Admits self.now reply.now }
+    {
+        match self {
+            Admitted::Reply(one) => is_same_reply(reply, one),
+            Admitted::Code(code) => reply.code() == Some(*code),
+        }
+    }
+}
+
+impl Asked {
+    /// Whether the reply is to the call that is asked of, and admitted.
+    pub(crate) fn is_answered_by(&self, one: &Possible) -> bool
+        ensures { IsTrue result ↔ Answers self.now one.now }
+    {
+        one.index == self.index
+            && one.partition == self.partition
+            && self.admitted.admits(&one.reply)
+    }
+}
