@@ -1,13 +1,13 @@
 //! A board that is closed, or that is refused for want of memory, has given back every block of the heap that it was
 //! made in.
-use crate::tests::examples::answers;
-use crate::tests::limits::config_of;
-use crate::tests::module::{Module, creations};
-use crate::tests::refused_memory;
-use crate::tests::rounds::round_rows;
+use crate::tests::boards;
+use crate::tests::boards::holds;
+use crate::tests::limits::answers;
+use crate::tests::module::{Module, config_of};
 use apex_board::Board;
+use apex_types::OutOfMemory;
 use linked_list_allocator::LocalHeap;
-use std::alloc::{AllocGlobal, Allocator, Global};
+use std::alloc::{AllocGlobal, Allocator};
 use std::process::Abort;
 use std::sync::Wait;
 use std::test::Fail;
@@ -16,20 +16,18 @@ use std::test::Fail;
 const HEAP: usize = 268_435_456;
 
 /// The rounds of calls before a board is closed, with all their messages in the queues.
-const ROUNDS: u32 = 8;
+const ROUNDS: u32 = 9;
 
 /// Heaps of so many times 256 bytes have room for the board of the smallest example.
 const SIZES: usize = 1000;
 
 fn serves_rounds<A: Allocator, R: Abort + Wait>(
     rt: &R,
-    alloc: Global,
     board: &mut Board<A>,
     module: Module,
-) -> Result<(), Fail> {
-    answers(rt, board, &creations(alloc, module)?)?;
+) -> Result<(), OutOfMemory> {
     for round in 0..ROUNDS {
-        answers(rt, board, &round_rows(alloc, module, round)?)?;
+        answers(rt, board, module, round)?;
     }
     Ok(())
 }
@@ -37,12 +35,12 @@ fn serves_rounds<A: Allocator, R: Abort + Wait>(
 fn gives_back<R: AllocGlobal + Abort + Wait>(rt: &R, module: Module) -> Result<(), Fail> {
     let heap = LocalHeap::new(rt.alloc(), HEAP)?;
     let (mut board, observers) = Board::with_observers(rt, &heap, config_of(rt, module)?)?;
-    let served = serves_rounds(rt, rt.alloc(), &mut board, module);
-    assert!(rt; heap.used() > 0);
+    let served = serves_rounds(rt, &mut board, module);
+    holds(rt, heap.used() > 0, 0);
     board.close(rt);
     drop(observers);
-    assert_eq!(rt; heap.used(), 0);
-    served
+    holds(rt, heap.used() == 0, 1);
+    Ok(served?)
 }
 
 #[test]
@@ -56,7 +54,7 @@ fn closed_boards_at_the_limits(rt: HostRuntime) -> Result<(), Fail> {
 // Whether a board is made in a heap of this size; it is closed, and nothing is left of it.
 fn is_made_in<R: AllocGlobal + Abort + Wait>(rt: &R, size: usize) -> Result<bool, Fail> {
     let heap = LocalHeap::new(rt.alloc(), size)?;
-    let is_made = match Board::with_observers(rt, &heap, refused_memory::config_of(rt)?) {
+    let is_made = match Board::with_observers(rt, &heap, boards::config_of(rt)?) {
         Ok((board, observers)) => {
             board.close(rt);
             drop(observers);
@@ -64,7 +62,7 @@ fn is_made_in<R: AllocGlobal + Abort + Wait>(rt: &R, size: usize) -> Result<bool
         }
         Err(_refused) => false,
     };
-    assert_eq!(rt; heap.used(), 0);
+    holds(rt, heap.used() == 0, 0);
     Ok(is_made)
 }
 
@@ -72,7 +70,7 @@ fn is_made_in<R: AllocGlobal + Abort + Wait>(rt: &R, size: usize) -> Result<bool
 fn refused_boards_in_heaps_of_all_sizes(rt: HostRuntime) -> Result<(), Fail> {
     for size in 1..SIZES {
         if is_made_in(&rt, size * 256)? {
-            assert!(rt; size > 1);
+            holds(&rt, size > 1, 0);
             return Ok(());
         }
     }

@@ -1,161 +1,51 @@
-//! Boards of modules at the limits, with histories of more than 200,000 calls in which every channel is used.
-use crate::tests::examples::{Row, answer, answers, ask, entries};
-use crate::tests::last_calls::last_rows;
-use crate::tests::module::{CHANNELS, DEPTH, Module, REFRESH, creations, module_text};
-use crate::tests::rounds::{ROUNDS, SENDING, message_of, round_rows};
-use apex_board::Board;
-use apex_config::Config;
-use apex_observers::{Observer, Sampled};
-use apex_types::{Message, Moment, Taken, Validity};
+//! Boards, lists and ports of modules at the limits, with histories of more than 200,000 calls in which every channel is
+//! used.
+use crate::tests::boards::{ask, holds, run};
+use crate::tests::module::{Module, config_of};
+use crate::tests::records::{are_gone, are_logged, are_shown, are_whole};
+use crate::tests::rounds::{CHANNELS, PLACES, ROUNDS, Row, SENDING, USING};
+use apex_board::{Board, Request};
+use apex_observers::Observer;
+use apex_ports::Ports;
+use apex_types::OutOfMemory;
 use refusing::Switch;
-use std::alloc::{AllocGlobal, Allocator, Global};
+use std::alloc::{AllocError, AllocGlobal, Allocator};
 use std::process::Abort;
 use std::sync::Wait;
 use std::test::Fail;
 
-// The first round in which no more is sent has the messages from this one on in the queues.
-const LEFT: u32 = SENDING - DEPTH;
-
-fn is_message_of(
-    rt: &impl Abort,
-    alloc: Global,
-    channel: u32,
+// The board answers the calls of a round.
+pub(crate) fn answers<A: Allocator, R: Abort + Wait>(
+    rt: &R,
+    board: &mut Board<A>,
+    module: Module,
     round: u32,
-    found: &Message,
-) -> Result<(), Fail> {
-    let wanted = message_of(alloc, channel, round)?;
-    assert!(rt; *found == wanted, "channel {channel}, round {round}");
-    Ok(())
-}
-
-// These are the messages of the rounds in which messages are sent.
-fn are_accepted(
-    rt: &impl Abort,
-    alloc: Global,
-    channel: u32,
-    accepted: &[Message],
-) -> Result<(), Fail> {
-    let mut round = 0u32;
-    for message in accepted {
-        is_message_of(rt, alloc, channel, round, message)?;
-        round = round.saturating_add(1);
-    }
-    assert_eq!(rt; round, SENDING);
-    Ok(())
-}
-
-// All of them were received in order; from an odd channel the last 512 were cleared.
-fn are_taken(rt: &impl Abort, alloc: Global, channel: u32, taken: &[Taken]) -> Result<(), Fail> {
-    let mut round = 0u32;
-    for one in taken {
-        is_message_of(rt, alloc, channel, round, &one.message)?;
-        assert_eq!(rt; one.cleared, channel % 2 == 1 && round >= LEFT);
-        round = round.saturating_add(1);
-    }
-    assert_eq!(rt; round, SENDING);
-    Ok(())
-}
-
-fn journal_is_whole<A: Allocator>(
-    rt: &impl Abort,
-    alloc: Global,
-    board: &Board<A>,
-    channel: u32,
-) -> Result<(), Fail> {
-    let c = channel as usize;
-    assert!(rt; c < board.config().channels());
-    assert_eq!(rt; board.waiting_count(c), 0);
-    are_accepted(rt, alloc, channel, board.accepted(c))?;
-    are_taken(rt, alloc, channel, board.taken(c))
-}
-
-// A sampling channel holds the message of the last round.
-fn last_sample_is_held<A: Allocator>(
-    rt: &impl Abort,
-    alloc: Global,
-    board: &Board<A>,
-    module: Module,
-    channel: u32,
-) -> Result<(), Fail> {
-    let c = channel as usize;
-    assert!(rt; c < board.config().channels());
-    let Some(sample) = board.last_sample(c) else {
-        panic!(rt; "channel {channel} holds no sample");
-    };
-    assert_eq!(rt; sample.at, Moment(module.at));
-    is_message_of(rt, alloc, channel, ROUNDS - 1, &sample.message)
-}
-
-/// What the board of the module has recorded of the whole history.
-pub(crate) fn records_are_whole<A: Allocator>(
-    rt: &impl Abort,
-    alloc: Global,
-    board: &Board<A>,
-    module: Module,
-) -> Result<(), Fail> {
-    for channel in 0..CHANNELS {
-        if module.is_queuing(channel) {
-            journal_is_whole(rt, alloc, board, channel)?;
-        } else {
-            last_sample_is_held(rt, alloc, board, module, channel)?;
+) -> Result<(), OutOfMemory> {
+    for place in 0..PLACES {
+        if let Some(row) = module.row(round, place) {
+            let reply = ask(rt, board, &row.request)?;
+            holds(rt, reply == row.reply, u64::from(round));
         }
     }
     Ok(())
 }
 
-// Each observer shows its channel's message of the round.
-fn observers_show<A: Allocator>(
-    rt: &impl Abort,
-    alloc: Global,
-    observers: &mut [Observer<A>],
-    module: Module,
-    round: u32,
-) -> Result<(), Fail> {
-    for (channel, observer) in (module.queuing..CHANNELS).zip(observers.iter_mut()) {
-        let wanted = Sampled::Sample {
-            message: message_of(alloc, channel, round)?,
-            at: Moment(module.at),
-            validity: Validity::Valid,
-        };
-        let shown = observer.read(Moment(module.at), REFRESH);
-        assert!(rt; shown == wanted, "channel {channel}, round {round}");
-    }
-    Ok(())
-}
-
-fn observers_show_gone<A: Allocator>(
-    rt: &impl Abort,
-    observers: &mut [Observer<A>],
-    module: Module,
-) {
-    for observer in observers.iter_mut() {
-        assert!(rt; observer.read(Moment(module.at), REFRESH) == Sampled::Gone);
-    }
-}
-
-// The whole history. The observers read in each round, or in the last alone.
-fn serves_module<A: Allocator, R: Abort + Wait>(
+// The whole history. The observers read in each round in which every channel is used, or in the last of them alone.
+fn serves<A: Allocator, R: Abort + Wait>(
     rt: &R,
-    alloc: Global,
     board: &mut Board<A>,
     observers: &mut [Observer<A>],
     module: Module,
     reads_all: bool,
-) -> Result<(), Fail> {
-    answers(rt, board, &creations(alloc, module)?)?;
-    for round in 0..ROUNDS {
-        answers(rt, board, &round_rows(alloc, module, round)?)?;
-        if reads_all || round == ROUNDS - 1 {
-            observers_show(rt, alloc, observers, module, round)?;
+) -> Result<(), OutOfMemory> {
+    answers(rt, board, module, 0)?;
+    for round in 1..USING + 1 {
+        answers(rt, board, module, round)?;
+        if reads_all || round == USING {
+            are_shown(rt, observers, module, round);
         }
     }
-    answers(rt, board, &last_rows(alloc, module)?)?;
-    records_are_whole(rt, alloc, board, module)
-}
-
-pub(crate) fn config_of<R: AllocGlobal>(rt: &R, module: Module) -> Result<Config, Fail> {
-    let text = module_text(rt.alloc(), module)?;
-    Ok(Config::read(rt.alloc(), text.as_bytes())?)
+    answers(rt, board, module, USING + 1)
 }
 
 // The history on a new board with observers.
@@ -167,19 +57,12 @@ fn board_serves<R: AllocGlobal + Abort + Wait>(
 ) -> Result<(), Fail> {
     let config = config_of(rt, module)?;
     let (mut board, mut observers) = Board::with_observers(rt, rt.alloc(), config)?;
-    assert!(rt; observers.len() + module.queuing as usize == 64);
-    let served = serves_module(
-        rt,
-        rt.alloc(),
-        &mut board,
-        &mut observers,
-        module,
-        reads_all,
-    );
-    assert_eq!(rt; entries(&board), calls);
+    let served = serves(rt, &mut board, &mut observers, module, reads_all);
+    are_whole(rt, &board, module);
+    holds(rt, board.log().len() == calls, 0);
     board.close(rt);
-    observers_show_gone(rt, &mut observers, module);
-    served
+    are_gone(rt, &mut observers);
+    Ok(served?)
 }
 
 #[test]
@@ -210,56 +93,41 @@ fn answers_in_the_end<A: Allocator, B: Allocator, R: Abort + Wait>(
     switch: &Switch<B>,
     board: &mut Board<A>,
     row: &Row,
-) -> Result<bool, Fail> {
-    let made = entries(board);
-    let answered = ask(rt, board, row);
-    let is_refused = switch.refused() > 0;
-    if is_refused {
-        switch.refuse_after(9, 1);
-    }
-    if let Ok(reply) = answered {
-        assert!(rt; reply == row.3);
+) -> Result<bool, OutOfMemory> {
+    let made = board.log().len();
+    let answered = ask(rt, board, &row.request);
+    if switch.refused() == 0 {
+        holds(rt, answered? == row.reply, 0);
         return Ok(false);
     }
-    assert!(rt; is_refused && entries(board) == made);
-    answer(rt, board, row)?;
-    Ok(true)
-}
-
-// How many calls of the table were refused.
-fn answers_all_in_the_end<A: Allocator, B: Allocator, R: Abort + Wait>(
-    rt: &R,
-    switch: &Switch<B>,
-    board: &mut Board<A>,
-    rows: &[Row],
-) -> Result<u32, Fail> {
-    let mut refused = 0u32;
-    for row in rows {
-        if answers_in_the_end(rt, switch, board, row)? {
-            refused = refused.saturating_add(1);
-        }
+    switch.refuse_after(9, 1);
+    if let Ok(reply) = answered {
+        holds(rt, reply == row.reply, 1);
+        return Ok(false);
     }
-    Ok(refused)
+    holds(rt, board.log().len() == made, 2);
+    let reply = ask(rt, board, &row.request)?;
+    holds(rt, reply == row.reply, 3);
+    Ok(true)
 }
 
 // The whole history, with every tenth request for memory refused; how many calls were.
 fn serves_refused<A: Allocator, B: Allocator, R: Abort + Wait>(
     rt: &R,
-    alloc: Global,
     switch: &Switch<B>,
     board: &mut Board<A>,
     module: Module,
-) -> Result<u32, Fail> {
-    switch.refuse_after(9, 1);
-    answers_all_in_the_end(rt, switch, board, &creations(alloc, module)?)?;
+) -> Result<u32, OutOfMemory> {
     let mut refused = 0u32;
+    switch.refuse_after(9, 1);
     for round in 0..ROUNDS {
-        let rows = round_rows(alloc, module, round)?;
-        let more = answers_all_in_the_end(rt, switch, board, &rows)?;
-        refused = refused.saturating_add(more);
+        for place in 0..PLACES {
+            if let Some(row) = module.row(round, place) {
+                let is_refused = answers_in_the_end(rt, switch, board, &row)?;
+                refused = refused.saturating_add(u32::from(is_refused));
+            }
+        }
     }
-    answers_all_in_the_end(rt, switch, board, &last_rows(alloc, module)?)?;
-    records_are_whole(rt, alloc, board, module)?;
     Ok(refused)
 }
 
@@ -268,8 +136,162 @@ fn every_tenth_request_refused(rt: HostRuntime) -> Result<(), Fail> {
     let module = Module { queuing: 32, at: 0 };
     let switch = Switch::new(rt.alloc());
     let mut board = Board::new(&rt, &switch, config_of(&rt, module)?)?;
-    let refused = serves_refused(&rt, rt.alloc(), &switch, &mut board, module);
+    let refused = serves_refused(&rt, &switch, &mut board, module);
+    are_whole(&rt, &board, module);
     board.close(&rt);
-    assert!(rt; refused? > 20);
+    holds(&rt, refused? > 20, 0);
     Ok(())
+}
+
+// The module's whole history as a list.
+fn requests_of<R: AllocGlobal>(rt: &R, module: Module) -> Result<Vec<Request>, AllocError> {
+    let mut requests = Vec::new(rt.alloc());
+    for round in 0..ROUNDS {
+        for place in 0..PLACES {
+            if let Some(row) = module.row(round, place) {
+                requests.push(row.request)?;
+            }
+        }
+    }
+    Ok(requests)
+}
+
+// The board has answered the list.
+fn has_answered<A: Allocator>(rt: &impl Abort, board: &Board<A>, module: Module, calls: usize) {
+    holds(rt, board.log().len() == calls, 0);
+    are_logged(rt, board.log(), module);
+    are_whole(rt, board, module);
+}
+
+#[test]
+fn list_without_room(rt: HostRuntime) -> Result<(), Fail> {
+    let module = Module {
+        queuing: 32,
+        at: u64::MAX,
+    };
+    let requests = requests_of(&rt, module)?;
+    let mut board = Board::new(&rt, rt.alloc(), config_of(&rt, module)?)?;
+    let answered = run(&rt, &mut board, &requests);
+    has_answered(&rt, &board, module, 214_592);
+    board.close(&rt);
+    Ok(answered?)
+}
+
+fn answers_within_room<A: Allocator, B: Allocator, R: Abort + Wait>(
+    rt: &R,
+    switch: &Switch<B>,
+    board: &mut Board<A>,
+    requests: &[Request],
+) -> Result<(), Fail> {
+    board.reserve(requests.len())?;
+    holds(rt, board.room() >= requests.len(), 0);
+    switch.refuse_all();
+    run(rt, board, requests)?;
+    holds(rt, switch.requests() == 0, 1);
+    Ok(())
+}
+
+#[test]
+fn list_within_room(rt: HostRuntime) -> Result<(), Fail> {
+    let module = Module { queuing: 2, at: 0 };
+    let requests = requests_of(&rt, module)?;
+    let switch = Switch::new(rt.alloc());
+    let mut board = Board::new(&rt, &switch, config_of(&rt, module)?)?;
+    let answered = answers_within_room(&rt, &switch, &mut board, &requests);
+    has_answered(&rt, &board, module, 224_282);
+    board.close(&rt);
+    answered
+}
+
+// The ports answer the whole history; how many calls they have then.
+fn ports_answer<A: Allocator>(rt: &impl Abort, ports: &mut Ports<A>, module: Module) -> u64 {
+    let mut calls = 0u64;
+    for round in 0..ROUNDS {
+        for place in 0..PLACES {
+            if let Some(row) = module.row(round, place) {
+                let p = row.request.partition;
+                assert!(rt; p < ports.config().partitions());
+                let reply = ports.call(p, row.request.at, &row.request.call);
+                holds(rt, reply == row.reply, u64::from(round));
+                calls = calls.saturating_add(1);
+            }
+        }
+    }
+    calls
+}
+
+// How many calls all partitions made.
+fn calls_in_all<A: Allocator>(ports: &Ports<A>) -> u64 {
+    let mut calls = 0u64;
+    for p in 0..ports.config().partitions() {
+        calls = calls.saturating_add(ports.calls(p));
+    }
+    calls
+}
+
+// A queuing channel's counts of accepted, received and cleared messages; each is 0 on a sampling channel.
+fn counts_of(module: Module, channel: u32) -> [u64; 3] {
+    let sent = u64::from(SENDING);
+    if !module.is_queuing(channel) {
+        [0, 0, 0]
+    } else if channel % 2 == 0 {
+        [sent, sent, 0]
+    } else {
+        [sent, 701, 512]
+    }
+}
+
+fn counts_are_shown<A: Allocator>(rt: &impl Abort, ports: &Ports<A>, module: Module) {
+    for channel in 0..CHANNELS {
+        let c = channel as usize;
+        assert!(rt; c < ports.config().channels());
+        let counts = [
+            ports.accepted_count(c),
+            ports.received_count(c),
+            ports.cleared_count(c),
+        ];
+        holds(rt, counts == counts_of(module, channel), u64::from(channel));
+        holds(rt, ports.waiting_count(c) == 0, u64::from(channel));
+        let has_sample = ports.last_sample(c).is_some();
+        holds(
+            rt,
+            has_sample != module.is_queuing(channel),
+            u64::from(channel),
+        );
+    }
+}
+
+fn ports_serve<R: AllocGlobal + Abort>(rt: &R, module: Module, calls: u64) -> Result<(), Fail> {
+    let switch = Switch::new(rt.alloc());
+    let mut ports = Ports::new(&switch, config_of(rt, module)?)?;
+    switch.refuse_all();
+    holds(rt, ports_answer(rt, &mut ports, module) == calls, 0);
+    holds(rt, switch.requests() == 0, 1);
+    holds(rt, calls_in_all(&ports) == calls, 2);
+    counts_are_shown(rt, &ports, module);
+    Ok(())
+}
+
+#[test]
+fn ports_of_queuing_channels(rt: HostRuntime) -> Result<(), Fail> {
+    let module = Module {
+        queuing: 64,
+        at: u64::MAX,
+    };
+    ports_serve(&rt, module, 200_672)
+}
+
+#[test]
+fn ports_of_sampling_channels(rt: HostRuntime) -> Result<(), Fail> {
+    let module = Module {
+        queuing: 0,
+        at: u64::MAX,
+    };
+    ports_serve(&rt, module, 224_928)
+}
+
+#[test]
+fn ports_of_both_kinds(rt: HostRuntime) -> Result<(), Fail> {
+    let module = Module { queuing: 32, at: 0 };
+    ports_serve(&rt, module, 214_592)
 }

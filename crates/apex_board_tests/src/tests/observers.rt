@@ -2,18 +2,14 @@
 ghost use Rattle.std.specs.Prelude.{◌≡◌, map};
 ghost use Rattle.apex_observers.specs.Channels.{AreObservers, books_of};
 
-use crate::tests::examples::{
-    NO_ERROR, Row, answer, answers, ask, create_sampling, queuing_ports, read, receive, received,
-    requests_of, run, send, write,
-};
-use crate::tests::refused_memory::config_of;
-use crate::tests::texts::{AIR, DSP, FMS};
-use apex_board::Board;
+use crate::tests::boards::{ask, config_of, holds, message, requests_of, run};
+use crate::tests::texts::AIR;
+use apex_board::{Board, Request};
 use apex_observers::{Observer, ObserverFault, Sampled};
 use apex_types::Validity::{Invalid, Valid};
-use apex_types::{Message, Moment, Reply, ReturnCode, Validity};
+use apex_types::{Call, Moment, Validity};
 use refusing::Switch;
-use std::alloc::{Allocator, Global};
+use std::alloc::{AllocGlobal, Allocator};
 use std::process::Abort;
 use std::sync::Wait;
 use std::test::Fail;
@@ -21,20 +17,26 @@ use std::test::Fail;
 /// More allocations than a board with its observers asks for.
 const ALLOCATION_LIMIT: u64 = 60;
 
-fn creation() -> Result<Row, Fail> {
-    Ok((AIR, 1, create_sampling("SPD_OUT", 4, 0, 50)?, Reply::Id(1)))
+/// The source of SPD is created.
+const CREATION: &str = "1 AIR create-sampling SPD_OUT 4 0 50\n";
+
+fn writing(at: u64, bytes: &[u8]) -> Request {
+    Request {
+        partition: AIR,
+        at: Moment(at),
+        call: Call::WriteSampling {
+            id: 1,
+            message: message(bytes),
+        },
+    }
 }
 
-fn writing(at: u64, message: &str) -> Result<Row, Fail> {
-    Ok((AIR, at, write(1, message)?, NO_ERROR))
-}
-
-fn sample(message: &str, at: u64, validity: Validity) -> Result<Sampled, Fail> {
-    Ok(Sampled::Sample {
-        message: Message::from_hex(message)?,
+fn sample(bytes: &[u8], at: u64, validity: Validity) -> Sampled {
+    Sampled::Sample {
+        message: message(bytes),
         at: Moment(at),
         validity,
-    })
+    }
 }
 
 // There is one observer, and this is what it shows at the moment, with the refresh period.
@@ -43,14 +45,14 @@ fn shows<A: Allocator, R: Abort>(
     observers: &mut [Observer<A>],
     now: u64,
     refresh: u64,
-    wanted: &Sampled,
+    wanted: Sampled,
 )
     ensures { map (λ known. known.channel) observers.new
         ≡ map (λ known. known.channel) observers.old }
 {
-    assert_eq!(rt; observers.len(), 1);
+    assert!(rt; observers.len() == 1);
     let shown = observers[0].read(Moment(now), refresh);
-    assert_eq!(rt; &shown, wanted, "at {now}");
+    holds(rt, shown == wanted, now);
 }
 
 // The message is written, and the observers are told.
@@ -59,16 +61,18 @@ fn write_and_tell<A: Allocator, R: Abort + Wait>(
     board: &mut Board<A>,
     observers: &mut [Observer<A>],
     at: u64,
-    message: &str,
+    bytes: &[u8],
 ) -> Result<(), Fail>
     requires { AreObservers board.old.published observers.old }
     ensures { AreObservers board.new.published observers.new }
 {
-    let answered = answer(rt, board, &writing(at, message)?);
+    let answered = ask(rt, board, &writing(at, bytes));
     board.tell(observers);
-    answered
+    answered?;
+    Ok(())
 }
 
+// Each write is told, and shown from then on.
 fn shows_each_write<A: Allocator, R: Abort + Wait>(
     rt: &R,
     board: &mut Board<A>,
@@ -76,67 +80,69 @@ fn shows_each_write<A: Allocator, R: Abort + Wait>(
 ) -> Result<(), Fail>
     requires { AreObservers board.old.published observers.old }
 {
-    answer(rt, board, &creation()?)?;
-    write_and_tell(rt, board, observers, 7, "01")?;
-    shows(rt, observers, 7, 0, &sample("01", 7, Valid)?);
-    shows(rt, observers, 8, 0, &sample("01", 7, Invalid)?);
-    write_and_tell(rt, board, observers, 9, "02")?;
-    shows(rt, observers, 9, 50, &sample("02", 9, Valid)?);
-    write_and_tell(rt, board, observers, u64::MAX, "03")?;
-    let last = sample("03", u64::MAX, Valid)?;
-    shows(rt, observers, u64::MAX, u64::MAX, &last);
+    write_and_tell(rt, board, observers, 7, &[1])?;
+    shows(rt, observers, 7, 0, sample(&[1], 7, Valid));
+    shows(rt, observers, 8, 0, sample(&[1], 7, Invalid));
+    write_and_tell(rt, board, observers, 9, &[2])?;
+    shows(rt, observers, 9, 50, sample(&[2], 9, Valid));
+    write_and_tell(rt, board, observers, u64::MAX, &[3])?;
+    let last = sample(&[3], u64::MAX, Valid);
+    shows(rt, observers, u64::MAX, u64::MAX, last);
     Ok(())
+}
+
+// The source is created, and each write is shown.
+fn shows_all<R: AllocGlobal + Abort + Wait>(
+    rt: &R,
+    board: &mut Board,
+    observers: &mut [Observer],
+) -> Result<(), Fail>
+    requires { AreObservers board.old.published observers.old }
+{
+    run(rt, board, &requests_of(rt, CREATION)?)?;
+    shows_each_write(rt, board, observers)
 }
 
 #[test]
 fn observer_learns_receipts_in_turn(rt: HostRuntime) -> Result<(), Fail> {
     let (mut board, mut observers) = Board::with_observers(&rt, rt.alloc(), config_of(&rt)?)?;
-    let shown = shows_each_write(&rt, &mut board, &mut observers);
+    let shown = shows_all(&rt, &mut board, &mut observers);
     board.close(&rt);
-    shown?;
-    shows(&rt, &mut observers, 9, 50, &Sampled::Gone);
-    Ok(())
+    shows(&rt, &mut observers, 9, 50, Sampled::Gone);
+    shown
 }
 
-// Calls that publish nothing: writes that are refused, and calls of other services.
-fn other_calls() -> Result<[Row; 8], Fail> {
-    let [fms_port, dsp_port, ..] = queuing_ports()?;
-    let invalid_param = Reply::Code(ReturnCode::InvalidParam);
-    let invalid_config = Reply::Code(ReturnCode::InvalidConfig);
-    let invalid_mode = Reply::Code(ReturnCode::InvalidMode);
-    Ok([
-        fms_port,
-        dsp_port,
-        (AIR, 10, write(1, "-")?, invalid_param.copy()),
-        (AIR, 11, write(1, "0102030405")?, invalid_config),
-        (AIR, 12, write(2, "01")?, invalid_param),
-        (AIR, 13, read(1), invalid_mode),
-        (FMS, 14, send(1, "01")?, NO_ERROR),
-        (DSP, 15, receive(1), received("01")?),
-    ])
-}
+/// Calls that publish nothing: writes that are refused, and calls of other services.
+const OTHER_CALLS: &str = "1 FMS create-queuing NAV_OUT 4 2 0 0
+2 DSP create-queuing NAV_IN 4 2 1 0
+10 AIR write 1 -
+11 AIR write 1 0102030405
+12 AIR write 2 01
+13 AIR read 1
+14 FMS send 1 01
+15 DSP receive 1
+";
 
-// The calls are made one by one, and after a write as a list.
-fn shows_what_it_showed<A: Allocator, R: Abort + Wait>(
+// The calls are made before a write, and after it.
+fn shows_what_it_showed<R: AllocGlobal + Abort + Wait>(
     rt: &R,
-    alloc: Global,
-    board: &mut Board<A>,
-    observers: &mut [Observer<A>],
+    board: &mut Board,
+    observers: &mut [Observer],
 ) -> Result<(), Fail> {
-    let calls = other_calls()?;
-    answer(rt, board, &creation()?)?;
-    answers(rt, board, &calls)?;
-    shows(rt, observers, 20, 50, &Sampled::Empty);
-    answer(rt, board, &writing(100, "00ff")?)?;
-    run(rt, board, &requests_of(&calls, alloc)?)?;
-    shows(rt, observers, 150, 50, &sample("00ff", 100, Valid)?);
+    let calls = requests_of(rt, OTHER_CALLS)?;
+    run(rt, board, &requests_of(rt, CREATION)?)?;
+    run(rt, board, &calls)?;
+    shows(rt, observers, 20, 50, Sampled::Empty);
+    ask(rt, board, &writing(100, &[0, 255]))?;
+    run(rt, board, &calls)?;
+    shows(rt, observers, 150, 50, sample(&[0, 255], 100, Valid));
     Ok(())
 }
 
 #[test]
 fn calls_that_publish_nothing(rt: HostRuntime) -> Result<(), Fail> {
     let (mut board, mut observers) = Board::with_observers(&rt, rt.alloc(), config_of(&rt)?)?;
-    let shown = shows_what_it_showed(&rt, rt.alloc(), &mut board, &mut observers);
+    let shown = shows_what_it_showed(&rt, &mut board, &mut observers);
     board.close(&rt);
     shown
 }
@@ -146,34 +152,39 @@ fn hundred_writes<A: Allocator, B: Allocator, R: Abort + Wait>(
     switch: &Switch<B>,
     board: &mut Board<A>,
     observers: &mut [Observer<A>],
+    creation: &[Request],
 ) -> Result<(), Fail> {
     board.reserve(101)?;
     switch.refuse_all();
-    answer(rt, board, &creation()?)?;
+    run(rt, board, creation)?;
     for at in 0..100u64 {
-        answer(rt, board, &writing(at, "00ff")?)?;
-        shows(rt, observers, at, 50, &sample("00ff", at, Valid)?);
+        ask(rt, board, &writing(at, &[0, 255]))?;
+        shows(rt, observers, at, 50, sample(&[0, 255], at, Valid));
     }
-    assert_eq!(rt; switch.requests(), 0);
+    holds(rt, switch.requests() == 0, 0);
     Ok(())
 }
 
 #[test]
 fn hundred_writes_within_room(rt: HostRuntime) -> Result<(), Fail> {
+    let creation = requests_of(&rt, CREATION)?;
     let switch = Switch::new(rt.alloc());
     let (mut board, mut observers) = Board::with_observers(&rt, &switch, config_of(&rt)?)?;
-    let written = hundred_writes(&rt, &switch, &mut board, &mut observers);
+    let written = hundred_writes(&rt, &switch, &mut board, &mut observers, &creation);
     board.close(&rt);
     written
 }
 
-// The port is created again and again, until the log has no spare room.
-fn fill_log<A: Allocator, R: Abort + Wait>(rt: &R, board: &mut Board<A>) -> Result<(), Fail>
+// The calls are made again and again, until the log has no spare room.
+fn fill_log<A: Allocator, R: Abort + Wait>(
+    rt: &R,
+    board: &mut Board<A>,
+    calls: &[Request],
+) -> Result<(), Fail>
     ensures { books_of board.new.published ≡ books_of board.old.published }
 {
-    let again = creation()?;
     for _ in 0..board.log_room() {
-        ask(rt, board, &again)?;
+        run(rt, board, calls)?;
     }
     Ok(())
 }
@@ -185,20 +196,19 @@ fn refused_write<A: Allocator, B: Allocator, R: Abort + Wait>(
     board: &mut Board<A>,
     observers: &mut [Observer<A>],
     at: u64,
-    before: &Sampled,
+    before: Sampled,
 ) -> Result<(), Fail>
     requires { AreObservers board.old.published observers.old }
     ensures { AreObservers board.new.published observers.new }
 {
-    fill_log(rt, board)?;
     switch.refuse_all();
-    let refused = ask(rt, board, &writing(at, "00ff")?).is_err();
+    let is_refused = ask(rt, board, &writing(at, &[0, 255])).is_err();
     board.tell(observers);
     shows(rt, observers, at, 50, before);
-    assert!(rt; refused && switch.requests() == 1);
+    holds(rt, is_refused && switch.requests() == 1, at);
     switch.allow_all();
-    write_and_tell(rt, board, observers, at, "00ff")?;
-    shows(rt, observers, at, 50, &sample("00ff", at, Valid)?);
+    write_and_tell(rt, board, observers, at, &[0, 255])?;
+    shows(rt, observers, at, 50, sample(&[0, 255], at, Valid));
     Ok(())
 }
 
@@ -207,48 +217,58 @@ fn refused_writes<A: Allocator, B: Allocator, R: Abort + Wait>(
     switch: &Switch<B>,
     board: &mut Board<A>,
     observers: &mut [Observer<A>],
+    creation: &[Request],
 ) -> Result<(), Fail>
     requires { AreObservers board.old.published observers.old }
 {
-    answer(rt, board, &creation()?)?;
-    refused_write(rt, switch, board, observers, 100, &Sampled::Empty)?;
-    let before = sample("00ff", 100, Valid)?;
-    refused_write(rt, switch, board, observers, 101, &before)
+    run(rt, board, creation)?;
+    fill_log(rt, board, creation)?;
+    refused_write(rt, switch, board, observers, 100, Sampled::Empty)?;
+    fill_log(rt, board, creation)?;
+    let before = sample(&[0, 255], 100, Valid);
+    refused_write(rt, switch, board, observers, 101, before)
 }
 
 #[test]
 fn refused_write_is_not_shown(rt: HostRuntime) -> Result<(), Fail> {
+    let creation = requests_of(&rt, CREATION)?;
     let switch = Switch::new(rt.alloc());
     let (mut board, mut observers) = Board::with_observers(&rt, &switch, config_of(&rt)?)?;
-    let shown = refused_writes(&rt, &switch, &mut board, &mut observers);
+    let shown = refused_writes(&rt, &switch, &mut board, &mut observers, &creation);
     board.close(&rt);
     shown
 }
 
-// What is made at last shows that nothing was written, and ends without memory.
+// Whether a board with observers is made with one allocation refused after `granted` others. It shows that nothing was
+// written, and ends without memory.
+fn is_made<R: AllocGlobal + Abort + Wait>(rt: &R, granted: u64) -> Result<bool, Fail> {
+    let config = config_of(rt)?;
+    let switch = Switch::new(rt.alloc());
+    switch.refuse_after(granted, 1);
+    match Board::with_observers(rt, &switch, config) {
+        Ok((board, mut observers)) => {
+            holds(rt, switch.refused() == 0, granted);
+            shows(rt, &mut observers, 1, 50, Sampled::Empty);
+            switch.refuse_all();
+            board.close(rt);
+            holds(rt, switch.requests() == 0, granted);
+            Ok(true)
+        }
+        Err(fault) => {
+            holds(rt, fault == ObserverFault::OutOfMemory, granted);
+            holds(rt, switch.refused() == 1, granted);
+            Ok(false)
+        }
+    }
+}
+
 #[test]
 fn board_with_observers_refused_in_turn(rt: HostRuntime) -> Result<(), Fail> {
     for granted in 0..ALLOCATION_LIMIT {
-        let config = config_of(&rt)?;
-        let switch = Switch::new(rt.alloc());
-        switch.refuse_after(granted, 1);
-        let made = Board::with_observers(&rt, &switch, config);
-        let refused = switch.refused();
-        match made {
-            Ok((board, mut observers)) => {
-                shows(&rt, &mut observers, 1, 50, &Sampled::Empty);
-                switch.refuse_all();
-                board.close(&rt);
-                assert_eq!(rt; switch.requests(), 0);
-                assert!(rt; refused == 0 && granted > 0);
-                return Ok(());
-            }
-            Err(fault) => {
-                assert_eq!(rt; fault, ObserverFault::OutOfMemory);
-                assert_eq!(rt; refused, 1, "after {granted}");
-            }
+        if is_made(&rt, granted)? {
+            holds(&rt, granted > 0, granted);
+            return Ok(());
         }
     }
-    assert!(rt; false, "the sweep does not end");
-    Ok(())
+    panic!(rt; "the sweep does not end");
 }

@@ -1,11 +1,8 @@
 //! Refused memory, of lists of requests: those before the stop are answered and no other.
-use crate::tests::examples::{
-    NO_ERROR, Row, answers, board_of, entries, receive, received, requests_of, run, send,
-};
-use crate::tests::refused_memory::{
-    ALLOCATION_LIMIT, config_of, full_queue, shows_same, shows_same_after,
-};
-use crate::tests::texts::{BASE, DSP, FMS};
+use crate::tests::boards::{config_of, holds, lines_of, requests_of, run};
+use crate::tests::refused_memory::ALLOCATION_LIMIT;
+use crate::tests::same::shows_same_after;
+use crate::tests::texts::{FULL_QUEUE, FULL_QUEUE_LOG};
 use apex_board::{Board, Request, Stopped};
 use refusing::Switch;
 use std::alloc::{AllocGlobal, Allocator};
@@ -13,52 +10,29 @@ use std::process::Abort;
 use std::sync::Wait;
 use std::test::Fail;
 
-// The board shows the same as one with ample memory that has answered the requests.
-fn shows_same_after_list<R: AllocGlobal + Abort + Wait, A: Allocator>(
-    rt: &R,
-    board: &Board<A>,
-    requests: &[Request],
-) -> Result<(), Fail> {
-    let mut ample = board_of(rt, BASE)?;
-    let answered = run(rt, &mut ample, requests);
-    shows_same(rt, board, &ample);
-    ample.close(rt);
-    Ok(answered?)
-}
-
-// The board has answered just the first `done` requests; with memory again it answers the rest.
-fn goes_on<R: AllocGlobal + Abort + Wait, A: Allocator>(
-    rt: &R,
-    board: &mut Board<A>,
-    requests: &[Request],
-    done: usize,
-) -> Result<(), Fail> {
-    assert!(rt; done <= requests.len());
-    assert_eq!(rt; entries(board), done);
-    shows_same_after_list(rt, board, &requests[..done])?;
-    run(rt, board, &requests[done..])?;
-    shows_same_after_list(rt, board, requests)
-}
-
-// How many requests the board answers before memory is wanting, and how many allocations were refused. With memory
-// again it answers the rest.
+// The board answers the list until memory is wanting, and just the requests before the stop; with memory again it answers
+// the rest. How many it answered, and how many allocations were refused.
 fn answers_list<R: AllocGlobal + Abort + Wait, A: Allocator, B: Allocator>(
     rt: &R,
     switch: &Switch<B>,
     board: &mut Board<A>,
     requests: &[Request],
 ) -> Result<(usize, u64), Fail> {
-    let answered = run(rt, board, requests);
-    let refused = switch.refused();
-    switch.allow_all();
-    let done = match answered {
+    let done = match run(rt, board, requests) {
         Ok(()) => requests.len(),
         Err(stopped) => stopped.done,
     };
-    goes_on(rt, board, requests, done)?;
+    let refused = switch.refused();
+    switch.allow_all();
+    assert!(rt; done <= requests.len());
+    holds(rt, board.log().len() == done, 0);
+    shows_same_after(rt, board, &requests[..done])?;
+    run(rt, board, &requests[done..])?;
+    shows_same_after(rt, board, requests)?;
     Ok((done, refused))
 }
 
+// A new board answers the list, with `refuse` allocations refused after `granted` others.
 fn list_refused_after<R: AllocGlobal + Abort + Wait>(
     rt: &R,
     granted: u64,
@@ -76,18 +50,16 @@ fn list_refused_after<R: AllocGlobal + Abort + Wait>(
 // The list on a new board, with `refuse` allocations refused after each number of granted ones. Once memory is wanting
 // for good it stops; one refusal alone it may do without.
 fn list_refused_in_turn<R: AllocGlobal + Abort + Wait>(rt: &R, refuse: u64) -> Result<(), Fail> {
-    let requests = requests_of(&full_queue()?, rt.alloc())?;
+    let requests = requests_of(rt, FULL_QUEUE)?;
     for granted in 0..ALLOCATION_LIMIT {
         let (done, refused) = list_refused_after(rt, granted, refuse, &requests)?;
         if refused == 0 {
-            assert!(rt; granted > 0);
-            assert_eq!(rt; done, requests.len());
+            holds(rt, granted > 0 && done == requests.len(), granted);
             return Ok(());
         }
-        assert!(rt; refuse == 1 || done < requests.len());
+        holds(rt, refuse == 1 || done < requests.len(), granted);
     }
-    assert!(rt; false, "the sweep does not end");
-    Ok(())
+    panic!(rt; "the sweep does not end");
 }
 
 #[test]
@@ -100,29 +72,42 @@ fn list_without_memory(rt: HostRuntime) -> Result<(), Fail> {
     list_refused_in_turn(&rt, u64::MAX)
 }
 
-fn leaves_room<A: Allocator, B: Allocator, R: Abort + Wait>(
+/// Two calls after those of a full queue.
+const MORE: &str = "12 FMS send 1 04
+13 DSP receive 1
+";
+
+const MORE_LOG: &str = "1 12 FMS send NO_ERROR
+2 13 DSP receive NO_ERROR message 04
+";
+
+fn leaves_room<R: AllocGlobal + Abort + Wait, A: Allocator, B: Allocator>(
     rt: &R,
     switch: &Switch<B>,
     board: &mut Board<A>,
     requests: &[Request],
+    more: &[Request],
 ) -> Result<(), Fail> {
-    board.reserve(requests.len() + 2)?;
+    board.reserve(13)?;
     switch.refuse_all();
-    assert!(rt; run(rt, board, requests).is_ok());
-    assert!(rt; board.room() >= 2);
-    let more = [
-        (FMS, 12, send(1, "04")?, NO_ERROR),
-        (DSP, 13, receive(1), received("04")?),
-    ];
-    answers(rt, board, &more)
+    run(rt, board, requests)?;
+    holds(rt, board.room() >= 2, 0);
+    run(rt, board, more)?;
+    let (first, last) = board.log().split_at(11.min(board.log().len()));
+    let lines = lines_of(rt.alloc(), board.config(), first)?;
+    holds(rt, lines.as_str() == FULL_QUEUE_LOG, 1);
+    let lines = lines_of(rt.alloc(), board.config(), last)?;
+    holds(rt, lines.as_str() == MORE_LOG, 2);
+    Ok(())
 }
 
 #[test]
 fn list_leaves_the_room_beyond_it(rt: HostRuntime) -> Result<(), Fail> {
-    let requests = requests_of(&full_queue()?, rt.alloc())?;
+    let requests = requests_of(&rt, FULL_QUEUE)?;
+    let more = requests_of(&rt, MORE)?;
     let switch = Switch::new(rt.alloc());
     let mut board = Board::new(&rt, &switch, config_of(&rt)?)?;
-    let left = leaves_room(&rt, &switch, &mut board, &requests);
+    let left = leaves_room(&rt, &switch, &mut board, &requests, &more);
     board.close(&rt);
     left
 }
@@ -131,30 +116,28 @@ fn stops_beyond_room<R: AllocGlobal + Abort + Wait, A: Allocator, B: Allocator>(
     rt: &R,
     switch: &Switch<B>,
     board: &mut Board<A>,
-    rows: &[Row],
+    requests: &[Request],
 ) -> Result<(), Fail> {
-    let requests = requests_of(rows, rt.alloc())?;
     board.reserve(5)?;
     switch.refuse_all();
-    let (done, _refused) = answers_list(rt, switch, board, &requests)?;
-    assert!(rt; done >= 5 && done < requests.len());
-    shows_same_after(rt, board, rows)
+    let (done, _refused) = answers_list(rt, switch, board, requests)?;
+    holds(rt, done >= 5 && done < requests.len(), 0);
+    Ok(())
 }
 
 #[test]
 fn list_stops_beyond_its_room(rt: HostRuntime) -> Result<(), Fail> {
-    let rows = full_queue()?;
+    let requests = requests_of(&rt, FULL_QUEUE)?;
     let switch = Switch::new(rt.alloc());
     let mut board = Board::new(&rt, &switch, config_of(&rt)?)?;
-    let stopped = stops_beyond_room(&rt, &switch, &mut board, &rows);
+    let stopped = stops_beyond_room(&rt, &switch, &mut board, &requests);
     board.close(&rt);
     stopped
 }
 
 #[test]
 fn a_stopped_list_has_the_words_of_refused_memory(rt: HostRuntime) -> Result<(), Fail> {
-    let stopped = Stopped { done: 3 };
-    let printed = format!(in rt.alloc(); "{stopped}")?;
-    assert_eq!(rt; printed.as_str(), "out of memory");
+    let printed = format!(in rt.alloc(); "{}", Stopped { done: 3 })?;
+    holds(&rt, printed.as_str() == "out of memory", 0);
     Ok(())
 }
