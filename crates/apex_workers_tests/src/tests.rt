@@ -1,6 +1,5 @@
 //! Runs with real threads: worked examples, orders forced by gates, many runs, and refused memory.
 mod comparison;
-mod examples;
 mod gates;
 mod locked;
 mod observers;
@@ -10,6 +9,7 @@ mod refused_memory;
 mod refusing_board;
 mod rings;
 mod runs;
+mod runs_left;
 mod steps;
 mod texts;
 mod threads;

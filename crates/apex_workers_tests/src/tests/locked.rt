@@ -1,12 +1,14 @@
 //! The board behind a lock.
-use crate::tests::examples::{DSP, FMS, GO_NORMAL, ask, config_of, create_queuing};
+use crate::tests::runs_left::{DSP, FMS, ask, config_of, holds};
 use crate::tests::texts::REDUCED;
 use apex_board::Board;
-use apex_types::{Moment, OutOfMemory, Reply};
+use apex_types::{Call, Moment, Name, OutOfMemory, Reply};
 use apex_workers::{AskFault, LockedBoard, SharedBoard};
 use std::process::Abort;
 use std::sync::{MutexGuard, Wait};
 use std::test::Fail;
+
+const GO_NORMAL: Call = Call::SetMode { mode: 3 };
 
 // The board is lent and makes a call; how many entries it had before.
 fn entries_when_lent<R: Wait + Abort>(rt: &R, shared: &LockedBoard) -> Result<usize, OutOfMemory> {
@@ -19,14 +21,17 @@ fn entries_when_lent<R: Wait + Abort>(rt: &R, shared: &LockedBoard) -> Result<us
 }
 
 // The board is asked and lent, in turns.
-fn is_asked_and_lent<R: Wait + Abort>(rt: &R, shared: &LockedBoard) -> Result<(), Fail> {
-    let create = create_queuing("NAV_OUT", 4, 2, 0)?;
-    let asked = shared.ask(rt, FMS, Moment(1), &create);
-    assert_eq!(rt; asked, Ok(Reply::Id(1)));
+fn is_asked_and_lent<R: Wait + Abort>(
+    rt: &R,
+    shared: &LockedBoard,
+    create: &Call,
+) -> Result<(), Fail> {
+    let asked = shared.ask(rt, FMS, Moment(1), create);
+    holds(rt, asked == Ok(Reply::Id(1)), 0);
     for entries in [1, 3, 5] {
-        assert_eq!(rt; entries_when_lent(rt, shared)?, entries);
-        let asked = shared.ask(rt, 2, Moment(2), &create);
-        assert_eq!(rt; asked, Err(AskFault::NoPartition));
+        holds(rt, entries_when_lent(rt, shared)? == entries, entries);
+        let asked = shared.ask(rt, 2, Moment(2), create);
+        holds(rt, asked == Err(AskFault::NoPartition), entries);
         shared.ask(rt, DSP, Moment(2), &GO_NORMAL)?;
     }
     Ok(())
@@ -36,13 +41,18 @@ fn is_asked_and_lent<R: Wait + Abort>(rt: &R, shared: &LockedBoard) -> Result<()
 // nothing.
 #[test]
 fn the_lock_lends_the_board(rt: HostRuntime) -> Result<(), Fail> {
+    let create = Call::CreateQueuing {
+        name: Name::read("NAV_OUT")?,
+        size: 4,
+        depth: 2,
+        direction: 0,
+        discipline: 0,
+    };
     let config = config_of(&rt, REDUCED)?;
     let shared = LockedBoard::new(Board::new(&rt, rt.alloc(), config)?);
-    let lent = is_asked_and_lent(&rt, &shared);
+    let lent = is_asked_and_lent(&rt, &shared, &create);
     let board = shared.into_board();
-    let entries = board.log().len();
+    holds(&rt, board.log().len() == 7, 7);
     board.close(&rt);
-    lent?;
-    assert_eq!(rt; entries, 7);
-    Ok(())
+    lent
 }

@@ -1,10 +1,10 @@
 //! Observers beside a lock, in a thread of their own, and of a finished run.
-use crate::tests::examples::{AIR, ask, config_of, create_sampling, run, script_of, write};
+use crate::tests::runs_left::{AIR, ask, config_of, holds, message, run, scripts_of};
 use crate::tests::texts::{BASE, TWO_SAMPLING};
 use apex_board::Board;
 use apex_observers::{Observer, Sampled};
 use apex_types::Validity::{Invalid, Valid};
-use apex_types::{Call, Direction, Message, Moment, OutOfMemory, Reply, Validity};
+use apex_types::{Call, Direction, Moment, Name, NameFault, OutOfMemory, Reply, Validity};
 use apex_workers::{Finished, LockedBoard, OpenGate, SharedBoard};
 use std::alloc::AllocGlobal;
 use std::process::Abort;
@@ -17,11 +17,28 @@ use std::thread::Threads;
 /// The turns that a thread waits for another at most.
 const TURNS: u64 = 10_000_000;
 
-fn sample(message: &str, at: u64, validity: Validity) -> Result<Sampled, Fail> {
-    Ok(Sampled::Sample {
-        message: Message::from_hex(message)?,
+fn sample(bytes: &[u8], at: u64, validity: Validity) -> Sampled {
+    Sampled::Sample {
+        message: message(bytes),
         at: Moment(at),
         validity,
+    }
+}
+
+fn writing(bytes: &[u8]) -> Call {
+    Call::WriteSampling {
+        id: 1,
+        message: message(bytes),
+    }
+}
+
+// AIR creates the source of SPD.
+fn creation() -> Result<Call, NameFault> {
+    Ok(Call::CreateSampling {
+        name: Name::read("SPD_OUT")?,
+        size: 4,
+        direction: 0,
+        refresh: 50,
     })
 }
 
@@ -39,23 +56,25 @@ fn shows_before_and_after<R: Wait + Abort>(
     rt: &R,
     board: &mut Board,
     observer: &mut Observer,
-) -> Result<(), Fail> {
-    ask(rt, board, AIR, Moment(1), &create_sampling("SPD_OUT")?)?;
-    assert_eq!(rt; observer.read(Moment(5), 50), Sampled::Empty);
-    ask(rt, board, AIR, Moment(100), &write(1, "00ff")?)?;
-    let valid = sample("00ff", 100, Valid)?;
-    assert_eq!(rt; observer.read(Moment(150), 50), valid);
-    let invalid = sample("00ff", 100, Invalid)?;
-    assert_eq!(rt; observer.read(Moment(151), 50), invalid);
+    create: &Call,
+) -> Result<(), OutOfMemory> {
+    ask(rt, board, AIR, Moment(1), create)?;
+    holds(rt, observer.read(Moment(5), 50) == Sampled::Empty, 0);
+    ask(rt, board, AIR, Moment(100), &writing(&[0, 255]))?;
+    let valid = sample(&[0, 255], 100, Valid);
+    holds(rt, observer.read(Moment(150), 50) == valid, 1);
+    let invalid = sample(&[0, 255], 100, Invalid);
+    holds(rt, observer.read(Moment(151), 50) == invalid, 2);
     Ok(())
 }
 
 #[test]
 fn an_observer_reads_while_the_lock_is_held(rt: HostRuntime) -> Result<(), Fail> {
+    let create = creation()?;
     let (board, mut observer) = observed_board(&rt)?;
     let shared = LockedBoard::new(board);
     let mut lent = shared.lock(&rt);
-    let shown = shows_before_and_after(&rt, &mut lent, &mut observer);
+    let shown = shows_before_and_after(&rt, &mut lent, &mut observer, &create);
     MutexGuard::unlock(lent);
     let answered = shared.ask(&rt, AIR, Moment(5), &Call::SamplingStatus { id: 1 });
     shared.into_board().close(&rt);
@@ -65,8 +84,8 @@ fn an_observer_reads_while_the_lock_is_held(rt: HostRuntime) -> Result<(), Fail>
         direction: Direction::Source,
         last: Invalid,
     };
-    assert_eq!(rt; answered, Ok(status));
-    shown
+    holds(&rt, answered == Ok(status), 3);
+    Ok(shown?)
 }
 
 // Reads until the sample shows, in so many turns at most. What shows until then is what showed before.
@@ -100,14 +119,13 @@ fn waits_until(seen: &AtomicBool) {
 fn writes_both<R: Wait + Abort>(
     rt: &R,
     board: &mut Board,
-    calls: &[Call; 3],
+    create: &Call,
     seen: &AtomicBool,
 ) -> Result<(), OutOfMemory> {
-    let [create, first, second] = calls;
     ask(rt, board, AIR, Moment(1), create)?;
-    ask(rt, board, AIR, Moment(1), first)?;
+    ask(rt, board, AIR, Moment(1), &writing(&[1]))?;
     waits_until(seen);
-    ask(rt, board, AIR, Moment(2), second)?;
+    ask(rt, board, AIR, Moment(2), &writing(&[2]))?;
     Ok(())
 }
 
@@ -115,88 +133,77 @@ fn watches<R: Threads + Wait + Abort + Sync>(
     rt: &R,
     board: &mut Board,
     observer: Observer,
-) -> Result<bool, Fail> {
-    let calls = [
-        create_sampling("SPD_OUT")?,
-        write(1, "01")?,
-        write(1, "02")?,
-    ];
-    let samples = (sample("01", 1, Valid)?, sample("02", 2, Valid)?);
+    create: &Call,
+) -> bool {
+    let samples = (sample(&[1], 1, Valid), sample(&[2], 2, Valid));
     let flag = AtomicBool::new(false);
     let (first, second, seen) = (&samples.0, &samples.1, &flag);
-    let shown = thread::scope(thread::scope_env(), rt, |scope| {
+    thread::scope(thread::scope_env(), rt, |scope| {
         let reading = scope.spawn(move || sees_both(observer, first, second, seen));
-        let written = writes_both(rt, board, &calls, seen).is_ok();
+        let written = writes_both(rt, board, create, seen).is_ok();
         match reading {
             Ok(reading) => reading.join(rt) && written,
             Err(_refused) => false,
         }
-    });
-    Ok(shown)
+    })
 }
 
 #[test]
 fn an_observer_that_is_told_nothing_sees_both_writes(rt: HostRuntime) -> Result<(), Fail> {
+    let create = creation()?;
     let (mut board, observer) = observed_board(&rt)?;
-    let shown = watches(&rt, &mut board, observer);
+    let shown = watches(&rt, &mut board, observer, &create);
     board.close(&rt);
-    assert!(rt; shown?);
+    holds(&rt, shown, 0);
     Ok(())
 }
 
 // What both observers show at the moment 55, with a refresh period of 50.
-fn shown_by(rt: &impl Abort, observers: &mut [Observer]) -> [Sampled; 2] {
-    assert_eq!(rt; observers.len(), 2);
-    [
-        observers[0].read(Moment(55), 50),
-        observers[1].read(Moment(55), 50),
-    ]
+fn both_show(rt: &impl Abort, observers: &mut [Observer], first: &Sampled, second: &Sampled) {
+    assert!(rt; observers.len() == 2);
+    holds(rt, observers[0].read(Moment(55), 50) == *first, 1);
+    holds(rt, observers[1].read(Moment(55), 50) == *second, 2);
 }
 
-#[test]
-fn observers_show_the_last_samples_until_the_board_is_closed(rt: HostRuntime) -> Result<(), Fail> {
-    let alloc = rt.alloc();
-    let config = config_of(&rt, TWO_SAMPLING)?;
-    let calls = [
-        create_sampling("SPD_OUT")?,
-        create_sampling("ALT_OUT")?,
-        write(1, "01")?,
-        write(1, "02")?,
-        write(3, "03")?,
-    ];
-    let scripts = [script_of(alloc, &calls)?, script_of(alloc, &[])?];
-    let last = [sample("02", 4, Invalid)?, sample("03", 5, Valid)?];
-    let finished = run(&rt, alloc, &config, &scripts, &OpenGate)?;
+// The observers of a run show this, and are gone after it.
+fn run_shows<R: Threads + Wait + Sync + Abort + AllocGlobal>(
+    rt: &R,
+    script: &str,
+    first: &Sampled,
+    second: &Sampled,
+) -> Result<(), Fail> {
+    let config = config_of(rt, TWO_SAMPLING)?;
+    let scripts = scripts_of(rt.alloc(), &[script, ""])?;
     let Finished {
         board,
         replies: _,
         mut observers,
-    } = finished;
-    let before = shown_by(&rt, observers.as_mut_slice());
-    board.close(&rt);
-    let after = shown_by(&rt, observers.as_mut_slice());
-    assert_eq!(rt; before, last);
-    assert_eq!(rt; after, [Sampled::Gone, Sampled::Gone]);
+    } = run(rt, rt.alloc(), &config, &scripts, &OpenGate)?;
+    both_show(rt, &mut observers, first, second);
+    board.close(rt);
+    both_show(rt, &mut observers, &Sampled::Gone, &Sampled::Gone);
     Ok(())
+}
+
+#[test]
+fn observers_show_the_last_samples_until_the_board_is_closed(rt: HostRuntime) -> Result<(), Fail> {
+    let script = "1 create-sampling SPD_OUT 4 0 50
+2 create-sampling ALT_OUT 4 0 50
+3 write 1 01
+4 write 1 02
+5 write 3 03
+";
+    run_shows(
+        &rt,
+        script,
+        &sample(&[2], 4, Invalid),
+        &sample(&[3], 5, Valid),
+    )
 }
 
 // One channel was never created, and what is written to the other is refused.
 #[test]
 fn observers_of_a_run_that_publishes_nothing(rt: HostRuntime) -> Result<(), Fail> {
-    let alloc = rt.alloc();
-    let config = config_of(&rt, TWO_SAMPLING)?;
-    let calls = [create_sampling("SPD_OUT")?, write(1, "-")?, write(3, "03")?];
-    let scripts = [script_of(alloc, &calls)?, script_of(alloc, &[])?];
-    let finished = run(&rt, alloc, &config, &scripts, &OpenGate)?;
-    let Finished {
-        board,
-        replies: _,
-        mut observers,
-    } = finished;
-    let entries = board.log().len();
-    let shown = shown_by(&rt, observers.as_mut_slice());
-    board.close(&rt);
-    assert_eq!(rt; entries, 3);
-    assert_eq!(rt; shown, [Sampled::Empty, Sampled::Empty]);
-    Ok(())
+    let script = "1 create-sampling SPD_OUT 4 0 50\n2 write 1 -\n3 write 3 03\n";
+    run_shows(&rt, script, &Sampled::Empty, &Sampled::Empty)
 }

@@ -1,45 +1,34 @@
 //! Orders of calls that gates force.
-use crate::tests::examples::{
-    DSP, FMS, Left, NO_ERROR, NOT_AVAILABLE, Wanted, config_of, received, run_leaves,
-    sender_and_waiting_receiver,
-};
 use crate::tests::gates::After;
-use crate::tests::texts::REDUCED;
-use apex_types::{Mode, Reply};
-use std::alloc::AllocGlobal;
-use std::process::Abort;
-use std::sync::Wait;
+use crate::tests::runs_left::{DSP, FMS, Left, run_leaves};
+use crate::tests::texts::{REDUCED, SENDER, WAITING_RECEIVER};
 use std::test::Fail;
-use std::thread::Threads;
 
-// The receive is answered so, and the channel holds this.
-fn run_in_order<R: Threads + Wait + Sync + Abort + AllocGlobal>(
-    rt: &R,
-    gate: &After,
-    reply: Reply,
-    left: Left,
-) -> Result<(), Fail> {
-    let config = config_of(rt, REDUCED)?;
-    let scripts = sender_and_waiting_receiver(rt.alloc())?;
-    let wanted = Wanted {
-        replies: &[
-            &[Reply::Id(1), NO_ERROR, NO_ERROR],
-            &[Reply::Id(1), NO_ERROR, reply],
-        ],
-        modes: &[Mode::Normal, Mode::Normal],
-        channels: &[left],
-    };
-    run_leaves(rt, &config, &scripts, gate, &wanted)
-}
+/// The replies to FMS.
+const SENT: &str = "NO_ERROR id 1\nNO_ERROR\nNO_ERROR\n";
 
 #[test]
 fn a_receive_after_the_send(rt: HostRuntime) -> Result<(), Fail> {
     let gate = After::new((DSP, 3), (FMS, 3));
-    run_in_order(&rt, &gate, received("01")?, Left::Queue(1, 1, 0))
+    let left = Left {
+        replies: &[SENT, "NO_ERROR id 1\nNO_ERROR\nNO_ERROR message 01\n"],
+        totals: "partition FMS mode NORMAL calls 3
+partition DSP mode NORMAL calls 3
+queuing NAV accepted 1 received 1 waiting 0
+",
+    };
+    run_leaves(&rt, REDUCED, &[SENDER, WAITING_RECEIVER], &gate, left)
 }
 
 #[test]
 fn a_receive_before_the_send(rt: HostRuntime) -> Result<(), Fail> {
     let gate = After::new((FMS, 3), (DSP, 3));
-    run_in_order(&rt, &gate, NOT_AVAILABLE, Left::Queue(1, 0, 1))
+    let left = Left {
+        replies: &[SENT, "NO_ERROR id 1\nNO_ERROR\nNOT_AVAILABLE\n"],
+        totals: "partition FMS mode NORMAL calls 3
+partition DSP mode NORMAL calls 3
+queuing NAV accepted 1 received 0 waiting 1 01
+",
+    };
+    run_leaves(&rt, REDUCED, &[SENDER, WAITING_RECEIVER], &gate, left)
 }

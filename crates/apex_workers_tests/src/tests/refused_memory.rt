@@ -1,7 +1,7 @@
 //! Every allocation of a run refused in turn: it ends in want of memory, in a worker that wasn't started, or as with ample
 //! memory. The configuration is copied with memory of its own, which this sweep doesn't reach.
-use crate::tests::examples::{config_of, end, is_left_by_three, run, three_scripts};
-use crate::tests::texts::BASE;
+use crate::tests::runs_left::{config_of, end, holds, is_left_by_three, run, scripts_of};
+use crate::tests::texts::{BASE, THREE};
 use apex_config::Config;
 use apex_workers::{OpenGate, RunFault, Script};
 use refusing::Switch;
@@ -25,7 +25,7 @@ fn run_refused_after<R: Threads + Wait + Sync + Abort + AllocGlobal>(
     let switch = Switch::new(rt.alloc());
     switch.refuse_after(granted, refuse);
     let answered = run(rt, &switch, config, scripts, &OpenGate);
-    let refused = switch.refused();
+    let is_refused = switch.refused() > 0;
     switch.allow_all();
     match answered {
         Ok(finished) => {
@@ -33,11 +33,10 @@ fn run_refused_after<R: Threads + Wait + Sync + Abort + AllocGlobal>(
             end(rt, finished);
             checked?;
         }
-        Err(fault) => assert!(rt;
-            fault == RunFault::OutOfMemory && refused > 0 || fault == RunFault::WorkerNotStarted
-        ),
+        Err(RunFault::OutOfMemory) => holds(rt, is_refused, 0),
+        Err(fault) => holds(rt, fault == RunFault::WorkerNotStarted, 1),
     }
-    Ok(refused > 0)
+    Ok(is_refused)
 }
 
 // A sweep over all numbers of granted allocations.
@@ -46,15 +45,14 @@ fn run_refused_in_turn<R: Threads + Wait + Sync + Abort + AllocGlobal>(
     refuse: u64,
 ) -> Result<(), Fail> {
     let config = config_of(rt, BASE)?;
-    let scripts = three_scripts(rt.alloc())?;
+    let scripts = scripts_of(rt.alloc(), THREE)?;
     for granted in 0..ALLOCATION_LIMIT {
         if !run_refused_after(rt, &config, &scripts, granted, refuse)? {
-            assert!(rt; granted > 0);
+            holds(rt, granted > 0, 2);
             return Ok(());
         }
     }
-    assert!(rt; false, "the sweep does not end");
-    Ok(())
+    panic!(rt; "the sweep does not end");
 }
 
 #[test]

@@ -1,8 +1,9 @@
 //! Workers over a board in memory that refuses calls.
 use super::comparison::mode_changes;
+use super::runs_left::holds;
 use apex_types::{Call, Moment, Reply, ReturnCode};
 use apex_workers::{AskFault, OpenGate, RunFault, SharedBoard, pack_all, run_over};
-use std::alloc::Global;
+use std::alloc::{AllocError, Global};
 use std::process::Abort;
 use std::sync::Wait;
 use std::sync::atomic::{AtomicU64, Ordering};
@@ -56,9 +57,10 @@ fn fault_over<R: Threads + Wait + Sync + Abort>(
     rt: &R,
     alloc: Global,
     fake: &Fake,
-) -> Result<Option<RunFault>, Fail> {
-    let scripts = pack_all(alloc, &[mode_changes(alloc, 4)?, mode_changes(alloc, 4)?])?;
-    Ok(run_over(rt, alloc, fake, &OpenGate, scripts.as_slice()).err())
+) -> Result<Option<RunFault>, AllocError> {
+    let script = mode_changes(alloc, 4)?;
+    let scripts = pack_all(alloc, &[script, mode_changes(alloc, 4)?])?;
+    Ok(run_over(rt, alloc, fake, &OpenGate, &scripts).err())
 }
 
 #[test]
@@ -74,8 +76,9 @@ fn a_worker_stops_and_the_other_ends_its_script(rt: HostRuntime) -> Result<(), F
         ([wanting, foreign], [2, 2], Some(RunFault::OutOfMemory)),
     ] {
         let fake = Fake::new(refusals);
-        assert_eq!(rt; fault_over(&rt, rt.alloc(), &fake)?, fault, "{refusals:?}");
-        assert_eq!(rt; fake.asked(), asked, "{refusals:?}");
+        let ended = fault_over(&rt, rt.alloc(), &fake)?;
+        holds(&rt, ended == fault, 0);
+        holds(&rt, fake.asked() == asked, 1);
     }
     Ok(())
 }

@@ -1,20 +1,17 @@
-//! Runs of workers in a ring, each log checked against a model of this file's own: many runs of eight workers, and
-//! one of thirty-two with five thousand calls each.
-use crate::tests::examples::{
-    GO_NORMAL, NO_ERROR, NOT_AVAILABLE, config_of, create_queuing, end, replies_are_logged, run,
-};
+//! Runs of workers in a ring: many runs of eight workers, and one of thirty-two with five thousand calls each. The log of
+//! each has the calls of the scripts with the replies of the ports, in its order.
+use crate::tests::runs_left::{config_of, end, holds, is_collected, run};
 use crate::tests::texts::ring_text;
 use apex_board::Entry;
-use apex_types::{Call, Direction, Message, Moment, Reply};
-use apex_workers::{Finished, OpenGate, Script};
-use std::alloc::{AllocGlobal, Global};
+use apex_config::Config;
+use apex_ports::Ports;
+use apex_texts::read_script;
+use apex_workers::{OpenGate, Script};
+use std::alloc::{AllocError, AllocGlobal, Global};
 use std::process::Abort;
 use std::sync::Wait;
 use std::test::Fail;
 use std::thread::Threads;
-
-/// The depth of each channel.
-const DEPTH: usize = 4;
 
 /// So many partitions, each with a queuing channel to the next, and with so many calls. After the first three a
 /// partition makes one receive and two sends in each period of calls, and asks its port for its status otherwise.
@@ -25,168 +22,64 @@ struct Ring {
     period: u32,
 }
 
-// The first call is made at the largest moment, and each at the one before.
-fn moment_of(n: u32) -> Moment {
-    Moment(u64::MAX - u64::from(n))
-}
+/// Each partition creates its ports and goes into NORMAL.
+const FIRST_CALLS: &str = "9223372036854775807 create-queuing OUT 4 4 0 0
+9223372036854775806 create-queuing IN 4 4 1 0
+9223372036854775805 mode 3
+";
 
-// The message of a partition's call: the numbers of both.
-fn message_of(partition: usize, n: u32) -> Result<Message, Fail> {
-    let [_, _, high, low] = n.to_be_bytes();
-    Ok(Message::from_bytes(&[(partition % 256) as u8, high, low])?)
-}
-
-impl Ring {
-    // The channel to the next partition in the ring has the partition's own number.
-    fn channel_before(self, p: usize) -> usize {
-        if p == 0 {
-            self.partitions.wrapping_sub(1)
-        } else {
-            p - 1
-        }
-    }
-
-    // The number of a call within its period; 0 where there is no period.
-    fn phase(self, n: u32) -> u32 {
-        n.checked_rem(self.period).unwrap_or(0)
-    }
-
-    fn call_of(self, p: usize, n: u32) -> Result<Call, Fail> {
-        match n {
-            0 => return create_queuing("OUT", 4, 4, 0),
-            1 => return create_queuing("IN", 4, 4, 1),
-            2 => return Ok(GO_NORMAL),
-            _ => {}
-        }
-        Ok(match self.phase(n) {
-            0 => Call::ReceiveQueuing { id: 2 },
-            1 | 2 => Call::SendQueuing {
-                id: 1,
-                message: message_of(p, n)?,
-            },
-            _ => Call::QueuingStatus { id: 1 },
-        })
-    }
-
-    fn scripts(self, alloc: Global) -> Result<Vec<Script>, Fail> {
-        let mut scripts = Vec::with_capacity(alloc, self.partitions)?;
-        for p in 0..self.partitions {
-            let mut calls = Vec::with_capacity(alloc, self.calls as usize)?;
-            for n in 0..self.calls {
-                calls.push((moment_of(n), self.call_of(p, n)?))?;
-            }
-            scripts.push(Script { calls })?;
-        }
-        Ok(scripts)
+// A partition's call, whose message has the numbers of both in its digits. Later calls have smaller moments.
+fn line_of(alloc: Global, ring: Ring, partition: usize, n: u32) -> Result<String, AllocError> {
+    let at = u32::MAX - n;
+    let message = (partition % 64)
+        .saturating_mul(100_000)
+        .saturating_add(n as usize + 10_000_000);
+    match n.checked_rem(ring.period) {
+        Some(0) => format!(in alloc; "{at} receive 2\n"),
+        Some(1 | 2) => format!(in alloc; "{at} send 1 {message}\n"),
+        _ => format!(in alloc; "{at} queuing-status 1\n"),
     }
 }
 
-/// What the model knows of a run: of each channel the messages that wait, by number, and how far each partition has come.
-#[derive(Drop)]
-struct Model {
-    ring: Ring,
-    queues: Vec<Vec<u32>>,
-    made: Vec<u32>,
+fn script_of(alloc: Global, ring: Ring, partition: usize) -> Result<Script, Fail> {
+    let mut text = String::new(alloc);
+    text.push_str(FIRST_CALLS)?;
+    for n in 3..ring.calls {
+        let line = line_of(alloc, ring, partition, n)?;
+        text.push_str(line.as_str())?;
+    }
+    Ok(read_script(alloc, text.as_bytes())?)
 }
 
-impl Model {
-    fn new(alloc: Global, ring: Ring) -> Result<Model, Fail> {
-        let mut queues = Vec::new(alloc);
-        for _ in 0..ring.partitions {
-            queues.push(Vec::new(alloc))?;
-        }
-        Ok(Model {
-            ring,
-            queues,
-            made: vec![in alloc; 0u32; ring.partitions]?,
-        })
+fn scripts_of(alloc: Global, ring: Ring) -> Result<Vec<Script>, Fail> {
+    let mut scripts = Vec::new(alloc);
+    for partition in 0..ring.partitions {
+        scripts.push(script_of(alloc, ring, partition)?)?;
     }
-
-    // The partition's next call, and what it has to be answered.
-    fn next_entry(&mut self, p: usize) -> Result<Entry, Fail> {
-        let made = self.made.get_mut(p).ok_or("no such partition")?;
-        let n = *made;
-        *made = n.wrapping_add(1);
-        Ok(Entry {
-            partition: p,
-            at: moment_of(n),
-            call: self.ring.call_of(p, n)?,
-            reply: self.reply_to(p, n)?,
-        })
-    }
-
-    fn reply_to(&mut self, p: usize, n: u32) -> Result<Reply, Fail> {
-        match n {
-            0 => return Ok(Reply::Id(1)),
-            1 => return Ok(Reply::Id(2)),
-            2 => return Ok(NO_ERROR),
-            _ => {}
-        }
-        match self.ring.phase(n) {
-            0 => self.reply_to_receive(self.ring.channel_before(p)),
-            1 | 2 => self.reply_to_send(p, n),
-            _ => self.reply_to_status(p),
-        }
-    }
-
-    fn queue(&mut self, channel: usize) -> Result<&mut Vec<u32>, Fail> {
-        Ok(self.queues.get_mut(channel).ok_or("no such channel")?)
-    }
-
-    fn reply_to_send(&mut self, channel: usize, n: u32) -> Result<Reply, Fail> {
-        let queue = self.queue(channel)?;
-        if queue.len() >= DEPTH {
-            return Ok(NOT_AVAILABLE);
-        }
-        queue.push(n)?;
-        Ok(NO_ERROR)
-    }
-
-    fn reply_to_receive(&mut self, channel: usize) -> Result<Reply, Fail> {
-        let queue = self.queue(channel)?;
-        if queue.is_empty() {
-            return Ok(NOT_AVAILABLE);
-        }
-        let n = queue.remove(0);
-        Ok(Reply::Received(message_of(channel, n)?))
-    }
-
-    fn reply_to_status(&mut self, channel: usize) -> Result<Reply, Fail> {
-        let waiting = self.queue(channel)?.len();
-        if waiting > DEPTH {
-            return Err("more wait than the depth")?;
-        }
-        Ok(Reply::QueuingStatus {
-            waiting: waiting as u32,
-            depth: 4,
-            size: 4,
-            direction: Direction::Source,
-        })
-    }
+    Ok(scripts)
 }
 
-// The log is the model's, where the partitions make their calls in the order of this log.
-fn is_modelled<R: Abort + AllocGlobal>(rt: &R, ring: Ring, log: &[Entry]) -> Result<(), Fail> {
-    let mut model = Model::new(rt.alloc(), ring)?;
+// The ports answer the calls of the log as it says.
+fn is_answered(rt: &impl Abort, ports: &mut Ports, log: &[Entry]) {
     for entry in log {
-        assert!(rt; *entry == model.next_entry(entry.partition)?);
+        assert!(rt; entry.partition < ports.config().partitions());
+        let reply = ports.call(entry.partition, entry.at, &entry.call);
+        holds(rt, reply == entry.reply, entry.partition);
     }
-    Ok(())
 }
 
-// The run's log is the model's, and each worker has the replies to all its calls.
-fn is_as_modelled<R: Abort + AllocGlobal>(
+// A run of the scripts.
+fn is_run<R: Threads + Wait + Sync + Abort + AllocGlobal>(
     rt: &R,
-    ring: Ring,
-    finished: &Finished,
+    config: &Config,
+    scripts: &[Script],
 ) -> Result<(), Fail> {
-    let log = finished.board.log();
-    is_modelled(rt, ring, log)?;
-    assert_eq!(rt; finished.replies.len(), ring.partitions);
-    for replies in &finished.replies {
-        assert_eq!(rt; replies.list().len(), ring.calls as usize);
-    }
-    replies_are_logged(rt, log, finished.replies.as_slice())
+    let mut ports = Ports::new(rt.alloc(), config.copy()?)?;
+    let finished = run(rt, rt.alloc(), config, scripts, &OpenGate)?;
+    let collected = is_collected(rt, scripts, &finished);
+    is_answered(rt, &mut ports, finished.board.log());
+    end(rt, finished);
+    collected
 }
 
 // So many runs of the ring.
@@ -195,15 +88,11 @@ fn runs_of<R: Threads + Wait + Sync + Abort + AllocGlobal>(
     ring: Ring,
     runs: u32,
 ) -> Result<(), Fail> {
-    let alloc = rt.alloc();
-    let text = ring_text(alloc, ring.partitions)?;
+    let text = ring_text(rt.alloc(), ring.partitions)?;
     let config = config_of(rt, text.as_str())?;
-    let scripts = ring.scripts(alloc)?;
+    let scripts = scripts_of(rt.alloc(), ring)?;
     for _ in 0..runs {
-        let finished = run(rt, alloc, &config, scripts.as_slice(), &OpenGate)?;
-        let checked = is_as_modelled(rt, ring, &finished);
-        end(rt, finished);
-        checked?;
+        is_run(rt, &config, &scripts)?;
     }
     Ok(())
 }

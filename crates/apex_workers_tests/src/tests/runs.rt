@@ -1,14 +1,8 @@
 //! Runs of one, two, three, sixteen and thirty-two workers.
-ghost use Rattle.std.specs.Prelude.{◌≤◌};
-
-use crate::tests::examples::{
-    DSP, FMS, GO_NORMAL, Left, NO_ACTION, NO_ERROR, Wanted, config_of, end, is_left_by_three, run,
-    run_leaves, script_of, sender_and_receiver, three_scripts,
-};
 use crate::tests::gates::{Refuses, Together, TwoFlags};
-use crate::tests::texts::{BASE, REDUCED, without_ports};
+use crate::tests::runs_left::{DSP, FMS, Left, config_of, end, holds, run, run_leaves, scripts_of};
+use crate::tests::texts::{BASE, LEFT_BY_THREE, RECEIVER, REDUCED, SENDER, THREE, without_ports};
 use apex_config::Config;
-use apex_types::{Mode, Reply};
 use apex_workers::{Gate, OpenGate, RunFault, Script};
 use std::alloc::AllocGlobal;
 use std::process::Abort;
@@ -20,81 +14,79 @@ use std::thread::Threads;
 // answered. So both run at the same time.
 #[test]
 fn two_workers_between_two_flags(rt: HostRuntime) -> Result<(), Fail> {
-    let config = config_of(&rt, REDUCED)?;
-    let scripts = sender_and_receiver(rt.alloc())?;
-    let wanted = Wanted {
+    let left = Left {
         replies: &[
-            &[Reply::Id(1), NO_ERROR, NO_ERROR],
-            &[Reply::Id(1), NO_ERROR],
+            "NO_ERROR id 1\nNO_ERROR\nNO_ERROR\n",
+            "NO_ERROR id 1\nNO_ERROR\n",
         ],
-        modes: &[Mode::Normal, Mode::Normal],
-        channels: &[Left::Queue(1, 0, 1)],
+        totals: "partition FMS mode NORMAL calls 3
+partition DSP mode NORMAL calls 2
+queuing NAV accepted 1 received 0 waiting 1 01
+",
     };
-    run_leaves(&rt, &config, &scripts, &TwoFlags::new(), &wanted)
+    run_leaves(&rt, REDUCED, &[SENDER, RECEIVER], &TwoFlags::new(), left)
 }
 
 // A worker that runs alone doesn't pass the flags.
 #[test]
 fn a_worker_alone_is_held(rt: HostRuntime) {
-    assert!(rt; TwoFlags::new().pass(FMS, 1).is_err());
-    assert!(rt; TwoFlags::new().pass(DSP, 2).is_err());
+    holds(&rt, TwoFlags::new().pass(FMS, 1).is_err(), 0);
+    holds(&rt, TwoFlags::new().pass(DSP, 2).is_err(), 1);
 }
 
 #[test]
 fn three_workers_under_the_open_gate(rt: HostRuntime) -> Result<(), Fail> {
-    let config = config_of(&rt, BASE)?;
-    let scripts = three_scripts(rt.alloc())?;
-    let finished = run(&rt, rt.alloc(), &config, &scripts, &OpenGate)?;
-    let checked = is_left_by_three(&rt, &config, &finished);
-    end(&rt, finished);
-    checked
+    run_leaves(&rt, BASE, THREE, &OpenGate, LEFT_BY_THREE)
 }
+
+/// Each of the workers that wait for each other goes into NORMAL twice.
+const TWICE: &str = "1 mode 3\n2 mode 3\n";
+
+const NORMAL_ONCE: &str = "NO_ERROR\nNO_ACTION\n";
 
 // All workers run at the same time: each looks for the flags of all others before its first call.
 fn wait_for_each_other<R: Abort + AllocGlobal + Sync + Threads + Wait>(
     rt: &R,
-    workers: usize,
-) -> Result<(), Fail>
-    requires { workers ≤ 32 }
-{
-    let alloc = rt.alloc();
-    let text = without_ports(alloc, workers)?;
-    let config = config_of(rt, text.as_str())?;
-    let mut scripts: Vec<Script> = Vec::new(alloc);
-    for _ in 0..workers {
-        scripts.push(script_of(alloc, &[GO_NORMAL, GO_NORMAL])?)?;
+    scripts: &[&str],
+    replies: &[&str],
+) -> Result<(), Fail> {
+    let text = without_ports(rt.alloc(), scripts.len())?;
+    let mut totals = String::new(rt.alloc());
+    for number in 0..scripts.len() {
+        let line = format!(in rt.alloc(); "partition P{number} mode NORMAL calls 2\n")?;
+        totals.push_str(line.as_str())?;
     }
-    let gate = Together::new(alloc, workers)?;
-    let replies: &[Reply] = &[NO_ERROR, NO_ACTION];
-    let wanted = Wanted {
-        replies: &[replies; 32][..workers],
-        modes: &[Mode::Normal; 32][..workers],
-        channels: &[],
+    let gate = Together::new(rt.alloc(), scripts.len())?;
+    let left = Left {
+        replies,
+        totals: totals.as_str(),
     };
-    run_leaves(rt, &config, scripts.as_slice(), &gate, &wanted)
+    run_leaves(rt, text.as_str(), scripts, &gate, left)
 }
 
 #[test]
 fn sixteen_workers_wait_for_each_other(rt: HostRuntime) -> Result<(), Fail> {
-    wait_for_each_other(&rt, 16)
+    wait_for_each_other(&rt, &[TWICE; 16], &[NORMAL_ONCE; 16])
 }
 
 #[test]
 fn thirty_two_workers_wait_for_each_other(rt: HostRuntime) -> Result<(), Fail> {
-    wait_for_each_other(&rt, 32)
+    wait_for_each_other(&rt, &[TWICE; 32], &[NORMAL_ONCE; 32])
 }
 
 #[test]
 fn one_worker_with_an_empty_script(rt: HostRuntime) -> Result<(), Fail> {
-    let text = without_ports(rt.alloc(), 1)?;
-    let config = config_of(&rt, text.as_str())?;
-    let scripts = [script_of(rt.alloc(), &[])?];
-    let wanted = Wanted {
-        replies: &[&[]],
-        modes: &[Mode::ColdStart],
-        channels: &[],
+    let left = Left {
+        replies: &[""],
+        totals: "partition P0 mode COLD_START calls 0\n",
     };
-    run_leaves(&rt, &config, &scripts, &OpenGate, &wanted)
+    run_leaves(
+        &rt,
+        "[[partition]]\nname = \"P0\"\n",
+        &[""],
+        &OpenGate,
+        left,
+    )
 }
 
 // A run, whose board is ended.
@@ -116,7 +108,7 @@ fn held(partition: usize, n: usize) -> Result<(), RunFault> {
 #[test]
 fn a_gate_that_refuses(rt: HostRuntime) -> Result<(), Fail> {
     let config = config_of(&rt, REDUCED)?;
-    let scripts = sender_and_receiver(rt.alloc())?;
+    let scripts = scripts_of(rt.alloc(), &[SENDER, RECEIVER])?;
     let nowhere = (2, 1);
     for (one, other, wanted) in [
         ((DSP, 2), nowhere, held(DSP, 2)),
@@ -126,14 +118,13 @@ fn a_gate_that_refuses(rt: HostRuntime) -> Result<(), Fail> {
         ((FMS, 4), (DSP, 3), Ok(())),
     ] {
         let ended = run_and_end(&rt, &config, &scripts, &Refuses { one, other });
-        assert_eq!(rt; ended, wanted);
+        holds(&rt, ended == wanted, one.1);
     }
     Ok(())
 }
 
 #[test]
 fn words_and_numbers_of_faults(rt: HostRuntime) -> Result<(), Fail> {
-    let alloc = rt.alloc();
     let held = RunFault::Held { partition: 1, n: 2 };
     for (fault, number, words) in [
         (RunFault::OutOfMemory, 1, "out of memory"),
@@ -142,9 +133,8 @@ fn words_and_numbers_of_faults(rt: HostRuntime) -> Result<(), Fail> {
         (RunFault::Stranger, 4, "collected results do not match"),
         (RunFault::NoObserver, 5, "no observer"),
     ] {
-        assert_eq!(rt; fault.number(), number);
-        let text = format!(in alloc; "{fault}")?;
-        assert_eq!(rt; text.as_str(), words);
+        let text = format!(in rt.alloc(); "{fault}")?;
+        holds(&rt, fault.number() == number && text.as_str() == words, 0);
     }
     Ok(())
 }

@@ -1,14 +1,13 @@
 //! The order of a worker's steps: for each call in turn it passes its gate, asks the board, and says that it was answered.
 use super::comparison::mode_changes;
 use super::gates::look_for;
+use super::runs_left::holds;
 use apex_types::{Call, Moment, Reply, ReturnCode};
 use apex_workers::{AskFault, Gate, Held, OpenGate, PackedScript, SharedBoard, run_over};
-use std::alloc::{AllocError, AllocGlobal, Global};
-use std::process::Abort;
+use std::alloc::{AllocError, Global};
 use std::sync::Wait;
 use std::sync::atomic::{AtomicBool, AtomicU64, Ordering};
 use std::test::Fail;
-use std::thread::Threads;
 
 const WORKERS: usize = 8;
 
@@ -89,13 +88,13 @@ fn scripts_of(alloc: Global, workers: usize, calls: u32) -> Result<Vec<PackedScr
 
 #[test]
 fn pass_call_answered_of_each_call(rt: HostRuntime) -> Result<(), Fail> {
-    let alloc = rt.alloc();
-    let scripts = scripts_of(alloc, WORKERS, CALLS)?;
-    let steps = Steps::new(alloc)?;
-    run_over(&rt, alloc, &steps, &steps, scripts.as_slice())?;
-    assert!(rt; !steps.out_of_turn.load(Ordering::SeqCst));
+    let scripts = scripts_of(rt.alloc(), WORKERS, CALLS)?;
+    let steps = Steps::new(rt.alloc())?;
+    run_over(&rt, rt.alloc(), &steps, &steps, &scripts)?;
+    holds(&rt, !steps.out_of_turn.load(Ordering::SeqCst), 0);
     for taken in &steps.taken {
-        assert_eq!(rt; taken.load(Ordering::SeqCst), 3 * u64::from(CALLS));
+        let all = taken.load(Ordering::SeqCst);
+        holds(&rt, all == 3 * u64::from(CALLS), 1);
     }
     Ok(())
 }
@@ -128,12 +127,11 @@ impl SharedBoard for Meeting {
 // So both are between their gate and its answer at the same time.
 #[test]
 fn two_workers_ask_at_the_same_time(rt: HostRuntime) -> Result<(), Fail> {
-    let alloc = rt.alloc();
-    let scripts = scripts_of(alloc, 2, 1)?;
+    let scripts = scripts_of(rt.alloc(), 2, 1)?;
     let meeting = Meeting {
         came: [AtomicBool::new(false), AtomicBool::new(false)],
     };
-    let replies = run_over(&rt, alloc, &meeting, &OpenGate, scripts.as_slice())?;
-    assert_eq!(rt; replies.len(), 2);
+    let replies = run_over(&rt, rt.alloc(), &meeting, &OpenGate, &scripts)?;
+    holds(&rt, replies.len() == 2, 0);
     Ok(())
 }

@@ -1,4 +1,5 @@
-//! The configurations of the examples.
+//! The configurations and the scripts of the examples.
+use crate::tests::runs_left::Left;
 use std::alloc::{AllocError, Global};
 
 /// A queuing channel NAV from FMS to DSP, and a sampling channel SPD from AIR to DSP.
@@ -132,3 +133,52 @@ depth = 4
     }
     Ok(text)
 }
+
+/// FMS and DSP create their ports of NAV and go into NORMAL, and FMS sends a message.
+pub(crate) const SENDER: &str = "1 create-queuing NAV_OUT 4 2 0 0
+2 mode 3
+3 send 1 01
+";
+
+pub(crate) const RECEIVER: &str = "1 create-queuing NAV_IN 4 2 1 0
+2 mode 3
+";
+
+/// DSP receives as its third call.
+pub(crate) const WAITING_RECEIVER: &str = "1 create-queuing NAV_IN 4 2 1 0
+2 mode 3
+3 receive 1
+";
+
+/// The scripts of FMS, DSP and AIR: FMS creates its port of NAV and sends two messages, DSP makes no call, and AIR
+/// creates its port of SPD and writes.
+pub(crate) const THREE: &[&str] = &[
+    "1 create-queuing NAV_OUT 4 2 0 0
+2 send 1 01
+3 send 1 02
+",
+    "",
+    "1 create-sampling SPD_OUT 4 0 50
+2 write 1 00ff
+",
+];
+
+/// What a run of them leaves.
+pub(crate) const LEFT_BY_THREE: Left = Left {
+    replies: &[
+        "NO_ERROR id 1
+NO_ERROR
+NO_ERROR
+",
+        "",
+        "NO_ERROR id 1
+NO_ERROR
+",
+    ],
+    totals: "partition FMS mode COLD_START calls 3
+partition DSP mode COLD_START calls 0
+partition AIR mode COLD_START calls 2
+queuing NAV accepted 2 received 0 waiting 2 01 02
+sampling SPD 00ff at 2
+",
+};

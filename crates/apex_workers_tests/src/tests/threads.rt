@@ -2,12 +2,12 @@
 ghost use Rattle.std.specs.Prelude.{◌≡◌};
 
 use super::comparison::mode_changes;
-use super::examples::{config_of, end, run};
 use super::gates::{Together, look_for, raise};
+use super::runs_left::{config_of, end, holds, run};
 use super::texts::without_ports;
-use apex_workers::{Gate, Held};
+use apex_workers::{Gate, Held, Script};
+use std::alloc::{AllocError, Global};
 use std::fs;
-use std::process::Abort;
 use std::rt::Runtime;
 use std::sync::atomic::{AtomicBool, AtomicU64, Ordering};
 use std::test::Fail;
@@ -51,22 +51,27 @@ fn count_threads<R: Runtime>(rt: &R) -> Option<u64> {
     count.parse().ok()
 }
 
-#[test]
-fn eight_workers_and_their_caller_are_nine_threads(rt: HostRuntime) -> Result<(), Fail> {
-    let alloc = rt.alloc();
-    let config = config_of(&rt, without_ports(alloc, WORKERS)?.as_str())?;
+fn scripts(alloc: Global) -> Result<Vec<Script>, AllocError> {
     let mut scripts = Vec::new(alloc);
     for _ in 0..WORKERS {
         scripts.push(mode_changes(alloc, 1)?)?;
     }
+    Ok(scripts)
+}
+
+#[test]
+fn eight_workers_and_their_caller_are_nine_threads(rt: HostRuntime) -> Result<(), Fail> {
+    let text = without_ports(rt.alloc(), WORKERS)?;
+    let config = config_of(&rt, text.as_str())?;
+    let scripts = scripts(rt.alloc())?;
     let gate = Counts {
         rt: &rt,
-        together: Together::new(alloc, WORKERS)?,
+        together: Together::new(rt.alloc(), WORKERS)?,
         threads: AtomicU64::new(0),
         counted: AtomicBool::new(false),
     };
-    let finished = run(&rt, alloc, &config, scripts.as_slice(), &gate)?;
+    let finished = run(&rt, rt.alloc(), &config, &scripts, &gate)?;
     end(&rt, finished);
-    assert_eq!(rt; gate.threads.load(Ordering::SeqCst), 9);
+    holds(&rt, gate.threads.load(Ordering::SeqCst) == 9, 0);
     Ok(())
 }

@@ -1,10 +1,9 @@
 //! A writer and a reader that take turns call by call, as their gate forces them to.
-use super::examples::{AIR, DSP, config_of, create_sampling, end, run, script_of};
-use super::gates::{look_for, raise};
-use super::texts::BASE;
-use apex_types::{Call, Message, Name, Reply, Validity};
-use apex_workers::{Finished, Gate, Held, Script};
-use std::alloc::{AllocError, Global};
+use crate::tests::gates::{look_for, raise};
+use crate::tests::runs_left::{AIR, DSP, config_of, end, holds, lines_of, run, scripts_of};
+use crate::tests::texts::BASE;
+use apex_workers::{Finished, Gate, Held};
+use std::alloc::{AllocError, AllocGlobal, Allocator, Global};
 use std::process::Abort;
 use std::sync::atomic::AtomicBool;
 use std::test::Fail;
@@ -52,63 +51,72 @@ impl Gate for Turns {
     }
 }
 
-// The message of the call of a number.
-fn message_of(n: u32) -> Result<Message, Fail> {
-    Ok(Message::from_bytes(&n.to_be_bytes())?)
+// The number of a message in its digits.
+fn digits_of(n: usize) -> usize {
+    n.saturating_add(10_000_000)
 }
 
-fn writer(alloc: Global) -> Result<Script, Fail> {
-    let mut calls = Vec::with_capacity(alloc, CALLS)?;
-    calls.push(create_sampling("SPD_OUT")?)?;
-    for n in 1..CALLS as u32 {
-        let message = message_of(n)?;
-        calls.push(Call::WriteSampling { id: 1, message })?;
+fn writer(alloc: Global) -> Result<String, AllocError> {
+    let mut text = String::new(alloc);
+    text.push_str("1 create-sampling SPD_OUT 4 0 50\n")?;
+    for n in 1..CALLS {
+        let message = digits_of(n);
+        let line = format!(in alloc; "{n} write 1 {message}\n")?;
+        text.push_str(line.as_str())?;
     }
-    Ok(script_of(alloc, calls.as_slice())?)
+    Ok(text)
 }
 
-fn reader(alloc: Global) -> Result<Script, Fail> {
-    let mut calls = Vec::with_capacity(alloc, CALLS)?;
-    calls.push(Call::CreateSampling {
-        name: Name::read("SPD_IN")?,
-        size: 4,
-        direction: 1,
-        refresh: 50,
-    })?;
-    for _ in 1..CALLS {
-        calls.push(Call::ReadSampling { id: 2 })?;
+fn reader(alloc: Global) -> Result<String, AllocError> {
+    let mut text = String::new(alloc);
+    text.push_str("1 create-sampling SPD_IN 4 1 50\n")?;
+    for n in 1..CALLS {
+        let line = format!(in alloc; "{n} read 2\n")?;
+        text.push_str(line.as_str())?;
     }
-    Ok(script_of(alloc, calls.as_slice())?)
+    Ok(text)
 }
 
 // Each read shows the write before it.
-fn shows_each_write(rt: &impl Abort, finished: &Finished) -> Result<(), Fail> {
+fn shown(alloc: Global) -> Result<String, AllocError> {
+    let mut text = String::new(alloc);
+    text.push_str("NO_ERROR id 2\n")?;
+    for n in 1..CALLS {
+        let message = digits_of(n);
+        let line = format!(in alloc; "NO_ERROR message {message} VALID\n")?;
+        text.push_str(line.as_str())?;
+    }
+    Ok(text)
+}
+
+fn shows_each_write<R: Abort + AllocGlobal, A: Allocator>(
+    rt: &R,
+    finished: &Finished<A>,
+) -> Result<(), Fail> {
     let Some(replies) = finished.replies.get(DSP) else {
         panic!(rt; "no replies of the reader");
     };
-    let mut shown = 0u32;
-    for reply in replies.list().iter().skip(1) {
-        shown = shown.wrapping_add(1);
-        let wanted = Reply::Read {
-            message: message_of(shown)?,
-            validity: Validity::Valid,
-        };
-        assert!(rt; *reply == wanted, "read {shown}");
-    }
-    assert_eq!(rt; shown as usize + 1, CALLS);
+    let lines = lines_of(rt.alloc(), replies.list())?;
+    let wanted = shown(rt.alloc())?;
+    holds(rt, lines.as_str() == wanted.as_str(), 0);
     Ok(())
+}
+
+fn gate_of(alloc: Global) -> Result<Turns, AllocError> {
+    let written = flags(alloc)?;
+    Ok(Turns {
+        written,
+        read: flags(alloc)?,
+    })
 }
 
 #[test]
 fn each_read_shows_the_write_before_it(rt: HostRuntime) -> Result<(), Fail> {
-    let alloc = rt.alloc();
+    let (reader, writer) = (reader(rt.alloc())?, writer(rt.alloc())?);
+    let scripts = scripts_of(rt.alloc(), &["", reader.as_str(), writer.as_str()])?;
     let config = config_of(&rt, BASE)?;
-    let scripts = [script_of(alloc, &[])?, reader(alloc)?, writer(alloc)?];
-    let gate = Turns {
-        written: flags(alloc)?,
-        read: flags(alloc)?,
-    };
-    let finished = run(&rt, alloc, &config, &scripts, &gate)?;
+    let gate = gate_of(rt.alloc())?;
+    let finished = run(&rt, rt.alloc(), &config, &scripts, &gate)?;
     let shown = shows_each_write(&rt, &finished);
     end(&rt, finished);
     shown
