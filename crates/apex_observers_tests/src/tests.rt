@@ -10,7 +10,7 @@ use apex_observers::{NoPlace, Observer, Publisher, Sampled};
 use apex_types::Validity::{Invalid, Valid};
 use apex_types::{Message, Moment, OutOfMemory, Validity};
 use refusing::Switch;
-use std::alloc::Allocator;
+use std::alloc::{AllocGlobal, Allocator};
 use std::process::Abort;
 use std::sync::Wait;
 use std::test::Fail;
@@ -21,26 +21,48 @@ const ALLOCATION_LIMIT: u64 = 40;
 /// The writes of the longest history, at the moments from 0 on.
 const WRITES: u64 = 100_000;
 
-fn message(rt: &impl Abort, byte: u8) -> Message {
-    let Ok(message) = Message::from_bytes(&[byte]) else {
-        panic!(rt; "one byte is a message");
-    };
-    message
+// What is so; the number says of which case.
+fn holds(rt: &impl Abort, is_so: bool, case: u64) {
+    assert!(rt; is_so, "case {case}");
 }
 
-fn sample(rt: &impl Abort, byte: u8, at: u64, validity: Validity) -> Sampled {
+// The message of a number has its eight bytes.
+fn message(number: u64) -> Message {
+    match Message::from_bytes(&number.to_be_bytes()) {
+        Ok(message) => message,
+        Err(_) => Message::empty(),
+    }
+}
+
+// The sample of the message of a number.
+fn sample(number: u64, at: u64, validity: Validity) -> Sampled {
     Sampled::Sample {
-        message: message(rt, byte),
+        message: message(number),
         at: Moment(at),
         validity,
     }
 }
 
-fn write<A: Allocator, R: Wait + Abort>(rt: &R, publisher: &mut Publisher<A>, byte: u8, at: u64)
+// The message of the number is published.
+fn write<A: Allocator, R: Wait + Abort>(rt: &R, publisher: &mut Publisher<A>, number: u64, at: u64)
     ensures { publisher.new.channel ≡ publisher.old.channel }
 {
-    let published = publisher.publish(rt, &message(rt, byte), Moment(at));
-    assert_eq!(rt; published, Ok(()));
+    let published = publisher.publish(rt, &message(number), Moment(at));
+    holds(rt, published.is_ok(), at);
+}
+
+// This is what the observer shows at the moment, with the refresh period.
+fn shows<A: Allocator>(
+    rt: &impl Abort,
+    observer: &mut Observer<A>,
+    now: u64,
+    refresh: u64,
+    wanted: Sampled,
+)
+    ensures { observer.new.channel ≡ observer.old.channel }
+{
+    let shown = observer.read(Moment(now), refresh);
+    holds(rt, shown == wanted, now);
 }
 
 fn shows_the_last_write<A: Allocator, R: Wait + Abort>(
@@ -48,16 +70,23 @@ fn shows_the_last_write<A: Allocator, R: Wait + Abort>(
     publisher: &mut Publisher<A>,
 ) -> Result<(), NoPlace> {
     let mut observer = publisher.observer()?;
-    assert_eq!(rt; observer.read(Moment(0), 0), Sampled::Empty);
+    shows(rt, &mut observer, 0, 0, Sampled::Empty);
     write(rt, publisher, 1, 7);
-    assert_eq!(rt; observer.read(Moment(7), 0), sample(rt, 1, 7, Valid));
-    assert_eq!(rt; observer.read(Moment(8), 0), sample(rt, 1, 7, Invalid));
-    assert_eq!(rt; observer.read(Moment(57), 50), sample(rt, 1, 7, Valid));
-    assert_eq!(rt; observer.read(Moment(58), 50), sample(rt, 1, 7, Invalid));
+    for (now, refresh, validity) in [
+        (7, 0, Valid),
+        (8, 0, Invalid),
+        (57, 50, Valid),
+        (58, 50, Invalid),
+    ] {
+        shows(rt, &mut observer, now, refresh, sample(1, 7, validity));
+    }
     write(rt, publisher, 2, u64::MAX);
-    assert_eq!(rt;
-        observer.read(Moment(u64::MAX), u64::MAX),
-        sample(rt, 2, u64::MAX, Valid)
+    shows(
+        rt,
+        &mut observer,
+        u64::MAX,
+        u64::MAX,
+        sample(2, u64::MAX, Valid),
     );
     Ok(())
 }
@@ -80,13 +109,13 @@ fn never_goes_back<A: Allocator, R: Wait + Abort>(
     let one = publisher.receipt();
     write(rt, publisher, 2, 2);
     observer.learn(publisher.receipt());
-    assert_eq!(rt; observer.read(Moment(2), 0), sample(rt, 2, 2, Valid));
+    shows(rt, &mut observer, 2, 0, sample(2, 2, Valid));
     observer.learn(one.copy());
     observer.learn(none);
-    assert_eq!(rt; observer.read(Moment(2), 0), sample(rt, 2, 2, Valid));
+    shows(rt, &mut observer, 2, 0, sample(2, 2, Valid));
     write(rt, publisher, 3, 1);
     observer.learn(one);
-    assert_eq!(rt; observer.read(Moment(2), 0), sample(rt, 3, 1, Invalid));
+    shows(rt, &mut observer, 2, 0, sample(3, 1, Invalid));
     Ok(())
 }
 
@@ -106,9 +135,9 @@ fn an_observer_outlives_its_channel(rt: HostRuntime) -> Result<(), Fail> {
     let receipt = publisher.receipt();
     publisher.close(&rt);
     let mut observer = made?;
-    assert_eq!(rt; observer.read(Moment(1), 0), Sampled::Gone);
+    shows(&rt, &mut observer, 1, 0, Sampled::Gone);
     observer.learn(receipt);
-    assert_eq!(rt; observer.read(Moment(1), 0), Sampled::Gone);
+    shows(&rt, &mut observer, 1, 0, Sampled::Gone);
     Ok(())
 }
 
@@ -117,46 +146,11 @@ fn places_are_given_back(rt: HostRuntime) -> Result<(), Fail> {
     let mut publisher = Publisher::new(&rt, rt.alloc(), 2)?;
     let first = publisher.observer();
     let second = publisher.observer();
-    let third = publisher.observer();
+    holds(&rt, publisher.observer().is_err(), 0);
     drop(second);
-    let again = publisher.observer();
+    holds(&rt, publisher.observer().is_ok() && first.is_ok(), 1);
     publisher.close(&rt);
-    assert!(rt; first.is_ok() && third.is_err() && again.is_ok());
     Ok(())
-}
-
-// The message of a write has the bytes of its moment.
-fn write_at<A: Allocator, R: Wait + Abort>(rt: &R, publisher: &mut Publisher<A>, at: u64)
-    ensures { publisher.new.channel ≡ publisher.old.channel }
-{
-    let Ok(message) = Message::from_bytes(&at.to_be_bytes()) else {
-        panic!(rt; "eight bytes are a message");
-    };
-    let published = publisher.publish(rt, &message, Moment(at));
-    assert_eq!(rt; published, Ok(()));
-}
-
-// What was written at the moment is shown.
-fn shows_write<A: Allocator>(
-    rt: &impl Abort,
-    observer: &mut Observer<A>,
-    at: u64,
-    now: u64,
-    validity: Validity,
-)
-    ensures { observer.new.channel ≡ observer.old.channel }
-{
-    let shown = observer.read(Moment(now), 0);
-    let Ok(message) = Message::from_bytes(&at.to_be_bytes()) else {
-        panic!(rt; "eight bytes are a message");
-    };
-    let at = Moment(at);
-    let wanted = Sampled::Sample {
-        message,
-        at,
-        validity,
-    };
-    assert!(rt; shown == wanted);
 }
 
 // One observer reads after each write, and the other after the last alone.
@@ -167,39 +161,43 @@ fn writes_without_memory<A: Allocator, R: Wait + Abort>(
     let mut late = publisher.observer()?;
     let mut observer = publisher.observer()?;
     for turn in 0..WRITES {
-        write_at(rt, publisher, turn);
+        write(rt, publisher, turn, turn);
         observer.learn(publisher.receipt());
-        shows_write(rt, &mut observer, turn, turn, Valid);
+        shows(rt, &mut observer, turn, 0, sample(turn, turn, Valid));
     }
     let last = WRITES - 1;
-    shows_write(rt, &mut late, last, last, Valid);
-    shows_write(rt, &mut observer, last, u64::MAX, Invalid);
+    shows(rt, &mut late, last, 0, sample(last, last, Valid));
+    shows(rt, &mut observer, u64::MAX, 0, sample(last, last, Invalid));
     Ok(())
 }
 
-// A publisher is refused for want of memory or made, and a made one asks for no more.
+// Whether a publisher is made with one request refused after `pass` others. A made one asks for no more.
+fn is_made<R: AllocGlobal + Wait + Abort>(rt: &R, pass: u64) -> Result<bool, NoPlace> {
+    let switch = Switch::new(rt.alloc());
+    switch.refuse_after(pass, 1);
+    match Publisher::new(rt, &switch, 2) {
+        Ok(mut publisher) => {
+            holds(rt, switch.refused() == 0, pass);
+            switch.refuse_all();
+            let shown = writes_without_memory(rt, &mut publisher);
+            holds(rt, switch.requests() == 0, pass);
+            publisher.close(rt);
+            shown?;
+            Ok(true)
+        }
+        Err(OutOfMemory) => {
+            holds(rt, switch.refused() == 1, pass);
+            Ok(false)
+        }
+    }
+}
+
 #[test]
 fn memory_is_taken_when_a_publisher_is_made(rt: HostRuntime) -> Result<(), Fail> {
-    let switch = Switch::new(rt.alloc());
     for pass in 0..ALLOCATION_LIMIT {
-        switch.refuse_after(pass, 1);
-        let made = Publisher::new(&rt, &switch, 2);
-        if switch.refused() == 0 {
-            let mut publisher = made?;
-            switch.refuse_all();
-            let shown = writes_without_memory(&rt, &mut publisher);
-            let requests = switch.requests();
-            publisher.close(&rt);
-            assert_eq!(rt; requests, 0);
-            assert!(rt; 1 < pass);
-            return Ok(shown?);
-        }
-        match made {
-            Ok(publisher) => {
-                publisher.close(&rt);
-                panic!(rt; "a request was refused");
-            }
-            Err(refused) => assert_eq!(rt; refused, OutOfMemory),
+        if is_made(&rt, pass)? {
+            holds(&rt, 1 < pass, pass);
+            return Ok(());
         }
     }
     panic!(rt; "a publisher asks for fewer allocations");

@@ -2,7 +2,7 @@
 ghost use Rattle.std.specs.Prelude.{◌≡◌, [], ◌∷◌, None, Some, OnOk};
 ghost use Rattle.apex_observers.specs.Published.{Published};
 
-use super::{message, sample};
+use super::{holds, message, sample, shows};
 use apex_observers::{ObserverFault, Publishers};
 use apex_types::Validity::Valid;
 use apex_types::{Moment, OutOfMemory};
@@ -33,13 +33,13 @@ fn shows_the_write<A: Allocator + Copy, R: Wait + Abort>(
     requires { (published : Published) × (publishers.old ≡ None ∷ Some published ∷ []) }
 {
     let mut observers = publishers.observers(alloc)?;
-    let published = publishers.publish(rt, 1, &message(rt, 1), Moment(1));
-    assert_eq!(rt; published, Ok(()));
+    let published = publishers.publish(rt, 1, &message(1), Moment(1));
+    holds(rt, published.is_ok(), 0);
     for observer in &mut observers {
-        assert_eq!(rt; observer.read(Moment(1), 0), sample(rt, 1, 1, Valid));
+        shows(rt, observer, 1, 0, sample(1, 1, Valid));
     }
-    assert_eq!(rt; observers.len(), 1);
-    assert_eq!(rt; publishers.observers(alloc).is_err(), true);
+    holds(rt, observers.len() == 1, 1);
+    holds(rt, publishers.observers(alloc).is_err(), 2);
     Ok(())
 }
 

@@ -1,4 +1,5 @@
 //! What an allocator refuses by its plan, and what it counts.
+use super::holds;
 use refusing::Switch;
 use std::alloc::{AllocError, Allocator};
 
@@ -13,21 +14,21 @@ fn three_vectors<A: Allocator + Copy>(alloc: A) -> Result<u8, AllocError> {
     Ok(sum)
 }
 
+// Three requests by the plan: whether they are granted, how many are asked then, and how many are refused.
+fn is_planned<A: Allocator>(switch: &Switch<A>, sum: Option<u8>, asked: u64, refused: u64) -> bool {
+    three_vectors(switch).ok() == sum && switch.requests() == asked && switch.refused() == refused
+}
+
 #[test]
 fn refuses_by_plan(rt: HostRuntime) {
     let switch = Switch::new(rt.alloc());
-    assert_eq!(rt; three_vectors(&switch), Ok(6));
-    assert_eq!(rt; switch.requests(), 3);
-    assert_eq!(rt; switch.refused(), 0);
+    holds(&rt, is_planned(&switch, Some(6), 3, 0), 3);
     for pass in 0..3u64 {
         switch.refuse_after(pass, 1);
-        assert_eq!(rt; three_vectors(&switch), Err(AllocError), "after {pass}");
-        assert_eq!(rt; switch.requests(), pass + 1, "after {pass}");
-        assert_eq!(rt; switch.refused(), 1, "after {pass}");
+        holds(&rt, is_planned(&switch, None, pass + 1, 1), pass);
     }
     switch.refuse_after(3, 1);
-    assert_eq!(rt; three_vectors(&switch), Ok(6));
-    assert_eq!(rt; switch.refused(), 0);
+    holds(&rt, is_planned(&switch, Some(6), 3, 0), 4);
 }
 
 #[test]
@@ -36,12 +37,12 @@ fn refuses_all_until_allowed(rt: HostRuntime) -> Result<(), AllocError> {
     let mut bytes = Vec::with_capacity(&switch, 1)?;
     switch.refuse_all();
     bytes.push_reserved(7u8);
-    assert_eq!(rt; bytes.reserve(100), Err(AllocError));
-    assert_eq!(rt; switch.refused(), 1);
+    holds(&rt, bytes.reserve(100) == Err(AllocError), 0);
+    holds(&rt, switch.refused() == 1, 1);
     switch.allow_all();
     bytes.reserve(100)?;
-    assert_eq!(rt; switch.requests(), 1);
-    assert_eq!(rt; bytes.first(), Some(&7));
+    holds(&rt, switch.requests() == 1, 2);
+    holds(&rt, bytes.first() == Some(&7), 3);
     Ok(())
 }
 
@@ -55,6 +56,6 @@ fn vector_is_send(rt: HostRuntime) -> Result<(), AllocError> {
     let switch = Switch::new(rt.alloc());
     let mut bytes = Vec::new(&switch);
     bytes.push(7u8)?;
-    assert_eq!(rt; sent(bytes).len(), 1);
+    holds(&rt, sent(bytes).len() == 1, 0);
     Ok(())
 }

@@ -1,6 +1,7 @@
 //! Four observers in threads of their own, beside a publisher.
+use super::{holds, message, write};
 use apex_observers::{NoPlace, Observer, Publisher, Sampled};
-use apex_types::{Message, Moment};
+use apex_types::Moment;
 use std::process::Abort;
 use std::sync::Wait;
 use std::test::Fail;
@@ -13,27 +14,18 @@ const READS: u64 = 100_000;
 /// How many samples are written, at the moments from 1 on.
 const WRITES: u64 = 10_000;
 
-// The message of a write has the bytes of its moment.
-fn write_at<R: Wait + Abort>(rt: &R, publisher: &mut Publisher, at: u64) {
-    let Ok(message) = Message::from_bytes(&at.to_be_bytes()) else {
-        panic!(rt; "eight bytes are a message");
-    };
-    let published = publisher.publish(rt, &message, Moment(at));
-    assert_eq!(rt; published, Ok(()));
-}
-
-// The moment of the sample that is shown, which is one that was written.
+// The moment of the sample that is shown, which is one that was written with the bytes of its moment.
 fn moment_shown<R: Abort>(rt: &R, observer: &mut Observer) -> u64 {
     let Sampled::Sample {
-        message,
+        message: shown,
         at,
-        validity: _,
+        ..
     } = observer.read(Moment(0), 0)
     else {
         panic!(rt; "a sample was written");
     };
-    assert!(rt; 1 <= at.0 && at.0 <= WRITES);
-    assert!(rt; message.bytes() == at.0.to_be_bytes().as_slice());
+    holds(rt, 1 <= at.0 && at.0 <= WRITES, at.0);
+    holds(rt, shown == message(at.0), at.0);
     at.0
 }
 
@@ -41,14 +33,14 @@ fn read_all<R: Abort>(rt: &R, observer: &mut Observer) {
     let mut last = 0;
     for _ in 0..READS {
         let at = moment_shown(rt, observer);
-        assert!(rt; last <= at);
+        holds(rt, last <= at, at);
         last = at;
     }
 }
 
 fn write_all<R: Wait + Abort>(rt: &R, publisher: &mut Publisher) {
     for at in 2..WRITES + 1 {
-        write_at(rt, publisher, at);
+        write(rt, publisher, at, at);
     }
 }
 
@@ -56,20 +48,18 @@ fn reads_beside_writes<R: Threads + Wait + Abort + Sync>(
     rt: &R,
     publisher: &mut Publisher,
 ) -> Result<(), NoPlace> {
-    let mut observers = [
-        publisher.observer()?,
-        publisher.observer()?,
-        publisher.observer()?,
-        publisher.observer()?,
-    ];
-    write_at(rt, publisher, 1);
+    let one = publisher.observer()?;
+    let two = publisher.observer()?;
+    let three = publisher.observer()?;
+    let mut observers = [one, two, three, publisher.observer()?];
+    write(rt, publisher, 1, 1);
     thread::join(
         rt,
         || write_all(rt, publisher),
         || thread::for_each_mut(rt, &mut observers, 4, &|_, observer| read_all(rt, observer)),
     );
     for observer in &mut observers {
-        assert_eq!(rt; moment_shown(rt, observer), WRITES);
+        holds(rt, moment_shown(rt, observer) == WRITES, 0);
     }
     Ok(())
 }
