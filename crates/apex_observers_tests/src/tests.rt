@@ -34,15 +34,6 @@ fn message(number: u64) -> Message {
     }
 }
 
-// The sample of the message of a number.
-fn sample(number: u64, at: u64, validity: Validity) -> Sampled {
-    Sampled::Sample {
-        message: message(number),
-        at: Moment(at),
-        validity,
-    }
-}
-
 // The message of the number is published.
 fn write<A: Allocator, R: Wait + Abort>(rt: &R, publisher: &mut Publisher<A>, number: u64, at: u64)
     ensures { publisher.new.channel ≡ publisher.old.channel }
@@ -51,17 +42,32 @@ fn write<A: Allocator, R: Wait + Abort>(rt: &R, publisher: &mut Publisher<A>, nu
     holds(rt, published.is_ok(), at);
 }
 
-// This is what the observer shows at the moment, with the refresh period.
-fn shows<A: Allocator>(
+// The observer shows this at the moment.
+fn shows<A: Allocator>(rt: &impl Abort, observer: &mut Observer<A>, now: u64, wanted: &Sampled)
+    ensures { observer.new.channel ≡ observer.old.channel }
+{
+    let shown = observer.read(Moment(now), 0);
+    holds(rt, shown == *wanted, now);
+}
+
+// At the moment and with the refresh period of `read`, the observer shows the message of the number and of the moment of
+// `written`.
+fn shows_write<A: Allocator>(
     rt: &impl Abort,
     observer: &mut Observer<A>,
-    now: u64,
-    refresh: u64,
-    wanted: Sampled,
+    read: (u64, u64),
+    written: (u64, u64),
+    validity: Validity,
 )
     ensures { observer.new.channel ≡ observer.old.channel }
 {
+    let ((now, refresh), (number, at)) = (read, written);
     let shown = observer.read(Moment(now), refresh);
+    let wanted = Sampled::Sample {
+        message: message(number),
+        at: Moment(at),
+        validity,
+    };
     holds(rt, shown == wanted, now);
 }
 
@@ -70,24 +76,15 @@ fn shows_the_last_write<A: Allocator, R: Wait + Abort>(
     publisher: &mut Publisher<A>,
 ) -> Result<(), NoPlace> {
     let mut observer = publisher.observer()?;
-    shows(rt, &mut observer, 0, 0, Sampled::Empty);
+    shows(rt, &mut observer, 0, &Sampled::Empty);
     write(rt, publisher, 1, 7);
-    for (now, refresh, validity) in [
-        (7, 0, Valid),
-        (8, 0, Invalid),
-        (57, 50, Valid),
-        (58, 50, Invalid),
-    ] {
-        shows(rt, &mut observer, now, refresh, sample(1, 7, validity));
-    }
+    shows_write(rt, &mut observer, (7, 0), (1, 7), Valid);
+    shows_write(rt, &mut observer, (8, 0), (1, 7), Invalid);
+    shows_write(rt, &mut observer, (57, 50), (1, 7), Valid);
+    shows_write(rt, &mut observer, (58, 50), (1, 7), Invalid);
     write(rt, publisher, 2, u64::MAX);
-    shows(
-        rt,
-        &mut observer,
-        u64::MAX,
-        u64::MAX,
-        sample(2, u64::MAX, Valid),
-    );
+    let last = (u64::MAX, u64::MAX);
+    shows_write(rt, &mut observer, last, (2, u64::MAX), Valid);
     Ok(())
 }
 
@@ -109,13 +106,13 @@ fn never_goes_back<A: Allocator, R: Wait + Abort>(
     let one = publisher.receipt();
     write(rt, publisher, 2, 2);
     observer.learn(publisher.receipt());
-    shows(rt, &mut observer, 2, 0, sample(2, 2, Valid));
+    shows_write(rt, &mut observer, (2, 0), (2, 2), Valid);
     observer.learn(one.copy());
     observer.learn(none);
-    shows(rt, &mut observer, 2, 0, sample(2, 2, Valid));
+    shows_write(rt, &mut observer, (2, 0), (2, 2), Valid);
     write(rt, publisher, 3, 1);
     observer.learn(one);
-    shows(rt, &mut observer, 2, 0, sample(3, 1, Invalid));
+    shows_write(rt, &mut observer, (2, 0), (3, 1), Invalid);
     Ok(())
 }
 
@@ -135,9 +132,9 @@ fn an_observer_outlives_its_channel(rt: HostRuntime) -> Result<(), Fail> {
     let receipt = publisher.receipt();
     publisher.close(&rt);
     let mut observer = made?;
-    shows(&rt, &mut observer, 1, 0, Sampled::Gone);
+    shows(&rt, &mut observer, 1, &Sampled::Gone);
     observer.learn(receipt);
-    shows(&rt, &mut observer, 1, 0, Sampled::Gone);
+    shows(&rt, &mut observer, 1, &Sampled::Gone);
     Ok(())
 }
 
@@ -163,11 +160,11 @@ fn writes_without_memory<A: Allocator, R: Wait + Abort>(
     for turn in 0..WRITES {
         write(rt, publisher, turn, turn);
         observer.learn(publisher.receipt());
-        shows(rt, &mut observer, turn, 0, sample(turn, turn, Valid));
+        shows_write(rt, &mut observer, (turn, 0), (turn, turn), Valid);
     }
     let last = WRITES - 1;
-    shows(rt, &mut late, last, 0, sample(last, last, Valid));
-    shows(rt, &mut observer, u64::MAX, 0, sample(last, last, Invalid));
+    shows_write(rt, &mut late, (last, 0), (last, last), Valid);
+    shows_write(rt, &mut observer, (u64::MAX, 0), (last, last), Invalid);
     Ok(())
 }
 

@@ -1,9 +1,9 @@
 //! A cleared channel.
 use crate::tests::boards::{config_of, holds, lines_of, requests_of, run};
 use crate::tests::texts::NAV;
-use apex_board::Board;
+use apex_board::{Board, Entry};
 use refusing::Switch;
-use std::alloc::{AllocGlobal, Allocator};
+use std::alloc::{AllocError, AllocGlobal, Allocator};
 use std::process::Abort;
 use std::sync::Wait;
 use std::test::Fail;
@@ -32,6 +32,28 @@ const OPENING_LOG: &str = "1 1 FMS create-queuing NO_ERROR id 1
 4 4 DSP mode NO_ERROR
 ";
 
+// The board makes the calls of the trace.
+fn makes<R: AllocGlobal + Abort + Wait, A: Allocator>(
+    rt: &R,
+    board: &mut Board<A>,
+    trace: &str,
+) -> Result<(), Fail> {
+    let requests = requests_of(rt, trace)?;
+    Ok(run(rt, board, &requests)?)
+}
+
+// The lines of these entries.
+fn are_lines<R: AllocGlobal + Abort, A: Allocator>(
+    rt: &R,
+    board: &Board<A>,
+    entries: &[Entry],
+    wanted: &str,
+) -> Result<(), AllocError> {
+    let lines = lines_of(rt.alloc(), board.config(), entries)?;
+    holds(rt, lines.as_str() == wanted, 4);
+    Ok(())
+}
+
 // The board answers the calls of the trace as the lines say.
 fn answers<R: AllocGlobal + Abort + Wait, A: Allocator>(
     rt: &R,
@@ -40,14 +62,9 @@ fn answers<R: AllocGlobal + Abort + Wait, A: Allocator>(
     wanted: &str,
 ) -> Result<(), Fail> {
     let before = board.log().len();
-    run(rt, board, &requests_of(rt, trace)?)?;
-    let lines = lines_of(
-        rt.alloc(),
-        board.config(),
-        board.log().get(before..).unwrap_or(&[]),
-    )?;
-    holds(rt, lines.as_str() == wanted, 4);
-    Ok(())
+    makes(rt, board, trace)?;
+    let entries = board.log().get(before..).unwrap_or(&[]);
+    Ok(are_lines(rt, board, entries, wanted)?)
 }
 
 fn takes_whatever_waits<R: AllocGlobal + Abort + Wait>(

@@ -31,27 +31,36 @@ fn writing(at: u64, bytes: &[u8]) -> Request {
     }
 }
 
-fn sample(bytes: &[u8], at: u64, validity: Validity) -> Sampled {
-    Sampled::Sample {
-        message: message(bytes),
-        at: Moment(at),
-        validity,
-    }
+// There is one observer, and this is what it shows at the moment, with a refresh period of 50.
+fn shows<A: Allocator, R: Abort>(rt: &R, observers: &mut [Observer<A>], now: u64, wanted: &Sampled)
+    ensures { map (λ known. known.channel) observers.new
+        ≡ map (λ known. known.channel) observers.old }
+{
+    assert!(rt; observers.len() == 1);
+    let shown = observers[0].read(Moment(now), 50);
+    holds(rt, shown == *wanted, now);
 }
 
-// There is one observer, and this is what it shows at the moment, with the refresh period.
-fn shows<A: Allocator, R: Abort>(
+// There is one observer. At the moment and with the refresh period of `read`, it shows these bytes, written at `at`.
+fn shows_write<A: Allocator, R: Abort>(
     rt: &R,
     observers: &mut [Observer<A>],
-    now: u64,
-    refresh: u64,
-    wanted: Sampled,
+    read: (u64, u64),
+    bytes: &[u8],
+    at: u64,
+    validity: Validity,
 )
     ensures { map (λ known. known.channel) observers.new
         ≡ map (λ known. known.channel) observers.old }
 {
     assert!(rt; observers.len() == 1);
+    let (now, refresh) = read;
     let shown = observers[0].read(Moment(now), refresh);
+    let wanted = Sampled::Sample {
+        message: message(bytes),
+        at: Moment(at),
+        validity,
+    };
     holds(rt, shown == wanted, now);
 }
 
@@ -81,13 +90,13 @@ fn shows_each_write<A: Allocator, R: Abort + Wait>(
     requires { AreObservers board.old.published observers.old }
 {
     write_and_tell(rt, board, observers, 7, &[1])?;
-    shows(rt, observers, 7, 0, sample(&[1], 7, Valid));
-    shows(rt, observers, 8, 0, sample(&[1], 7, Invalid));
+    shows_write(rt, observers, (7, 0), &[1], 7, Valid);
+    shows_write(rt, observers, (8, 0), &[1], 7, Invalid);
     write_and_tell(rt, board, observers, 9, &[2])?;
-    shows(rt, observers, 9, 50, sample(&[2], 9, Valid));
+    shows_write(rt, observers, (9, 50), &[2], 9, Valid);
     write_and_tell(rt, board, observers, u64::MAX, &[3])?;
-    let last = sample(&[3], u64::MAX, Valid);
-    shows(rt, observers, u64::MAX, u64::MAX, last);
+    let last = (u64::MAX, u64::MAX);
+    shows_write(rt, observers, last, &[3], u64::MAX, Valid);
     Ok(())
 }
 
@@ -108,7 +117,7 @@ fn observer_learns_receipts_in_turn(rt: HostRuntime) -> Result<(), Fail> {
     let (mut board, mut observers) = Board::with_observers(&rt, rt.alloc(), config_of(&rt)?)?;
     let shown = shows_all(&rt, &mut board, &mut observers);
     board.close(&rt);
-    shows(&rt, &mut observers, 9, 50, Sampled::Gone);
+    shows(&rt, &mut observers, 9, &Sampled::Gone);
     shown
 }
 
@@ -132,10 +141,10 @@ fn shows_what_it_showed<R: AllocGlobal + Abort + Wait>(
     let calls = requests_of(rt, OTHER_CALLS)?;
     run(rt, board, &requests_of(rt, CREATION)?)?;
     run(rt, board, &calls)?;
-    shows(rt, observers, 20, 50, Sampled::Empty);
+    shows(rt, observers, 20, &Sampled::Empty);
     ask(rt, board, &writing(100, &[0, 255]))?;
     run(rt, board, &calls)?;
-    shows(rt, observers, 150, 50, sample(&[0, 255], 100, Valid));
+    shows_write(rt, observers, (150, 50), &[0, 255], 100, Valid);
     Ok(())
 }
 
@@ -159,7 +168,7 @@ fn hundred_writes<A: Allocator, B: Allocator, R: Abort + Wait>(
     run(rt, board, creation)?;
     for at in 0..100u64 {
         ask(rt, board, &writing(at, &[0, 255]))?;
-        shows(rt, observers, at, 50, sample(&[0, 255], at, Valid));
+        shows_write(rt, observers, (at, 50), &[0, 255], at, Valid);
     }
     holds(rt, switch.requests() == 0, 0);
     Ok(())
@@ -189,14 +198,15 @@ fn fill_log<A: Allocator, R: Abort + Wait>(
     Ok(())
 }
 
-// A write for which there is no memory: the observers are told, and show what they showed. With memory it is repeated.
+// A write for which there is no memory: the observers are told, and show the write of the moment before, if there was
+// one. With memory it is repeated.
 fn refused_write<A: Allocator, B: Allocator, R: Abort + Wait>(
     rt: &R,
     switch: &Switch<B>,
     board: &mut Board<A>,
     observers: &mut [Observer<A>],
     at: u64,
-    before: Sampled,
+    before: Option<u64>,
 ) -> Result<(), Fail>
     requires { AreObservers board.old.published observers.old }
     ensures { AreObservers board.new.published observers.new }
@@ -204,11 +214,14 @@ fn refused_write<A: Allocator, B: Allocator, R: Abort + Wait>(
     switch.refuse_all();
     let is_refused = ask(rt, board, &writing(at, &[0, 255])).is_err();
     board.tell(observers);
-    shows(rt, observers, at, 50, before);
+    match before {
+        Some(moment) => shows_write(rt, observers, (at, 50), &[0, 255], moment, Valid),
+        None => shows(rt, observers, at, &Sampled::Empty),
+    }
     holds(rt, is_refused && switch.requests() == 1, at);
     switch.allow_all();
     write_and_tell(rt, board, observers, at, &[0, 255])?;
-    shows(rt, observers, at, 50, sample(&[0, 255], at, Valid));
+    shows_write(rt, observers, (at, 50), &[0, 255], at, Valid);
     Ok(())
 }
 
@@ -223,10 +236,9 @@ fn refused_writes<A: Allocator, B: Allocator, R: Abort + Wait>(
 {
     run(rt, board, creation)?;
     fill_log(rt, board, creation)?;
-    refused_write(rt, switch, board, observers, 100, Sampled::Empty)?;
+    refused_write(rt, switch, board, observers, 100, None)?;
     fill_log(rt, board, creation)?;
-    let before = sample(&[0, 255], 100, Valid);
-    refused_write(rt, switch, board, observers, 101, before)
+    refused_write(rt, switch, board, observers, 101, Some(100))
 }
 
 #[test]
@@ -248,7 +260,7 @@ fn is_made<R: AllocGlobal + Abort + Wait>(rt: &R, granted: u64) -> Result<bool, 
     match Board::with_observers(rt, &switch, config) {
         Ok((board, mut observers)) => {
             holds(rt, switch.refused() == 0, granted);
-            shows(rt, &mut observers, 1, 50, Sampled::Empty);
+            shows(rt, &mut observers, 1, &Sampled::Empty);
             switch.refuse_all();
             board.close(rt);
             holds(rt, switch.requests() == 0, granted);

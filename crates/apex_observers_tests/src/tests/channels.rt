@@ -2,7 +2,7 @@
 ghost use Rattle.std.specs.Prelude.{◌≡◌, [], ◌∷◌, None, Some, OnOk};
 ghost use Rattle.apex_observers.specs.Published.{Published};
 
-use super::{holds, message, sample, shows};
+use super::{holds, message, shows_write};
 use apex_observers::{ObserverFault, Publishers};
 use apex_types::Validity::Valid;
 use apex_types::{Moment, OutOfMemory};
@@ -36,7 +36,7 @@ fn shows_the_write<A: Allocator + Copy, R: Wait + Abort>(
     let published = publishers.publish(rt, 1, &message(1), Moment(1));
     holds(rt, published.is_ok(), 0);
     for observer in &mut observers {
-        shows(rt, observer, 1, 0, sample(1, 1, Valid));
+        shows_write(rt, observer, (1, 0), (1, 1), Valid);
     }
     holds(rt, observers.len() == 1, 1);
     holds(rt, publishers.observers(alloc).is_err(), 2);

@@ -37,12 +37,10 @@ fn refuses_all_until_allowed(rt: HostRuntime) -> Result<(), AllocError> {
     let mut bytes = Vec::with_capacity(&switch, 1)?;
     switch.refuse_all();
     bytes.push_reserved(7u8);
-    holds(&rt, bytes.reserve(100) == Err(AllocError), 0);
-    holds(&rt, switch.refused() == 1, 1);
+    holds(&rt, bytes.reserve(100).is_err() && switch.refused() == 1, 0);
     switch.allow_all();
-    bytes.reserve(100)?;
-    holds(&rt, switch.requests() == 1, 2);
-    holds(&rt, bytes.first() == Some(&7), 3);
+    holds(&rt, bytes.reserve(100).is_ok() && switch.requests() == 1, 1);
+    holds(&rt, bytes.first() == Some(&7), 2);
     Ok(())
 }
 

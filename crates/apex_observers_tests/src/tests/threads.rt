@@ -47,27 +47,35 @@ fn write_all<R: Wait + Abort>(rt: &R, publisher: &mut Publisher) {
 fn reads_beside_writes<R: Threads + Wait + Abort + Sync>(
     rt: &R,
     publisher: &mut Publisher,
-) -> Result<(), NoPlace> {
-    let one = publisher.observer()?;
-    let two = publisher.observer()?;
-    let three = publisher.observer()?;
-    let mut observers = [one, two, three, publisher.observer()?];
+    observers: &mut [Observer],
+) {
     write(rt, publisher, 1, 1);
     thread::join(
         rt,
         || write_all(rt, publisher),
-        || thread::for_each_mut(rt, &mut observers, 4, &|_, observer| read_all(rt, observer)),
+        || thread::for_each_mut(rt, observers, 4, &|_, observer| read_all(rt, observer)),
     );
-    for observer in &mut observers {
+    for observer in observers {
         holds(rt, moment_shown(rt, observer) == WRITES, 0);
     }
-    Ok(())
+}
+
+fn four_observers(publisher: &mut Publisher) -> Result<[Observer; 4], NoPlace> {
+    let one = publisher.observer()?;
+    let two = publisher.observer()?;
+    let three = publisher.observer()?;
+    Ok([one, two, three, publisher.observer()?])
 }
 
 #[test]
 fn four_observers_beside_a_writer(rt: HostRuntime) -> Result<(), Fail> {
     let mut publisher = Publisher::new(&rt, rt.alloc(), 4)?;
-    let shown = reads_beside_writes(&rt, &mut publisher);
+    let observers = four_observers(&mut publisher);
+    if let Ok(mut observers) = observers {
+        reads_beside_writes(&rt, &mut publisher, &mut observers);
+        publisher.close(&rt);
+        return Ok(());
+    }
     publisher.close(&rt);
-    Ok(shown?)
+    Err("there are four places")?
 }

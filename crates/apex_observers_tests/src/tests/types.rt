@@ -18,16 +18,18 @@ fn name_of_thirty_letters(rt: HostRuntime) -> Result<(), Fail> {
     Ok(())
 }
 
+const NAME_FAULTS: &[(&str, NameFault)] = &[
+    ("", NameFault::Empty),
+    ("ABCDEFGHIJKLMNOPQRSTUVWXYZ_0192", NameFault::TooLong),
+    ("ABCDEFGHIJKLMNOPQRSTUVWXYZ-0192", NameFault::TooLong),
+    ("NAV OUT", NameFault::BadCharacter),
+    ("é", NameFault::BadCharacter),
+];
+
 #[test]
 fn name_faults_in_their_order(rt: HostRuntime) {
-    for (text, fault) in [
-        ("", NameFault::Empty),
-        ("ABCDEFGHIJKLMNOPQRSTUVWXYZ_0192", NameFault::TooLong),
-        ("ABCDEFGHIJKLMNOPQRSTUVWXYZ-0192", NameFault::TooLong),
-        ("NAV OUT", NameFault::BadCharacter),
-        ("é", NameFault::BadCharacter),
-    ] {
-        holds(&rt, Name::read(text) == Err(fault), text.len() as u64);
+    for (text, fault) in NAME_FAULTS {
+        holds(&rt, Name::read(text) == Err(*fault), text.len() as u64);
     }
 }
 
@@ -90,43 +92,37 @@ fn longest_message_of_digits(rt: HostRuntime) -> Result<(), Fail> {
     Ok(())
 }
 
+const CODES: &[(ReturnCode, u32, &str)] = &[
+    (ReturnCode::NoError, 0, "NO_ERROR"),
+    (ReturnCode::NoAction, 1, "NO_ACTION"),
+    (ReturnCode::NotAvailable, 2, "NOT_AVAILABLE"),
+    (ReturnCode::InvalidParam, 3, "INVALID_PARAM"),
+    (ReturnCode::InvalidConfig, 4, "INVALID_CONFIG"),
+    (ReturnCode::InvalidMode, 5, "INVALID_MODE"),
+    (ReturnCode::TimedOut, 6, "TIMED_OUT"),
+];
+
 #[test]
 fn numbers_and_words_of_codes(rt: HostRuntime) {
-    for (code, number, word) in [
-        (ReturnCode::NoError, 0, "NO_ERROR"),
-        (ReturnCode::NoAction, 1, "NO_ACTION"),
-        (ReturnCode::NotAvailable, 2, "NOT_AVAILABLE"),
-        (ReturnCode::InvalidParam, 3, "INVALID_PARAM"),
-        (ReturnCode::InvalidConfig, 4, "INVALID_CONFIG"),
-        (ReturnCode::InvalidMode, 5, "INVALID_MODE"),
-        (ReturnCode::TimedOut, 6, "TIMED_OUT"),
-    ] {
-        holds(
-            &rt,
-            code.number() == number && code.word() == word,
-            u64::from(number),
-        );
+    for (code, number, word) in CODES {
+        let is_so = code.number() == *number && code.word() == *word;
+        holds(&rt, is_so, u64::from(*number));
     }
 }
 
+const MODES: &[(Mode, u32, &str)] = &[
+    (Mode::Idle, 0, "IDLE"),
+    (Mode::ColdStart, 1, "COLD_START"),
+    (Mode::WarmStart, 2, "WARM_START"),
+    (Mode::Normal, 3, "NORMAL"),
+];
+
 #[test]
 fn numbers_and_words_of_modes(rt: HostRuntime) {
-    for (mode, number, word) in [
-        (Mode::Idle, 0, "IDLE"),
-        (Mode::ColdStart, 1, "COLD_START"),
-        (Mode::WarmStart, 2, "WARM_START"),
-        (Mode::Normal, 3, "NORMAL"),
-    ] {
-        holds(
-            &rt,
-            mode.number() == number && mode.word() == word,
-            u64::from(number),
-        );
-        holds(
-            &rt,
-            Mode::from_number(number) == Some(mode),
-            u64::from(number),
-        );
+    for (mode, number, word) in MODES {
+        let is_so = mode.number() == *number && mode.word() == *word;
+        let is_read = Mode::from_number(*number) == Some(*mode);
+        holds(&rt, is_so && is_read, u64::from(*number));
     }
     holds(&rt, Mode::from_number(4) == None, 4);
 }

@@ -63,22 +63,29 @@ fn fault_over<R: Threads + Wait + Sync + Abort>(
     Ok(run_over(rt, alloc, fake, &OpenGate, &scripts).err())
 }
 
+const WANTING: Option<AskFault> = Some(AskFault::OutOfMemory);
+
+const FOREIGN: Option<AskFault> = Some(AskFault::NoPartition);
+
+/// The refusals of two workers' second calls, how often each worker asks then, and the fault that it comes to.
+const CASES: &[([Option<AskFault>; 2], [u64; 2], Option<RunFault>)] = &[
+    ([None, None], [4, 4], None),
+    ([WANTING, None], [2, 4], Some(RunFault::OutOfMemory)),
+    ([None, WANTING], [4, 2], Some(RunFault::OutOfMemory)),
+    ([None, FOREIGN], [4, 2], Some(RunFault::Stranger)),
+    ([FOREIGN, WANTING], [2, 2], Some(RunFault::Stranger)),
+    ([WANTING, FOREIGN], [2, 2], Some(RunFault::OutOfMemory)),
+];
+
 #[test]
 fn a_worker_stops_and_the_other_ends_its_script(rt: HostRuntime) -> Result<(), Fail> {
-    let wanting = Some(AskFault::OutOfMemory);
-    let foreign = Some(AskFault::NoPartition);
-    for (refusals, asked, fault) in [
-        ([None, None], [4, 4], None),
-        ([wanting, None], [2, 4], Some(RunFault::OutOfMemory)),
-        ([None, wanting], [4, 2], Some(RunFault::OutOfMemory)),
-        ([None, foreign], [4, 2], Some(RunFault::Stranger)),
-        ([foreign, wanting], [2, 2], Some(RunFault::Stranger)),
-        ([wanting, foreign], [2, 2], Some(RunFault::OutOfMemory)),
-    ] {
-        let fake = Fake::new(refusals);
+    let mut number = 0usize;
+    for (refusals, asked, fault) in CASES {
+        let fake = Fake::new(*refusals);
         let ended = fault_over(&rt, rt.alloc(), &fake)?;
-        holds(&rt, ended == fault, 0);
-        holds(&rt, fake.asked() == asked, 1);
+        holds(&rt, ended == *fault, number);
+        holds(&rt, fake.asked() == *asked, number);
+        number = number.saturating_add(1);
     }
     Ok(())
 }
