@@ -82,3 +82,40 @@ pub(crate) fn lines_of(
     }
     Ok(text)
 }
+
+/// Makes the calls of the trace on the board.
+pub(crate) fn makes<R: AllocGlobal + Abort + Wait, A: Allocator>(
+    rt: &R,
+    board: &mut Board<A>,
+    trace: &str,
+) -> Result<(), Fail>
+    ensures { books_of board.new.published ≡ books_of board.old.published }
+{
+    let requests = requests_of(rt, trace)?;
+    Ok(run(rt, board, &requests)?)
+}
+
+// The lines of these entries.
+fn are_lines<R: AllocGlobal + Abort, A: Allocator>(
+    rt: &R,
+    board: &Board<A>,
+    entries: &[Entry],
+    wanted: &str,
+) -> Result<(), AllocError> {
+    let lines = lines_of(rt.alloc(), board.config(), entries)?;
+    holds(rt, lines.as_str() == wanted, 4);
+    Ok(())
+}
+
+/// The board answers the calls of the trace as the lines say.
+pub(crate) fn answers<R: AllocGlobal + Abort + Wait, A: Allocator>(
+    rt: &R,
+    board: &mut Board<A>,
+    trace: &str,
+    wanted: &str,
+) -> Result<(), Fail> {
+    let before = board.log().len();
+    makes(rt, board, trace)?;
+    let entries = board.log().get(before..).unwrap_or(&[]);
+    Ok(are_lines(rt, board, entries, wanted)?)
+}

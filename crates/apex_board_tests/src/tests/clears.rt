@@ -1,9 +1,9 @@
 //! A cleared channel.
-use crate::tests::boards::{config_of, holds, lines_of, requests_of, run};
+use crate::tests::boards::{answers, config_of, holds};
 use crate::tests::texts::NAV;
-use apex_board::{Board, Entry};
+use apex_board::Board;
 use refusing::Switch;
-use std::alloc::{AllocError, AllocGlobal, Allocator};
+use std::alloc::{AllocGlobal, Allocator};
 use std::process::Abort;
 use std::sync::Wait;
 use std::test::Fail;
@@ -31,41 +31,6 @@ const OPENING_LOG: &str = "1 1 FMS create-queuing NO_ERROR id 1
 3 3 FMS mode NO_ERROR
 4 4 DSP mode NO_ERROR
 ";
-
-// The board makes the calls of the trace.
-fn makes<R: AllocGlobal + Abort + Wait, A: Allocator>(
-    rt: &R,
-    board: &mut Board<A>,
-    trace: &str,
-) -> Result<(), Fail> {
-    let requests = requests_of(rt, trace)?;
-    Ok(run(rt, board, &requests)?)
-}
-
-// The lines of these entries.
-fn are_lines<R: AllocGlobal + Abort, A: Allocator>(
-    rt: &R,
-    board: &Board<A>,
-    entries: &[Entry],
-    wanted: &str,
-) -> Result<(), AllocError> {
-    let lines = lines_of(rt.alloc(), board.config(), entries)?;
-    holds(rt, lines.as_str() == wanted, 4);
-    Ok(())
-}
-
-// The board answers the calls of the trace as the lines say.
-fn answers<R: AllocGlobal + Abort + Wait, A: Allocator>(
-    rt: &R,
-    board: &mut Board<A>,
-    trace: &str,
-    wanted: &str,
-) -> Result<(), Fail> {
-    let before = board.log().len();
-    makes(rt, board, trace)?;
-    let entries = board.log().get(before..).unwrap_or(&[]);
-    Ok(are_lines(rt, board, entries, wanted)?)
-}
 
 fn takes_whatever_waits<R: AllocGlobal + Abort + Wait>(
     rt: &R,

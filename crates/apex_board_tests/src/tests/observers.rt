@@ -2,7 +2,7 @@
 ghost use Rattle.std.specs.Prelude.{◌≡◌, map};
 ghost use Rattle.apex_observers.specs.Channels.{AreObservers, books_of};
 
-use crate::tests::boards::{ask, config_of, holds, message, requests_of, run};
+use crate::tests::boards::{ask, config_of, holds, makes, message};
 use crate::tests::texts::AIR;
 use apex_board::{Board, Request};
 use apex_observers::{Observer, ObserverFault, Sampled};
@@ -108,7 +108,7 @@ fn shows_all<R: AllocGlobal + Abort + Wait>(
 ) -> Result<(), Fail>
     requires { AreObservers board.old.published observers.old }
 {
-    run(rt, board, &requests_of(rt, CREATION)?)?;
+    makes(rt, board, CREATION)?;
     shows_each_write(rt, board, observers)
 }
 
@@ -138,12 +138,11 @@ fn shows_what_it_showed<R: AllocGlobal + Abort + Wait>(
     board: &mut Board,
     observers: &mut [Observer],
 ) -> Result<(), Fail> {
-    let calls = requests_of(rt, OTHER_CALLS)?;
-    run(rt, board, &requests_of(rt, CREATION)?)?;
-    run(rt, board, &calls)?;
+    makes(rt, board, CREATION)?;
+    makes(rt, board, OTHER_CALLS)?;
     shows(rt, observers, 20, &Sampled::Empty);
     ask(rt, board, &writing(100, &[0, 255]))?;
-    run(rt, board, &calls)?;
+    makes(rt, board, OTHER_CALLS)?;
     shows_write(rt, observers, (150, 50), &[0, 255], 100, Valid);
     Ok(())
 }
@@ -156,16 +155,15 @@ fn calls_that_publish_nothing(rt: HostRuntime) -> Result<(), Fail> {
     shown
 }
 
-fn hundred_writes<A: Allocator, B: Allocator, R: Abort + Wait>(
+fn hundred_writes<A: Allocator, B: Allocator, R: AllocGlobal + Abort + Wait>(
     rt: &R,
     switch: &Switch<B>,
     board: &mut Board<A>,
     observers: &mut [Observer<A>],
-    creation: &[Request],
 ) -> Result<(), Fail> {
     board.reserve(101)?;
     switch.refuse_all();
-    run(rt, board, creation)?;
+    makes(rt, board, CREATION)?;
     for at in 0..100u64 {
         ask(rt, board, &writing(at, &[0, 255]))?;
         shows_write(rt, observers, (at, 50), &[0, 255], at, Valid);
@@ -176,24 +174,22 @@ fn hundred_writes<A: Allocator, B: Allocator, R: Abort + Wait>(
 
 #[test]
 fn hundred_writes_within_room(rt: HostRuntime) -> Result<(), Fail> {
-    let creation = requests_of(&rt, CREATION)?;
     let switch = Switch::new(rt.alloc());
     let (mut board, mut observers) = Board::with_observers(&rt, &switch, config_of(&rt)?)?;
-    let written = hundred_writes(&rt, &switch, &mut board, &mut observers, &creation);
+    let written = hundred_writes(&rt, &switch, &mut board, &mut observers);
     board.close(&rt);
     written
 }
 
-// The calls are made again and again, until the log has no spare room.
-fn fill_log<A: Allocator, R: Abort + Wait>(
+// The source is created again and again, until the log has no spare room.
+fn fill_log<A: Allocator, R: AllocGlobal + Abort + Wait>(
     rt: &R,
     board: &mut Board<A>,
-    calls: &[Request],
 ) -> Result<(), Fail>
     ensures { books_of board.new.published ≡ books_of board.old.published }
 {
     for _ in 0..board.log_room() {
-        run(rt, board, calls)?;
+        makes(rt, board, CREATION)?;
     }
     Ok(())
 }
@@ -225,28 +221,26 @@ fn refused_write<A: Allocator, B: Allocator, R: Abort + Wait>(
     Ok(())
 }
 
-fn refused_writes<A: Allocator, B: Allocator, R: Abort + Wait>(
+fn refused_writes<A: Allocator, B: Allocator, R: AllocGlobal + Abort + Wait>(
     rt: &R,
     switch: &Switch<B>,
     board: &mut Board<A>,
     observers: &mut [Observer<A>],
-    creation: &[Request],
 ) -> Result<(), Fail>
     requires { AreObservers board.old.published observers.old }
 {
-    run(rt, board, creation)?;
-    fill_log(rt, board, creation)?;
+    makes(rt, board, CREATION)?;
+    fill_log(rt, board)?;
     refused_write(rt, switch, board, observers, 100, None)?;
-    fill_log(rt, board, creation)?;
+    fill_log(rt, board)?;
     refused_write(rt, switch, board, observers, 101, Some(100))
 }
 
 #[test]
 fn refused_write_is_not_shown(rt: HostRuntime) -> Result<(), Fail> {
-    let creation = requests_of(&rt, CREATION)?;
     let switch = Switch::new(rt.alloc());
     let (mut board, mut observers) = Board::with_observers(&rt, &switch, config_of(&rt)?)?;
-    let shown = refused_writes(&rt, &switch, &mut board, &mut observers, &creation);
+    let shown = refused_writes(&rt, &switch, &mut board, &mut observers);
     board.close(&rt);
     shown
 }

@@ -1,5 +1,5 @@
 //! Refused memory, of lists of requests: those before the stop are answered and no other.
-use crate::tests::boards::{config_of, holds, lines_of, requests_of, run};
+use crate::tests::boards::{answers, config_of, holds, requests_of, run};
 use crate::tests::refused_memory::ALLOCATION_LIMIT;
 use crate::tests::same::shows_same_after;
 use crate::tests::texts::{FULL_QUEUE, FULL_QUEUE_LOG};
@@ -24,12 +24,22 @@ fn answers_list<R: AllocGlobal + Abort + Wait, A: Allocator, B: Allocator>(
     };
     let refused = switch.refused();
     switch.allow_all();
+    goes_on(rt, board, requests, done)?;
+    Ok((done, refused))
+}
+
+// The board has answered just the first `done` requests, and answers the rest.
+fn goes_on<R: AllocGlobal + Abort + Wait, A: Allocator>(
+    rt: &R,
+    board: &mut Board<A>,
+    requests: &[Request],
+    done: usize,
+) -> Result<(), Fail> {
     assert!(rt; done <= requests.len());
     holds(rt, board.log().len() == done, 0);
     shows_same_after(rt, board, &requests[..done])?;
     run(rt, board, &requests[done..])?;
-    shows_same_after(rt, board, requests)?;
-    Ok((done, refused))
+    shows_same_after(rt, board, requests)
 }
 
 // A new board answers the list, with `refuse` allocations refused after `granted` others.
@@ -85,29 +95,19 @@ fn leaves_room<R: AllocGlobal + Abort + Wait, A: Allocator, B: Allocator>(
     rt: &R,
     switch: &Switch<B>,
     board: &mut Board<A>,
-    requests: &[Request],
-    more: &[Request],
 ) -> Result<(), Fail> {
     board.reserve(13)?;
     switch.refuse_all();
-    run(rt, board, requests)?;
+    answers(rt, board, FULL_QUEUE, FULL_QUEUE_LOG)?;
     holds(rt, board.room() >= 2, 0);
-    run(rt, board, more)?;
-    let (first, last) = board.log().split_at(11.min(board.log().len()));
-    let lines = lines_of(rt.alloc(), board.config(), first)?;
-    holds(rt, lines.as_str() == FULL_QUEUE_LOG, 1);
-    let lines = lines_of(rt.alloc(), board.config(), last)?;
-    holds(rt, lines.as_str() == MORE_LOG, 2);
-    Ok(())
+    answers(rt, board, MORE, MORE_LOG)
 }
 
 #[test]
 fn list_leaves_the_room_beyond_it(rt: HostRuntime) -> Result<(), Fail> {
-    let requests = requests_of(&rt, FULL_QUEUE)?;
-    let more = requests_of(&rt, MORE)?;
     let switch = Switch::new(rt.alloc());
     let mut board = Board::new(&rt, &switch, config_of(&rt)?)?;
-    let left = leaves_room(&rt, &switch, &mut board, &requests, &more);
+    let left = leaves_room(&rt, &switch, &mut board);
     board.close(&rt);
     left
 }
@@ -116,21 +116,20 @@ fn stops_beyond_room<R: AllocGlobal + Abort + Wait, A: Allocator, B: Allocator>(
     rt: &R,
     switch: &Switch<B>,
     board: &mut Board<A>,
-    requests: &[Request],
 ) -> Result<(), Fail> {
+    let requests = requests_of(rt, FULL_QUEUE)?;
     board.reserve(5)?;
     switch.refuse_all();
-    let (done, _refused) = answers_list(rt, switch, board, requests)?;
+    let (done, _refused) = answers_list(rt, switch, board, &requests)?;
     holds(rt, done >= 5 && done < requests.len(), 0);
     Ok(())
 }
 
 #[test]
 fn list_stops_beyond_its_room(rt: HostRuntime) -> Result<(), Fail> {
-    let requests = requests_of(&rt, FULL_QUEUE)?;
     let switch = Switch::new(rt.alloc());
     let mut board = Board::new(&rt, &switch, config_of(&rt)?)?;
-    let stopped = stops_beyond_room(&rt, &switch, &mut board, &requests);
+    let stopped = stops_beyond_room(&rt, &switch, &mut board);
     board.close(&rt);
     stopped
 }

@@ -1,6 +1,6 @@
 //! Refused memory, call by call: a refusal changes nothing that a reader shows, and a call within the room never meets one.
-use crate::tests::boards::{ask, config_of, holds, lines_of, requests_of, run};
-use crate::tests::same::shows_same_after;
+use crate::tests::boards::{answers, ask, config_of, holds, makes, requests_of, run};
+use crate::tests::same::{shows_same_after, shows_same_as};
 use crate::tests::texts::{FULL_QUEUE, NAV, ONE_SAMPLE};
 use apex_board::{Board, Request};
 use refusing::Switch;
@@ -27,16 +27,13 @@ fn serves_within_room<R: AllocGlobal + Abort + Wait, A: Allocator, B: Allocator>
     rt: &R,
     switch: &Switch<B>,
     board: &mut Board<A>,
-    requests: &[Request],
 ) -> Result<(), Fail> {
     board.reserve(3)?;
     holds(rt, board.room() >= 3, 0);
     switch.refuse_all();
-    run(rt, board, requests)?;
-    shows_same_after(rt, board, requests)?;
+    answers(rt, board, THREE_CALLS, THREE_CALLS_LOG)?;
+    shows_same_as(rt, board, THREE_CALLS)?;
     holds(rt, switch.requests() == 0, 1);
-    let lines = lines_of(rt.alloc(), board.config(), board.log())?;
-    holds(rt, lines.as_str() == THREE_CALLS_LOG, 2);
     accepted_one(rt, board);
     Ok(())
 }
@@ -51,10 +48,9 @@ fn accepted_one<A: Allocator>(rt: &impl Abort, board: &Board<A>) {
 
 #[test]
 fn room_serves_without_memory(rt: HostRuntime) -> Result<(), Fail> {
-    let requests = requests_of(&rt, THREE_CALLS)?;
     let switch = Switch::new(rt.alloc());
     let mut board = Board::new(&rt, &switch, config_of(&rt)?)?;
-    let served = serves_within_room(&rt, &switch, &mut board, &requests);
+    let served = serves_within_room(&rt, &switch, &mut board);
     board.close(&rt);
     served
 }
@@ -92,15 +88,14 @@ fn reserves<R: AllocGlobal + Abort + Wait, A: Allocator, B: Allocator>(
     switch: &Switch<B>,
     board: &mut Board<A>,
     granted: u64,
-    requests: &[Request],
 ) -> Result<bool, Fail> {
-    run(rt, board, requests)?;
+    makes(rt, board, FULL_QUEUE)?;
     let room = board.room();
     switch.refuse_after(granted, 1);
     let is_refused = board.reserve(100).is_err();
     holds(rt, is_refused == (switch.refused() > 0), granted);
     holds(rt, board.room() >= room, granted);
-    shows_same_after(rt, board, requests)?;
+    shows_same_as(rt, board, FULL_QUEUE)?;
     board.reserve(100)?;
     holds(rt, board.room() >= 100, granted);
     Ok(is_refused)
@@ -109,20 +104,18 @@ fn reserves<R: AllocGlobal + Abort + Wait, A: Allocator, B: Allocator>(
 fn reserve_refused_after<R: AllocGlobal + Abort + Wait>(
     rt: &R,
     granted: u64,
-    requests: &[Request],
 ) -> Result<bool, Fail> {
     let switch = Switch::new(rt.alloc());
     let mut board = Board::new(rt, &switch, config_of(rt)?)?;
-    let refused = reserves(rt, &switch, &mut board, granted, requests);
+    let refused = reserves(rt, &switch, &mut board, granted);
     board.close(rt);
     refused
 }
 
 #[test]
 fn reserve_refused_in_turn(rt: HostRuntime) -> Result<(), Fail> {
-    let requests = requests_of(&rt, FULL_QUEUE)?;
     for granted in 0..ALLOCATION_LIMIT {
-        if !reserve_refused_after(&rt, granted, &requests)? {
+        if !reserve_refused_after(&rt, granted)? {
             holds(&rt, granted > 0, granted);
             return Ok(());
         }
@@ -142,18 +135,30 @@ fn answers_last<R: AllocGlobal + Abort + Wait, A: Allocator, B: Allocator>(
         return Ok(false);
     };
     run(rt, board, before)?;
-    let room = board.room();
-    switch.refuse_after(granted, 1);
-    let is_refused = ask(rt, board, last).is_err();
-    holds(rt, is_refused == (switch.refused() > 0), granted);
-    switch.allow_all();
+    let is_refused = refuses(rt, switch, board, granted, last);
     if is_refused {
-        holds(rt, board.room() >= room, granted);
         shows_same_after(rt, board, before)?;
         ask(rt, board, last)?;
     }
     shows_same_after(rt, board, requests)?;
     Ok(is_refused)
+}
+
+// Whether the board refuses the request with one allocation refused after `granted` others.
+fn refuses<A: Allocator, B: Allocator, R: Abort + Wait>(
+    rt: &R,
+    switch: &Switch<B>,
+    board: &mut Board<A>,
+    granted: u64,
+    request: &Request,
+) -> bool {
+    let room = board.room();
+    switch.refuse_after(granted, 1);
+    let is_refused = ask(rt, board, request).is_err();
+    holds(rt, is_refused == (switch.refused() > 0), granted);
+    holds(rt, !is_refused || board.room() >= room, granted);
+    switch.allow_all();
+    is_refused
 }
 
 fn call_refused_after<R: AllocGlobal + Abort + Wait>(

@@ -1,7 +1,7 @@
 //! Boards that show the same.
 ghost use Rattle.std.specs.Prelude.{◌<◌, length};
 
-use crate::tests::boards::{config_of, holds, run};
+use crate::tests::boards::{config_of, holds, requests_of, run};
 use apex_board::{Board, Request};
 use std::alloc::{AllocGlobal, Allocator};
 use std::process::Abort;
@@ -73,4 +73,14 @@ pub(crate) fn shows_same_after<R: AllocGlobal + Abort + Wait, A: Allocator>(
     shows_same(rt, board, &ample);
     ample.close(rt);
     Ok(answered?)
+}
+
+/// The board shows the same as one with ample memory that has answered the calls of the trace.
+pub(crate) fn shows_same_as<R: AllocGlobal + Abort + Wait, A: Allocator>(
+    rt: &R,
+    board: &Board<A>,
+    trace: &str,
+) -> Result<(), Fail> {
+    let requests = requests_of(rt, trace)?;
+    shows_same_after(rt, board, &requests)
 }
