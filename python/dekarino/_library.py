@@ -138,7 +138,8 @@ class Library:
 
     def function(self, name: str) -> Callable[..., int]:
         """The function of the name."""
-        return self._functions[name]
+        function: Callable[..., int] = self._functions[name]
+        return function
 
 
 @functools.lru_cache(maxsize=None)

@@ -130,7 +130,7 @@ class Module:
 
     def _why(self, code: Code, asked: Asked, sent: bytes) -> Answer:
         """Why a call was refused, which may be asked after it as before. The lock is held."""
-        call = (self._lent, asked.index, self._moment, asked.fields, sent, len(sent))
+        call = (self._lent, asked.partition_number, self._moment, asked.fields, sent, len(sent))
         self._call_row(*call, self._number_place)
         is_told = self._call_words(*call, self._buffer, _library.MESSAGE_LIMIT, self._count_place) == 0
         # (there are no words where memory was refused)

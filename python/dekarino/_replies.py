@@ -38,13 +38,14 @@ Status = TypeVar("Status", QueuingStatus, SamplingStatus)
 
 
 class Asked(NamedTuple):
-    """Who asked what: names, the word that a trace has for the service, and the place of the call's numbers."""
+    """Who asked what: names, the word that a trace has for the service, the partition's number, and the place of the
+    call's numbers."""
 
     partition: str
     port: Optional[str]
     service: str
     call: str
-    index: int
+    partition_number: int
     fields: Any
 
 
