@@ -137,7 +137,7 @@ module _ {X : Type 0} (Says : ℕ → List ℕ → X → Type 0) (nothing : X) (
 pub first_refused : (files : FileBytes) (config : Configuration) (arguments : Arguments) (refusal : Refusal) → IsFirstRefused files config arguments refusal → AreArgumentsRefused files config arguments refusal
 first_refused files config arguments Usage first = first
 first_refused files config arguments (Argument word) first = first
-first_refused files config arguments (File path) first = first
+first_refused files config arguments (File path obstacle) first = first
 first_refused files config arguments Output first = first
 first_refused files config arguments (Text faults.Memory) first = tt
 first_refused files config arguments (Text (faults.Config fault)) first = first

@@ -1,1 +1,2 @@
 pub mod ArgumentLemmas
+mod ReadingLemmas

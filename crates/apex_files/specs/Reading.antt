@@ -4,6 +4,8 @@ use Rattle.std.specs.Global.{Vec}
 use Rattle.apex_config.specs.Configuration.{Configuration}
 use Rattle.apex_config.specs.Meaning.{config_of}
 use Rattle.apex_texts.specs.declared.fault.Fault.TheVariants as faults
+use Rattle.apex_files.specs.Files.{IsFaultOf}
+use Rattle.apex_files.specs.declared.files.FileFault.TheVariants.{Unreadable}
 use Rattle.apex_files.specs.declared.refusal.Refusal.{Refusal}
 use Rattle.apex_files.specs.declared.refusal.Refusal.TheVariants.{Text, File}
 
@@ -11,10 +13,10 @@ use Rattle.apex_files.specs.declared.refusal.Refusal.TheVariants.{Text, File}
 abbrev pub FileBytes : Type 0
 FileBytes = List ℕ → Option (List ℕ)
 
--- the bytes of the file at a path, whole; a file that can't be read is told by its path, or memory is wanting
+-- the bytes of the file at a path, whole; a file that can't be read is told by its path and by what kept it from being read, or memory is wanting
 abbrev pub IsFileRead : FileBytes → List ℕ → Result (Vec ℕ) Refusal → Type 0
 IsFileRead files path (Ok read) = IfSome (files path) (λ bytes. read.items ≡ bytes)
-IsFileRead files path (Err (File told)) = told.now ≡ path
+IsFileRead files path (Err (File told obstacle)) = (told.now ≡ path) × IfSome (files path) (IsFaultOf (Unreadable obstacle))
 IsFileRead files path (Err (Text faults.Memory)) = Unit {0}
 IsFileRead files path (Err refusal) = ⊥
 
@@ -23,5 +25,5 @@ abbrev pub IsConfigRead : Result Configuration Refusal → List ℕ → Type 0
 IsConfigRead (Ok configuration) config = config_of config ≡ Ok configuration
 IsConfigRead (Err (Text (faults.Config fault))) config = config_of config ≡ Err fault
 IsConfigRead (Err (Text faults.Memory)) config = Unit {0}
-IsConfigRead (Err (File path)) config = Unit {0}
+IsConfigRead (Err (File path obstacle)) config = Unit {0}
 IsConfigRead (Err refusal) config = ⊥

@@ -21,7 +21,7 @@ status_of (Text faults.Gone) = 3
 status_of (Text fault) = 1
 status_of Usage = 2
 status_of (Argument word) = 2
-status_of (File path) = 3
+status_of (File path obstacle) = 3
 status_of Output = 3
 
 -- want of memory is one refusal, wherever it came
@@ -34,5 +34,5 @@ abbrev pub refusal_line : Refusal → List ℕ
 refusal_line Usage = codes "usage: apexports check CONFIG | replay CONFIG TRACE | run CONFIG [NAME=SCRIPT]..."
 refusal_line (Argument word) = codes "argument fault: " ++ word.now
 refusal_line (Text fault) = fault_line fault
-refusal_line (File path) = codes "cannot read " ++ path.now
+refusal_line (File path obstacle) = codes "cannot read " ++ path.now
 refusal_line Output = codes "cannot write"

@@ -28,7 +28,7 @@ abbrev pub IsScriptFile : FileBytes → Configuration → ℕ → List ℕ → R
 IsScriptFile files config p path (Ok calls) = IfSome (files path) (λ bytes. script_of bytes ≡ Ok calls)
 IsScriptFile files config p path (Err (Text (faults.Script name fault))) = (partition_name_of config p ≡ Some name) × IfSome (files path) (λ bytes. IsScriptRead (Err fault) (script_of bytes))
 IsScriptFile files config p path (Err (Text faults.Memory)) = Unit {0}
-IsScriptFile files config p path (Err (File told)) = told.now ≡ path
+IsScriptFile files config p path (Err (File told obstacle)) = told.now ≡ path
 IsScriptFile files config p path (Err refusal) = ⊥
 
 -- the partition that an argument names, where no argument before it names that one

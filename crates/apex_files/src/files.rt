@@ -1,8 +1,8 @@
 //! Reading a file whole, up to a limit.
-ghost use Rattle.std.specs.Prelude.{◌≡◌, ◌≤◌, List, ℕ, Option, None, IfOk, IfSome, OnOk, length};
+ghost use Rattle.std.specs.Prelude.{◌≡◌, ◌≤◌, List, ℕ, Option, None, IfErr, IfOk, IfSome, OnOk, length};
 ghost use Rattle.std.specs.Io.KnownBytes.{IsAtEnd};
-ghost use Rattle.std.specs.IoError.{error_kind};
-ghost use Rattle.apex_files.specs.Files.{file_fault};
+ghost use Rattle.std.specs.IoError.{error_kind, raw_os_error};
+ghost use Rattle.apex_files.specs.Files.{file_fault, IsFaultOf, IsReadUpTo};
 
 use std::alloc::Global;
 use std::fs::File;
@@ -47,23 +47,44 @@ impl<R: Files> Opener for SystemFiles<'_, R> {
     }
 }
 
+/// What kept a file from being read.
+#[derive(Clone, Copy, Debug, PartialEq, Eq)]
+pub enum Obstacle {
+    /// There is no such file.
+    NotFound,
+    /// It may not be read.
+    PermissionDenied,
+    /// It is a folder.
+    IsFolder,
+    /// It has more bytes than `FILE_LIMIT`.
+    TooLarge,
+    /// It had not ended after `READ_LIMIT` reads.
+    NotEnded,
+    /// The system refused for another reason, which has this number, if it has one.
+    System(Option<i32>),
+}
+
 /// Why a file was not read.
 #[derive(Clone, Copy, Debug, PartialEq, Eq)]
 pub enum FileFault {
     /// It can't be opened, a read of it failed, or its bytes or reads exceed the limits.
-    Unreadable,
+    Unreadable(Obstacle),
     /// A growth of memory was refused.
     OutOfMemory,
 }
 
 impl From<io::Error> for FileFault {
-    ghost from_gives = { λ error given. given ≡ file_fault (error_kind error) };
+    ghost from_gives = { λ error given.
+        given ≡ file_fault (error_kind error) (raw_os_error error) };
 
     fn from(error: io::Error) -> FileFault {
-        match error.kind() {
-            ErrorKind::OutOfMemory => FileFault::OutOfMemory,
-            _ => FileFault::Unreadable,
-        }
+        FileFault::Unreadable(match error.kind() {
+            ErrorKind::OutOfMemory => return FileFault::OutOfMemory,
+            ErrorKind::NotFound => Obstacle::NotFound,
+            ErrorKind::PermissionDenied => Obstacle::PermissionDenied,
+            ErrorKind::IsADirectory => Obstacle::IsFolder,
+            _ => Obstacle::System(error.raw_os_error()),
+        })
     }
 }
 
@@ -72,6 +93,8 @@ pub fn read_path<O: Opener>(alloc: Global, opener: &O, path: &str) -> Result<Vec
     ensures whole { IfOk result
         (λ read. IfSome (O.bytes_at opener.now path.now) (λ bytes. read.items ≡ bytes)) }
     ensures within { IfOk result (λ read. length read.items ≤ FILE_LIMIT) }
+    ensures fault { IfErr result
+        (λ fault. IfSome (O.bytes_at opener.now path.now) (IsFaultOf fault)) }
 {
     let mut reader = opener.open(path)?;
     read_all(alloc, &mut reader)
@@ -83,6 +106,8 @@ pub fn read_all<R: Read>(alloc: Global, reader: &mut R) -> Result<Vec<u8>, FileF
         (λ read. IfSome (R.remaining reader.old) (λ bytes. read.items ≡ bytes)) }
     ensures end { OnOk result (IsAtEnd (R.remaining reader.new)) }
     ensures within { IfOk result (λ read. length read.items ≤ FILE_LIMIT) }
+    ensures fault { IfErr result
+        (λ fault. IsReadUpTo fault (R.remaining reader.old) (R.remaining reader.new)) }
 {
     let mut bytes = Vec::new(alloc);
     let mut piece = [0; PIECE_BYTES];
@@ -96,11 +121,11 @@ pub fn read_all<R: Read>(alloc: Global, reader: &mut R) -> Result<Vec<u8>, FileF
             return Ok(bytes);
         }
         if bytes.len() + count > FILE_LIMIT {
-            return Err(FileFault::Unreadable);
+            return Err(FileFault::Unreadable(Obstacle::TooLarge));
         }
         if bytes.extend_from_slice(&piece[..count]).is_err() {
             return Err(FileFault::OutOfMemory);
         }
     }
-    Err(FileFault::Unreadable)
+    Err(FileFault::Unreadable(Obstacle::NotEnded))
 }

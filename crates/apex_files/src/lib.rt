@@ -9,7 +9,7 @@ pub mod packed_scripts;
 mod reading;
 pub mod refusal;
 
-pub use crate::files::{Opener, SystemFiles};
+pub use crate::files::{FILE_LIMIT, Obstacle, Opener, READ_LIMIT, SystemFiles};
 pub use crate::named_scripts::{partition_and_path, scripts_named};
 pub use crate::outputs::{print, refuse};
 pub use crate::packed_scripts::read_packed_script;

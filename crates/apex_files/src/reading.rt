@@ -18,7 +18,7 @@ pub fn read_file<'a, O: Opener>(
 {
     match read_path(alloc, opener, path) {
         Ok(bytes) => Ok(bytes),
-        Err(FileFault::Unreadable) => Err(Refusal::File(path)),
+        Err(FileFault::Unreadable(obstacle)) => Err(Refusal::File { path, obstacle }),
         Err(FileFault::OutOfMemory) => Err(Refusal::Text(Fault::Memory)),
     }
 }

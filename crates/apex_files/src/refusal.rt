@@ -4,6 +4,7 @@ ghost use Rattle.apex_texts.specs.declared.fault.Fault.TheVariants as faults;
 ghost use Rattle.apex_files.specs.declared.refusal.Refusal.TheVariants.{Text};
 ghost use Rattle.apex_files.specs.Refusal.{status_of, words_refusal, refusal_line};
 
+use crate::files::Obstacle;
 use apex_command_line::WordsFault;
 use apex_config::ConfigFault;
 use apex_texts::{Fault, TraceFault};
@@ -20,8 +21,8 @@ pub enum Refusal<'a> {
     Argument(&'a str),
     /// A text is refused, or memory.
     Text(Fault),
-    /// The file at a path can't be read.
-    File(&'a str),
+    /// The file at a path can't be read. The line doesn't say why.
+    File { path: &'a str, obstacle: Obstacle },
     /// Standard output refused the text.
     Output,
 }
@@ -45,7 +46,7 @@ impl Refusal<'_> {
                 | Fault::Run(_)
                 | Fault::Gone,
             )
-            | Refusal::File(_)
+            | Refusal::File { .. }
             | Refusal::Output => 3,
             Refusal::Text(_) => 1,
             Refusal::Usage | Refusal::Argument(_) => 2,
@@ -64,7 +65,7 @@ impl fmt::Display for Refusal<'_> {
             ),
             Refusal::Argument(word) => write!(f, "argument fault: {word}"),
             Refusal::Text(fault) => write!(f, "{fault}"),
-            Refusal::File(path) => write!(f, "cannot read {path}"),
+            Refusal::File { path, .. } => write!(f, "cannot read {path}"),
             Refusal::Output => write!(f, "cannot write"),
         }
     }

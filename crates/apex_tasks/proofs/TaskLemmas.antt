@@ -46,7 +46,7 @@ not_config fault argument (Some p) never = never
 known_refused : (files : FileBytes) (arguments : Arguments) (config : List ℕ) (configuration : Configuration) (refusal : Refusal)
     → config_of config ≡ Ok configuration → AreArgumentsRefused files configuration arguments refusal → IsFileRun files arguments (Err refusal) config
 known_refused files arguments config configuration (Argument word) read refused = (configuration, read, refused)
-known_refused files arguments config configuration (File path) read refused = tt
+known_refused files arguments config configuration (File path obstacle) read refused = tt
 known_refused files arguments config configuration (Text (faults.Script name fault)) read refused = (configuration, read, refused)
 known_refused files arguments config configuration (Text faults.Memory) read refused = tt
 known_refused files arguments config configuration (Text (faults.Config fault)) read refused = absurd (not_config fault refused.argument (new_partition_in configuration (take refused.place arguments) refused.argument.now) refused.refused)

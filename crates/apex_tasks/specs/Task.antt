@@ -20,14 +20,14 @@ abbrev pub IsCheck : Result (String Global) Refusal → List ℕ → Type 0
 IsCheck (Ok text) config = (configuration : Configuration) × (config_of config ≡ Ok configuration) × (string_bytes text ≡ check_line configuration)
 IsCheck (Err (Text (faults.Config fault))) config = config_of config ≡ Err fault
 IsCheck (Err (Text faults.Memory)) config = Unit {0}
-IsCheck (Err (File path)) config = Unit {0}
+IsCheck (Err (File path obstacle)) config = Unit {0}
 IsCheck (Err refusal) config = ⊥
 
 -- the replay of the two files' bytes
 abbrev pub IsFileReplay : Result (String Global) Refusal → List ℕ → List ℕ → Type 0
 IsFileReplay (Ok text) config trace = IsReplay (Ok text) config trace
 IsFileReplay (Err (Text fault)) config trace = IsReplay (Err fault) config trace
-IsFileReplay (Err (File path)) config trace = Unit {0}
+IsFileReplay (Err (File path obstacle)) config trace = Unit {0}
 IsFileReplay (Err refusal) config trace = ⊥
 
 -- the run of the scripts that the arguments name, on the configuration that the bytes are: no call is held, since the gate is open
@@ -39,5 +39,5 @@ IsFileRun files arguments (Err (Text (faults.Config fault))) config = config_of 
 IsFileRun files arguments (Err (Text (faults.Run fault))) config = Unit {0}
 IsFileRun files arguments (Err (Text faults.Gone)) config = Unit {0}
 IsFileRun files arguments (Err (Text faults.Memory)) config = Unit {0}
-IsFileRun files arguments (Err (File path)) config = Unit {0}
+IsFileRun files arguments (Err (File path obstacle)) config = Unit {0}
 IsFileRun files arguments (Err refusal) config = (configuration : Configuration) × (config_of config ≡ Ok configuration) × AreArgumentsRefused files configuration arguments refusal

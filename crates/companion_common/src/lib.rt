@@ -8,9 +8,11 @@ mod mistakes;
 mod places;
 mod progress;
 pub mod unfinished;
+mod unreadable;
 
 pub use crate::configuration::read_config;
 pub use crate::json::push_object;
 pub use crate::mistakes::{mistakes_of_trace, with_mistakes};
 pub use crate::progress::{Progress, ProgressLine, Reached};
 pub use crate::unfinished::Unfinished;
+pub use crate::unreadable::UnreadableFile;

@@ -8,7 +8,7 @@ use apex_files::{Opener, Refusal, print, refuse};
 use apex_logs::FaultyLine;
 use apex_texts::Fault;
 use companion_command_line::{Files, Origin, Start, Task, WordsFault, task_of, version_text};
-use companion_common::{Progress, Unfinished};
+use companion_common::{Progress, Unfinished, UnreadableFile};
 use companion_judge::{FileWriter, departures_of_log, order_of_logs};
 use companion_orders::outcomes_of_scripts;
 use std::alloc::Global;
@@ -27,6 +27,9 @@ const NOT_SO: u8 = 4;
 
 /// The status of an answer that is left undecided.
 const UNDECIDED: u8 = 5;
+
+/// The status where a file can't be read.
+const UNREADABLE: u8 = 3;
 
 /// The status where a file can't be written.
 const NOT_WRITTEN: u8 = 3;
@@ -78,6 +81,9 @@ fn finish<W: Write, E: Write>(
         Err(Unfinished::NotSo { text }) => (text, NOT_SO, None),
         Err(Unfinished::NotDecided { text }) => (text, UNDECIDED, None),
         Err(Unfinished::Told { text, refusal }) => (text, REFUSED, Some(refusal)),
+        Err(Unfinished::Refused(Refusal::File { path, obstacle })) => {
+            return unreadable_file(UnreadableFile { path, obstacle }, errors);
+        }
         Err(Unfinished::Refused(refusal)) => return refuse(refusal, errors),
         Err(Unfinished::NoService(name)) => return no_service(name, errors),
         Err(Unfinished::TooManyCalls { calls }) => return too_many_calls(calls, errors),
@@ -94,6 +100,12 @@ fn finish<W: Write, E: Write>(
         (Ok(()), Some(refusal)) => refuse(refusal, errors),
         (Err(refusal), _) => refuse(refusal, errors),
     }
+}
+
+/// Says which file can't be read and why, and answers the status.
+fn unreadable_file<E: Write>(file: UnreadableFile<'_>, errors: &mut E) -> u8 {
+    let _ = writeln!(errors, "{file}");
+    UNREADABLE
 }
 
 /// Says that a name is none of a service, and answers the status.
