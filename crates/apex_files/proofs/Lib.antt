@@ -1,2 +1,3 @@
 pub mod ArgumentLemmas
 mod ReadingLemmas
+mod TerminalLemmas

@@ -4,3 +4,4 @@ pub mod Limits
 pub mod Reading
 pub mod Refusal
 pub mod Scripts
+pub mod Terminal

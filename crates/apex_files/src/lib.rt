@@ -8,6 +8,7 @@ mod outputs;
 pub mod packed_scripts;
 mod reading;
 pub mod refusal;
+mod terminal;
 
 pub use crate::files::{FILE_LIMIT, Obstacle, Opener, READ_LIMIT, SystemFiles};
 pub use crate::named_scripts::{partition_and_path, scripts_named};
@@ -15,3 +16,4 @@ pub use crate::outputs::{print, refuse};
 pub use crate::packed_scripts::read_packed_script;
 pub use crate::reading::{read_config, read_file};
 pub use crate::refusal::Refusal;
+pub use crate::terminal::Shown;

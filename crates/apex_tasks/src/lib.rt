@@ -5,4 +5,4 @@
 pub mod tasks;
 
 pub use crate::tasks::program;
-pub use apex_files::{Opener, Refusal, SystemFiles, print, read_file, refuse};
+pub use apex_files::{Opener, Refusal, Shown, SystemFiles, print, read_file, refuse};

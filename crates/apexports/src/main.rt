@@ -3,12 +3,12 @@
 #![tactic(auto)]
 
 use apex_command_line::words_given;
-use apex_tasks::{SystemFiles, program, refuse};
+use apex_tasks::{Shown, SystemFiles, program, refuse};
 use std::process::ExitCode;
 
 fn main(rt: HostRuntime) -> ExitCode {
     let files = SystemFiles { rt: &rt };
-    let (mut output, mut errors) = (rt.stdout(), rt.stderr());
+    let (mut output, mut errors) = (Shown::new(rt.stdout()), Shown::new(rt.stderr()));
     ExitCode::from(match words_given(&rt) {
         Ok(words) => program(
             &rt,

@@ -14,6 +14,6 @@ pub mod tasks;
 mod trace_text;
 
 pub use crate::tasks::program;
-pub use apex_files::{Opener, SystemFiles};
+pub use apex_files::{Opener, Shown, SystemFiles};
 pub use companion_common::{Progress, ProgressLine, Reached};
 pub use companion_judge::FileWriter;

@@ -2,12 +2,12 @@
 #![tactic(auto)]
 
 use companion_command_line::start_given;
-use companion_tasks::{ProgressLine, SystemFiles, program};
+use companion_tasks::{ProgressLine, Shown, SystemFiles, program};
 use std::process::ExitCode;
 
 fn main(rt: HostRuntime) -> ExitCode {
     let files = SystemFiles { rt: &rt };
-    let (mut output, mut errors) = (rt.stdout(), rt.stderr());
+    let (mut output, mut errors) = (Shown::new(rt.stdout()), Shown::new(rt.stderr()));
     let mut progress = ProgressLine::new(&rt, rt.stderr());
     let start = start_given(&rt);
     ExitCode::from(program(
