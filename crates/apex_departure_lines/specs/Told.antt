@@ -2,6 +2,9 @@
 use Rattle.std.specs.Prelude.{ℕ, ◌+◌, ◌==◌, nat_lt, if◌then◌else◌, List, [], ◌∷◌, ◌++◌, codes, decimal, Option, Some, None}
 use Rattle.apex_config.specs.Configuration.{Configuration}
 use Rattle.apex_ports.specs.declared.history.Entry.{Entry}
+use Rattle.apex_ports.specs.declared.rows.Row.{Row}
+use Rattle.apex_ports.specs.declared.rows.Row.TheVariants as rows
+use Rattle.apex_ports.specs.declared.rows.Refusal.TheVariants as refusals
 use Rattle.apex_ports.specs.History.{History}
 use Rattle.apex_texts.specs.Report.{reply_text}
 use Rattle.apex_row_words.specs.Words.{note_of}
@@ -12,10 +15,20 @@ use Rattle.apex_judge.specs.Departures.{instead_of}
 
 -- ---- lines
 
+-- what stands before the reply of a row, with the choice of this project that it rests on
+abbrev pub has_words : Row → List ℕ
+has_words (rows.Created id) = codes ", with the identifiers of this project the standard has "
+has_words (rows.Identified id) = codes ", with the identifiers of this project the standard has "
+has_words (rows.Refused refusals.NotCreated) = codes ", with the identifiers of this project the standard has "
+has_words (rows.Refused refusals.NoSuchPort) = codes ", with the identifiers of this project the standard has "
+has_words (rows.Refused refusals.QueueFull) = codes ", with time-out zero the standard has "
+has_words (rows.Refused refusals.QueueEmpty) = codes ", with time-out zero the standard has "
+has_words row = codes ", the standard has "
+
 -- FILE:LINE: CALL: logged REPLY, the standard has REPLY (WORDS)
 unfoldable pub departure_line : Configuration → List ℕ → ℕ → Entry → Expected → List ℕ
 departure_line config file line entry expected =
-    file ++ codes ":" ++ decimal line ++ codes ": " ++ request_text config entry.partition entry.at entry.call ++ codes ": logged " ++ reply_text entry.reply ++ codes ", the standard has " ++ reply_text expected.reply ++ note_of config entry.partition entry.call expected.row ++ codes "\n"
+    file ++ codes ":" ++ decimal line ++ codes ": " ++ request_text config entry.partition entry.at entry.call ++ codes ": logged " ++ reply_text entry.reply ++ has_words expected.row ++ reply_text expected.reply ++ note_of config entry.partition entry.call expected.row ++ codes "\n"
 
 -- a number of departures
 abbrev pub departures_text : ℕ → List ℕ

@@ -30,8 +30,8 @@ pub(crate) struct Counts {
 }
 
 /// Judges the text of a module's log: where its replies depart from the standard. Each reply is judged after what the log
-/// shows to have happened before it, so that a departure has no consequences of its own. The first `most` departures get a
-/// line, and all are counted. `file` is the name of the log in these lines. A log with a faulty line is refused whole.
+/// shows to have happened before it. The first `most` departures get a line, and all are counted. `file` is the name of the
+/// log in these lines. A log with a faulty line is refused whole.
 pub fn tell_departures(
     alloc: Global,
     config: Config,

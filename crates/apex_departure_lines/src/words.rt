@@ -1,18 +1,19 @@
 //! The lines of a judged log.
 ghost use Rattle.std.specs.Prelude.{◌≡◌, ◌<◌, ◌++◌, codes, decimal, length, string_bytes, OnOk};
-ghost use Rattle.apex_departure_lines.specs.Told.{departure_line, calls_text, departures_text, count_line};
+ghost use Rattle.apex_departure_lines.specs.Told.{has_words, departure_line, calls_text, departures_text, count_line};
 
 use apex_call_words::push_request;
 use apex_config::Config;
 use apex_judge::Expected;
-use apex_ports::Entry;
+use apex_ports::{Entry, Refusal, Row};
 use apex_row_words::push_note;
 use apex_texts::push_reply;
 use itoa::Buffer;
 use std::alloc::AllocError;
 
 /// `FILE:LINE: CALL: logged REPLY, the standard has REPLY (WORDS)`, at the end of a text: an entry of a log whose reply
-/// departs from the standard, with the row of the reply table that gives the standard's. `line` is from 1.
+/// departs from the standard, with the row of the reply table that gives the standard's, and what that rests on where it
+/// rests on a choice of this project. `line` is from 1.
 #[tactic(auto, unfolding(crate::specs::Told::departure_line))]
 pub fn push_departure(
     text: &mut String,
@@ -33,10 +34,28 @@ pub fn push_departure(
     push_request(text, config, entry.partition, entry.at, &entry.call)?;
     push_word(text, ": logged ")?;
     push_reply(text, &entry.reply)?;
-    push_word(text, ", the standard has ")?;
+    push_word(text, has_words(expected.row))?;
     push_reply(text, &expected.reply)?;
     push_note(text, config, entry.partition, &entry.call, expected.row)?;
     push_word(text, "\n")
+}
+
+/// What stands before the reply of a row. Two choices of this project decide replies that the standard leaves open: how
+/// ports are numbered, and that no call waits.
+fn has_words(row: Row) -> &'static str
+    ensures { result.now ≡ has_words row }
+{
+    match row {
+        Row::Created { .. }
+        | Row::Identified { .. }
+        | Row::Refused(Refusal::NotCreated | Refusal::NoSuchPort) => {
+            ", with the identifiers of this project the standard has "
+        }
+        Row::Refused(Refusal::QueueFull | Refusal::QueueEmpty) => {
+            ", with time-out zero the standard has "
+        }
+        _ => ", the standard has ",
+    }
 }
 
 /// `N calls, M departures`, at the end of a text: `N calls, as the standard says` where there is none.

@@ -52,8 +52,9 @@ Example:
 pub(crate) const JUDGE: &str = "\
 A log is a trace whose lines have their reply behind an arrow, as `explain` writes it. Each reply that is not the
 standard's has a line: the call, what was logged, what the standard has, and the row of the reply table that gives it. A
-call is judged after what the log itself shows to have happened before it, so that a departure has no consequences. The
-last line counts. The status is 4 where a reply departs.
+call is judged after what the log itself shows to have happened before it. So behind a lost, doubled or altered message
+the log is in step again after a call or two, but after a wrong creation, identifier or mode the later calls of that
+partition that rest on it depart too. The last line counts. The status is 4 where a reply departs.
 
 A word NAME=LOG gives the log that the partition NAME kept for itself: its lines lack the partition, and nothing says which
 call of another partition came before. Where there is an order of all calls in which each reply is the standard's, the
