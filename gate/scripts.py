@@ -9,9 +9,9 @@ import usage
 # Each script, those first that take longest, and those after which it is run.
 TESTS = {
     "sweep_memory": (), "c_interface": (), "apexports_script": (), "orders": (), "gate": (), "judge_apart": (),
-    "hostile_sizes": (), "sizes": (), "largest_configurations": (), "prebuilt": (), "python": ("c_interface",), "package": ("python",),
-    "runs": (), "judge": (), "run_cases": (), "examples": (), "dekarino": (), "mistakes": (), "drawings": (),
-    "documents": (),
+    "hostile_sizes": (), "sizes": (), "largest_configurations": (), "prebuilt": (), "python": ("c_interface",),
+    "package": ("python",), "runs": (), "judge": (), "run_cases": (), "examples": (), "dekarino": (), "mistakes": (),
+    "drawings": (), "documents": (), "terminal": (),
 }
 # Those that want the toolchain, or more minutes, and the words that they are run with.
 WHOLE = {"edits": (), "sweep_memory": ("all",)}
