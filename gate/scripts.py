@@ -6,7 +6,9 @@ import subprocess
 import crates
 import usage
 
-# Each script, those first that take longest, and those after which it is run.
+# Each script, those first that take longest, and those after which it is run. The first of those that are over the
+# libraries for C waits for these where they are built.
+WITH_LIBRARIES = "c_interface"
 TESTS = {
     "sweep_memory": (), "c_interface": (), "apexports_script": (), "orders": (), "gate": (), "judge_apart": (),
     "hostile_sizes": (), "sizes": (), "largest_configurations": (), "prebuilt": (), "python": ("c_interface",),
@@ -28,12 +30,16 @@ class Scripts:
         # (what would change how the scripts find their parts)
         self.environment = {it: text for it, text in os.environ.items() if it not in ("CDPATH", "PYTHONSAFEPATH")}
 
-    def tasks(self, shown):
-        """Returns the scripts as tasks that begin when nothing else is left to do before them."""
-        after = {**TESTS, **({"edits": ()} if self.is_whole else {})}
-        seconds = {name: len(after) - at for at, name in enumerate(after)}
-        return {f"tests/{name}": crates.Task([f"tests/{it}" for it in after[name]], seconds[name],
-                                             lambda jobs, it=name: self.run(it, shown)) for name in after}
+    def tasks(self, shown, libraries=()):
+        """Returns the scripts as tasks. libraries: the names of the tasks that build these."""
+        names = [*TESTS, *(["edits"] if self.is_whole else [])]
+        seconds = {name: len(names) - at for at, name in enumerate(names)}
+
+        def after(name):
+            return [*(f"tests/{it}" for it in TESTS.get(name, ())), *(libraries if name == WITH_LIBRARIES else ())]
+
+        return {f"tests/{name}": crates.Task(after(name), seconds[name], lambda jobs, it=name: self.run(it, shown))
+                for name in names}
 
     def run(self, name, shown):
         shown.begin(f"tests/{name}")

@@ -6,6 +6,7 @@ verify.py all                    first every proof and each crate's tests, by th
                                  built; then every must-fail edit
 verify.py all --within MINUTES   the same in this time: must-fail edits are tried as long as there is time, those first
                                  that were not refused before in the form that they have now
+verify.py edits CRATE..          every proof, and the must-fail edits of these crates
 """
 import contextlib
 import os
@@ -29,7 +30,7 @@ HERE = os.path.dirname(os.path.realpath(__file__))
 ROOT = os.path.dirname(HERE)
 # What each part took in the run of which this is a copy of out/durations.txt.
 TABLE = os.path.join(HERE, "test_durations.txt")
-USAGE = "usage: ./test [all [--within MINUTES]]"
+USAGE = "usage: ./test [all [--within MINUTES] | edits CRATE..]"
 
 
 def shown_for(parts, after):
@@ -60,7 +61,8 @@ class Whole:
         self.made = proving.Proving(root, kit, room, counted, clock)
         self.scripts = scripts.Scripts(root, counted, clock, is_whole=True)
 
-    def run(self):
+    def run(self, only):
+        """only: the crates whose edits alone are tried, or none for all and everything else."""
         rt = toolchain.loaded(self.kit)
         if rt is None:
             self.counts.fails(f"{self.kit}/bin/rt has a form that is not known here: take '{toolchain.WANTED}'")
@@ -68,16 +70,23 @@ class Whole:
         # (its first call sets a signal's handler, which only this thread may)
         rt.rtlib.guarded()
         known = rt.rtlib.crates_below(self.made.copy)
-        edits = must_fail.MustFail(rt, known, self.made.copy, self.made.edits, self.room, self.kit, self.counts, self.clock)
+        with_edits = [it for it in known if not only or it.name in only]
+        edits = must_fail.MustFail(rt, with_edits, self.made.copy, self.made.edits, self.room, self.kit, self.counts,
+                                   self.clock)
         libraries = {f"the library of {it.name}": it for it in known if it.is_static}
-        later = [*libraries, *self.scripts.tasks(None), "prebuilt", *edits.tasks(None)]
-        with self.made.usage, shown_for(self.made.parts(), later) as shown:
+        self.run_parts(rt, edits, libraries, [] if only else [*libraries, *self.scripts.tasks(None), "prebuilt"])
+
+    def run_parts(self, rt, edits, libraries, built):
+        """built: the names of all that is tried with what is built."""
+        with self.made.usage, shown_for(self.made.parts(), [*built, *edits.tasks(None)]) as shown:
             if self.made.prove(shown) and self.made.take_programs():
                 shown.doing = "trying"
-                self.try_built(rt, libraries, shown)
+                if built:
+                    self.try_built(rt, libraries, shown)
                 self.try_edits(edits, shown)
-        heading = "The seconds that each part took in a run of ./test all."
-        progress.write_durations(f"{self.root}/out/durations.txt", heading, shown.took)
+        if built:
+            heading = "The seconds that each part took in a run of ./test all."
+            progress.write_durations(f"{self.root}/out/durations.txt", heading, shown.took)
         minutes = {**self.made.minutes, **self.scripts.minutes, "must-fail edits": self.made.usage.of_kind("edits") / 60}
         for line in usage.table(self.made.usage, minutes):
             self.counts.say(line)
@@ -85,17 +94,18 @@ class Whole:
     def try_built(self, rt, libraries, shown):
         """Builds the libraries for C, runs all that runs, and compares prebuilt/."""
         def build(part):
-            return self.made.build_library(rt, libraries[part])
+            return self.done(part, lambda: self.made.build_library(rt, libraries[part]), shown)
 
-        for part in libraries:
-            if not self.done(part, build, shown):
-                return
-        crates.side_by_side(self.scripts.tasks(shown), crates.processors())
-        self.done("prebuilt", lambda _: self.made.compare_prebuilt(), shown)
+        tasks = {part: crates.Task([], len(scripts.TESTS), lambda jobs, it=part: build(it)) for part in libraries}
+        tasks.update(self.scripts.tasks(shown, libraries))
+        begun = crates.side_by_side(tasks, crates.processors())
+        for it in [it for it in tasks if it not in begun]:
+            self.counts.fails(f"{it} was not run, since what it needs failed")
+        self.done("prebuilt", self.made.compare_prebuilt, shown)
 
     def done(self, part, work, shown):
         shown.begin(part)
-        result = work(part)
+        result = work()
         shown.end(part)
         return result
 
@@ -121,18 +131,24 @@ def stop_by_signal(room):
         signal.signal(it, stop)
 
 
-def minutes_in(words):
-    """Returns whether the words ask for the whole verification, and the minutes that it has, if they are given; or
-    None where the words are none of these."""
-    if words in ([], ["all"]):
-        return bool(words), None
-    if len(words) == 3 and words[:2] == ["all", "--within"]:
-        with contextlib.suppress(ValueError):
-            return (True, float(words[2])) if float(words[2]) > 0 else None
-    return None
+class Asked:
+    """What is asked for by the words. Raises ValueError where they are none."""
+
+    def __init__(self, words):
+        self.is_whole, self.minutes, self.only = bool(words), None, []
+        if words[:1] == ["edits"] and len(words) > 1:
+            self.only = words[1:]
+            if not set(self.only) <= {*crates.crates_of(ROOT)}:
+                raise ValueError
+        elif words[:2] == ["all", "--within"] and len(words) == 3:
+            self.minutes = float(words[2])
+            if not self.minutes > 0:
+                raise ValueError
+        elif words not in ([], ["all"]):
+            raise ValueError
 
 
-def run_whole(counted, clock):
+def run_whole(counted, clock, only):
     for it in ("RT_ALLOW_C", "RT_BACKEND", "RT_SECONDS"):
         os.environ.pop(it, None)
     kit = crates.toolchain()
@@ -143,19 +159,19 @@ def run_whole(counted, clock):
     os.environ["PATH"] = f"{kit}/bin:{os.environ.get('PATH', os.defpath)}"
     with tempfile.TemporaryDirectory(prefix="dekarino-test-") as room:
         stop_by_signal(room)
-        Whole(ROOT, kit, os.path.realpath(room), counted, clock).run()
+        Whole(ROOT, kit, os.path.realpath(room), counted, clock).run(only)
 
 
 def main(words):
-    asked = minutes_in(words)
-    if asked is None:
+    try:
+        asked = Asked(words)
+    except ValueError:
         print(USAGE, file=sys.stderr)
         return 2
-    is_whole, minutes = asked
     counted = counts.Counts()
     try:
-        if is_whole:
-            run_whole(counted, counts.Clock(minutes))
+        if asked.is_whole:
+            run_whole(counted, counts.Clock(asked.minutes), asked.only)
         else:
             run_scripts(ROOT, counted)
     except (Exception, SystemExit):
