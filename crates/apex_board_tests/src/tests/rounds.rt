@@ -278,13 +278,12 @@ impl Module {
 
     // A port tells the identifier of its name.
     fn identifier(self, partition: u32, index: u32) -> Option<Row> {
+        let id = index.saturating_add(1);
         let name = port_name(index)?;
-        let call = if self.is_queuing(channel_at(partition, index)) {
-            Call::QueuingId { name }
-        } else {
-            Call::SamplingId { name }
-        };
-        row_of(partition, self.at, call, Reply::Id(index.saturating_add(1)))
+        if self.is_queuing(channel_at(partition, index)) {
+            return row_of(partition, self.at, Call::QueuingId { name }, Reply::Id(id));
+        }
+        row_of(partition, self.at, Call::SamplingId { name }, Reply::Id(id))
     }
 
     fn last_of_queuing(self, partition: u32, index: u32, step: u32) -> Option<Row> {
