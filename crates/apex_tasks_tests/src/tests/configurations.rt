@@ -102,16 +102,17 @@ fn places_of_another_text_are_left_out(rt: HostRuntime) -> Result<(), Fail> {
     is_told(&rt, text, b"partition = []", "")
 }
 
-/// All of 24 places are told, and not 20 of them as of a file.
+/// Of 24 places the first 20 are told, and how many more there are.
 #[test]
-fn every_place_is_told_by_names(rt: HostRuntime) -> Result<(), Fail> {
+fn twenty_places_are_told_by_names(rt: HostRuntime) -> Result<(), Fail> {
     let text = b"partition = [1,1,1,1,1,1,1,1,1,1,1,1,1,1,1,1,1,1,1,1,1,1,1,1]";
     let mut lines = String::new(rt.alloc());
-    for number in 1..25 {
+    for number in 1..21 {
         writeln!(
             lines,
             "partition number {number}: it is 1; it must be a table"
         )?;
     }
+    lines.push_str("and 4 more\n")?;
     is_told(&rt, text, text, lines.as_str())
 }

@@ -68,7 +68,7 @@ const WANTING: Option<AskFault> = Some(AskFault::OutOfMemory);
 const FOREIGN: Option<AskFault> = Some(AskFault::NoPartition);
 
 /// The refusals of two workers' second calls, how often each worker asks then, and the fault that it comes to.
-const CASES: &[([Option<AskFault>; 2], [u64; 2], Option<RunFault>)] = &[
+const CASES: [([Option<AskFault>; 2], [u64; 2], Option<RunFault>); 6] = [
     ([None, None], [4, 4], None),
     ([WANTING, None], [2, 4], Some(RunFault::OutOfMemory)),
     ([None, WANTING], [4, 2], Some(RunFault::OutOfMemory)),
@@ -80,7 +80,8 @@ const CASES: &[([Option<AskFault>; 2], [u64; 2], Option<RunFault>)] = &[
 #[test]
 fn a_worker_stops_and_the_other_ends_its_script(rt: HostRuntime) -> Result<(), Fail> {
     let mut number = 0usize;
-    for (refusals, asked, fault) in CASES {
+    let cases = CASES;
+    for (refusals, asked, fault) in &cases {
         let fake = Fake::new(*refusals);
         let ended = fault_over(&rt, rt.alloc(), &fake)?;
         holds(&rt, ended == *fault, number);

@@ -191,8 +191,9 @@ fn totals_of<R: AllocGlobal + Abort + Wait>(
     let mut board = Board::new(rt, rt.alloc(), config.copy()?)?;
     let mut text = String::new(rt.alloc());
     let answered = repeat(rt, &mut board, log);
+    holds(rt, board.log().len() == log.len(), 4);
+    holds(rt, board.log() == log, 5);
     let written = push_totals(&mut text, board.ports());
-    holds(rt, board.log() == log, 4);
     board.close(rt);
     answered?;
     written?;
