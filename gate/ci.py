@@ -7,7 +7,7 @@ import threading
 import crates
 import usage
 
-ENDED = re.compile(r"rt: (\w+)(: its tests are)? (proved|NOT PROVED)\b")
+ENDED = re.compile(r"rt: (\w+)(: its tests are)? (?:is )?(proved|NOT PROVED|kept)\b")
 CLOSING = re.compile(r"(\d+) passed, (\d+) failed")
 
 
@@ -84,9 +84,9 @@ class Gate:
             self.block.append(line)
         if ended:
             for it in self.block or []:
-                if ended[3] != "proved" or it.startswith("rt: "):
+                if ended[3] == "NOT PROVED" or it.startswith("rt: "):
                     self.show(it)
-            self.block, self.proved = None, self.proved + (ended[3] == "proved")
+            self.block, self.proved = None, self.proved + (ended[3] != "NOT PROVED")
             self.end(part_of(ended[1], bool(ended[2])), f"{'are' if ended[2] else 'is'} {ended[3]}")
 
     def end(self, part, how):
