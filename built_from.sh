@@ -1,5 +1,5 @@
 # Tells whether a program or a static library is built from the sources, and by the toolchain, that are there now, and
-# unpacks the prebuilt programs where they are those of these sources. For the scripts 'apexports', 'dekarino', 'package',
+# unpacks the prebuilt programs if they are those of these sources. For the scripts 'apexports', 'dekarino', 'package',
 # 'python/build' and 'c/build' and for 'test', which set root to the checkout.
 
 # Prints the names of all programs, the crates with a main.
@@ -32,8 +32,8 @@ of_each() {
     of_library apex_c && "$@"
 }
 
-# Sets toolchain to the folder of the command rt, and puts that first into the search path. Where there is none, what
-# the last build recorded of its toolchain stands for it.
+# Sets toolchain to the folder of the command rt, and puts that first into the search path. If there is none, it is what
+# the last build recorded of its toolchain.
 find_toolchain() {
     for rt in "$(command -v rt)" "${RATTLE_KIT:-/opt/rattle}/bin/rt"; do
         toolchain=$(readlink -f -- "$rt" 2> /dev/null)
@@ -113,7 +113,7 @@ shared_place() {
     printf '%s\n' "$TMPDIR/dekarino-$(id -u)/$(origin_of sources)"
 }
 
-# is_own FOLDER: whether nobody else made the folder, where that may be.
+# is_own FOLDER: whether nobody else made the folder, if others could have.
 is_own() {
     [ "$1" = "$(shared_place)" ] || return 0
     [ -O "${1%/*}" ] && [ ! -L "${1%/*}" ] && [ "$(stat -c %a "${1%/*}")" = 700 ]
@@ -153,7 +153,7 @@ first_other_source() {
         LC_ALL=C sort | head -n 1
 }
 
-# Unpacks into the folder new, compares, and puts what was compared into place. Where that fails, why says it.
+# Unpacks into the folder new, compares, and puts what was compared into place. If that fails, why says it.
 unpack_into_place() {
     why="and $packed is damaged: what it holds is not what $origin names"
     gzip -dc "$root/$packed" > "$new/packed" 2> /dev/null && grep '^[0-9a-f]\{64\}  ' "$root/$origin" > "$new/sums" &&
@@ -165,7 +165,7 @@ unpack_into_place() {
     archive_unpacked > "$new/archive" && mv -f "$new/archive" "$place/archive"
 }
 
-# Unpacks the prebuilt programs where they are those of these sources. Where it doesn't, why says the reason, if there are
+# Unpacks the prebuilt programs if they are those of these sources. If it does not, why says the reason, if there are
 # prebuilt programs.
 unpack() {
     why=
@@ -178,9 +178,9 @@ unpack() {
     fi
     why="and the prebuilt one cannot be unpacked, since no folder for it can be written:"
     why="$why $(places | paste -s -d ' ' -)"
-    find_place || return
+    new=
     trap 'rm -rf "$new"; exit 125' HUP INT TERM
-    unpack_into_place
+    find_place && unpack_into_place
     unpacked=$?
     rm -rf "$new"
     trap - HUP INT TERM

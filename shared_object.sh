@@ -1,6 +1,6 @@
 # Makes what is handed out of what was built, for the scripts 'package', 'prebuilt/update', 'python/build' and 'c/build',
 # which set root and have fail: programs without symbols, and the libraries of the C interface. By the toolchain's own
-# tools, so that the bytes and the C library that is wanted hang on it alone.
+# tools, so that the bytes and the C library that they need depend on it alone.
 
 # set_version: the version, which is the first one of the changes, and the name of the shared object.
 set_version() {
@@ -9,9 +9,16 @@ set_version() {
     [ -n "$version" ]
 }
 
+# end_by_signals: a signal ends the script by its exit, so that what it cleans up at its end is cleaned up then too.
+end_by_signals() {
+    trap 'exit 129' HUP
+    trap 'exit 130' INT
+    trap 'exit 143' TERM
+}
+
 # strip_to PROGRAM TO: the program without its symbols.
 strip_to() {
-    tools=$(mktemp -d) && ln -s "$toolchain/toolchain/bin/clang" "$tools/llvm-strip" &&
+    tools=$(mktemp -d "$2.XXXXXX") && ln -s "$toolchain/toolchain/bin/clang" "$tools/llvm-strip" &&
         "$tools/llvm-strip" -s -o "$2" "$1"
     stripped=$?
     rm -rf "$tools"
@@ -32,18 +39,20 @@ make_libraries() {
             --whole-archive "$2/libdekarino.a" --no-whole-archive "$tools/lib/libc.so.6" -o "$2/$soname"
 }
 
-# provide_shared_object FOLDER: leaves libdekarino.so in the folder: made of the static library where that is built from
-# the sources that are there, else the prebuilt one where it is of these sources, else of the library that is proved and
+# provide_shared_object FOLDER: leaves libdekarino.so in the folder: made of the static library if that is built from
+# the sources that are there, else the prebuilt one if it is of these sources, else of the library that is proved and
 # built now.
 provide_shared_object() {
     set_version || fail "CHANGES.md has no line '## VERSION'"
     mkdir -p "$1" && work=$(mktemp -d "$1/building.XXXXXX") || fail "$1 cannot be written"
     trap 'rm -rf "$work"' EXIT
+    end_by_signals
     of_library apex_c
     why=
     if find_toolchain && is_built; then
         make_libraries "$program" "$work"
     elif is_unpacked || unpack; then
+        end_by_signals # (unpacking has traps of its own)
         cp "$place/libdekarino.so" "$work/$soname"
     elif [ "$toolchain" = "$record" ]; then
         fail "the library is not built from these sources${why:+, $why}, and there is no command rt to build it:" \

@@ -1,7 +1,8 @@
 /* The services of apex.h: each is one call of apex_ports.h, made behind a lock. */
+#undef _POSIX_C_SOURCE
 #define _POSIX_C_SOURCE 200809L
 
-#include "apex.h"
+#include "apex_host.h"
 
 #include <pthread.h>
 #include <string.h>
@@ -25,6 +26,41 @@ static uint64_t moment(void) {
     struct timespec now;
     clock_gettime(CLOCK_MONOTONIC, &now);
     return (uint64_t)now.tv_sec * 1000000000 + (uint64_t)now.tv_nsec;
+}
+
+/* A call of the calling thread's partition. */
+static struct apex_made made_now(uint64_t at, uint32_t service, uint32_t id, uint32_t answer) {
+    return (struct apex_made){.module = &module,
+                              .call = {.service = service, .id = id},
+                              .partition = partition,
+                              .at = at,
+                              .answer = answer};
+}
+
+/* Whether a service may be called now: the return code says so where it may not. */
+static bool enters(const char *service, RETURN_CODE_TYPE *code) {
+    return apex_host == NULL || apex_host->enter(service, code);
+}
+
+static bool may_wait(SYSTEM_TIME_TYPE time_out, RETURN_CODE_TYPE *code) {
+    return apex_host == NULL || apex_host->may_wait(time_out, code);
+}
+
+/* After a call by which another process may have become ready. */
+static void leaves(void) {
+    if (apex_host != NULL) {
+        apex_host->leave();
+    }
+}
+
+/* Waits where the return code says that the call has to, and there is a host for processes. */
+static void wait_where_needed(bool is_send, uint32_t id, SYSTEM_TIME_TYPE time_out, APEX_BYTE *place,
+                              uint32_t *length, RETURN_CODE_TYPE *code) {
+    if (apex_host != NULL && *code == TIMED_OUT) {
+        *code = apex_host->wait(is_send, id, time_out, place, length);
+    } else {
+        leaves();
+    }
 }
 
 /* The return code of an answer of apex_ports.h. */
@@ -59,6 +95,18 @@ static size_t name_length(const char *name) { return strnlen(name, MAX_NAME_LENG
 /* A message of a negative length is asked for as one of length 0, and both are answered INVALID_PARAM. */
 static size_t byte_count(MESSAGE_SIZE_TYPE length) { return length < 0 ? 0 : (size_t)length; }
 
+/* Whether a fault that the bench injects meets a message, and what is answered then. */
+static bool meets_fault(struct apex_made made, const APEX_BYTE *bytes, MESSAGE_SIZE_TYPE length, uint32_t *answer) {
+    made.bytes = bytes;
+    made.length = byte_count(length);
+    const bool is_met = apex_fault != NULL && apex_fault(&made);
+    *answer = made.answer;
+    if (is_met && made.answer != NO_ERROR) {
+        apex_forget_words();
+    }
+    return is_met;
+}
+
 /* What a message that is longer than any channel's is answered: INVALID_CONFIG where the port has a status. */
 static uint32_t answer_too_long(uint32_t status_answer) {
     return status_answer == NO_ERROR ? INVALID_CONFIG : status_answer;
@@ -67,14 +115,20 @@ static uint32_t answer_too_long(uint32_t status_answer) {
 void CREATE_SAMPLING_PORT(SAMPLING_PORT_NAME_TYPE SAMPLING_PORT_NAME, MESSAGE_SIZE_TYPE MAX_MESSAGE_SIZE,
                           PORT_DIRECTION_TYPE PORT_DIRECTION, SYSTEM_TIME_TYPE REFRESH_PERIOD,
                           SAMPLING_PORT_ID_TYPE *SAMPLING_PORT_ID, RETURN_CODE_TYPE *RETURN_CODE) {
-    if (!are_there(RETURN_CODE, SAMPLING_PORT_NAME, SAMPLING_PORT_ID)) {
+    if (!are_there(RETURN_CODE, SAMPLING_PORT_NAME, SAMPLING_PORT_ID) || !enters(__func__, RETURN_CODE)) {
         return;
     }
     uint32_t id = 0;
     pthread_mutex_lock(&lock);
+    const uint64_t now = moment();
     uint32_t answer = apex_create_sampling_port(
-        &module, partition, moment(), (const uint8_t *)SAMPLING_PORT_NAME, name_length(SAMPLING_PORT_NAME),
+        &module, partition, now, (const uint8_t *)SAMPLING_PORT_NAME, name_length(SAMPLING_PORT_NAME),
         (uint32_t)MAX_MESSAGE_SIZE, (uint32_t)PORT_DIRECTION, (uint64_t)REFRESH_PERIOD, &id);
+    struct apex_made made = made_now(now, APEX_CREATE_SAMPLING_PORT, 0, answer);
+    made.call.size = (uint32_t)MAX_MESSAGE_SIZE;
+    made.call.direction = (uint32_t)PORT_DIRECTION;
+    made.call.refresh = (uint64_t)REFRESH_PERIOD;
+    apex_note_named(made, SAMPLING_PORT_NAME, id);
     pthread_mutex_unlock(&lock);
     if (answer == NO_ERROR) {
         *SAMPLING_PORT_ID = (SAMPLING_PORT_ID_TYPE)id;
@@ -84,16 +138,26 @@ void CREATE_SAMPLING_PORT(SAMPLING_PORT_NAME_TYPE SAMPLING_PORT_NAME, MESSAGE_SI
 
 void WRITE_SAMPLING_MESSAGE(SAMPLING_PORT_ID_TYPE SAMPLING_PORT_ID, MESSAGE_ADDR_TYPE MESSAGE_ADDR,
                             MESSAGE_SIZE_TYPE LENGTH, RETURN_CODE_TYPE *RETURN_CODE) {
-    if (!are_there(RETURN_CODE, MESSAGE_ADDR, MESSAGE_ADDR)) {
+    if (!are_there(RETURN_CODE, MESSAGE_ADDR, MESSAGE_ADDR) || !enters(__func__, RETURN_CODE)) {
         return;
     }
     uint32_t id = (uint32_t)SAMPLING_PORT_ID;
     pthread_mutex_lock(&lock);
     uint64_t now = moment();
-    uint32_t answer = apex_write_sampling_message(&module, partition, now, id, MESSAGE_ADDR, byte_count(LENGTH));
-    if (answer == APEX_TOO_LONG) {
+    uint32_t answer;
+    const bool is_met = meets_fault(made_now(now, APEX_WRITE_SAMPLING_MESSAGE, id, 0), MESSAGE_ADDR, LENGTH, &answer);
+    if (!is_met) {
+        answer = apex_write_sampling_message(&module, partition, now, id, MESSAGE_ADDR, byte_count(LENGTH));
+    }
+    if (is_met) {
+        /* the ports see nothing of it */
+    } else if (answer == APEX_TOO_LONG) {
         struct apex_sampling_port_status status;
-        answer = answer_too_long(apex_get_sampling_port_status(&module, partition, now, id, &status));
+        answer = apex_get_sampling_port_status(&module, partition, now, id, &status);
+        apex_note_sampling_status(made_now(now, APEX_GET_SAMPLING_PORT_STATUS, id, answer), &status);
+        answer = answer_too_long(answer);
+    } else {
+        apex_note_message(made_now(now, APEX_WRITE_SAMPLING_MESSAGE, id, answer), MESSAGE_ADDR, byte_count(LENGTH));
     }
     pthread_mutex_unlock(&lock);
     *RETURN_CODE = return_code(answer);
@@ -101,14 +165,18 @@ void WRITE_SAMPLING_MESSAGE(SAMPLING_PORT_ID_TYPE SAMPLING_PORT_ID, MESSAGE_ADDR
 
 void READ_SAMPLING_MESSAGE(SAMPLING_PORT_ID_TYPE SAMPLING_PORT_ID, MESSAGE_ADDR_TYPE MESSAGE_ADDR,
                            MESSAGE_SIZE_TYPE *LENGTH, VALIDITY_TYPE *VALIDITY, RETURN_CODE_TYPE *RETURN_CODE) {
-    if (!are_there(RETURN_CODE, MESSAGE_ADDR, LENGTH) || !are_there(RETURN_CODE, VALIDITY, VALIDITY)) {
+    if (!are_there(RETURN_CODE, MESSAGE_ADDR, LENGTH) || !are_there(RETURN_CODE, VALIDITY, VALIDITY) ||
+        !enters(__func__, RETURN_CODE)) {
         return;
     }
     uint32_t length = 0, validity = INVALID;
     pthread_mutex_lock(&lock);
-    uint32_t answer = apex_read_sampling_message(&module, partition, moment(), (uint32_t)SAMPLING_PORT_ID, message,
+    const uint64_t now = moment();
+    uint32_t answer = apex_read_sampling_message(&module, partition, now, (uint32_t)SAMPLING_PORT_ID, message,
                                                  sizeof message, &length, &validity);
     memcpy(MESSAGE_ADDR, message, length);
+    apex_note_received(made_now(now, APEX_READ_SAMPLING_MESSAGE, (uint32_t)SAMPLING_PORT_ID, answer), message, length,
+                       validity);
     pthread_mutex_unlock(&lock);
     *LENGTH = (MESSAGE_SIZE_TYPE)length;
     *VALIDITY = (VALIDITY_TYPE)validity;
@@ -117,13 +185,15 @@ void READ_SAMPLING_MESSAGE(SAMPLING_PORT_ID_TYPE SAMPLING_PORT_ID, MESSAGE_ADDR_
 
 void GET_SAMPLING_PORT_ID(SAMPLING_PORT_NAME_TYPE SAMPLING_PORT_NAME, SAMPLING_PORT_ID_TYPE *SAMPLING_PORT_ID,
                           RETURN_CODE_TYPE *RETURN_CODE) {
-    if (!are_there(RETURN_CODE, SAMPLING_PORT_NAME, SAMPLING_PORT_ID)) {
+    if (!are_there(RETURN_CODE, SAMPLING_PORT_NAME, SAMPLING_PORT_ID) || !enters(__func__, RETURN_CODE)) {
         return;
     }
     uint32_t id = 0;
     pthread_mutex_lock(&lock);
-    uint32_t answer = apex_get_sampling_port_id(&module, partition, moment(), (const uint8_t *)SAMPLING_PORT_NAME,
+    const uint64_t now = moment();
+    uint32_t answer = apex_get_sampling_port_id(&module, partition, now, (const uint8_t *)SAMPLING_PORT_NAME,
                                                 name_length(SAMPLING_PORT_NAME), &id);
+    apex_note_named(made_now(now, APEX_GET_SAMPLING_PORT_ID, 0, answer), SAMPLING_PORT_NAME, id);
     pthread_mutex_unlock(&lock);
     if (answer == NO_ERROR) {
         *SAMPLING_PORT_ID = (SAMPLING_PORT_ID_TYPE)id;
@@ -133,13 +203,16 @@ void GET_SAMPLING_PORT_ID(SAMPLING_PORT_NAME_TYPE SAMPLING_PORT_NAME, SAMPLING_P
 
 void GET_SAMPLING_PORT_STATUS(SAMPLING_PORT_ID_TYPE SAMPLING_PORT_ID, SAMPLING_PORT_STATUS_TYPE *SAMPLING_PORT_STATUS,
                               RETURN_CODE_TYPE *RETURN_CODE) {
-    if (!are_there(RETURN_CODE, SAMPLING_PORT_STATUS, SAMPLING_PORT_STATUS)) {
+    if (!are_there(RETURN_CODE, SAMPLING_PORT_STATUS, SAMPLING_PORT_STATUS) || !enters(__func__, RETURN_CODE)) {
         return;
     }
     struct apex_sampling_port_status status;
     pthread_mutex_lock(&lock);
+    const uint64_t now = moment();
     uint32_t answer =
-        apex_get_sampling_port_status(&module, partition, moment(), (uint32_t)SAMPLING_PORT_ID, &status);
+        apex_get_sampling_port_status(&module, partition, now, (uint32_t)SAMPLING_PORT_ID, &status);
+    apex_note_sampling_status(made_now(now, APEX_GET_SAMPLING_PORT_STATUS, (uint32_t)SAMPLING_PORT_ID, answer),
+                              &status);
     pthread_mutex_unlock(&lock);
     if (answer == NO_ERROR) {
         SAMPLING_PORT_STATUS->REFRESH_PERIOD = (SYSTEM_TIME_TYPE)status.refresh;
@@ -154,15 +227,22 @@ void CREATE_QUEUING_PORT(QUEUING_PORT_NAME_TYPE QUEUING_PORT_NAME, MESSAGE_SIZE_
                          MESSAGE_RANGE_TYPE MAX_NB_MESSAGE, PORT_DIRECTION_TYPE PORT_DIRECTION,
                          QUEUING_DISCIPLINE_TYPE QUEUING_DISCIPLINE, QUEUING_PORT_ID_TYPE *QUEUING_PORT_ID,
                          RETURN_CODE_TYPE *RETURN_CODE) {
-    if (!are_there(RETURN_CODE, QUEUING_PORT_NAME, QUEUING_PORT_ID)) {
+    if (!are_there(RETURN_CODE, QUEUING_PORT_NAME, QUEUING_PORT_ID) || !enters(__func__, RETURN_CODE)) {
         return;
     }
     uint32_t id = 0;
     pthread_mutex_lock(&lock);
+    const uint64_t now = moment();
     uint32_t answer = apex_create_queuing_port(
-        &module, partition, moment(), (const uint8_t *)QUEUING_PORT_NAME, name_length(QUEUING_PORT_NAME),
+        &module, partition, now, (const uint8_t *)QUEUING_PORT_NAME, name_length(QUEUING_PORT_NAME),
         (uint32_t)MAX_MESSAGE_SIZE, (uint32_t)MAX_NB_MESSAGE, (uint32_t)PORT_DIRECTION, (uint32_t)QUEUING_DISCIPLINE,
         &id);
+    struct apex_made made = made_now(now, APEX_CREATE_QUEUING_PORT, 0, answer);
+    made.call.size = (uint32_t)MAX_MESSAGE_SIZE;
+    made.call.depth = (uint32_t)MAX_NB_MESSAGE;
+    made.call.direction = (uint32_t)PORT_DIRECTION;
+    made.call.discipline = (uint32_t)QUEUING_DISCIPLINE;
+    apex_note_named(made, QUEUING_PORT_NAME, id);
     pthread_mutex_unlock(&lock);
     if (answer == NO_ERROR) {
         *QUEUING_PORT_ID = (QUEUING_PORT_ID_TYPE)id;
@@ -172,46 +252,66 @@ void CREATE_QUEUING_PORT(QUEUING_PORT_NAME_TYPE QUEUING_PORT_NAME, MESSAGE_SIZE_
 
 void SEND_QUEUING_MESSAGE(QUEUING_PORT_ID_TYPE QUEUING_PORT_ID, MESSAGE_ADDR_TYPE MESSAGE_ADDR,
                           MESSAGE_SIZE_TYPE LENGTH, SYSTEM_TIME_TYPE TIME_OUT, RETURN_CODE_TYPE *RETURN_CODE) {
-    if (!are_there(RETURN_CODE, MESSAGE_ADDR, MESSAGE_ADDR)) {
+    if (!are_there(RETURN_CODE, MESSAGE_ADDR, MESSAGE_ADDR) || !enters(__func__, RETURN_CODE) ||
+        !may_wait(TIME_OUT, RETURN_CODE)) {
         return;
     }
     uint32_t id = (uint32_t)QUEUING_PORT_ID;
     pthread_mutex_lock(&lock);
     uint64_t now = moment();
-    uint32_t answer = apex_send_queuing_message(&module, partition, now, id, MESSAGE_ADDR, byte_count(LENGTH));
-    if (answer == APEX_TOO_LONG) {
+    uint32_t answer;
+    const bool is_met = meets_fault(made_now(now, APEX_SEND_QUEUING_MESSAGE, id, 0), MESSAGE_ADDR, LENGTH, &answer);
+    if (!is_met) {
+        answer = apex_send_queuing_message(&module, partition, now, id, MESSAGE_ADDR, byte_count(LENGTH));
+    }
+    if (is_met) {
+        /* the ports see nothing of it */
+    } else if (answer == APEX_TOO_LONG) {
         struct apex_queuing_port_status status;
-        answer = answer_too_long(apex_get_queuing_port_status(&module, partition, now, id, &status));
+        answer = apex_get_queuing_port_status(&module, partition, now, id, &status);
+        apex_note_queuing_status(made_now(now, APEX_GET_QUEUING_PORT_STATUS, id, answer), &status);
+        answer = answer_too_long(answer);
+    } else {
+        apex_note_message(made_now(now, APEX_SEND_QUEUING_MESSAGE, id, answer), MESSAGE_ADDR, byte_count(LENGTH));
     }
     pthread_mutex_unlock(&lock);
     *RETURN_CODE = timed_return_code(answer, TIME_OUT);
+    uint32_t length = (uint32_t)LENGTH;
+    wait_where_needed(true, id, TIME_OUT, MESSAGE_ADDR, &length, RETURN_CODE);
 }
 
 void RECEIVE_QUEUING_MESSAGE(QUEUING_PORT_ID_TYPE QUEUING_PORT_ID, SYSTEM_TIME_TYPE TIME_OUT,
                              MESSAGE_ADDR_TYPE MESSAGE_ADDR, MESSAGE_SIZE_TYPE *LENGTH,
                              RETURN_CODE_TYPE *RETURN_CODE) {
-    if (!are_there(RETURN_CODE, MESSAGE_ADDR, LENGTH)) {
+    if (!are_there(RETURN_CODE, MESSAGE_ADDR, LENGTH) || !enters(__func__, RETURN_CODE) ||
+        !may_wait(TIME_OUT, RETURN_CODE)) {
         return;
     }
     uint32_t length = 0;
     pthread_mutex_lock(&lock);
-    uint32_t answer = apex_receive_queuing_message(&module, partition, moment(), (uint32_t)QUEUING_PORT_ID, message,
+    const uint64_t now = moment();
+    uint32_t answer = apex_receive_queuing_message(&module, partition, now, (uint32_t)QUEUING_PORT_ID, message,
                                                    sizeof message, &length);
+    apex_note_received(made_now(now, APEX_RECEIVE_QUEUING_MESSAGE, (uint32_t)QUEUING_PORT_ID, answer), message, length,
+                       0);
     memcpy(MESSAGE_ADDR, message, length);
     pthread_mutex_unlock(&lock);
-    *LENGTH = (MESSAGE_SIZE_TYPE)length;
     *RETURN_CODE = timed_return_code(answer, TIME_OUT);
+    wait_where_needed(false, (uint32_t)QUEUING_PORT_ID, TIME_OUT, MESSAGE_ADDR, &length, RETURN_CODE);
+    *LENGTH = (MESSAGE_SIZE_TYPE)length;
 }
 
 void GET_QUEUING_PORT_ID(QUEUING_PORT_NAME_TYPE QUEUING_PORT_NAME, QUEUING_PORT_ID_TYPE *QUEUING_PORT_ID,
                          RETURN_CODE_TYPE *RETURN_CODE) {
-    if (!are_there(RETURN_CODE, QUEUING_PORT_NAME, QUEUING_PORT_ID)) {
+    if (!are_there(RETURN_CODE, QUEUING_PORT_NAME, QUEUING_PORT_ID) || !enters(__func__, RETURN_CODE)) {
         return;
     }
     uint32_t id = 0;
     pthread_mutex_lock(&lock);
-    uint32_t answer = apex_get_queuing_port_id(&module, partition, moment(), (const uint8_t *)QUEUING_PORT_NAME,
+    const uint64_t now = moment();
+    uint32_t answer = apex_get_queuing_port_id(&module, partition, now, (const uint8_t *)QUEUING_PORT_NAME,
                                                name_length(QUEUING_PORT_NAME), &id);
+    apex_note_named(made_now(now, APEX_GET_QUEUING_PORT_ID, 0, answer), QUEUING_PORT_NAME, id);
     pthread_mutex_unlock(&lock);
     if (answer == NO_ERROR) {
         *QUEUING_PORT_ID = (QUEUING_PORT_ID_TYPE)id;
@@ -221,41 +321,56 @@ void GET_QUEUING_PORT_ID(QUEUING_PORT_NAME_TYPE QUEUING_PORT_NAME, QUEUING_PORT_
 
 void GET_QUEUING_PORT_STATUS(QUEUING_PORT_ID_TYPE QUEUING_PORT_ID, QUEUING_PORT_STATUS_TYPE *QUEUING_PORT_STATUS,
                              RETURN_CODE_TYPE *RETURN_CODE) {
-    if (!are_there(RETURN_CODE, QUEUING_PORT_STATUS, QUEUING_PORT_STATUS)) {
+    if (!are_there(RETURN_CODE, QUEUING_PORT_STATUS, QUEUING_PORT_STATUS) || !enters(__func__, RETURN_CODE)) {
         return;
     }
     struct apex_queuing_port_status status;
     pthread_mutex_lock(&lock);
-    uint32_t answer = apex_get_queuing_port_status(&module, partition, moment(), (uint32_t)QUEUING_PORT_ID, &status);
+    const uint64_t now = moment();
+    uint32_t answer = apex_get_queuing_port_status(&module, partition, now, (uint32_t)QUEUING_PORT_ID, &status);
+    apex_note_queuing_status(made_now(now, APEX_GET_QUEUING_PORT_STATUS, (uint32_t)QUEUING_PORT_ID, answer), &status);
+    const WAITING_RANGE_TYPE waiting =
+        apex_host == NULL ? 0 : apex_host->waiting(&module, partition, (uint32_t)QUEUING_PORT_ID);
     pthread_mutex_unlock(&lock);
     if (answer == NO_ERROR) {
         QUEUING_PORT_STATUS->NB_MESSAGE = (MESSAGE_RANGE_TYPE)status.waiting;
         QUEUING_PORT_STATUS->MAX_NB_MESSAGE = (MESSAGE_RANGE_TYPE)status.depth;
         QUEUING_PORT_STATUS->MAX_MESSAGE_SIZE = (MESSAGE_SIZE_TYPE)status.size;
         QUEUING_PORT_STATUS->PORT_DIRECTION = (PORT_DIRECTION_TYPE)status.direction;
-        QUEUING_PORT_STATUS->WAITING_PROCESSES = 0;
+        QUEUING_PORT_STATUS->WAITING_PROCESSES = waiting;
     }
     *RETURN_CODE = return_code(answer);
 }
 
 void CLEAR_QUEUING_PORT(QUEUING_PORT_ID_TYPE QUEUING_PORT_ID, RETURN_CODE_TYPE *RETURN_CODE) {
-    if (RETURN_CODE == NULL) {
+    if (RETURN_CODE == NULL || !enters(__func__, RETURN_CODE)) {
         return;
     }
     pthread_mutex_lock(&lock);
-    uint32_t answer = apex_clear_queuing_port(&module, partition, moment(), (uint32_t)QUEUING_PORT_ID);
+    const uint64_t now = moment();
+    uint32_t answer = apex_clear_queuing_port(&module, partition, now, (uint32_t)QUEUING_PORT_ID);
+    const struct apex_made made = made_now(now, APEX_CLEAR_QUEUING_PORT, (uint32_t)QUEUING_PORT_ID, answer);
+    apex_note(&made);
     pthread_mutex_unlock(&lock);
     *RETURN_CODE = return_code(answer);
+    leaves();
 }
 
 void SET_PARTITION_MODE(OPERATING_MODE_TYPE OPERATING_MODE, RETURN_CODE_TYPE *RETURN_CODE) {
-    if (RETURN_CODE == NULL) {
+    if (RETURN_CODE == NULL || !enters(__func__, RETURN_CODE)) {
         return;
     }
     pthread_mutex_lock(&lock);
-    uint32_t answer = apex_set_partition_mode(&module, partition, moment(), (uint32_t)OPERATING_MODE);
+    const uint64_t now = moment();
+    uint32_t answer = apex_set_partition_mode(&module, partition, now, (uint32_t)OPERATING_MODE);
+    struct apex_made made = made_now(now, APEX_SET_PARTITION_MODE, 0, answer);
+    made.call.mode = (uint32_t)OPERATING_MODE;
+    apex_note(&made);
     pthread_mutex_unlock(&lock);
     *RETURN_CODE = return_code(answer);
+    if (apex_host != NULL && answer == NO_ERROR) {
+        apex_host->mode_set(OPERATING_MODE);
+    }
 }
 
 uint32_t bench_open(const void *text, size_t length) {
@@ -264,6 +379,9 @@ uint32_t bench_open(const void *text, size_t length) {
     }
     pthread_mutex_lock(&lock);
     uint32_t answer = apex_open(&module, text, length);
+    if (answer >= 1 && answer <= 10) {
+        apex_tell_mistakes(text, length);
+    }
     pthread_mutex_unlock(&lock);
     return answer;
 }

@@ -11,6 +11,8 @@
 
 #include "apex_ports.h"
 
+#include <stdio.h>
+
 #ifdef __cplusplus
 extern "C" {
 #endif
@@ -44,6 +46,16 @@ typedef enum { FIFO = 0, PRIORITY = 1 } QUEUING_DISCIPLINE_TYPE;
 /* Nanoseconds. */
 typedef APEX_LONG_INTEGER SYSTEM_TIME_TYPE;
 #define INFINITE_TIME_VALUE (-1)
+
+/* A partition's limits. */
+#define SYSTEM_LIMIT_NUMBER_OF_PARTITIONS 32
+#define SYSTEM_LIMIT_NUMBER_OF_MESSAGES 512 /* in a queue */
+#define SYSTEM_LIMIT_MESSAGE_SIZE 1024      /* bytes */
+#define SYSTEM_LIMIT_NUMBER_OF_PROCESSES 32
+#define SYSTEM_LIMIT_NUMBER_OF_SAMPLING_PORTS 32
+#define SYSTEM_LIMIT_NUMBER_OF_QUEUING_PORTS 32
+#define MAX_NUMBER_OF_SAMPLING_PORTS SYSTEM_LIMIT_NUMBER_OF_SAMPLING_PORTS
+#define MAX_NUMBER_OF_QUEUING_PORTS SYSTEM_LIMIT_NUMBER_OF_QUEUING_PORTS
 
 /* Sampling ports. */
 
@@ -150,7 +162,8 @@ void SET_PARTITION_MODE(
 /* The bench's side. There is one module, which all threads share. */
 
 /* Opens the module with a configuration, a TOML text of this many bytes. Answers as apex_open; a null
- * pointer is no TOML. Assumed: `text` points to `length` bytes. */
+ * pointer is no TOML. Each line that says why the text is refused goes to standard error.
+ * Assumed: `text` points to `length` bytes. */
 uint32_t bench_open(const void *text, size_t length);
 
 /* Closes the module. Answers as apex_close. */
@@ -165,6 +178,28 @@ void bench_set_moment(uint64_t moment);
 
 /* Every call from now on is made at the moment that CLOCK_MONOTONIC shows, as it is from the start. */
 void bench_follow_clock(void);
+
+/* All lines that the bench says go to the sink from now on, without a line end, and not to standard error; or there
+ * again where the sink is null. Assumed: the sink calls nothing of this header. */
+void bench_tell_to(void (*sink)(const char *line));
+
+/* The words that say why the last refused port service or SET_PARTITION_MODE of this thread was refused, as
+ * apex_call_words has them now; empty where there are none. They hold until the thread's next call of this function. */
+const char *bench_last_words(void);
+
+/* Makes a name of a text, of which 30 bytes count, and fills it with zeros. */
+void bench_name(NAME_TYPE name, const char *text);
+
+/* From bench_report.c: keeps each call from now on, beginning with none; or no more. False where memory was refused. */
+bool bench_keep_calls(bool is_wanted);
+
+/* Writes the report that `apexports replay` prints of the calls so far; its lines of calls are those that were kept.
+ * False where the module isn't open, or the file can't be written. */
+bool bench_report(FILE *file);
+
+/* Writes the calls that were kept as a log that `dekarino judge` reads. False where none were kept, memory was refused
+ * or the file can't be written. */
+bool bench_log(FILE *file);
 
 /* Lends the module's handle for the functions of apex_ports.h. Until it is given back, the calls of other threads wait.
  * Assumed: the thread that takes the handle gives it back, and calls nothing else of this header before. */

@@ -1,5 +1,6 @@
 /* For benches, and outside of what is proved: the processes of partitions whose code is C, with the names, types and
- * orders of parameters of ARINC Specification 653 Part 1 (APEX). bench_processes.c runs them as threads, one at a time.
+ * orders of parameters of ARINC Specification 653 Part 1 (APEX). The files bench_*.c run them as threads, one at a
+ * time.
  *
  * Below the services stand the functions by which a bench says when a partition has its windows, and steps them.
  * docs/C.md has what is done, each return code, and what is not done. */
@@ -14,7 +15,7 @@ extern "C" {
 
 /* Processes. */
 
-#define MAX_NUMBER_OF_PROCESSES 32 /* of a partition */
+#define MAX_NUMBER_OF_PROCESSES SYSTEM_LIMIT_NUMBER_OF_PROCESSES /* of a partition */
 #define MIN_PRIORITY_VALUE 1
 #define MAX_PRIORITY_VALUE 239
 #define MAX_STACK_SIZE 0x1000000 /* bytes */
@@ -22,6 +23,8 @@ extern "C" {
 typedef NAME_TYPE PROCESS_NAME_TYPE;
 typedef APEX_INTEGER PROCESS_ID_TYPE; /* from 1, in the order of creation */
 typedef APEX_INTEGER LOCK_LEVEL_TYPE;
+#define MIN_LOCK_LEVEL 0
+#define MAX_LOCK_LEVEL 16
 typedef APEX_UNSIGNED STACK_SIZE_TYPE;
 typedef APEX_INTEGER PRIORITY_TYPE;
 typedef void (*SYSTEM_ADDRESS_TYPE)(void);
@@ -37,6 +40,15 @@ typedef struct {
     PROCESS_NAME_TYPE NAME;
 } PROCESS_ATTRIBUTE_TYPE;
 
+typedef enum { DORMANT = 0, READY = 1, RUNNING = 2, WAITING = 3 } PROCESS_STATE_TYPE;
+
+typedef struct {
+    SYSTEM_TIME_TYPE DEADLINE_TIME;
+    PRIORITY_TYPE CURRENT_PRIORITY;
+    PROCESS_STATE_TYPE PROCESS_STATE;
+    PROCESS_ATTRIBUTE_TYPE ATTRIBUTES;
+} PROCESS_STATUS_TYPE;
+
 void CREATE_PROCESS(
     /*in */ PROCESS_ATTRIBUTE_TYPE *ATTRIBUTES,
     /*out*/ PROCESS_ID_TYPE *PROCESS_ID,
@@ -46,10 +58,54 @@ void START(
     /*in */ PROCESS_ID_TYPE PROCESS_ID,
     /*out*/ RETURN_CODE_TYPE *RETURN_CODE);
 
+void DELAYED_START(
+    /*in */ PROCESS_ID_TYPE PROCESS_ID,
+    /*in */ SYSTEM_TIME_TYPE DELAY_TIME,
+    /*out*/ RETURN_CODE_TYPE *RETURN_CODE);
+
 void STOP_SELF(void);
+
+void STOP(
+    /*in */ PROCESS_ID_TYPE PROCESS_ID,
+    /*out*/ RETURN_CODE_TYPE *RETURN_CODE);
+
+void SUSPEND_SELF(
+    /*in */ SYSTEM_TIME_TYPE TIME_OUT,
+    /*out*/ RETURN_CODE_TYPE *RETURN_CODE);
+
+void SUSPEND(
+    /*in */ PROCESS_ID_TYPE PROCESS_ID,
+    /*out*/ RETURN_CODE_TYPE *RETURN_CODE);
+
+void RESUME(
+    /*in */ PROCESS_ID_TYPE PROCESS_ID,
+    /*out*/ RETURN_CODE_TYPE *RETURN_CODE);
+
+void SET_PRIORITY(
+    /*in */ PROCESS_ID_TYPE PROCESS_ID,
+    /*in */ PRIORITY_TYPE PRIORITY_VALUE,
+    /*out*/ RETURN_CODE_TYPE *RETURN_CODE);
+
+void LOCK_PREEMPTION(
+    /*out*/ LOCK_LEVEL_TYPE *LOCK_LEVEL,
+    /*out*/ RETURN_CODE_TYPE *RETURN_CODE);
+
+void UNLOCK_PREEMPTION(
+    /*out*/ LOCK_LEVEL_TYPE *LOCK_LEVEL,
+    /*out*/ RETURN_CODE_TYPE *RETURN_CODE);
 
 void GET_MY_ID(
     /*out*/ PROCESS_ID_TYPE *PROCESS_ID,
+    /*out*/ RETURN_CODE_TYPE *RETURN_CODE);
+
+void GET_PROCESS_ID(
+    /*in */ PROCESS_NAME_TYPE PROCESS_NAME,
+    /*out*/ PROCESS_ID_TYPE *PROCESS_ID,
+    /*out*/ RETURN_CODE_TYPE *RETURN_CODE);
+
+void GET_PROCESS_STATUS(
+    /*in */ PROCESS_ID_TYPE PROCESS_ID,
+    /*out*/ PROCESS_STATUS_TYPE *PROCESS_STATUS,
     /*out*/ RETURN_CODE_TYPE *RETURN_CODE);
 
 /* Time. */
@@ -63,6 +119,10 @@ void PERIODIC_WAIT(
 
 void GET_TIME(
     /*out*/ SYSTEM_TIME_TYPE *SYSTEM_TIME,
+    /*out*/ RETURN_CODE_TYPE *RETURN_CODE);
+
+void REPLENISH(
+    /*in */ SYSTEM_TIME_TYPE BUDGET_TIME,
     /*out*/ RETURN_CODE_TYPE *RETURN_CODE);
 
 /* Partition management. */
@@ -103,6 +163,25 @@ typedef enum {
     POWER_FAIL = 7
 } ERROR_CODE_TYPE;
 
+typedef APEX_BYTE ERROR_MESSAGE_TYPE[MAX_ERROR_MESSAGE_SIZE];
+
+typedef struct {
+    ERROR_CODE_TYPE ERROR_CODE;
+    ERROR_MESSAGE_SIZE_TYPE LENGTH;
+    PROCESS_ID_TYPE FAILED_PROCESS_ID;
+    SYSTEM_ADDRESS_TYPE FAILED_ADDRESS; /* its entry point */
+    ERROR_MESSAGE_TYPE MESSAGE;
+} ERROR_STATUS_TYPE;
+
+void CREATE_ERROR_HANDLER(
+    /*in */ SYSTEM_ADDRESS_TYPE ENTRY_POINT,
+    /*in */ STACK_SIZE_TYPE STACK_SIZE,
+    /*out*/ RETURN_CODE_TYPE *RETURN_CODE);
+
+void GET_ERROR_STATUS(
+    /*out*/ ERROR_STATUS_TYPE *ERROR_STATUS,
+    /*out*/ RETURN_CODE_TYPE *RETURN_CODE);
+
 void REPORT_APPLICATION_MESSAGE(
     /*in */ MESSAGE_ADDR_TYPE MESSAGE_ADDR,
     /*in */ MESSAGE_SIZE_TYPE LENGTH,
@@ -128,6 +207,44 @@ struct bench_partition {
  * it has some already or the module lacks it, where a window doesn't lie within one period or overlaps another
  * partition's, where there is no entry, or after the first frame. */
 bool bench_add_partition(uint32_t partition, const struct bench_partition *how);
+
+/* Gives a partition its windows whose code is a shared object, with the name of its main process; the entry of `how` is
+ * not looked at. Each start and restart loads a copy of the file, so that its data are as the file has them, and two
+ * partitions share none. The services come from the program, which is linked with -rdynamic. Answers as
+ * bench_add_partition, and false where the file can't be loaded or has no such function. */
+bool bench_load_partition(const char *file, const char *entry, uint32_t partition, const struct bench_partition *how);
+
+/* What is done with a partition's errors that no error handler takes: nothing, where no other is named, or its mode is
+ * set. False for a partition that wasn't added, or another number. */
+enum bench_action { BENCH_IGNORE = 0, BENCH_IDLE = 1, BENCH_COLD_START = 2, BENCH_WARM_START = 3 };
+bool bench_on_error(uint32_t partition, enum bench_action action);
+
+/* The moment goes on by so much with each service of a process, 0 nanoseconds where nothing is set. */
+void bench_service_time(SYSTEM_TIME_TYPE nanoseconds);
+
+/* The bench reports a process that runs without a service for this many seconds of the machine's clock: 10 by default,
+ * never if 0. */
+void bench_watch(unsigned seconds);
+
+/* A fault of a channel that the bench injects. It meets messages that the ports would accept: of those that are sent or
+ * written from the moment `from` on, and before `until` where that isn't 0, from the `first` on (1, where it is 0)
+ * `count` messages, or all where that is 0. */
+enum bench_fault_kind {
+    BENCH_DROP = 0,  /* the message is answered NO_ERROR, and lost */
+    BENCH_DELAY = 1, /* it is answered NO_ERROR, and sent when the first window begins that is `delay` later or more */
+    BENCH_FULL = 2   /* it is answered as if the queue were full */
+};
+struct bench_fault {
+    enum bench_fault_kind kind;
+    uint32_t channel; /* its number, from 0 in the order of the configuration */
+    uint64_t first, count;
+    SYSTEM_TIME_TYPE from, until, delay;
+};
+
+/* Injects a fault until bench_end_processes. Of several that meet a message the one that was added first counts.
+ * Answers false and says why where there are 64 already, no partition was added, the module isn't open or lacks the
+ * channel, or the fault is none. */
+bool bench_add_fault(const struct bench_fault *fault);
 
 /* Runs all windows of the next `length` nanoseconds, which has to be a multiple of each partition's period. Afterwards
  * the moment is that much later; the first frame begins at 0. Answers false and says why on standard error where the

@@ -20,7 +20,7 @@ import toolchain
 
 HERE = os.path.dirname(os.path.realpath(__file__))
 ROOT = os.path.dirname(HERE)
-# For how long a command may take to end once it is told to.
+# The seconds that a command may take to end after the signal.
 SECONDS_TO_END = 10
 # What is not on the longest chain gets the processors that the chain leaves.
 BEHIND = ["nice", "-n", "19"]
@@ -49,7 +49,7 @@ class Build:
         print(f"{self.name}: {text}", file=sys.stderr, flush=True)
 
     def prepare(self):
-        """Makes the folders that are written, or ends where one can't be."""
+        """Makes the folders that are written, or ends if one cannot be made."""
         os.makedirs(self.logs, exist_ok=True)
         for it in [self.logs, *(f"{self.folder(crate)}/out" for crate in self.names)]:
             with contextlib.suppress(OSError):
@@ -126,7 +126,7 @@ class Build:
 
     def stored(self):
         """Returns the seconds that crates take. Of one that was proved before, from other sources, most is taken over,
-        so the table tells nothing of it."""
+        so the table says nothing of it."""
         def was_proved(crate):
             return any(os.path.exists(f"{self.folder(crate)}/out/{it}") for it in ("rlib/stamp", f"{crate}.stamp"))
 

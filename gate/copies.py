@@ -4,7 +4,7 @@ import os
 import shutil
 import subprocess
 
-# What stands in a crate and is not for the toolchain's gate here.
+# What a crate has and the toolchain's gate does not get.
 APART = ("must-fail", "out")
 NAMES = ("crates.txt", "HANDLES", "BUILD.bazel", "MODULE.bazel")
 # The shell's words that archive the sources of the folder $2, as built_from.sh of the checkout $1 does, and those that
@@ -67,6 +67,6 @@ def archive(root, copy, to):
 
 def record(root, kind, name, before):
     """Records that the program or the library, which is its kind, is built from what was archived. Returns whether that
-    still stands in the checkout."""
+    is still in the checkout."""
     ran = subprocess.run(["sh", "-c", RECORD, "sh", root, kind, name, before], stdin=subprocess.DEVNULL, check=False)
     return ran.returncode == 0

@@ -1,11 +1,11 @@
-"""The crates of the repository with what they stand on, the toolchain, the machine, and tasks side by side."""
+"""The crates of the repository with those that they use, the toolchain, the machine, and tasks side by side."""
 import concurrent.futures
 import os
 import re
 import shutil
 import time
 
-# What a proof takes at most, but for a few. The toolchain itself takes fewer jobs where memory is short.
+# What nearly every proof takes at most. The toolchain itself takes fewer jobs if memory is short.
 MEMORY_EACH = 3_000_000_000
 # More jobs than these gain nothing in a crate of the usual size.
 MOST_JOBS = 4
@@ -24,7 +24,7 @@ QUOTAS = [
 
 
 def crates_of(root):
-    """Returns, in the order of crates.txt, each crate's name and the repository's own crates that it stands on."""
+    """Returns, in the order of crates.txt, each crate's name and the repository's own crates that it uses."""
     said = {}
     with open(os.path.join(root, "crates.txt"), encoding="utf-8") as lines:
         for line in lines:
@@ -40,7 +40,7 @@ def programs(root):
 
 
 def below(crates, name):
-    """Returns the crates that the crate stands on, also through others, lowest first."""
+    """Returns the crates that the crate uses, also through others, lowest first."""
     found = []
     for it in crates[name]:
         found += [each for each in [*below(crates, it), it] if each not in found]
@@ -97,7 +97,7 @@ def lanes():
 
 
 class Task:
-    """What is done in one lane: after the tasks with the names given, in about so many seconds."""
+    """What is done in one lane: after the tasks with these names, in about these seconds."""
 
     def __init__(self, after, seconds, work):
         """The work gets how many jobs it may use, and returns whether it went well."""
@@ -120,7 +120,7 @@ def behind(tasks):
 def side_by_side(tasks, at_once=None):
     """Does the tasks, given by their names, as many at once as lanes() says or as at_once gives; each when all that it
     comes after went well, and first those with the longest chain behind them. Of those that run, one whose chain left
-    is the longest, or nearly so, may use most_jobs(), and each other one fewer: one, and more where lanes are idle.
+    is the longest, or nearly so, may use most_jobs(), and each other one fewer: one, and more if lanes are idle.
     Returns by name whether each went well; those that were not begun are left out."""
     at_once, most, length = at_once or lanes(), most_jobs(), behind(tasks)
     left, running, done, began = sorted(tasks, key=lambda it: -length[it]), {}, {}, {}

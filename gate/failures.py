@@ -1,4 +1,4 @@
-"""What a script says where it cannot build or try a program: what happened, where, and what to do."""
+"""What a script says if it cannot build or try a program: what happened, where, and what to do."""
 import os
 import re
 import shutil
@@ -13,7 +13,7 @@ STATUS = 125
 # With less room than this on a disk, a proof that failed is taken to have failed for it.
 LEAST_ROOM = 1 << 20
 TAIL = 40
-# Of what the toolchain says, lines that tell nothing of a failure.
+# Lines of the toolchain that say nothing of a failure.
 COUNTS = re.compile(r"(library|statements|crate) \w+: modules loaded=|logic /")
 
 
@@ -24,7 +24,7 @@ def refuse(name, why):
 
 
 def usable_toolchain(name, kit):
-    """Returns the toolchain's line, and ends the script where it is too old."""
+    """Returns the toolchain's line, and ends the script if it is too old."""
     line = toolchain.version(kit)
     if toolchain.is_too_old(line):
         has = f"is '{line}'" if line else "does not know 'rt version'"

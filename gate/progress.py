@@ -1,5 +1,5 @@
-"""Says how far a long work is: on a terminal by one line that is rewritten each second, elsewhere by a line where a
-part begins and one where it ends."""
+"""Says how far a long work is: on a terminal by one line that is rewritten each second, elsewhere by a line when a
+part begins and one when it ends."""
 import os
 import shutil
 import sys
@@ -12,7 +12,7 @@ TABLE = os.path.join(os.path.dirname(os.path.realpath(__file__)), "durations.txt
 
 
 def durations(file=TABLE):
-    """Returns the seconds that each part took where the table was made."""
+    """Returns the seconds that each part took on the table's machine."""
     try:
         with open(file, encoding="utf-8") as lines:
             rows = [line.partition("#")[0].strip().rpartition(" ") for line in lines]
@@ -80,7 +80,7 @@ class Progress:
         return f"{len(self.done)} of {len(self.after)} {self.kind}"
 
     def tell(self, line):
-        """Writes a line that stays, where no line is rewritten."""
+        """Writes a line that stays, unless one line is rewritten."""
         if not self.is_terminal:
             self.write(f"{self.prefix}{line}\n")
 
@@ -110,17 +110,17 @@ class Progress:
         return ", ".join(words)
 
     def scale(self):
-        """Returns how much longer a part takes here than where the table was made, by the parts that were seen."""
+        """Returns how much longer a part takes here than in the table, by the parts that were seen."""
         now = time.monotonic()
         seen = [(self.took[it], self.stored[it]) for it in self.took]
-        # A part that goes on tells something once it has taken longer than it did there.
+        # A running part counts once it has taken longer than it did there.
         seen += [(now - began, self.stored[it]) for it, began in self.running.items()
                  if now - began > self.stored[it]]
         there = sum(it for _, it in seen)
         return sum(it for it, _ in seen) / there if there else 1
 
     def seconds_left(self):
-        """Returns the seconds that the rest is likely to take, or None where the table lacks a part of it."""
+        """Returns the seconds that the rest probably takes, or None if the table lacks a part of it."""
         left = [it for it in self.after if it not in self.done]
         if not left or not all(it in self.stored for it in [*left, *self.took]):
             return None
@@ -132,7 +132,7 @@ class Progress:
 
 
 def last_end(tasks, ends, at_once):
-    """Returns when the last task ends, where those of `ends` are running and end then, and the others are begun as by
+    """Returns when the last task ends, if those of `ends` are running and end then, and the others are begun as by
     crates.side_by_side."""
     length, ended, moment = crates.behind(tasks), set(), 0
     left = sorted((it for it in tasks if it not in ends), key=lambda it: -length[it])

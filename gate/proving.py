@@ -23,7 +23,7 @@ class Proving:
         self.usage = usage.Usage(crates.crates_of(self.copy))
 
     def parts(self):
-        """Returns the parts of the toolchain's gate: each crate, and its tests where it has some."""
+        """Returns the parts of the toolchain's gate: each crate, and its tests if it has some."""
         names = [*crates.crates_of(self.copy)]
         return [*names, *(ci.part_of(it, True) for it in names if must_fail.has_tests(f"{self.copy}/crates/{it}"))]
 

@@ -7,15 +7,16 @@ import crates
 import usage
 
 # Each script, those first that take longest, and those after which it is run. The first of those that are over the
-# libraries for C waits for these where they are built.
+# libraries for C waits for these if they are built.
 WITH_LIBRARIES = "c_interface"
 TESTS = {
-    "sweep_memory": (), "c_interface": (), "apexports_script": (), "orders": (), "gate": (), "judge_apart": (),
-    "hostile_sizes": (), "sizes": (), "largest_configurations": (), "prebuilt": (), "python": ("c_interface",),
-    "package": ("python",), "runs": (), "judge": (), "run_cases": (), "examples": (), "dekarino": (), "mistakes": (),
-    "drawings": (), "documents": (), "terminal": (),
+    "sweep_memory": (), "c_interface": (), "apexports_script": (), "wrong_hosts": ("c_interface",), "orders": (),
+    "gate": (), "judge_apart": (), "hostile_sizes": (), "sizes": (), "largest_configurations": (), "prebuilt": (),
+    "python": ("c_interface",), "page": ("python",), "python_installed": ("page",), "package": ("python_installed",),
+    "c_builds": ("package",), "serve": ("c_builds",), "runs": (), "judge": (), "run_cases": (), "examples": (),
+    "dekarino": (), "mistakes": (), "drawings": (), "documents": ("serve",), "terminal": (),
 }
-# Those that want the toolchain, or more minutes, and the words that they are run with.
+# Those that need the toolchain, or more minutes, and the words that they are run with.
 WHOLE = {"edits": (), "sweep_memory": ("all",)}
 # The status of a script that can try nothing here.
 SKIPPED = 77

@@ -1,4 +1,4 @@
-"""Runs a program without its proof, by `rt try`, for whoever wants a look before the wait.
+"""Runs a program without its proof, by `rt try`, for a look before the wait.
 
 unproved.py NAME WORD..   what the program writes, and its status, are those of the program NAME given the words
 """
@@ -30,7 +30,7 @@ TOO_LONG = re.compile(rb"^checked: no-answer: .*did not end within the time limi
 
 
 def paths_in(words):
-    """Returns for each word what stands in it before a path, and the path; or the word and nothing."""
+    """Returns for each word its part before a path, and the path; or the word and nothing."""
     found = []
     for at, word in enumerate(words):
         script = re.match(r"\w+=", word, re.ASCII)
@@ -73,6 +73,9 @@ def write_out(text):
         os.dup2(os.open(os.devnull, os.O_WRONLY), sys.stdout.fileno())
 
 
+SIGNALS = (signal.SIGHUP, signal.SIGINT, signal.SIGTERM)
+
+
 class Stopped(Exception):
     """The signal by which the run was to end."""
 
@@ -88,22 +91,21 @@ def spoken(name):
         yield
 
 
+def stop(number, _):
+    """Ends the run, and has a second signal change nothing."""
+    for it in SIGNALS:
+        signal.signal(it, signal.SIG_IGN)
+    raise Stopped(number)
+
+
 def try_program(kit, name, words):
     """Runs the program, and returns its standard output and the standard error of `rt try`."""
-    ran = subprocess.Popen([f"{kit}/bin/rt", "try", "--", *words], cwd=f"{ROOT}/crates/{name}",
-                           stdin=subprocess.DEVNULL, stdout=subprocess.PIPE, stderr=subprocess.PIPE)
-    stopped_by = []
-
-    def stop(number, _):
-        stopped_by.append(number)
-        ran.terminate()
-
-    for it in (signal.SIGHUP, signal.SIGINT, signal.SIGTERM):
-        signal.signal(it, stop)
-    output, said = ran.communicate()
-    if stopped_by:
-        raise Stopped(stopped_by[0])
-    return output, said
+    with subprocess.Popen([f"{kit}/bin/rt", "try", "--", *words], cwd=f"{ROOT}/crates/{name}",
+                          stdin=subprocess.DEVNULL, stdout=subprocess.PIPE, stderr=subprocess.PIPE) as ran:
+        try:
+            return ran.communicate()
+        finally:
+            ran.terminate()
 
 
 def why_not(said):
@@ -139,6 +141,8 @@ def answer(name, words, folder):
 
 def main(name, *words):
     print(NOTICE, file=sys.stderr, flush=True)
+    for it in SIGNALS:
+        signal.signal(it, stop)
     try:
         with tempfile.TemporaryDirectory() as folder:
             return answer(name, words, folder)

@@ -45,7 +45,7 @@ class Usage:
     """The seconds of processors by crate and kind, from when it is entered until it is left."""
 
     def __init__(self, crates, begun=lambda work: None):
-        """crates: those to look for; begun: is told of a crate and a kind once its prover is seen."""
+        """crates: those to look for; begun: receives a crate and a kind once its prover is seen."""
         self.top, self.crates, self.begun = os.getpid(), crates, begun
         self.by_process, self.ended = {}, threading.Event()
         self.thread = threading.Thread(target=self.look_on, daemon=True)
@@ -97,7 +97,7 @@ def waited(ran):
 
 
 def table(usage, parts):
-    """Returns the lines that tell the seconds of each crate, and the minutes of each part."""
+    """Returns the lines with the seconds of each crate, and the minutes of each part."""
     seconds = usage.seconds()
     crates = sorted({crate for crate, _ in seconds}, key=lambda it: -sum(seconds.get((it, kind), 0) for kind in KINDS))
     lines = [f"{'seconds of a core':26}" + "".join(f"{kind:>9}" for kind in KINDS)]

@@ -132,7 +132,7 @@ def stop_by_signal(room):
 
 
 class Asked:
-    """What is asked for by the words. Raises ValueError where they are none."""
+    """What is asked for by the words. Raises ValueError if they are none."""
 
     def __init__(self, words):
         self.is_whole, self.minutes, self.only = bool(words), None, []

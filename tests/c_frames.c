@@ -173,12 +173,9 @@ static void waits(void) {
 }
 
 static void leaves_for(OPERATING_MODE_TYPE mode) {
-    SYSTEM_TIME_TYPE time;
-    RETURN_CODE_TYPE code;
     leave('p');
     set_mode(mode);
-    GET_TIME(&time, &code);
-    expect(false, "a service of a partition that has left NORMAL");
+    expect(false, "a change of the mode comes back");
 }
 
 static void leaves(void) { leaves_for(starts == 1 ? COLD_START : starts == 2 ? WARM_START : IDLE); }
@@ -197,13 +194,18 @@ static void restarting_main(void) {
 }
 
 static void idle_main(void) {
-    SYSTEM_TIME_TYPE time = MINE;
-    RETURN_CODE_TYPE code;
+    leave('i');
     create("WAITS", waits, INFINITE_TIME_VALUE, true);
     set_mode(IDLE);
-    GET_TIME(&time, &code);
-    answers(code, INVALID_MODE, "a service in IDLE");
-    expect(time == MINE, "the place of a service in IDLE");
+    expect(false, "IDLE comes back");
+}
+
+/* Restarts the partition from its initialisation, where it is in COLD_START. */
+static void cold_main(void) {
+    leave('c');
+    create("WAITS", waits, INFINITE_TIME_VALUE, true);
+    set_mode(COLD_START);
+    expect(false, "COLD_START comes back");
 }
 
 static void not_normal_main(void) {
@@ -215,6 +217,9 @@ static void restarts(void) {
     run_frames(restarting_main, 8);
     has_left("m@10 w@10 p@110 m@210 w@210 p@310 m@410 w@410 p@510 ");
     run_frames(idle_main, 2);
+    has_left("i@10 ");
+    run_frames(cold_main, 2);
+    has_left("c@10 c@110 ");
     run_frames(not_normal_main, 2);
     has_left("m@10 ");
 }

@@ -58,6 +58,39 @@ static inline PROCESS_ID_TYPE create(const char *name, void (*entry)(void), SYST
     return id;
 }
 
+/* Creates an aperiodic process of a priority, and starts it. */
+static inline PROCESS_ID_TYPE start_at(PRIORITY_TYPE priority, const char *name, void (*entry)(void)) {
+    PROCESS_ATTRIBUTE_TYPE a = named(name, entry, INFINITE_TIME_VALUE);
+    PROCESS_ID_TYPE id = MINE;
+    RETURN_CODE_TYPE code;
+    a.BASE_PRIORITY = priority;
+    CREATE_PROCESS(&a, &id, &code);
+    answers(code, NO_ERROR, "CREATE_PROCESS");
+    START(id, &code);
+    answers(code, NO_ERROR, "START");
+    return id;
+}
+
+/* A process of a priority that isn't started. */
+static inline PROCESS_ID_TYPE create_at(PRIORITY_TYPE priority, const char *name, void (*entry)(void),
+                                        SYSTEM_TIME_TYPE period) {
+    PROCESS_ATTRIBUTE_TYPE a = named(name, entry, period);
+    PROCESS_ID_TYPE id = MINE;
+    RETURN_CODE_TYPE code;
+    a.BASE_PRIORITY = priority;
+    CREATE_PROCESS(&a, &id, &code);
+    answers(code, NO_ERROR, "CREATE_PROCESS");
+    return id;
+}
+
+/* A service of one process, with the code that it answers. */
+#define IS(wanted, service, ...)                                                                                       \
+    do {                                                                                                               \
+        RETURN_CODE_TYPE code = (RETURN_CODE_TYPE)MINE;                                                                \
+        service(__VA_ARGS__, &code);                                                                                   \
+        answers(code, wanted, #service "(" #__VA_ARGS__ ")");                                                          \
+    } while (0)
+
 static inline void set_mode(OPERATING_MODE_TYPE mode) {
     RETURN_CODE_TYPE code;
     SET_PARTITION_MODE(mode, &code);

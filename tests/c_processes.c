@@ -54,7 +54,6 @@ static void creating_main(void) {
     answers(code, NO_ERROR, "CREATE_PROCESS");
     expect(id == 1, "the first identifier");
     create_is(&a, NO_ACTION, "a name that is there");
-    WRONG(BASE_PRIORITY, 6, INVALID_CONFIG);
     WRONG(TIME_CAPACITY, PERIOD, NO_ERROR);
     a.NAME[0] = 'a';
     for (int i = 3; i <= MAX_NUMBER_OF_PROCESSES; i++, a.NAME[0]++) {
@@ -63,10 +62,17 @@ static void creating_main(void) {
     create_is(&a, INVALID_CONFIG, "one more process");
 }
 
-static void creating_in_normal_main(void) {
+static void creating_in_normal(void) {
     PROCESS_ATTRIBUTE_TYPE a = named("LATE", idle_process, PERIOD);
-    set_mode(NORMAL);
     create_is(&a, INVALID_MODE, "CREATE_PROCESS in NORMAL");
+    leave('c');
+    STOP_SELF();
+}
+
+static void creating_in_normal_main(void) {
+    create("CREATING", creating_in_normal, INFINITE_TIME_VALUE, true);
+    set_mode(NORMAL);
+    expect(false, "NORMAL doesn't come back to the main process");
 }
 
 /* START and GET_MY_ID. */
@@ -264,7 +270,7 @@ static void errors_are_told(void) {
     answers(code, INVALID_PARAM, "RAISE_APPLICATION_ERROR of too much");
     RAISE_APPLICATION_ERROR(APPLICATION_ERROR, message, 4, NULL);
     RAISE_APPLICATION_ERROR(APPLICATION_ERROR, message, 1, &code);
-    answers(code, NOT_AVAILABLE, "RAISE_APPLICATION_ERROR");
+    answers(code, NO_ERROR, "RAISE_APPLICATION_ERROR");
 }
 
 static void telling(void) {
@@ -289,6 +295,7 @@ int main(int count, char **words) {
     text_length = read_config(words[1], text, sizeof text);
     run_frames(creating_main, 1);
     run_frames(creating_in_normal_main, 1);
+    has_left("c@10 ");
     run_frames(starting_main, 1);
     has_left("1@10 2@10 ");
     run_frames(restarting_main, 3);
@@ -298,7 +305,7 @@ int main(int count, char **words) {
     run_frames(late_main, 3);
     has_left("l@115 l@116 l@117 l@210 l@216 ");
     run_frames(turning_main, 2);
-    expect(turned == 2 * 10000 - 1, "the delays of 0 in two windows, the last of which goes on");
+    expect(turned == 2 * 1000 - 1, "the delays of 0 in two windows, the last of which goes on");
     run_frames(telling_main, 1);
     printf("%lu answers\n", seen);
     return 0;

@@ -1,4 +1,4 @@
-/* REPORT_APPLICATION_MESSAGE and RAISE_APPLICATION_ERROR, by the standard's file name.
+/* The services of errors, by a usual file name.
  *
  * To be included as "arinc653/error.h" with -I on the folder above: docs/C.md. */
 #ifndef ARINC653_ERROR_H

@@ -1,4 +1,4 @@
-/* GET_PARTITION_STATUS and SET_PARTITION_MODE, by the standard's file name.
+/* GET_PARTITION_STATUS and SET_PARTITION_MODE, by a usual file name.
  *
  * To be included as "arinc653/partition.h" with -I on the folder above: docs/C.md. */
 #ifndef ARINC653_PARTITION_H

@@ -1,4 +1,4 @@
-/* CREATE_PROCESS, START, STOP_SELF and GET_MY_ID, by the standard's file name.
+/* The services of processes, by a usual file name.
  *
  * To be included as "arinc653/process.h" with -I on the folder above: docs/C.md. */
 #ifndef ARINC653_PROCESS_H

@@ -1,4 +1,4 @@
-/* The services of queuing ports, by the standard's file name.
+/* The services of queuing ports, by a usual file name.
  *
  * To be included as "arinc653/queuing.h" with -I on the folder above: docs/C.md. */
 #ifndef ARINC653_QUEUING_H

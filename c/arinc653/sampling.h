@@ -1,4 +1,4 @@
-/* The services of sampling ports, by the standard's file name.
+/* The services of sampling ports, by a usual file name.
  *
  * To be included as "arinc653/sampling.h" with -I on the folder above: docs/C.md. */
 #ifndef ARINC653_SAMPLING_H

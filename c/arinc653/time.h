@@ -1,4 +1,4 @@
-/* TIMED_WAIT, PERIODIC_WAIT and GET_TIME, by the standard's file name.
+/* The services of time, by a usual file name.
  *
  * To be included as "arinc653/time.h" with -I on the folder above: docs/C.md. */
 #ifndef ARINC653_TIME_H

@@ -1,18 +1,23 @@
 """The ports of an ARINC 653 module for benches in Python, over the shared object of Dekarino: docs/PYTHON.md."""
+from ._channel import Channel
 from ._codes import Code, Direction, Discipline, Mode, Validity
 from ._errors import ApexError, ConfigError, LibraryError, LogError, NoCallError, ProgramError, TraceError
-from ._module import Channel, Module, WrittenSample
-from ._ports import ConfiguredPort, Partition, QueuingPort, SamplingPort
+from ._module import Module
+from ._ports import Message, Partition, QueuingPort, SamplingPort
 from ._program import (Departure, Judgement, Report, ReportedCall, ReportedPartition, ReportedQueuing,
                        ReportedSampling, judge, replay)
+from ._readers import ConfiguredPort, WrittenSample
 from ._replies import (IdReply, QueuingStatus, QueuingStatusReply, ReadReply, ReceiveReply, Reply, Sample,
                        SamplingStatus, SamplingStatusReply)
 from ._rows import Row
+from ._texts import Text
 
+# The version of the changes of which the package is.
+__version__ = "0.2.0"
 __all__ = [
     "ApexError", "Channel", "Code", "ConfigError", "ConfiguredPort", "Departure", "Direction", "Discipline", "IdReply",
-    "Judgement", "LibraryError", "LogError", "Mode", "Module", "NoCallError", "Partition", "ProgramError",
+    "Judgement", "LibraryError", "LogError", "Message", "Mode", "Module", "NoCallError", "Partition", "ProgramError",
     "QueuingPort", "QueuingStatus", "QueuingStatusReply", "ReadReply", "ReceiveReply", "Reply", "Report",
     "ReportedCall", "ReportedPartition", "ReportedQueuing", "ReportedSampling", "Row", "Sample", "SamplingPort",
-    "SamplingStatus", "SamplingStatusReply", "TraceError", "Validity", "WrittenSample", "judge", "replay",
+    "SamplingStatus", "SamplingStatusReply", "Text", "TraceError", "Validity", "WrittenSample", "judge", "replay",
 ]

@@ -4,14 +4,13 @@ import functools
 import operator
 import os
 import pathlib
-import threading
 from typing import Any, Callable, Dict, Tuple
 
 from ._errors import LibraryError, NoCallError
+from ._found import FOLDER as FOLDER
+from ._found import ROOT as ROOT
+from ._found import find
 
-FOLDER = pathlib.Path(__file__).resolve().parent
-# The root of a checkout or of an unpacked package.
-ROOT = FOLDER.parent.parent
 MESSAGE_LIMIT = 1024
 MOMENT_LIMIT = 2**63 - 1
 NUMBER_LIMIT = 2**32 - 1
@@ -19,11 +18,6 @@ NUMBER_LIMIT = 2**32 - 1
 # What a function answers beside the return codes and NOT_MADE.
 NOT_OPEN, NO_PARTITION, TOO_LONG, NO_NAME = 8, 9, 10, 11
 OUT_OF_MEMORY = 11
-
-# One for all modules, so that a process that forks can hold it: then no call is half done in the child.
-lock = threading.Lock()
-if hasattr(os, "register_at_fork"):
-    os.register_at_fork(before=lock.acquire, after_in_parent=lock.release, after_in_child=lock.release)
 
 _handle = ctypes.c_void_p
 _u32, _u64, _length, _text = ctypes.c_uint32, ctypes.c_uint64, ctypes.c_size_t, ctypes.c_char_p
@@ -111,17 +105,9 @@ PARAMETERS: Dict[str, Tuple[Any, ...]] = {
 
 
 def find_library() -> pathlib.Path:
-    """The path of the shared object: the one that DEKARINO_LIBRARY names, or else the one in this folder, in an
-    unpacked package, or in the checkout."""
+    """The path of the shared object: the one that DEKARINO_LIBRARY names, or else the one that is found."""
     named = os.environ.get("DEKARINO_LIBRARY")
-    if named:
-        return pathlib.Path(named)
-    places = [FOLDER / "libdekarino.so", ROOT / "c/libdekarino.so", ROOT / "python/out/libdekarino.so"]
-    for place in places:
-        if place.exists():
-            return place
-    raise LibraryError(f"there is no libdekarino.so at {', '.join(map(str, places))}: make it by python/build in a "
-                       "checkout, or name it in DEKARINO_LIBRARY")
+    return pathlib.Path(named) if named else find("libdekarino.so")
 
 
 class Library:
@@ -129,16 +115,25 @@ class Library:
 
     def __init__(self, path: pathlib.Path) -> None:
         try:
-            loaded = ctypes.CDLL(str(path.absolute()))
-            self._functions = {name: getattr(loaded, f"apex_{name}") for name in PARAMETERS}
+            self._loaded = ctypes.CDLL(str(path.absolute()))
+            self._functions = {name: self._function(name, _u32) for name in PARAMETERS}
         except (OSError, AttributeError) as error:
             raise LibraryError(f"{path} is no shared object of the C interface: {error}") from error
-        for name, function in self._functions.items():
-            function.argtypes, function.restype = PARAMETERS[name], _u32
+
+    def _function(self, name: str, result: Any) -> Any:
+        """A function of its own for each request."""
+        function = self._loaded[f"apex_{name}"]
+        function.argtypes, function.restype = PARAMETERS[name], result
+        return function
 
     def function(self, name: str) -> Callable[..., int]:
         """The function of the name."""
         function: Callable[..., int] = self._functions[name]
+        return function
+
+    def function_into(self, name: str, answers: bytearray) -> Callable[..., None]:
+        """The function of the name, which appends its answer before any more of Python is run."""
+        function: Callable[..., None] = self._function(name, answers.append)
         return function
 
 

@@ -1,223 +1,236 @@
 """A partition and its ports: the twelve services. Each is served behind the lock of the modules."""
-import ctypes
-from typing import TYPE_CHECKING, Any, NamedTuple, Optional, Tuple
+from functools import cached_property
+from itertools import repeat
+from typing import Iterable, List, NoReturn, Optional, Tuple, Union
 
-from . import _library
-from ._codes import Direction, Mode, Validity
+from ._codes import Mode
 from ._errors import NoCallError
-from ._library import MOMENT_LIMIT, NUMBER_LIMIT, lock, number
-from ._replies import (Answer, Asked, IdReply, QueuingStatus, QueuingStatusReply, ReadReply, ReceiveReply, Reply,
-                       Sample, SamplingStatus, SamplingStatusReply)
-from ._rows import SERVICE_NUMBERS
+from ._library import MESSAGE_LIMIT, MOMENT_LIMIT, NUMBER_LIMIT, TOO_LONG, number
+from ._readers import ConfiguredPort, named
+from ._replies import Asked, IdReply, QueuingStatusReply, ReadReply, ReceiveReply, Reply, SamplingStatusReply
+from ._server import NO_CALLS, Call, Server
+from ._services import Places
 
-if TYPE_CHECKING:
-    from ._module import Module
-
-
-class ConfiguredPort(NamedTuple):
-    """What the configuration says of a port. The refresh period, in nanoseconds, is 0 of a queuing port."""
-
-    id: int
-    name: str
-    is_queuing: bool
-    direction: Direction
-    channel: str
-    refresh: int
+Message = Union[bytes, bytearray, memoryview]
+# How many calls of a list are made at once.
+AT_ONCE = 64
 
 
 class _Caller:
     """Who calls: a partition, by itself or through a port."""
 
-    def __init__(self, module: "Module", index: int, partition: str) -> None:
-        self._module, self._index = module, index
+    def __init__(self, server: Server, index: int, partition: str) -> None:
+        self._server, self._index = server, index
         self._who = partition
 
-    def _asked(self, port: Optional[str], service: str, call: str, **numbers: int) -> Asked:
-        fields = ctypes.byref(_library.CallFields(service=SERVICE_NUMBERS[service], **numbers))
-        return Asked(self._who, port, service, call, self._index, fields)
+    def __reduce__(self) -> NoReturn:
+        raise TypeError("what belongs to a module can neither be copied nor pickled")
 
-    def _serve(self, asked: Asked, *arguments: Any, sent: bytes = b"") -> Answer:
-        """Makes a call that gives a code alone."""
-        module = self._module
-        function = module._functions.function(asked.service.lower())
-        with lock:
-            answer = function(module._lent, self._index, module._moment, *arguments)
-            return module._note(asked, answer, None, sent)
-
-    def _serve_for_id(self, asked: Asked, name: str, *numbers: int) -> IdReply:
-        """Makes a call that gives a port's identifier."""
-        module, (word, length) = self._module, named(name)
-        function = module._functions.function(asked.service.lower())
-        with lock:
-            answer = function(module._lent, self._index, module._moment, word, length, *numbers, module._number_place)
-            value = module._number.value if answer == 0 else None
-            return IdReply(module._note(asked, answer, value, word), value, asked)
-
-
-def named(name: str) -> Tuple[bytes, int]:
-    """A name and its length, as C takes them; what is not ASCII is no name there."""
-    word = name.encode("ascii", "replace")
-    return word, len(word)
+    def _call(self, port: Optional[str], service: str, **numbers: int) -> Call:
+        return self._server.call(self._index, Asked(self._who, port, service), **numbers)
 
 
 class Partition(_Caller):
-    """A partition of a module."""
+    """A partition of a module. `at` of a call is its moment in nanoseconds; without it, it is that of the module."""
 
-    def __init__(self, module: "Module", index: int, name: str) -> None:
-        super().__init__(module, index, name)
+    def __init__(self, server: Server, index: int, name: str) -> None:
+        super().__init__(server, index, name)
         self.name = name
+
+    def __repr__(self) -> str:
+        return f"<Partition {self.name}>"
 
     @property
     def mode(self) -> Mode:
         """The partition's mode."""
-        with lock:
-            return Mode(self._module._read("partition_mode", self._module._number, self._index))
+        return Mode(self._server.read(lambda: self._server.number("partition_mode", self._index)))
 
     @property
     def calls(self) -> int:
         """How many calls the partition made, those that were not made in IDLE included."""
-        with lock:
-            return self._module._read("call_count", self._module._count, self._index)
+        return self._server.read(lambda: self._server.count("call_count", self._index))
 
     @property
     def ports(self) -> Tuple[ConfiguredPort, ...]:
         """What the configuration says of the partition's ports, in the order of their identifiers."""
-        module = self._module
-        with lock:
-            count = module._read("port_count", module._number, self._index)
-            return tuple(module._port(self._index, id) for id in range(1, count + 1))
+        return self._server.read(lambda: self._server.ports(self._index))
 
     def port(self, name: str) -> ConfiguredPort:
         """What the configuration says of the port of the name."""
-        module = self._module
-        with lock:
-            if module._ask("find_port", self._index, *named(name), module._number_place) == 0:
-                return module._port(self._index, module._number.value)
-        names = ", ".join(it.name for it in self.ports) or "none"
+        ports = self.ports
+        for it in ports:
+            if it.name == name:
+                return it
+        names = ", ".join(it.name for it in ports) or "none"
         raise NoCallError(f"partition {self.name} has no port {name}; its ports are {names}")
 
-    def create_queuing_port(self, name: str, *, size: int, depth: int, direction: int,
-                            discipline: int = 0) -> "QueuingPort":
+    def create_queuing_port(self, name: str, *, size: int, depth: int, direction: int, discipline: int = 0,
+                            at: Optional[int] = None) -> "QueuingPort":
         """CREATE_QUEUING_PORT. The port, or ApexError is raised."""
         given = {"size": size, "depth": depth, "direction": direction, "discipline": discipline}
         numbers = {what: number(it, NUMBER_LIMIT, what) for what, it in given.items()}
-        asked = self._asked(name, "CREATE_QUEUING_PORT", "create-queuing", **numbers)
-        return self.queuing_port(self._serve_for_id(asked, name, *numbers.values()).check())
+        return self.queuing_port(self._named("CREATE_QUEUING_PORT", name, at, **numbers).check())
 
-    def create_sampling_port(self, name: str, *, size: int, direction: int, refresh: int) -> "SamplingPort":
+    def create_sampling_port(self, name: str, *, size: int, direction: int, refresh: int,
+                             at: Optional[int] = None) -> "SamplingPort":
         """CREATE_SAMPLING_PORT, the refresh period in nanoseconds. The port, or ApexError is raised."""
         numbers = {"size": number(size, NUMBER_LIMIT, "size"),
                    "direction": number(direction, NUMBER_LIMIT, "direction"),
                    "refresh": number(refresh, MOMENT_LIMIT, "refresh")}
-        asked = self._asked(name, "CREATE_SAMPLING_PORT", "create-sampling", **numbers)
-        return self.sampling_port(self._serve_for_id(asked, name, *numbers.values()).check())
+        return self.sampling_port(self._named("CREATE_SAMPLING_PORT", name, at, **numbers).check())
 
-    def get_queuing_port_id(self, name: str) -> IdReply:
+    def get_queuing_port_id(self, name: str, *, at: Optional[int] = None) -> IdReply:
         """GET_QUEUING_PORT_ID."""
-        return self._serve_for_id(self._asked(name, "GET_QUEUING_PORT_ID", "queuing-id"), name)
+        return self._named("GET_QUEUING_PORT_ID", name, at)
 
-    def get_sampling_port_id(self, name: str) -> IdReply:
+    def get_sampling_port_id(self, name: str, *, at: Optional[int] = None) -> IdReply:
         """GET_SAMPLING_PORT_ID."""
-        return self._serve_for_id(self._asked(name, "GET_SAMPLING_PORT_ID", "sampling-id"), name)
+        return self._named("GET_SAMPLING_PORT_ID", name, at)
 
-    def set_mode(self, mode: int) -> Reply[None]:
+    def _named(self, service: str, name: str, at: Optional[int], **numbers: int) -> IdReply:
+        """Makes a call with a port's name, which gives its identifier."""
+        server, (word, length) = self._server, named(name)
+        call = self._call(name, service, **numbers)
+        answer, id = server.serve(call, at, word, word, length, *numbers.values(), server.places.number)
+        return IdReply(answer, id, call.asked)
+
+    def set_mode(self, mode: int, *, at: Optional[int] = None) -> Reply[None]:
         """SET_PARTITION_MODE."""
         wanted = number(mode, NUMBER_LIMIT, "mode")
-        asked = self._asked(None, "SET_PARTITION_MODE", "mode", mode=wanted)
-        return Reply(self._serve(asked, wanted), None, asked)
+        call = self._call(None, "SET_PARTITION_MODE", mode=wanted)
+        return Reply(self._server.serve(call, at, b"", wanted)[0], None, call.asked)
 
     def queuing_port(self, id: int) -> "QueuingPort":
         """The queuing port of an identifier, whether there is one or not. No service is called."""
-        return QueuingPort(self._module, self._index, self.name, id)
+        return QueuingPort(self._server, self._index, self.name, id)
 
     def sampling_port(self, id: int) -> "SamplingPort":
         """The sampling port of an identifier, whether there is one or not. No service is called."""
-        return SamplingPort(self._module, self._index, self.name, id)
+        return SamplingPort(self._server, self._index, self.name, id)
 
 
 class _Port(_Caller):
-    def __init__(self, module: "Module", index: int, partition: str, id: int) -> None:
-        super().__init__(module, index, partition)
+    def __init__(self, server: Server, index: int, partition: str, id: int) -> None:
+        super().__init__(server, index, partition)
         self.id = number(id, NUMBER_LIMIT, "an identifier")
-        with lock:
-            self.name = module._name("port_name", index, self.id) or f"number {self.id}"
+        self.name = server.read(lambda: server.name("port_name", index, self.id)) or f"number {self.id}"
 
-    def _asked_of_port(self, service: str, call: str) -> Asked:
-        return self._asked(self.name, service, call, id=self.id)
+    def __repr__(self) -> str:
+        return f"<{type(self).__name__} {self.name} of partition {self._who}, identifier {self.id}>"
 
+    def _call_of_port(self, service: str) -> Call:
+        return self._call(self.name, service, id=self.id)
 
-def _message(message: bytes) -> bytes:
-    return message if type(message) is bytes else bytes(memoryview(message))
+    def _pass_on(self, call: Call, message: Message, at: Optional[int]) -> Reply[None]:
+        """Makes a call that sends a message."""
+        sent = message if type(message) is bytes else bytes(memoryview(message))
+        answer, _ = self._server.serve(call, at, sent, self.id, sent, len(sent))
+        return call.accepted if answer is call.service.accepted else Reply(answer, None, call.asked)
+
+    def _pass_all_on(self, call: Call, messages: Iterable[Message], at: Optional[int]) -> List[Reply[None]]:
+        """Makes a call for each message."""
+        sent = [it if type(it) is bytes else bytes(memoryview(it)) for it in messages]
+        if max(map(len, sent), default=0) > MESSAGE_LIMIT:
+            raise NoCallError(NO_CALLS[TOO_LONG])
+        replies: List[Reply[None]] = []
+        for begin in range(0, len(sent), AT_ONCE):
+            some = sent[begin : begin + AT_ONCE]
+            served = self._server.serve_all(call, at, some, self._server.places, repeat(self.id), some, map(len, some))
+            replies += [call.accepted if answer is call.service.accepted else Reply(answer, None, call.asked)
+                        for answer, _ in served]
+        return replies
 
 
 class QueuingPort(_Port):
-    """A queuing port of a partition. Every time-out is zero."""
+    """A queuing port of a partition. Every time-out is zero. `at` of a call is its moment in nanoseconds; without it,
+    it is that of the module."""
 
-    def __init__(self, module: "Module", index: int, partition: str, id: int) -> None:
-        super().__init__(module, index, partition, id)
-        self._send = self._asked_of_port("SEND_QUEUING_MESSAGE", "send")
-        self._receive = self._asked_of_port("RECEIVE_QUEUING_MESSAGE", "receive")
-        self._send_function = module._functions.function("send_queuing_message")
-        self._receive_function = module._functions.function("receive_queuing_message")
+    @cached_property
+    def _send(self) -> Call:
+        return self._call_of_port("SEND_QUEUING_MESSAGE")
 
-    def send(self, message: bytes) -> Reply[None]:
+    @cached_property
+    def _receive(self) -> Call:
+        return self._call_of_port("RECEIVE_QUEUING_MESSAGE")
+
+    @cached_property
+    def _clear(self) -> Call:
+        return self._call_of_port("CLEAR_QUEUING_PORT")
+
+    @cached_property
+    def _status(self) -> Call:
+        return self._call_of_port("GET_QUEUING_PORT_STATUS")
+
+    def send(self, message: Message, *, at: Optional[int] = None) -> Reply[None]:
         """SEND_QUEUING_MESSAGE."""
-        module, sent = self._module, _message(message)
-        with lock:
-            answer = self._send_function(module._lent, self._index, module._moment, self.id, sent, len(sent))
-            return Reply(module._note(self._send, answer, None, sent), None, self._send)
+        return self._pass_on(self._send, message, at)
 
-    def receive(self) -> ReceiveReply:
+    def send_many(self, messages: Iterable[Message], *, at: Optional[int] = None) -> List[Reply[None]]:
+        """SEND_QUEUING_MESSAGE for each of the messages; the replies in their order."""
+        return self._pass_all_on(self._send, messages, at)
+
+    def receive(self, *, at: Optional[int] = None) -> ReceiveReply:
         """RECEIVE_QUEUING_MESSAGE."""
-        module = self._module
-        with lock:
-            answer = self._receive_function(module._lent, self._index, module._moment, self.id, module._buffer,
-                                            _library.MESSAGE_LIMIT, module._number_place)
-            message = module._message() if answer == 0 else None
-            return ReceiveReply(module._note(self._receive, answer, message), message, self._receive)
+        server, call = self._server, self._receive
+        places = server.places
+        answer, message = server.serve(call, at, b"", self.id, places.buffer, MESSAGE_LIMIT, places.number)
+        return ReceiveReply(answer, message, call.asked)
 
-    def clear(self) -> Reply[None]:
+    def receive_many(self, count: int, *, at: Optional[int] = None) -> List[ReceiveReply]:
+        """RECEIVE_QUEUING_MESSAGE, `count` times; the replies in their order."""
+        call, replies = self._receive, []
+        for begin in range(0, number(count, NUMBER_LIMIT, "the count"), AT_ONCE):
+            some = min(AT_ONCE, count - begin)
+            places = Places(some)
+            served = self._server.serve_all(call, at, [b""] * some, places, repeat(self.id), places.messages(),
+                                            repeat(MESSAGE_LIMIT), places.each_number())
+            replies += [ReceiveReply(answer, message, call.asked) for answer, message in served]
+        return replies
+
+    def clear(self, *, at: Optional[int] = None) -> Reply[None]:
         """CLEAR_QUEUING_PORT."""
-        asked = self._asked_of_port("CLEAR_QUEUING_PORT", "clear")
-        return Reply(self._serve(asked, self.id), None, asked)
+        return Reply(self._server.serve(self._clear, at, b"", self.id)[0], None, self._clear.asked)
 
-    def status(self) -> QueuingStatusReply:
+    def status(self, *, at: Optional[int] = None) -> QueuingStatusReply:
         """GET_QUEUING_PORT_STATUS."""
-        module, it = self._module, _library.QueuingFields()
-        asked = self._asked_of_port("GET_QUEUING_PORT_STATUS", "queuing-status")
-        function = module._functions.function("get_queuing_port_status")
-        with lock:
-            answer = function(module._lent, self._index, module._moment, self.id, ctypes.byref(it))
-            value = None if answer else QueuingStatus(it.waiting, it.depth, it.size, Direction(it.direction))
-            return QueuingStatusReply(module._note(asked, answer, value), value, asked)
+        server, call = self._server, self._status
+        answer, status = server.serve(call, at, b"", self.id, server.places.queuing_place)
+        return QueuingStatusReply(answer, status, call.asked)
 
 
 class SamplingPort(_Port):
-    """A sampling port of a partition."""
+    """A sampling port of a partition. `at` of a call is its moment in nanoseconds; without it, it is that of the
+    module."""
 
-    def write(self, message: bytes) -> Reply[None]:
+    @cached_property
+    def _write(self) -> Call:
+        return self._call_of_port("WRITE_SAMPLING_MESSAGE")
+
+    @cached_property
+    def _read(self) -> Call:
+        return self._call_of_port("READ_SAMPLING_MESSAGE")
+
+    @cached_property
+    def _status(self) -> Call:
+        return self._call_of_port("GET_SAMPLING_PORT_STATUS")
+
+    def write(self, message: Message, *, at: Optional[int] = None) -> Reply[None]:
         """WRITE_SAMPLING_MESSAGE."""
-        asked, sent = self._asked_of_port("WRITE_SAMPLING_MESSAGE", "write"), _message(message)
-        return Reply(self._serve(asked, self.id, sent, len(sent), sent=sent), None, asked)
+        return self._pass_on(self._write, message, at)
 
-    def read(self) -> ReadReply:
+    def write_many(self, messages: Iterable[Message], *, at: Optional[int] = None) -> List[Reply[None]]:
+        """WRITE_SAMPLING_MESSAGE for each of the messages; the replies in their order."""
+        return self._pass_all_on(self._write, messages, at)
+
+    def read(self, *, at: Optional[int] = None) -> ReadReply:
         """READ_SAMPLING_MESSAGE."""
-        module = self._module
-        asked = self._asked_of_port("READ_SAMPLING_MESSAGE", "read")
-        function = module._functions.function("read_sampling_message")
-        with lock:
-            answer = function(module._lent, self._index, module._moment, self.id, module._buffer,
-                              _library.MESSAGE_LIMIT, module._number_place, ctypes.byref(module._other))
-            value = None if answer else Sample(module._message(), Validity(module._other.value))
-            return ReadReply(module._note(asked, answer, value), value, asked)
+        server, call = self._server, self._read
+        places = server.places
+        answer, sample = server.serve(call, at, b"", self.id, places.buffer, MESSAGE_LIMIT, places.number, places.other)
+        return ReadReply(answer, sample, call.asked)
 
-    def status(self) -> SamplingStatusReply:
+    def status(self, *, at: Optional[int] = None) -> SamplingStatusReply:
         """GET_SAMPLING_PORT_STATUS."""
-        module, it = self._module, _library.SamplingFields()
-        asked = self._asked_of_port("GET_SAMPLING_PORT_STATUS", "sampling-status")
-        function = module._functions.function("get_sampling_port_status")
-        with lock:
-            answer = function(module._lent, self._index, module._moment, self.id, ctypes.byref(it))
-            value = None if answer else SamplingStatus(it.refresh, it.size, Direction(it.direction),
-                                                       Validity(it.last_validity))
-            return SamplingStatusReply(module._note(asked, answer, value), value, asked)
+        server, call = self._server, self._status
+        answer, status = server.serve(call, at, b"", self.id, server.places.sampling_place)
+        return SamplingStatusReply(answer, status, call.asked)

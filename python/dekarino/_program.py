@@ -10,11 +10,11 @@ from dataclasses import dataclass
 from typing import Iterator, List, Optional, Tuple, Union
 
 from ._codes import Code, Direction, Mode, Validity
-from ._errors import ConfigError, LibraryError, LogError, ProgramError, TraceError
-from ._library import FOLDER, ROOT
-from ._module import Text
+from ._errors import ConfigError, LogError, ProgramError, TraceError
+from ._found import find
 from ._replies import AnyValue, QueuingStatus, Sample, SamplingStatus
 from ._rows import Row
+from ._texts import Text, path_of
 
 # The status of `dekarino judge` where replies depart.
 DEPARTS = 4
@@ -136,22 +136,15 @@ class Judgement:
 
 
 def find_program(name: str) -> pathlib.Path:
-    """The path of a program: in this folder, where python/build of a checkout puts it, or in an unpacked package."""
-    places = [FOLDER / name, ROOT / "python/out" / name]
-    if (ROOT / "BUILT_FROM").exists():
-        places.append(ROOT / name)
-    for place in places:
-        if place.exists():
-            return place
-    raise LibraryError(f"there is no program at {', '.join(map(str, places))}: make it by python/build in a checkout, "
-                       f"and by `./{name} --version` before that where it is not built")
+    """The path of a program."""
+    return find(name)
 
 
 @contextlib.contextmanager
 def _file(text: Text) -> Iterator[str]:
     """The path of a text."""
-    if not isinstance(text, bytes):
-        yield os.path.abspath(text)
+    if not isinstance(text, (bytes, bytearray, memoryview)):
+        yield os.path.abspath(path_of(text))
         return
     with tempfile.TemporaryDirectory() as folder:
         path = os.path.join(folder, "text")

@@ -1,5 +1,5 @@
 """What a service answers: a code, and the values that come with it."""
-from typing import Any, Generic, NamedTuple, Optional, TypeVar, Union, cast
+from typing import Generic, NamedTuple, NoReturn, Optional, Tuple, TypeVar, Union, cast
 
 from ._codes import Code, Direction, Validity
 from ._errors import ApexError
@@ -38,15 +38,11 @@ Status = TypeVar("Status", QueuingStatus, SamplingStatus)
 
 
 class Asked(NamedTuple):
-    """Who asked what: names, the word that a trace has for the service, the partition's number, and the place of the
-    call's numbers."""
+    """Who asked for which service."""
 
     partition: str
     port: Optional[str]
     service: str
-    call: str
-    partition_number: int
-    fields: Any
 
 
 class Answer(NamedTuple):
@@ -82,7 +78,8 @@ def reply_words(code: Code, value: AnyValue) -> str:
 
 
 class Reply(Generic[Value]):
-    """A service's reply. `str` gives it in the words of the program's report."""
+    """A service's reply. `str` gives it in the words of the program's report. Two replies are equal where they are of
+    one service and have the same code, row, words and value."""
 
     __slots__ = ("_answer", "value", "_asked")
     value: Optional[Value]
@@ -113,6 +110,20 @@ class Reply(Generic[Value]):
             asked = self._asked
             raise ApexError(self.code, asked.partition, asked.port, asked.service, self.row, self.words)
         return cast(Value, self.value)
+
+    def _compared(self) -> Tuple[str, Answer, Optional[Value]]:
+        return self._asked.service, self._answer, self.value
+
+    def __eq__(self, other: object) -> bool:
+        if not isinstance(other, Reply):
+            return NotImplemented
+        return self._compared() == other._compared()
+
+    def __hash__(self) -> int:
+        return hash(self._compared())
+
+    def __bool__(self) -> NoReturn:
+        raise TypeError("a reply is neither true nor false: ask for its .code, or let .check() raise")
 
     def __str__(self) -> str:
         return reply_words(self.code, cast(AnyValue, self.value))

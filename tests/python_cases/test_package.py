@@ -119,8 +119,8 @@ class Services(unittest.TestCase):
         channel = self.module.channel("NAV")
         self.module.close()
         self.module.close()
-        for wrong in (lambda: out.send(b"1"), nav.receive, nav.status, nav.clear, self.module.report,
-                      lambda: self.fms.mode, lambda: channel.accepted, lambda: channel.sample,
+        for wrong in (lambda: out.send(b"1"), nav.receive, nav.status, nav.clear, lambda: self.fms.mode,
+                      lambda: channel.accepted, lambda: channel.sample,
                       lambda: self.module.at(1), lambda: self.module.partition("FMS"), lambda: channel.messages,
                       lambda: self.module.partitions, lambda: self.module.channels, lambda: self.fms.ports,
                       lambda: self.fms.port("NAV_OUT"), lambda: self.fms.queuing_port(1)):
@@ -216,7 +216,8 @@ class Threads(unittest.TestCase):
     def test_threads_fork_and_collection(self):
         module = Module.open(BOTH)
         out = module.partition("FMS").create_queuing_port("NAV_OUT", size=4, depth=2, direction=0)
-        nav = module.partition("DSP").create_queuing_port("NAV_IN", size=4, depth=2, direction=1)
+        dsp = module.partition("DSP")
+        nav = dsp.create_queuing_port("NAV_IN", size=4, depth=2, direction=1)
         del module
         gc.collect()
         received, count = [], 2_000
@@ -233,19 +234,19 @@ class Threads(unittest.TestCase):
         threads = [threading.Thread(target=it) for it in (send, receive)]
         for thread in threads:
             thread.start()
-        statuses = [self.child(nav) for _ in range(5)]
+        statuses = [self.child(dsp, nav) for _ in range(5)]
         for thread in threads:
             thread.join()
         self.assertEqual(received, [number.to_bytes(4, "big") for number in range(count)])
         self.assertEqual(statuses, [0] * 5)
 
-    def child(self, nav):
+    def child(self, dsp, nav):
         """The status of a process that is forked while others call, and calls on its own copy."""
         process = os.fork()
         if process == 0:
-            calls = nav._module.partition("DSP").calls
+            calls = dsp.calls
             nav.status().check()
-            os._exit(nav._module.partition("DSP").calls != calls + 1)
+            os._exit(dsp.calls != calls + 1)
         return os.waitstatus_to_exitcode(os.waitpid(process, 0)[1])
 
 

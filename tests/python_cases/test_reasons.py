@@ -20,14 +20,14 @@ def constants(kind):
 
 
 class Numbers(unittest.TestCase):
-    """The rows and the services, beside the header and the names of crates/apex_row_words."""
+    """The rows and the services, beside the header and the names of crates/apex_words."""
 
     def test_rows(self):
         rows = [(name, number) for name, number, _ in constants("apex_row")]
         self.assertEqual(rows, [(f"ROW_{row.name}", row.value) for row in Row])
 
     def test_names_of_rows(self):
-        names = re.findall(r'=> "(.*)"', (ROOT / "crates/apex_row_words/src/names.rt").read_text())
+        names = re.findall(r'=> "(.*)"', (ROOT / "crates/apex_words/src/names.rt").read_text())
         self.assertEqual({name.upper().replace(" ", "_") for name in names}, {row.name for row in Row})
 
     def test_services(self):

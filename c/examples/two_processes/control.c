@@ -89,5 +89,5 @@ void control_main(void) {
     print_code("CONTROL starts LIMIT", code);
     print_status();
     SET_PARTITION_MODE(NORMAL, &code);
-    print_code("CONTROL sets NORMAL", code);
+    print_code("CONTROL cannot set NORMAL", code);
 }

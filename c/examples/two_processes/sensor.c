@@ -73,5 +73,5 @@ void sensor_main(void) {
     START(process, &code);
     print_code("SENSOR starts MEASURE", code);
     SET_PARTITION_MODE(NORMAL, &code);
-    print_code("SENSOR sets NORMAL", code);
+    print_code("SENSOR cannot set NORMAL", code);
 }

@@ -1,6 +1,6 @@
 -- A board as plain data.
 use Rattle.std.specs.Prelude.{ℕ}
-use Rattle.apex_config.specs.Configuration.{Configuration}
+use Rattle.apex_module.specs.Configuration.{Configuration}
 use Rattle.apex_observers.specs.Channels.{Channels}
 use Rattle.apex_ports.specs.History.{History}
 

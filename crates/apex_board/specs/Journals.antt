@@ -3,7 +3,7 @@ use Rattle.std.specs.Prelude.{ℕ, Bool, true, false, ◌≡◌, ◌==◌, ◌�
 use Rattle.std.specs.Borrow.{Bor}
 use Rattle.std.specs.Vec.{vec_capacity}
 use Rattle.apex_types.specs.declared.taken.Taken.{Taken}
-use Rattle.apex_config.specs.Configuration.{Configuration}
+use Rattle.apex_module.specs.Configuration.{Configuration}
 use Rattle.apex_ports.specs.History.{History}
 use Rattle.apex_ports.specs.Ports.{is_queuing}
 use Rattle.apex_ports.specs.Channels.{accepted_on, taken_on}

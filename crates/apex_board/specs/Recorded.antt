@@ -1,11 +1,11 @@
 -- What a board's records say of the history.
 use Rattle.std.specs.Prelude.{◌≡◌}
-use Rattle.apex_config.specs.Configuration.{Configuration}
+use Rattle.apex_module.specs.Configuration.{Configuration}
 use Rattle.apex_ports.specs.PortsView.{PortsView}
 use Rattle.apex_ports.specs.Sound.{IsSound}
 use Rattle.apex_board.specs.declared.records.Records.{Records}
 use Rattle.apex_board.specs.Journals.{AreJournals}
-use Rattle.apex_publishing.specs.OnChannels.{ArePublished}
+use Rattle.apex_threads.specs.OnChannels.{ArePublished}
 use Rattle.apex_observers.specs.Channels.{Channels}
 
 -- the journals are those of the log

@@ -3,7 +3,7 @@ use Rattle.std.specs.Prelude.{ℕ, ◌≡◌, ◌+◌, ◌-◌, ◌≤◌, min, 
 use Rattle.std.specs.Vec.{vec_len, vec_capacity}
 use Rattle.std.specs.declared.vec.Vec.{Vec}
 use Rattle.apex_types.specs.declared.call.Call.{Call}
-use Rattle.apex_config.specs.Configuration.{Configuration}
+use Rattle.apex_module.specs.Configuration.{Configuration}
 use Rattle.apex_ports.specs.Channels.{message_sent}
 use Rattle.apex_board.specs.declared.journal.Journal.{Journal}
 use Rattle.apex_board.specs.declared.records.Records.{Records}

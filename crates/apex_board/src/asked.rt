@@ -2,7 +2,7 @@
 ghost use Rattle.std.specs.Prelude.{◌≡◌, length};
 ghost use Rattle.apex_board.specs.Asked.{asked_port, IsBelow};
 
-use apex_config::Config;
+use apex_module::Config;
 use apex_types::{Call, Direction};
 
 /// The channel of a queuing port that a call asks for, and the port's direction.

@@ -3,10 +3,10 @@ ghost use Rattle.std.specs.Prelude.{◌≡◌, ◌+◌, ◌<◌, ◌≤◌, ◌�
 
 use crate::asked::asked_port;
 use crate::records::Records;
-use apex_config::Config;
+use apex_module::Config;
 use apex_observers::{Observer, ObserverFault, Publishers, Receipt};
 use apex_ports::{Entry, Ports};
-use apex_publishing::{new_publishers, publish};
+use apex_threads::{new_publishers, publish};
 use apex_types::{Call, Moment, OutOfMemory, Reply};
 use std::alloc::{Allocator, Global};
 use std::marker::Model;
@@ -46,7 +46,7 @@ impl<A: Allocator> Model for Board<A> {
 }
 
 impl<A: Allocator + Copy> Board<A> {
-    ghost use Rattle.apex_publishing.specs.OnChannels.{ArePublished};
+    ghost use Rattle.apex_threads.specs.OnChannels.{ArePublished};
     ghost use Rattle.apex_observers.specs.Channels.{AreObservers, sampling_of};
 
     /// A board with the empty log, every partition in COLD_START. On want of memory the configuration is dropped.
@@ -91,7 +91,7 @@ impl<A: Allocator + Copy> Board<A> {
 }
 
 impl<A: Allocator> Board<A> {
-    ghost use Rattle.apex_publishing.specs.OnChannels.{ArePublished};
+    ghost use Rattle.apex_threads.specs.OnChannels.{ArePublished};
     ghost use Rattle.apex_observers.specs.Channels.{AreObservers, KnowAll, books_of, sampling_of};
     ghost use Rattle.apex_ports.specs.Channels.{writes_on};
     ghost use Rattle.apex_ports.specs.History.{entry_of};

@@ -2,12 +2,12 @@
 ghost use Rattle.std.specs.Prelude.{◌≡◌, ℕ, ◌+◌, ◌≤◌, [], ◌++◌, IsOk, OnOk, IfSome, ◌<◌, drop, length, map};
 ghost use Rattle.std.specs.Vec.{vec_len, vec_capacity};
 ghost use Rattle.apex_ports.specs.Channels.{as_cleared, clears, message_accepted, message_received};
-ghost use Rattle.apex_config.specs.Configuration.{Configuration};
+ghost use Rattle.apex_module.specs.Configuration.{Configuration};
 ghost use Rattle.apex_board.specs.Asked.{IsAskedBy, IsBelow};
 ghost use Rattle.apex_board.specs.Journals.{IsFresh, is_for, message_for};
 
 use crate::asked::AskedPort;
-use apex_config::Config;
+use apex_module::Config;
 use apex_ports::Entry;
 use apex_types::{Call, Direction, Message, Reply, ReturnCode, Taken};
 use std::alloc::{AllocError, Allocator};

@@ -7,7 +7,7 @@ ghost use Rattle.apex_ports.specs.Sound.{IsSound};
 
 use crate::asked::AskedPort;
 use crate::journal::{Journal, accepted_message, cleared_channel, new_journal, received_message};
-use apex_config::Config;
+use apex_module::Config;
 use apex_ports::Entry;
 use apex_types::{Call, Taken};
 use std::alloc::{AllocError, Allocator};

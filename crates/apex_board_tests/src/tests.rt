@@ -1,6 +1,5 @@
 //! Refused memory, boards and ports of modules at the limits, long histories and lists, and observers. The worked
 //! examples of all services are replays, and stand with the texts.
-mod alike;
 mod boards;
 mod clears;
 mod closed;
@@ -11,6 +10,6 @@ mod records;
 mod refused_lists;
 mod refused_memory;
 mod rounds;
-mod rows;
 mod same;
 mod texts;
+mod versions;

@@ -5,8 +5,8 @@ use Rattle.apex_types.specs.declared.call.Call.{Call}
 use Rattle.apex_types.specs.declared.moment.Moment.{Moment}
 use Rattle.apex_types.specs.declared.reply.Reply.{Reply}
 use Rattle.apex_types.specs.declared.validity.Validity.TheVariants.{Invalid}
-use Rattle.apex_config.specs.Configuration.{Configuration, port_of}
-use Rattle.apex_config.specs.declared.port.Port.{Port}
+use Rattle.apex_module.specs.Configuration.{Configuration, port_of}
+use Rattle.apex_module.specs.declared.port.Port.{Port}
 use Rattle.apex_ports.specs.declared.history.Entry.{Entry}
 use Rattle.apex_ports.specs.declared.rows.Refusal.{Refusal}
 use Rattle.apex_ports.specs.declared.rows.Refusal.TheVariants as refusal
@@ -21,8 +21,7 @@ use Rattle.apex_ports.specs.Rows.{code_of}
 use Rattle.apex_ports.specs.Seen.{Seen, seen, sample_of, waiting_of}
 use Rattle.apex_ports.proofs.Appends.{is_created-append, last_validity_of-append, mode_of-append}
 use Rattle.apex_ports.proofs.Stays.{IsQuiet, LeavesPartition, not_made_is_quiet, or_not, quiet_leaves_channel, quiet_leaves_partition, refused_is_quiet, sample_stays, waiting_stays}
-use Rattle.apex_row_words.specs.Words.{has_words}
-use Rattle.apex_c.specs.Law.{RefusedLeavesSeen}
+use Rattle.apex_c.specs.Law.{is_refusal, RefusedLeavesSeen}
 
 is_an_error : (r : Refusal) → is_no_error (code_of r) ≡ false
 is_an_error refusal.NotConfigured = refl
@@ -46,7 +45,7 @@ is_an_error refusal.UnknownMode = refl
 is_an_error refusal.AlreadyNormal = refl
 is_an_error refusal.WarmStartInColdStart = refl
 
-quiet_row : (config : Configuration) (s : Seen) (p : ℕ) (call : Call) (r : Row) → has_words r ≡ true → IsQuiet call (reply_of config s p r)
+quiet_row : (config : Configuration) (s : Seen) (p : ℕ) (call : Call) (r : Row) → is_refusal r ≡ true → IsQuiet call (reply_of config s p r)
 quiet_row config s p call row.Idle has = not_made_is_quiet call
 quiet_row config s p call (row.Refused r) has = refused_is_quiet call (code_of r) (is_an_error r)
 quiet_row config s p call _ has = absurd (cc)

@@ -1,5 +1,5 @@
--- What is asked of a call that isn't made: its row, and the words of the row.
-use Rattle.std.specs.Prelude.{ℕ, ◌==◌, if◌then◌else◌, List, Ok, Err}
+-- The row of a call that isn't made.
+use Rattle.std.specs.Prelude.{ℕ, ◌==◌, if◌then◌else◌, List, Option, None, Some, Ok, Err}
 use Rattle.apex_types.specs.declared.call.Call.{Call}
 use Rattle.apex_types.specs.declared.call.Call.TheVariants as call
 use Rattle.apex_types.specs.declared.moment.Moment.{Moment}
@@ -7,7 +7,8 @@ use Rattle.apex_ports.specs.PortsView.{PortsView}
 use Rattle.apex_ports.specs.ReplyTable.{row_of}
 use Rattle.apex_ports.specs.Seen.{seen}
 use Rattle.apex_ports.specs.declared.rows.Row.{Row}
-use Rattle.apex_row_words.specs.Words.{row_words_for}
+use Rattle.apex_texts.specs.declared.service.Service.{Service}
+use Rattle.apex_texts.specs.declared.service.Service.TheVariants as service
 use Rattle.apex_c.specs.Asked.{Asked, create_queuing, create_sampling, queuing_id, sampling_id, send, write}
 use Rattle.apex_c.specs.Found.{Found, in_partition}
 use Rattle.apex_c.specs.Held.{PortsHeld}
@@ -15,23 +16,45 @@ use Rattle.apex_c.specs.Rows.{row_number}
 use Rattle.apex_c.specs.declared.answer.TheConstants.{NO_SERVICE}
 use Rattle.apex_c.specs.declared.asked.AskedCall.{AskedCall}
 
--- the call of the number of its service, with the name or the message that the bytes are
+-- the service of a number
+abbrev pub service_numbered : ℕ → Option Service
+service_numbered number =
+    if number == 0 then Some service.CreateSampling
+    else if number == 1 then Some service.WriteSampling
+    else if number == 2 then Some service.ReadSampling
+    else if number == 3 then Some service.SamplingId
+    else if number == 4 then Some service.SamplingStatus
+    else if number == 5 then Some service.CreateQueuing
+    else if number == 6 then Some service.SendQueuing
+    else if number == 7 then Some service.ReceiveQueuing
+    else if number == 8 then Some service.QueuingId
+    else if number == 9 then Some service.QueuingStatus
+    else if number == 10 then Some service.ClearQueuing
+    else if number == 11 then Some service.SetMode
+    else None
+
+-- the call of a service, with the name or the message that the bytes are
+abbrev pub call_of : AskedCall → List ℕ → Service → Asked
+call_of asked bytes service.CreateSampling = create_sampling bytes asked.size asked.direction asked.refresh
+call_of asked bytes service.WriteSampling = write asked.id bytes
+call_of asked bytes service.ReadSampling = Ok (call.ReadSampling asked.id)
+call_of asked bytes service.SamplingId = sampling_id bytes
+call_of asked bytes service.SamplingStatus = Ok (call.SamplingStatus asked.id)
+call_of asked bytes service.CreateQueuing = create_queuing bytes asked.size asked.depth asked.direction asked.discipline
+call_of asked bytes service.SendQueuing = send asked.id bytes
+call_of asked bytes service.ReceiveQueuing = Ok (call.ReceiveQueuing asked.id)
+call_of asked bytes service.QueuingId = queuing_id bytes
+call_of asked bytes service.QueuingStatus = Ok (call.QueuingStatus asked.id)
+call_of asked bytes service.ClearQueuing = Ok (call.ClearQueuing asked.id)
+call_of asked bytes service.SetMode = Ok (call.SetMode asked.mode)
+
+abbrev pub call_of_found : AskedCall → List ℕ → Option Service → Asked
+call_of_found asked bytes None = Err NO_SERVICE
+call_of_found asked bytes (Some service) = call_of asked bytes service
+
+-- the call of the number of its service
 abbrev pub call_asked : AskedCall → List ℕ → Asked
-call_asked asked bytes =
-    if asked.service == 0 then create_sampling bytes asked.size asked.direction asked.refresh
-    else if asked.service == 1 then write asked.id bytes
-    else if asked.service == 2 then Ok (call.ReadSampling asked.id)
-    else if asked.service == 3 then sampling_id bytes
-    else if asked.service == 4 then Ok (call.SamplingStatus asked.id)
-    else if asked.service == 5
-    then create_queuing bytes asked.size asked.depth asked.direction asked.discipline
-    else if asked.service == 6 then send asked.id bytes
-    else if asked.service == 7 then Ok (call.ReceiveQueuing asked.id)
-    else if asked.service == 8 then queuing_id bytes
-    else if asked.service == 9 then Ok (call.QueuingStatus asked.id)
-    else if asked.service == 10 then Ok (call.ClearQueuing asked.id)
-    else if asked.service == 11 then Ok (call.SetMode asked.mode)
-    else Err NO_SERVICE
+call_asked asked bytes = call_of_found asked bytes (service_numbered asked.service)
 
 -- the row that the ports have for a call of a partition
 abbrev pub row_of_ports : PortsView → ℕ → Moment → Call → Row
@@ -45,8 +68,3 @@ of_call held p (Ok call) find = in_partition held p (λ ports. Ok (find ports ca
 -- the number of the row
 abbrev pub row_in : PortsHeld → ℕ → Moment → Asked → Found ℕ
 row_in held p at asked = of_call held p asked (λ ports call. row_number (row_of_ports ports p at call))
-
--- the words of the row
-abbrev pub words_in : PortsHeld → ℕ → Moment → Asked → Found (List ℕ)
-words_in held p at asked =
-    of_call held p asked (λ ports call. row_words_for ports.config p call (row_of_ports ports p at call))

@@ -4,9 +4,9 @@ use Rattle.apex_types.specs.Direction.{number_of}
 use Rattle.apex_types.specs.Name.{name_of}
 use Rattle.apex_types.specs.declared.name.NameFault.{NameFault}
 use Rattle.apex_types.specs.declared.name.TheConstants.{NAME_LIMIT}
-use Rattle.apex_config.specs.Configuration.{channel_named, channel_of, depth_of_kind, id_named, is_queuing_channel, is_queuing_port, partition_name_of, partition_named, port_of, ports_of, refresh_of_kind}
-use Rattle.apex_config.specs.declared.channel.Channel.{Channel}
-use Rattle.apex_config.specs.declared.port.Port.{Port}
+use Rattle.apex_module.specs.Configuration.{channel_named, channel_of, depth_of_kind, id_named, is_queuing_channel, is_queuing_port, partition_name_of, partition_named, port_of, ports_of, refresh_of_kind}
+use Rattle.apex_module.specs.declared.channel.Channel.{Channel}
+use Rattle.apex_module.specs.declared.port.Port.{Port}
 use Rattle.apex_c.specs.Found.{Found, for_buffer, in_partition, in_ports}
 use Rattle.apex_c.specs.Held.{PortsHeld}
 use Rattle.apex_c.specs.declared.answer.TheConstants.{NO_CHANNEL, NO_NAME, NO_PARTITION, NO_PORT, UNKNOWN_NAME}
@@ -44,17 +44,27 @@ abbrev pub shown_channel : Channel → ConfiguredChannel
 shown_channel channel =
     record { size = channel.size; depth = depth_of_kind channel.kind; is_queuing = is_queuing_channel channel.kind }
 
--- ---- names by number, for a buffer of so many bytes
+-- ---- names by number
+
+abbrev pub partition_name : PortsHeld → ℕ → Found (List ℕ)
+partition_name held p = in_ports held (λ ports. ok_or (partition_name_of ports.config p) NO_PARTITION)
+
+abbrev pub port_name : PortsHeld → ℕ → ℕ → Found (List ℕ)
+port_name held p id = port_in (λ port. port.name) held p id
+
+abbrev pub channel_name : PortsHeld → ℕ → Found (List ℕ)
+channel_name held c = channel_in (λ channel. channel.name) held c
+
+-- those for a buffer of so many bytes
 
 abbrev pub partition_name_in : ℕ → PortsHeld → ℕ → Found (List ℕ)
-partition_name_in bytes held p = for_buffer NAME_LIMIT bytes
-    (in_ports held (λ ports. ok_or (partition_name_of ports.config p) NO_PARTITION))
+partition_name_in bytes held p = for_buffer NAME_LIMIT bytes (partition_name held p)
 
 abbrev pub port_name_in : ℕ → PortsHeld → ℕ → ℕ → Found (List ℕ)
-port_name_in bytes held p id = for_buffer NAME_LIMIT bytes (port_in (λ port. port.name) held p id)
+port_name_in bytes held p id = for_buffer NAME_LIMIT bytes (port_name held p id)
 
 abbrev pub channel_name_in : ℕ → PortsHeld → ℕ → Found (List ℕ)
-channel_name_in bytes held c = for_buffer NAME_LIMIT bytes (channel_in (λ channel. channel.name) held c)
+channel_name_in bytes held c = for_buffer NAME_LIMIT bytes (channel_name held c)
 
 -- ---- numbers by name
 

@@ -1,6 +1,6 @@
--- Where a configuration is refused, told to C.
-use Rattle.std.specs.Prelude.{ℕ, List, length, [], ◌∷◌, ◌++◌, ◌≡◌, codes, Result, Ok, Err}
-use Rattle.apex_config.specs.Configuration.{Configuration}
+-- Where a configuration is refused, for C.
+use Rattle.std.specs.Prelude.{ℕ, List, [], ◌∷◌, ◌++◌, codes, Result, Ok, Err}
+use Rattle.apex_module.specs.Configuration.{Configuration}
 use Rattle.apex_config.specs.Meaning.{RefusalData}
 use Rattle.apex_config.specs.Values.{key_word}
 use Rattle.apex_config.specs.declared.place.Part.{Part}
@@ -8,13 +8,12 @@ use Rattle.apex_config.specs.declared.place.Part.TheVariants.{Document}
 use Rattle.apex_config.specs.declared.place.Place.{Place}
 use Rattle.apex_config.specs.declared.place.Spot.{Spot}
 use Rattle.apex_config.specs.declared.place.Spot.TheVariants.{At}
-use Rattle.apex_refusals.specs.Lines.{IsRefusalTold}
 use Rattle.apex_refusals.specs.Paths.{path_of}
 use Rattle.apex_c.specs.Found.{Found}
-use Rattle.apex_c.specs.Told.{text_after}
+use Rattle.apex_c.specs.Texts.{IsText}
 use Rattle.apex_c.specs.declared.opening.TheConstants.{OPENED}
 
--- the path of a part and a key of it; that of the part where it is meant as a whole, or one of its keys is unknown
+-- the path of a part and a key of it; that of the part alone if the place is the whole part or an unknown key
 abbrev pub path_at : Part → Spot → List ℕ
 path_at Document (At key) = key_word key
 path_at part (At key) = path_of part ++ (codes "." ++ key_word key)
@@ -30,14 +29,7 @@ abbrev pub path_in : Result Configuration RefusalData → Found (List ℕ)
 path_in (Ok config) = Err OPENED
 path_in (Err refusal) = Ok (first_path refusal.places)
 
--- the lines of a refused text are told in the buffer and the place of their length
-pub record AreLinesTold (text : List ℕ) (refusal : RefusalData) (old_buffer new_buffer : List ℕ) (length_told : ℕ) : Type 0 where
-  pub lines : List ℕ
-  pub told : IsRefusalTold text refusal lines
-  pub buffer : new_buffer ≡ text_after (Ok lines) old_buffer
-  pub length : length_told ≡ length lines
-
--- it is so where a text is refused
-abbrev pub AreLinesOf : List ℕ → Result Configuration RefusalData → List ℕ → List ℕ → ℕ → Type 0
-AreLinesOf text (Ok config) old_buffer new_buffer length_told = Unit {0}
-AreLinesOf text (Err refusal) old_buffer new_buffer length_told = AreLinesTold text refusal old_buffer new_buffer length_told
+-- some lines are put where a text is refused
+abbrev pub AreLinesOf : Result Configuration RefusalData → List ℕ → List ℕ → ℕ → Type 0
+AreLinesOf (Ok config) old_buffer new_buffer new_length = Unit {0}
+AreLinesOf (Err refusal) old_buffer new_buffer new_length = IsText old_buffer new_buffer new_length

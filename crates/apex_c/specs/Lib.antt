@@ -10,4 +10,4 @@ pub mod Opening
 pub mod Places
 pub mod Readers
 pub mod Rows
-pub mod Told
+pub mod Texts

@@ -1,8 +1,8 @@
 -- Opening a handle.
 use Rattle.std.specs.Prelude.{ℕ, [], None, Some, Result, Ok, Err, unwrap_or}
-use Rattle.apex_config.specs.Configuration.{Configuration}
-use Rattle.apex_config.specs.Fault.{pass_of}
-use Rattle.apex_config.specs.declared.fault.ConfigFault.{ConfigFault}
+use Rattle.apex_module.specs.Configuration.{Configuration}
+use Rattle.apex_module.specs.Fault.{pass_of}
+use Rattle.apex_module.specs.declared.fault.ConfigFault.{ConfigFault}
 use Rattle.apex_c.specs.Held.{PortsHeld}
 use Rattle.apex_c.specs.declared.opening.TheConstants.{OPENED, OUT_OF_MEMORY}
 

@@ -1,10 +1,10 @@
 //! Buffers that C lends for a message, a name or another text.
 ghost use Rattle.std.specs.Prelude.{◌≡◌, ◌<◌, ◌≤◌, ◌++◌, ◌^◌, Ok, drop, length};
-ghost use Rattle.apex_c.specs.Told.{text_after, text_answer};
+ghost use Rattle.apex_c.specs.Texts.{text_after, text_answer};
 
 use crate::answer::{READ, SHORT_BUFFER};
 
-/// Copies the bytes to the first ones of the buffer, and answers how many they are.
+/// Copies the bytes to the first ones of the buffer, and answers their number.
 pub(crate) fn copy_bytes(bytes: &[u8], buffer: &mut [u8]) -> u32
     requires short { length bytes.now < 2 ^ 32 }
     requires within { length bytes.now ≤ length buffer.old }
@@ -15,7 +15,7 @@ pub(crate) fn copy_bytes(bytes: &[u8], buffer: &mut [u8]) -> u32
     bytes.len() as u32
 }
 
-/// Copies a text to the first bytes of the buffer, where it has room for all of them, and puts their count into its
+/// Copies a text to the first bytes of the buffer if it has room for all of them, and puts the text's length into its
 /// place. Answers `READ` or `SHORT_BUFFER`.
 pub(crate) fn put_text(text: &[u8], buffer: &mut [u8], text_length: &mut u64) -> u32
     ensures answer { result ≡ text_answer (Ok text.now) (length buffer.old) }

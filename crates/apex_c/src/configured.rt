@@ -5,41 +5,34 @@ ghost use Rattle.apex_c.specs.Configured.{channel_in, channels_in, partitions_in
 ghost use Rattle.apex_c.specs.Configured.{shown_channel, shown_port};
 ghost use Rattle.apex_c.specs.Found.{answer_of};
 
-use crate::answer::{NO_CHANNEL, NO_PARTITION, NO_PORT, NOT_OPEN, READ};
+use crate::answer::NO_PORT;
+use crate::found::{channel_of, partition_of, put};
 use crate::handle::Handle;
 use std::alloc::Global;
 
-/// How many partitions the module has, in its place where the answer is `READ`. Answers `READ` or `NOT_OPEN`.
+/// How many partitions the module has, in its place if the answer is `READ`. Answers `READ` or `NOT_OPEN`.
 #[unsafe(no_mangle)]
 pub extern "C" fn apex_partition_count(alloc: Global, handle: &mut Handle, count: &mut u32) -> u32
     ensures answer { result ≡ answer_of (partitions_in handle.old.held.ports) }
     ensures count { count.new ≡ result_unwrap_or (partitions_in handle.old.held.ports) count.old }
     ensures ports { handle.new.held.ports ≡ handle.old.held.ports }
 {
-    let Some(ports) = handle.take(alloc) else {
-        return NOT_OPEN;
-    };
-    *count = ports.config().partitions() as u32;
-    *handle = Handle::of(ports);
-    READ
+    let found = handle.read(alloc, |ports| Ok(ports.config().partitions() as u32));
+    put(found, count)
 }
 
-/// How many channels the module has, in its place where the answer is `READ`. Answers `READ` or `NOT_OPEN`.
+/// How many channels the module has, in its place if the answer is `READ`. Answers `READ` or `NOT_OPEN`.
 #[unsafe(no_mangle)]
 pub extern "C" fn apex_channel_count(alloc: Global, handle: &mut Handle, count: &mut u32) -> u32
     ensures answer { result ≡ answer_of (channels_in handle.old.held.ports) }
     ensures count { count.new ≡ result_unwrap_or (channels_in handle.old.held.ports) count.old }
     ensures ports { handle.new.held.ports ≡ handle.old.held.ports }
 {
-    let Some(ports) = handle.take(alloc) else {
-        return NOT_OPEN;
-    };
-    *count = ports.config().channels() as u32;
-    *handle = Handle::of(ports);
-    READ
+    let found = handle.read(alloc, |ports| Ok(ports.config().channels() as u32));
+    put(found, count)
 }
 
-/// How many ports a partition has, which is its greatest identifier, in its place where the answer is `READ`.
+/// How many ports a partition has, which is its greatest identifier, in its place if the answer is `READ`.
 /// Answers `READ`, `NOT_OPEN` or `NO_PARTITION`.
 #[unsafe(no_mangle)]
 pub extern "C" fn apex_port_count(
@@ -53,18 +46,11 @@ pub extern "C" fn apex_port_count(
         ≡ result_unwrap_or (ports_in handle.old.held.ports partition) count.old }
     ensures ports { handle.new.held.ports ≡ handle.old.held.ports }
 {
-    let Some(ports) = handle.take(alloc) else {
-        return NOT_OPEN;
-    };
-    let config = ports.config();
-    let answer = if (partition as usize) < config.partitions() {
-        *count = config.ports(partition as usize) as u32;
-        READ
-    } else {
-        NO_PARTITION
-    };
-    *handle = Handle::of(ports);
-    answer
+    let found = handle.read(alloc, |ports| {
+        let partition = partition_of(ports, partition)?;
+        Ok(ports.config().ports(partition) as u32)
+    });
+    put(found, count)
 }
 
 /// A port: its refresh period in nanoseconds, 0 of a queuing port; its channel's number; its direction's number; whether
@@ -78,7 +64,7 @@ pub struct ConfiguredPort {
     pub is_queuing: bool,
 }
 
-/// What the configuration says of a partition's port of an identifier, in its place where the answer is `READ`. Answers
+/// What the configuration says of a partition's port of an identifier, in its place if the answer is `READ`. Answers
 /// `READ`, `NOT_OPEN`, `NO_PARTITION` or `NO_PORT`.
 #[unsafe(no_mangle)]
 pub extern "C" fn apex_port_configuration(
@@ -93,25 +79,17 @@ pub extern "C" fn apex_port_configuration(
         ≡ result_unwrap_or (port_in shown_port handle.old.held.ports partition id) shown.old }
     ensures ports { handle.new.held.ports ≡ handle.old.held.ports }
 {
-    let Some(ports) = handle.take(alloc) else {
-        return NOT_OPEN;
-    };
-    let config = ports.config();
-    let answer = if (partition as usize) >= config.partitions() {
-        NO_PARTITION
-    } else if let Some(port) = config.port(partition as usize, id) {
-        *shown = ConfiguredPort {
+    let found = handle.read(alloc, |ports| {
+        let partition = partition_of(ports, partition)?;
+        let port = ports.config().port(partition, id).ok_or(NO_PORT)?;
+        Ok(ConfiguredPort {
             refresh: port.kind.refresh(),
             channel: port.channel as u32,
             direction: port.direction.number(),
             is_queuing: port.kind.is_queuing(),
-        };
-        READ
-    } else {
-        NO_PORT
-    };
-    *handle = Handle::of(ports);
-    answer
+        })
+    });
+    put(found, shown)
 }
 
 /// A channel: its size in bytes; its depth in messages, 0 of a sampling channel; whether it is a queuing or a sampling
@@ -124,7 +102,7 @@ pub struct ConfiguredChannel {
     pub is_queuing: bool,
 }
 
-/// What the configuration says of a channel, in its place where the answer is `READ`. Answers `READ`, `NOT_OPEN` or
+/// What the configuration says of a channel, in its place if the answer is `READ`. Answers `READ`, `NOT_OPEN` or
 /// `NO_CHANNEL`.
 #[unsafe(no_mangle)]
 pub extern "C" fn apex_channel_configuration(
@@ -138,21 +116,13 @@ pub extern "C" fn apex_channel_configuration(
         ≡ result_unwrap_or (channel_in shown_channel handle.old.held.ports channel) shown.old }
     ensures ports { handle.new.held.ports ≡ handle.old.held.ports }
 {
-    let Some(ports) = handle.take(alloc) else {
-        return NOT_OPEN;
-    };
-    let config = ports.config();
-    let answer = if (channel as usize) < config.channels() {
-        let configured = config.channel(channel as usize);
-        *shown = ConfiguredChannel {
-            size: configured.size,
-            depth: configured.kind.depth(),
-            is_queuing: configured.kind.is_queuing(),
-        };
-        READ
-    } else {
-        NO_CHANNEL
-    };
-    *handle = Handle::of(ports);
-    answer
+    let found = handle.read(alloc, |ports| {
+        let channel = ports.config().channel(channel_of(ports, channel)?);
+        Ok(ConfiguredChannel {
+            size: channel.size,
+            depth: channel.kind.depth(),
+            is_queuing: channel.kind.is_queuing(),
+        })
+    });
+    put(found, shown)
 }

@@ -5,7 +5,7 @@ ghost use Rattle.apex_c.specs.Found.{answer_of};
 ghost use Rattle.apex_c.specs.Readers.{count_in, count_on};
 ghost use Rattle.apex_c.specs.declared.counts.ChannelCount.TheVariants as which;
 
-use crate::answer::{NO_CHANNEL, NOT_OPEN, READ};
+use crate::found::{channel_of, put};
 use crate::handle::Handle;
 use apex_ports::Ports;
 use std::alloc::Global;
@@ -20,7 +20,7 @@ pub enum ChannelCount {
 }
 
 /// How many messages a channel accepted; 0 on a sampling channel. The count stays at the greatest u64.
-/// It is put in its place where the answer is `READ`. Answers `READ`, `NOT_OPEN` or `NO_CHANNEL`.
+/// It is put in its place if the answer is `READ`. Answers `READ`, `NOT_OPEN` or `NO_CHANNEL`.
 #[unsafe(no_mangle)]
 pub extern "C" fn apex_accepted_count(
     alloc: Global,
@@ -37,7 +37,7 @@ pub extern "C" fn apex_accepted_count(
 }
 
 /// How many messages were received from a channel; 0 on a sampling channel. The count stays at the greatest u64.
-/// It is put in its place where the answer is `READ`. Answers `READ`, `NOT_OPEN` or `NO_CHANNEL`.
+/// It is put in its place if the answer is `READ`. Answers `READ`, `NOT_OPEN` or `NO_CHANNEL`.
 #[unsafe(no_mangle)]
 pub extern "C" fn apex_received_count(
     alloc: Global,
@@ -54,7 +54,7 @@ pub extern "C" fn apex_received_count(
 }
 
 /// How many messages of a channel were cleared; 0 on a sampling channel. The count stays at the greatest u64.
-/// It is put in its place where the answer is `READ`. Answers `READ`, `NOT_OPEN` or `NO_CHANNEL`.
+/// It is put in its place if the answer is `READ`. Answers `READ`, `NOT_OPEN` or `NO_CHANNEL`.
 #[unsafe(no_mangle)]
 pub extern "C" fn apex_cleared_count(
     alloc: Global,
@@ -99,17 +99,11 @@ fn read_count(
         result_unwrap_or (count_in which handle.old.held.ports channel) count.old }
     ensures ports { handle.new.held.ports ≡ handle.old.held.ports }
 {
-    let Some(ports) = handle.take(alloc) else {
-        return NOT_OPEN;
-    };
-    let answer = if (channel as usize) < ports.config().channels() {
-        *count = count_of_channel(&ports, channel as usize, which);
-        READ
-    } else {
-        NO_CHANNEL
-    };
-    *handle = Handle::of(ports);
-    answer
+    let found = handle.read(alloc, |ports| {
+        let channel = channel_of(ports, channel)?;
+        Ok(count_of_channel(ports, channel, which))
+    });
+    put(found, count)
 }
 
 fn count_of_channel(ports: &Ports, channel: usize, which: ChannelCount) -> u64

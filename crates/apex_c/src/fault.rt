@@ -1,22 +1,21 @@
-//! Why a configuration is refused, and where.
-ghost use Rattle.std.specs.Prelude.{◌≡◌, ◌≢◌, ◌⊎◌, Err, string_bytes, IfOk, Some};
+//! Where a configuration is refused, and why.
+ghost use Rattle.std.specs.Prelude.{◌≡◌, ◌≢◌, ◌⊎◌, Ok, length, string_bytes, IfOk, Some};
 ghost use Rattle.apex_config.specs.Meaning.{config_of, read_of};
-ghost use Rattle.apex_config.specs.declared.fault.ConfigFault.TheVariants as fault;
-ghost use Rattle.apex_c.specs.Fault.{AreLinesOf, AreLinesTold, first_path, path_at, path_in};
+ghost use Rattle.apex_module.specs.declared.fault.ConfigFault.TheVariants.{OutOfMemory};
+ghost use Rattle.apex_c.specs.Fault.{AreLinesOf, first_path, path_at, path_in};
 ghost use Rattle.apex_c.specs.Opening.{fault_number, opening_number};
-ghost use Rattle.apex_c.specs.Told.{text_after, text_length_after};
+ghost use Rattle.apex_c.specs.Texts.{text_after, text_length_after};
 
 use crate::buffer::put_text;
 use crate::opening::{OPENED, OUT_OF_MEMORY};
-use apex_config::{Config, Part, Place, Refusal, Spot};
+use apex_config::{Config, ConfigFault, Part, Place, ReadConfig, Refusal, Spot};
 use apex_refusals::{PathOfPart, refusal_lines};
 use std::alloc::{AllocError, Global};
 use std::fmt;
 
-/// Where the text of a configuration is refused. The path of the first place that its fault has, as
-/// `partition[0].port[1].kind`, is in the buffer's first bytes, where the buffer has room for all of it, and its length
-/// in its place. Of a text that is a configuration, nothing is put anywhere. Answers as `apex_open` does with a handle
-/// that isn't open.
+/// Where the text of a configuration is refused. Puts the path of its fault's first place, as `partition[0].port[1].kind`,
+/// into the buffer's first bytes if the buffer has room for all of it, and the length of the path into its place. Puts
+/// nothing anywhere if the text is a configuration. Answers as `apex_open` does with a handle that isn't open.
 #[unsafe(no_mangle)]
 #[tactic(auto, unfolding(apex_config::specs::Meaning::config_of))]
 pub extern "C" fn apex_configuration_fault(
@@ -35,36 +34,16 @@ pub extern "C" fn apex_configuration_fault(
 {
     match Config::read_placed(alloc, text) {
         Ok(_) => OPENED,
-        Err(refusal) => put_path(alloc, &refusal, buffer, path_length),
+        Err(refusal) => match first_path(alloc, &refusal) {
+            Ok(path) => put_fault(refusal.fault, path.as_bytes(), buffer, path_length),
+            Err(_) => OUT_OF_MEMORY,
+        },
     }
 }
 
-// The path of the first place of a refusal, into the buffer. Answers the number of the fault.
-fn put_path(alloc: Global, refusal: &Refusal, buffer: &mut [u8], path_length: &mut u64) -> u32
-    ensures number { result ≢ OUT_OF_MEMORY → result ≡ fault_number refusal.now.fault }
-    ensures fault { result ≢ OUT_OF_MEMORY → refusal.now.fault ≢ fault.OutOfMemory }
-    ensures path { result ≢ OUT_OF_MEMORY →
-        buffer.new ≡ text_after (path_in (Err refusal.now)) buffer.old }
-    ensures path_length { result ≢ OUT_OF_MEMORY →
-        path_length.new ≡ text_length_after (path_in (Err refusal.now)) path_length.old }
-    ensures no_memory { result ≡ OUT_OF_MEMORY →
-        (buffer.new ≡ buffer.old) × (path_length.new ≡ path_length.old) }
-{
-    let Some(number) = refusal.fault.number() else {
-        return OUT_OF_MEMORY;
-    };
-    match first_path(alloc, refusal) {
-        Ok(path) => {
-            let _ = put_text(path.as_bytes(), buffer, path_length);
-            number
-        }
-        Err(_) => OUT_OF_MEMORY,
-    }
-}
-
-/// What is wrong in the text of a configuration. A line for each place that its fault has is in the buffer's first bytes,
-/// where the buffer has room for all of them, and their length in its place. Of a text that is a configuration, nothing
-/// is put anywhere. Answers as `apex_configuration_fault`.
+/// What is wrong in the text of a configuration. Puts a line for each place of its fault into the buffer's first bytes if
+/// the buffer has room for all of them, and the length of the lines into its place. Puts nothing anywhere if the text is
+/// a configuration. Answers as `apex_configuration_fault`.
 #[unsafe(no_mangle)]
 #[tactic(auto, unfolding(apex_config::specs::Meaning::config_of))]
 pub extern "C" fn apex_configuration_mistakes(
@@ -75,41 +54,35 @@ pub extern "C" fn apex_configuration_mistakes(
 ) -> u32
     ensures number { result ≢ OUT_OF_MEMORY → result ≡ opening_number (config_of text.now) }
     ensures lines { result ≢ OUT_OF_MEMORY →
-        AreLinesOf text.now (read_of text.now) buffer.old buffer.new lines_length.new }
+        AreLinesOf (read_of text.now) buffer.old buffer.new lines_length.new }
     ensures no_lines { (result ≡ OUT_OF_MEMORY) ⊎ (result ≡ OPENED) →
         (buffer.new ≡ buffer.old) × (lines_length.new ≡ lines_length.old) }
 {
     match Config::read_placed(alloc, text) {
         Ok(_) => OPENED,
-        Err(refusal) => put_lines(alloc, text, &refusal, buffer, lines_length),
+        Err(refusal) => match refusal_lines(alloc, text, &refusal) {
+            Ok(lines) => put_fault(refusal.fault, lines.as_bytes(), buffer, lines_length),
+            Err(_) => OUT_OF_MEMORY,
+        },
     }
 }
 
-// The lines of a refusal, into the buffer. Answers the number of the fault.
-fn put_lines(
-    alloc: Global,
-    text: &[u8],
-    refusal: &Refusal,
-    buffer: &mut [u8],
-    lines_length: &mut u64,
-) -> u32
-    ensures number { result ≢ OUT_OF_MEMORY → result ≡ fault_number refusal.now.fault }
-    ensures fault { result ≢ OUT_OF_MEMORY → refusal.now.fault ≢ fault.OutOfMemory }
+// Puts the text of a fault into the buffer. Answers the number of the fault.
+fn put_fault(fault: ConfigFault, text: &[u8], buffer: &mut [u8], text_length: &mut u64) -> u32
+    ensures number { result ≢ OUT_OF_MEMORY → result ≡ fault_number fault }
+    ensures fault { result ≢ OUT_OF_MEMORY → fault ≢ OutOfMemory }
     ensures refused { result ≢ OPENED }
-    ensures lines { result ≢ OUT_OF_MEMORY →
-        AreLinesTold text.now refusal.now buffer.old buffer.new lines_length.new }
+    ensures buffer { result ≢ OUT_OF_MEMORY → buffer.new ≡ text_after (Ok text.now) buffer.old }
+    ensures length { result ≢ OUT_OF_MEMORY → text_length.new ≡ length text.now }
     ensures no_memory { result ≡ OUT_OF_MEMORY →
-        (buffer.new ≡ buffer.old) × (lines_length.new ≡ lines_length.old) }
+        (buffer.new ≡ buffer.old) × (text_length.new ≡ text_length.old) }
 {
-    let Some(number) = refusal.fault.number() else {
-        return OUT_OF_MEMORY;
-    };
-    match refusal_lines(alloc, text, refusal) {
-        Ok(lines) => {
-            let _ = put_text(lines.as_bytes(), buffer, lines_length);
+    match fault.number() {
+        Some(number) => {
+            let _ = put_text(text, buffer, text_length);
             number
         }
-        Err(_) => OUT_OF_MEMORY,
+        None => OUT_OF_MEMORY,
     }
 }
 

@@ -1,7 +1,9 @@
 //! The handle that C keeps.
-ghost use Rattle.std.specs.Prelude.{◌≡◌, None, Some, is_some, unwrap_or};
+ghost use Rattle.std.specs.Prelude.{◌≡◌, None, Some, Err, is_some, unwrap_or, MatchOption};
+ghost use Rattle.std.specs.Fn.{FnOnceReturnsAt};
 ghost use Rattle.std.specs.Option.{option_map};
-ghost use Rattle.apex_c.specs.Calls.{answer_in, ports_after, reply_in, reply_number};
+ghost use Rattle.apex_c.specs.Asked.{asked_answer, asked_ports, asked_reply};
+ghost use Rattle.apex_c.specs.Calls.{answer_in, moment_of, ports_after, reply_in, reply_number};
 ghost use Rattle.apex_c.specs.Places.{id_after};
 
 use crate::answer::{NO_PARTITION, NOT_MADE, NOT_OPEN};
@@ -17,7 +19,7 @@ use std::mem;
 pub struct Handle {
     is_open: bool,
     pub held: Held,
-    ghost told: { is_some held.ports ≡ is_open },
+    ghost agrees: { is_some held.ports ≡ is_open },
 }
 
 impl Handle {
@@ -57,27 +59,27 @@ impl Handle {
         if is_open { Some(held.into_box()) } else { None }
     }
 
-    /// The partition makes the call at the moment, where the handle is open and has the partition. Answers
-    /// the return code's number, or one of the numbers of `answer`.
+    /// The partition makes the call at the moment, if the handle is open and has the partition. Answers the number of the
+    /// return code, or one of the numbers of `answer`.
     pub(crate) fn call(
         &mut self,
         alloc: Global,
         partition: u32,
-        at: Moment,
+        at: u64,
         call: &Call,
         reply: &mut Reply,
     ) -> u32
-        ensures answer { result ≡ answer_in self.old.held.ports partition at call.now }
+        ensures answer { result ≡ answer_in self.old.held.ports partition (moment_of at) call.now }
         ensures ports { self.new.held.ports
-            ≡ ports_after self.old.held.ports partition at call.now }
-        ensures reply { reply.new
-            ≡ unwrap_or (reply_in self.old.held.ports partition at call.now) reply.old }
+            ≡ ports_after self.old.held.ports partition (moment_of at) call.now }
+        ensures reply { let given = reply_in self.old.held.ports partition (moment_of at) call.now in
+            reply.new ≡ unwrap_or given reply.old }
     {
         let Some(mut ports) = self.take(alloc) else {
             return NOT_OPEN;
         };
         let answer = if (partition as usize) < ports.config().partitions() {
-            ports.call_into(partition as usize, at, call, reply);
+            ports.call_into(partition as usize, Moment(at), call, reply);
             number_of_reply(reply)
         } else {
             NO_PARTITION
@@ -86,27 +88,69 @@ impl Handle {
         answer
     }
 
-    /// A call that gives a port's identifier, which goes to its place where the reply has one. Answers as
-    /// `call`.
+    /// The partition makes a call whose reply has no data that C is given. Answers as `call`.
+    pub(crate) fn call_for_code(
+        &mut self,
+        alloc: Global,
+        partition: u32,
+        at: u64,
+        call: &Call,
+    ) -> u32
+        ensures answer { result
+            ≡ answer_in self.old.held.ports partition (moment_of at) call.now }
+        ensures ports { self.new.held.ports
+            ≡ ports_after self.old.held.ports partition (moment_of at) call.now }
+    {
+        let mut reply = Reply::NotMade;
+        self.call(alloc, partition, at, call, &mut reply)
+    }
+
+    /// The partition makes a call that gives a port's identifier, which is put into its place if the reply has one.
+    /// Answers as `call`, or the number that says why there is no call.
     pub(crate) fn call_for_id(
         &mut self,
         alloc: Global,
         partition: u32,
-        at: Moment,
-        call: &Call,
+        at: u64,
+        asked: Result<Call, u32>,
         id: &mut u32,
     ) -> u32
-        ensures answer { result ≡ answer_in self.old.held.ports partition at call.now }
+        ensures answer { result
+            ≡ asked_answer self.old.held.ports partition (moment_of at) asked }
         ensures ports { self.new.held.ports
-            ≡ ports_after self.old.held.ports partition at call.now }
-        ensures id { id.new ≡ id_after (reply_in self.old.held.ports partition at call.now) id.old }
+            ≡ asked_ports self.old.held.ports partition (moment_of at) asked }
+        ensures id { let reply = asked_reply self.old.held.ports partition (moment_of at) asked in
+            id.new ≡ id_after reply id.old }
     {
+        let call = match asked {
+            Ok(call) => call,
+            Err(number) => return number,
+        };
         let mut reply = Reply::NotMade;
-        let answer = self.call(alloc, partition, at, call, &mut reply);
+        let answer = self.call(alloc, partition, at, &call, &mut reply);
         if let Reply::Id(number) = reply {
             *id = number;
         }
         answer
+    }
+
+    /// What a reader finds in the ports, which stay as they are, or `NOT_OPEN`.
+    pub(crate) fn read<X, F: FnOnce(&Ports) -> Result<X, u32> + Drop>(
+        &mut self,
+        alloc: Global,
+        find: F,
+    ) -> Result<X, u32>
+        requires { F.IsAlwaysCallable find }
+        ensures found { MatchOption self.old.held.ports (result ≡ Err NOT_OPEN)
+            (λ ports. FnOnceReturnsAt F.FnOnce find ports result) }
+        ensures ports { self.new.held.ports ≡ self.old.held.ports }
+    {
+        let Some(ports) = self.take(alloc) else {
+            return Err(NOT_OPEN);
+        };
+        let found = find(&ports);
+        *self = Handle::of(ports);
+        found
     }
 }
 

@@ -4,9 +4,11 @@
 pub mod answer;
 pub mod asked;
 mod buffer;
+mod calls;
 pub mod configured;
 pub mod counts;
 pub mod fault;
+mod found;
 pub mod handle;
 pub mod held;
 pub mod law;

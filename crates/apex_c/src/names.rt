@@ -2,19 +2,19 @@
 ghost use Rattle.std.specs.Prelude.{◌≡◌, length};
 ghost use Rattle.std.specs.Result.{result_ok, result_unwrap_or};
 ghost use Rattle.apex_c.specs.Configured.{channel_by, id_by, partition_by};
+ghost use Rattle.apex_c.specs.Configured.{channel_name, partition_name, port_name};
 ghost use Rattle.apex_c.specs.Configured.{channel_name_in, partition_name_in, port_name_in};
-ghost use Rattle.apex_c.specs.Found.{answer_of};
+ghost use Rattle.apex_c.specs.Found.{answer_of, for_buffer};
 ghost use Rattle.apex_c.specs.Places.{buffer_after, length_after};
 
-use crate::answer::{
-    NO_CHANNEL, NO_NAME, NO_PARTITION, NO_PORT, NOT_OPEN, READ, SHORT_BUFFER, UNKNOWN_NAME,
-};
+use crate::answer::{NO_NAME, NO_PORT, READ, SHORT_BUFFER, UNKNOWN_NAME};
 use crate::buffer::copy_bytes;
+use crate::found::{channel_of, partition_of, put};
 use crate::handle::Handle;
 use apex_types::{NAME_LIMIT, Name};
 use std::alloc::Global;
 
-/// The name of a partition. Where the answer is `READ`, it is in the buffer's first bytes, and its length in
+/// The name of a partition. If the answer is `READ`, it is in the buffer's first bytes, and its length in
 /// its place. Answers `READ`, `SHORT_BUFFER`, `NOT_OPEN` or `NO_PARTITION`.
 #[unsafe(no_mangle)]
 pub extern "C" fn apex_partition_name(
@@ -34,24 +34,11 @@ pub extern "C" fn apex_partition_name(
         name_length.new ≡ length_after (result_ok name) name_length.old }
     ensures ports { handle.new.held.ports ≡ handle.old.held.ports }
 {
-    if buffer.len() < NAME_LIMIT {
-        return SHORT_BUFFER;
-    }
-    let Some(ports) = handle.take(alloc) else {
-        return NOT_OPEN;
-    };
-    let config = ports.config();
-    let answer = if (partition as usize) < config.partitions() {
-        *name_length = copy_bytes(config.partition_name(partition as usize).bytes(), buffer);
-        READ
-    } else {
-        NO_PARTITION
-    };
-    *handle = Handle::of(ports);
-    answer
+    let name = partition_name(alloc, handle, partition);
+    put_name(name, buffer, name_length)
 }
 
-/// The name of a partition's port of an identifier. Where the answer is `READ`, it is in the buffer's first
+/// The name of a partition's port of an identifier. If the answer is `READ`, it is in the buffer's first
 /// bytes, and its length in its place. Answers `READ`, `SHORT_BUFFER`, `NOT_OPEN`, `NO_PARTITION` or `NO_PORT`.
 #[unsafe(no_mangle)]
 pub extern "C" fn apex_port_name(
@@ -72,26 +59,11 @@ pub extern "C" fn apex_port_name(
         name_length.new ≡ length_after (result_ok name) name_length.old }
     ensures ports { handle.new.held.ports ≡ handle.old.held.ports }
 {
-    if buffer.len() < NAME_LIMIT {
-        return SHORT_BUFFER;
-    }
-    let Some(ports) = handle.take(alloc) else {
-        return NOT_OPEN;
-    };
-    let config = ports.config();
-    let answer = if (partition as usize) >= config.partitions() {
-        NO_PARTITION
-    } else if let Some(port) = config.port(partition as usize, id) {
-        *name_length = copy_bytes(port.name.bytes(), buffer);
-        READ
-    } else {
-        NO_PORT
-    };
-    *handle = Handle::of(ports);
-    answer
+    let name = port_name(alloc, handle, partition, id);
+    put_name(name, buffer, name_length)
 }
 
-/// The name of a channel. Where the answer is `READ`, it is in the buffer's first bytes, and its length in its
+/// The name of a channel. If the answer is `READ`, it is in the buffer's first bytes, and its length in its
 /// place. Answers `READ`, `SHORT_BUFFER`, `NOT_OPEN` or `NO_CHANNEL`.
 #[unsafe(no_mangle)]
 pub extern "C" fn apex_channel_name(
@@ -111,24 +83,11 @@ pub extern "C" fn apex_channel_name(
         name_length.new ≡ length_after (result_ok name) name_length.old }
     ensures ports { handle.new.held.ports ≡ handle.old.held.ports }
 {
-    if buffer.len() < NAME_LIMIT {
-        return SHORT_BUFFER;
-    }
-    let Some(ports) = handle.take(alloc) else {
-        return NOT_OPEN;
-    };
-    let config = ports.config();
-    let answer = if (channel as usize) < config.channels() {
-        *name_length = copy_bytes(config.channel(channel as usize).name.bytes(), buffer);
-        READ
-    } else {
-        NO_CHANNEL
-    };
-    *handle = Handle::of(ports);
-    answer
+    let name = channel_name(alloc, handle, channel);
+    put_name(name, buffer, name_length)
 }
 
-/// The number of the partition of a name, in its place where the answer is `READ`. Answers `READ`, `NO_NAME`,
+/// The number of the partition of a name, in its place if the answer is `READ`. Answers `READ`, `NO_NAME`,
 /// `NOT_OPEN` or `UNKNOWN_NAME`.
 #[unsafe(no_mangle)]
 pub extern "C" fn apex_find_partition(
@@ -145,20 +104,14 @@ pub extern "C" fn apex_find_partition(
     let Ok(name) = Name::from_bytes(name) else {
         return NO_NAME;
     };
-    let Some(ports) = handle.take(alloc) else {
-        return NOT_OPEN;
-    };
-    let answer = if let Some(number) = ports.config().partition(&name) {
-        *partition = number as u32;
-        READ
-    } else {
-        UNKNOWN_NAME
-    };
-    *handle = Handle::of(ports);
-    answer
+    let found = handle.read(alloc, |ports| {
+        let number = ports.config().partition(&name).ok_or(UNKNOWN_NAME)?;
+        Ok(number as u32)
+    });
+    put(found, partition)
 }
 
-/// The identifier of the partition's port of a name, in its place where the answer is `READ`, whether the port was
+/// The identifier of the partition's port of a name, in its place if the answer is `READ`, whether the port was
 /// created or not. Answers `READ`, `NO_NAME`, `NOT_OPEN`, `NO_PARTITION` or `UNKNOWN_NAME`.
 #[unsafe(no_mangle)]
 pub extern "C" fn apex_find_port(
@@ -176,23 +129,17 @@ pub extern "C" fn apex_find_port(
     let Ok(name) = Name::from_bytes(name) else {
         return NO_NAME;
     };
-    let Some(ports) = handle.take(alloc) else {
-        return NOT_OPEN;
-    };
-    let config = ports.config();
-    let answer = if (partition as usize) >= config.partitions() {
-        NO_PARTITION
-    } else if let Some(number) = config.port_named(partition as usize, &name) {
-        *id = number;
-        READ
-    } else {
-        UNKNOWN_NAME
-    };
-    *handle = Handle::of(ports);
-    answer
+    let found = handle.read(alloc, |ports| {
+        let partition = partition_of(ports, partition)?;
+        ports
+            .config()
+            .port_named(partition, &name)
+            .ok_or(UNKNOWN_NAME)
+    });
+    put(found, id)
 }
 
-/// The number of the channel of a name, in its place where the answer is `READ`. Answers `READ`, `NO_NAME`,
+/// The number of the channel of a name, in its place if the answer is `READ`. Answers `READ`, `NO_NAME`,
 /// `NOT_OPEN` or `UNKNOWN_NAME`.
 #[unsafe(no_mangle)]
 pub extern "C" fn apex_find_channel(
@@ -209,15 +156,61 @@ pub extern "C" fn apex_find_channel(
     let Ok(name) = Name::from_bytes(name) else {
         return NO_NAME;
     };
-    let Some(ports) = handle.take(alloc) else {
-        return NOT_OPEN;
-    };
-    let answer = if let Some(number) = ports.config().channel_named(&name) {
-        *channel = number as u32;
-        READ
-    } else {
-        UNKNOWN_NAME
-    };
-    *handle = Handle::of(ports);
-    answer
+    let found = handle.read(alloc, |ports| {
+        let number = ports.config().channel_named(&name).ok_or(UNKNOWN_NAME)?;
+        Ok(number as u32)
+    });
+    put(found, channel)
+}
+
+fn partition_name(alloc: Global, handle: &mut Handle, partition: u32) -> Result<Name, u32>
+    ensures found { result ≡ partition_name handle.old.held.ports partition }
+    ensures ports { handle.new.held.ports ≡ handle.old.held.ports }
+{
+    handle.read(alloc, |ports| {
+        let partition = partition_of(ports, partition)?;
+        Ok(ports.config().partition_name(partition).copy())
+    })
+}
+
+fn port_name(alloc: Global, handle: &mut Handle, partition: u32, id: u32) -> Result<Name, u32>
+    ensures found { result ≡ port_name handle.old.held.ports partition id }
+    ensures ports { handle.new.held.ports ≡ handle.old.held.ports }
+{
+    handle.read(alloc, |ports| {
+        let partition = partition_of(ports, partition)?;
+        let port = ports.config().port(partition, id).ok_or(NO_PORT)?;
+        Ok(port.name.copy())
+    })
+}
+
+fn channel_name(alloc: Global, handle: &mut Handle, channel: u32) -> Result<Name, u32>
+    ensures found { result ≡ channel_name handle.old.held.ports channel }
+    ensures ports { handle.new.held.ports ≡ handle.old.held.ports }
+{
+    handle.read(alloc, |ports| {
+        let channel = channel_of(ports, channel)?;
+        Ok(ports.config().channel(channel).name.copy())
+    })
+}
+
+// Puts a name into the buffer's first bytes, and its length into its place, if the buffer has room for any name.
+fn put_name(name: Result<Name, u32>, buffer: &mut [u8], name_length: &mut u32) -> u32
+    ensures answer { let name = for_buffer NAME_LIMIT (length buffer.old) name in
+        result ≡ answer_of name }
+    ensures buffer { let name = for_buffer NAME_LIMIT (length buffer.old) name in
+        buffer.new ≡ buffer_after (result_ok name) buffer.old }
+    ensures length { let name = for_buffer NAME_LIMIT (length buffer.old) name in
+        name_length.new ≡ length_after (result_ok name) name_length.old }
+{
+    if buffer.len() < NAME_LIMIT {
+        return SHORT_BUFFER;
+    }
+    match name {
+        Ok(name) => {
+            *name_length = copy_bytes(name.bytes(), buffer);
+            READ
+        }
+        Err(number) => number,
+    }
 }

@@ -1,12 +1,13 @@
 //! Opening and closing.
 ghost use Rattle.std.specs.Prelude.{◌≡◌, ◌≢◌, [], Ok, Err, None, is_some, if◌then◌else◌, MatchResult};
 ghost use Rattle.apex_config.specs.Meaning.{config_of};
-ghost use Rattle.apex_config.specs.declared.fault.ConfigFault.TheVariants.{OutOfMemory};
+ghost use Rattle.apex_module.specs.declared.fault.ConfigFault.TheVariants.{OutOfMemory};
 ghost use Rattle.apex_c.specs.Opening.{fault_number, opening_number, ports_at_start};
 
 use crate::answer::NOT_OPEN;
 use crate::handle::Handle;
-use apex_config::{Config, ConfigFault};
+use apex_config::ReadConfig;
+use apex_module::{Config, ConfigFault};
 use apex_ports::Ports;
 use std::alloc::Global;
 

@@ -5,13 +5,14 @@ ghost use Rattle.apex_c.specs.Asked.{asked_answer, asked_ports, asked_reply, cre
 ghost use Rattle.apex_c.specs.Calls.{answer_in, ports_after, moment_of, reply_in};
 ghost use Rattle.apex_c.specs.Places.{buffer_after, id_after, length_after, message_in, queuing_status_after};
 
-use crate::answer::{NO_NAME, SHORT_BUFFER, TOO_LONG};
+use crate::answer::{SHORT_BUFFER, TOO_LONG};
 use crate::buffer::copy_bytes;
+use crate::calls::{create_queuing, queuing_id};
 use crate::handle::Handle;
-use apex_types::{Call, MESSAGE_LIMIT, Message, Moment, Name, Reply};
+use apex_types::{Call, MESSAGE_LIMIT, Message, Reply};
 use std::alloc::Global;
 
-/// CREATE_QUEUING_PORT, with the identifier in its place where the answer is NO_ERROR. The size is in bytes, the depth
+/// CREATE_QUEUING_PORT, with the identifier in its place if the answer is NO_ERROR. The size is in bytes, the depth
 /// in messages. Answers the return code, or a number of `answer`.
 #[unsafe(no_mangle)]
 pub extern "C" fn apex_create_queuing_port(
@@ -34,22 +35,8 @@ pub extern "C" fn apex_create_queuing_port(
         let reply = asked_reply handle.old.held.ports partition (moment_of at) asked in
         id.new ≡ id_after reply id.old }
 {
-    let Ok(name) = Name::from_bytes(name) else {
-        return NO_NAME;
-    };
-    handle.call_for_id(
-        alloc,
-        partition,
-        Moment(at),
-        &Call::CreateQueuing {
-            name,
-            size,
-            depth,
-            direction,
-            discipline,
-        },
-        id,
-    )
+    let asked = create_queuing(name, size, depth, direction, discipline);
+    handle.call_for_id(alloc, partition, at, asked, id)
 }
 
 /// SEND_QUEUING_MESSAGE with a time-out of zero. Answers the return code, or a number of `answer`.
@@ -70,17 +57,10 @@ pub extern "C" fn apex_send_queuing_message(
     let Ok(message) = Message::from_bytes(message) else {
         return TOO_LONG;
     };
-    let mut reply = Reply::NotMade;
-    handle.call(
-        alloc,
-        partition,
-        Moment(at),
-        &Call::SendQueuing { id, message },
-        &mut reply,
-    )
+    handle.call_for_code(alloc, partition, at, &Call::SendQueuing { id, message })
 }
 
-/// RECEIVE_QUEUING_MESSAGE with a time-out of zero. Where the answer is NO_ERROR, the message is in the buffer's first
+/// RECEIVE_QUEUING_MESSAGE with a time-out of zero. If the answer is NO_ERROR, the message is in the buffer's first
 /// bytes, and its length in its place. Answers the return code, or a number of `answer`.
 #[unsafe(no_mangle)]
 pub extern "C" fn apex_receive_queuing_message(
@@ -106,21 +86,16 @@ pub extern "C" fn apex_receive_queuing_message(
     if buffer.len() < MESSAGE_LIMIT {
         return SHORT_BUFFER;
     }
+    let call = Call::ReceiveQueuing { id };
     let mut reply = Reply::NotMade;
-    let answer = handle.call(
-        alloc,
-        partition,
-        Moment(at),
-        &Call::ReceiveQueuing { id },
-        &mut reply,
-    );
+    let answer = handle.call(alloc, partition, at, &call, &mut reply);
     if let Reply::Received(message) = &reply {
         *message_length = copy_bytes(message.bytes(), buffer);
     }
     answer
 }
 
-/// GET_QUEUING_PORT_ID, with the identifier in its place where the answer is NO_ERROR. Answers the return code, or a
+/// GET_QUEUING_PORT_ID, with the identifier in its place if the answer is NO_ERROR. Answers the return code, or a
 /// number of `answer`.
 #[unsafe(no_mangle)]
 pub extern "C" fn apex_get_queuing_port_id(
@@ -139,10 +114,7 @@ pub extern "C" fn apex_get_queuing_port_id(
         let reply = asked_reply handle.old.held.ports partition (moment_of at) asked in
         id.new ≡ id_after reply id.old }
 {
-    let Ok(name) = Name::from_bytes(name) else {
-        return NO_NAME;
-    };
-    handle.call_for_id(alloc, partition, Moment(at), &Call::QueuingId { name }, id)
+    handle.call_for_id(alloc, partition, at, queuing_id(name), id)
 }
 
 /// CLEAR_QUEUING_PORT. Answers the return code, or a number of `answer`.
@@ -159,14 +131,7 @@ pub extern "C" fn apex_clear_queuing_port(
     ensures ports { handle.new.held.ports
         ≡ ports_after handle.old.held.ports partition (moment_of at) (call.ClearQueuing id) }
 {
-    let mut reply = Reply::NotMade;
-    handle.call(
-        alloc,
-        partition,
-        Moment(at),
-        &Call::ClearQueuing { id },
-        &mut reply,
-    )
+    handle.call_for_code(alloc, partition, at, &Call::ClearQueuing { id })
 }
 
 /// What GET_QUEUING_PORT_STATUS shows: the messages that wait, the depth, the greatest length of a message in bytes and
@@ -180,7 +145,7 @@ pub struct QueuingPortStatus {
     pub direction: u32,
 }
 
-/// GET_QUEUING_PORT_STATUS, with the status in its place where the answer is NO_ERROR. Answers the return code, or a
+/// GET_QUEUING_PORT_STATUS, with the status in its place if the answer is NO_ERROR. Answers the return code, or a
 /// number of `answer`.
 #[unsafe(no_mangle)]
 pub extern "C" fn apex_get_queuing_port_status(
@@ -199,14 +164,9 @@ pub extern "C" fn apex_get_queuing_port_status(
         let reply = reply_in handle.old.held.ports partition (moment_of at) asked in
         status.new ≡ queuing_status_after reply status.old }
 {
+    let call = Call::QueuingStatus { id };
     let mut reply = Reply::NotMade;
-    let answer = handle.call(
-        alloc,
-        partition,
-        Moment(at),
-        &Call::QueuingStatus { id },
-        &mut reply,
-    );
+    let answer = handle.call(alloc, partition, at, &call, &mut reply);
     if let Reply::QueuingStatus {
         waiting,
         depth,

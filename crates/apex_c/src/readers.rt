@@ -6,15 +6,14 @@ ghost use Rattle.apex_c.specs.Places.{buffer_after, length_after};
 ghost use Rattle.apex_c.specs.Readers.{calls_in, mode_in};
 ghost use Rattle.apex_c.specs.Readers.{message_of, moment_after, sample_in, waiting_in};
 
-use crate::answer::{
-    NO_CHANNEL, NO_MESSAGE, NO_PARTITION, NO_SAMPLE, NOT_OPEN, READ, SHORT_BUFFER,
-};
+use crate::answer::{NO_CHANNEL, NO_MESSAGE, NO_SAMPLE, NOT_OPEN, READ, SHORT_BUFFER};
 use crate::buffer::copy_bytes;
+use crate::found::{partition_of, put};
 use crate::handle::Handle;
 use apex_types::MESSAGE_LIMIT;
 use std::alloc::Global;
 
-/// The number of a partition's mode, in its place where the answer is `READ`. Answers `READ`, `NOT_OPEN` or
+/// The number of a partition's mode, in its place if the answer is `READ`. Answers `READ`, `NOT_OPEN` or
 /// `NO_PARTITION`.
 #[unsafe(no_mangle)]
 pub extern "C" fn apex_partition_mode(
@@ -28,21 +27,15 @@ pub extern "C" fn apex_partition_mode(
         ≡ result_unwrap_or (mode_in handle.old.held.ports partition) mode.old }
     ensures ports { handle.new.held.ports ≡ handle.old.held.ports }
 {
-    let Some(ports) = handle.take(alloc) else {
-        return NOT_OPEN;
-    };
-    let answer = if (partition as usize) < ports.config().partitions() {
-        *mode = ports.mode(partition as usize).number();
-        READ
-    } else {
-        NO_PARTITION
-    };
-    *handle = Handle::of(ports);
-    answer
+    let found = handle.read(alloc, |ports| {
+        let partition = partition_of(ports, partition)?;
+        Ok(ports.mode(partition).number())
+    });
+    put(found, mode)
 }
 
 /// How many calls a partition made, those that were not made included; the count stays at the greatest u64. It is put
-/// in its place where the answer is `READ`. Answers `READ`, `NOT_OPEN` or `NO_PARTITION`.
+/// in its place if the answer is `READ`. Answers `READ`, `NOT_OPEN` or `NO_PARTITION`.
 #[unsafe(no_mangle)]
 pub extern "C" fn apex_call_count(
     alloc: Global,
@@ -55,20 +48,14 @@ pub extern "C" fn apex_call_count(
         ≡ result_unwrap_or (calls_in handle.old.held.ports partition) count.old }
     ensures ports { handle.new.held.ports ≡ handle.old.held.ports }
 {
-    let Some(ports) = handle.take(alloc) else {
-        return NOT_OPEN;
-    };
-    let answer = if (partition as usize) < ports.config().partitions() {
-        *count = ports.calls(partition as usize);
-        READ
-    } else {
-        NO_PARTITION
-    };
-    *handle = Handle::of(ports);
-    answer
+    let found = handle.read(alloc, |ports| {
+        let partition = partition_of(ports, partition)?;
+        Ok(ports.calls(partition))
+    });
+    put(found, count)
 }
 
-/// The message that a sampling channel holds. Where the answer is `READ`, the message is in the buffer's first bytes,
+/// The message that a sampling channel holds. If the answer is `READ`, the message is in the buffer's first bytes,
 /// and its length and the moment of its writing, in nanoseconds, in their places. Answers `READ`, `NOT_OPEN`,
 /// `NO_CHANNEL`, `SHORT_BUFFER`, or `NO_SAMPLE` on a queuing channel or before the first write.
 #[unsafe(no_mangle)]
@@ -110,7 +97,7 @@ pub extern "C" fn apex_last_sample(
     answer
 }
 
-/// The message of an index among those that wait on a channel, of which 0 is the oldest. Where the answer is `READ`,
+/// The message of an index among those that wait on a channel, of which 0 is the oldest. If the answer is `READ`,
 /// it is in the buffer's first bytes, and its length in its place. Answers `READ`, `SHORT_BUFFER`, `NOT_OPEN`,
 /// `NO_CHANNEL` or `NO_MESSAGE`.
 #[unsafe(no_mangle)]
@@ -141,7 +128,7 @@ pub extern "C" fn apex_waiting_message(
     let answer = if (channel as usize) >= ports.config().channels() {
         NO_CHANNEL
     } else if let Some(message) = ports.waiting(channel as usize, index as usize) {
-        *message_length = copy_bytes(message.bytes(), buffer);
+        *message_length = copy_bytes(message, buffer);
         READ
     } else {
         NO_MESSAGE

@@ -6,13 +6,14 @@ ghost use Rattle.apex_c.specs.Calls.{answer_in, ports_after, moment_of, reply_in
 ghost use Rattle.apex_c.specs.Places.{buffer_after, id_after, length_after, message_in};
 ghost use Rattle.apex_c.specs.Places.{sampling_status_after, validity_after};
 
-use crate::answer::{NO_NAME, SHORT_BUFFER, TOO_LONG};
+use crate::answer::{SHORT_BUFFER, TOO_LONG};
 use crate::buffer::copy_bytes;
+use crate::calls::{create_sampling, sampling_id};
 use crate::handle::Handle;
-use apex_types::{Call, MESSAGE_LIMIT, Message, Moment, Name, Reply};
+use apex_types::{Call, MESSAGE_LIMIT, Message, Reply};
 use std::alloc::Global;
 
-/// CREATE_SAMPLING_PORT, with the identifier in its place where the answer is NO_ERROR. The size is in bytes, the
+/// CREATE_SAMPLING_PORT, with the identifier in its place if the answer is NO_ERROR. The size is in bytes, the
 /// refresh period in nanoseconds. Answers the return code, or a number of `answer`.
 #[unsafe(no_mangle)]
 pub extern "C" fn apex_create_sampling_port(
@@ -34,21 +35,8 @@ pub extern "C" fn apex_create_sampling_port(
         let reply = asked_reply handle.old.held.ports partition (moment_of at) asked in
         id.new ≡ id_after reply id.old }
 {
-    let Ok(name) = Name::from_bytes(name) else {
-        return NO_NAME;
-    };
-    handle.call_for_id(
-        alloc,
-        partition,
-        Moment(at),
-        &Call::CreateSampling {
-            name,
-            size,
-            direction,
-            refresh,
-        },
-        id,
-    )
+    let asked = create_sampling(name, size, direction, refresh);
+    handle.call_for_id(alloc, partition, at, asked, id)
 }
 
 /// WRITE_SAMPLING_MESSAGE. Answers the return code, or a number of `answer`.
@@ -69,17 +57,10 @@ pub extern "C" fn apex_write_sampling_message(
     let Ok(message) = Message::from_bytes(message) else {
         return TOO_LONG;
     };
-    let mut reply = Reply::NotMade;
-    handle.call(
-        alloc,
-        partition,
-        Moment(at),
-        &Call::WriteSampling { id, message },
-        &mut reply,
-    )
+    handle.call_for_code(alloc, partition, at, &Call::WriteSampling { id, message })
 }
 
-/// READ_SAMPLING_MESSAGE. Where the answer is NO_ERROR, the message is in the buffer's first bytes, and its length and
+/// READ_SAMPLING_MESSAGE. If the answer is NO_ERROR, the message is in the buffer's first bytes, and its length and
 /// its validity's number in their places. Answers the return code, or a number of `answer`.
 #[unsafe(no_mangle)]
 pub extern "C" fn apex_read_sampling_message(
@@ -109,14 +90,9 @@ pub extern "C" fn apex_read_sampling_message(
     if buffer.len() < MESSAGE_LIMIT {
         return SHORT_BUFFER;
     }
+    let call = Call::ReadSampling { id };
     let mut reply = Reply::NotMade;
-    let answer = handle.call(
-        alloc,
-        partition,
-        Moment(at),
-        &Call::ReadSampling { id },
-        &mut reply,
-    );
+    let answer = handle.call(alloc, partition, at, &call, &mut reply);
     if let Reply::Read {
         message,
         validity: shown,
@@ -128,7 +104,7 @@ pub extern "C" fn apex_read_sampling_message(
     answer
 }
 
-/// GET_SAMPLING_PORT_ID, with the identifier in its place where the answer is NO_ERROR. Answers the return code, or a
+/// GET_SAMPLING_PORT_ID, with the identifier in its place if the answer is NO_ERROR. Answers the return code, or a
 /// number of `answer`.
 #[unsafe(no_mangle)]
 pub extern "C" fn apex_get_sampling_port_id(
@@ -147,10 +123,7 @@ pub extern "C" fn apex_get_sampling_port_id(
         let reply = asked_reply handle.old.held.ports partition (moment_of at) asked in
         id.new ≡ id_after reply id.old }
 {
-    let Ok(name) = Name::from_bytes(name) else {
-        return NO_NAME;
-    };
-    handle.call_for_id(alloc, partition, Moment(at), &Call::SamplingId { name }, id)
+    handle.call_for_id(alloc, partition, at, sampling_id(name), id)
 }
 
 /// What GET_SAMPLING_PORT_STATUS shows: the refresh period in nanoseconds, the greatest length of a message in bytes,
@@ -164,7 +137,7 @@ pub struct SamplingPortStatus {
     pub last_validity: u32,
 }
 
-/// GET_SAMPLING_PORT_STATUS, with the status in its place where the answer is NO_ERROR. Answers the return code, or a
+/// GET_SAMPLING_PORT_STATUS, with the status in its place if the answer is NO_ERROR. Answers the return code, or a
 /// number of `answer`.
 #[unsafe(no_mangle)]
 pub extern "C" fn apex_get_sampling_port_status(
@@ -183,14 +156,9 @@ pub extern "C" fn apex_get_sampling_port_status(
         let reply = reply_in handle.old.held.ports partition (moment_of at) asked in
         status.new ≡ sampling_status_after reply status.old }
 {
+    let call = Call::SamplingStatus { id };
     let mut reply = Reply::NotMade;
-    let answer = handle.call(
-        alloc,
-        partition,
-        Moment(at),
-        &Call::SamplingStatus { id },
-        &mut reply,
-    );
+    let answer = handle.call(alloc, partition, at, &call, &mut reply);
     if let Reply::SamplingStatus {
         refresh,
         size,

@@ -1,29 +1,29 @@
 -- What reading answers, step by step.
-use Rattle.std.proofs.Common.{◌≡◌, ◌≢◌, ℕ, Bool, true, false, cond, List, [], ◌∷◌, Option, Some, None, Result, Ok, Err, IfErr, IfSome, refl, sym, ap, subst}
+use Rattle.std.proofs.Common.{◌≡◌, ◌≢◌, ℕ, Bool, true, false, cond, List, [], ◌∷◌, Option, Some, None, option_map, Result, Ok, Err, IfErr, IfSome, refl, sym, ap, subst}
 use Rattle.std.specs.Str.{is_utf8, IsUtf8}
 use Rattle.std.proofs.lemmas.Str.{IsUtf8-from_is_utf8, is_utf8-from_IsUtf8}
 use Rattle.toml.specs.Data.{Data, Members, table}
 use Rattle.toml.specs.Parse.{parse_document}
-use Rattle.apex_config.specs.declared.fault.ConfigFault.{ConfigFault}
-use Rattle.apex_config.specs.declared.fault.ConfigFault.TheVariants.{Shape, OutOfMemory}
+use Rattle.apex_module.specs.declared.fault.ConfigFault.{ConfigFault}
+use Rattle.apex_module.specs.declared.fault.ConfigFault.TheVariants.{Shape, OutOfMemory}
 use Rattle.apex_config.specs.declared.place.Place.{Place}
-use Rattle.apex_config.specs.Configuration.{Configuration}
+use Rattle.apex_module.specs.Configuration.{Configuration}
 use Rattle.apex_config.specs.Form.{wrong_form}
 use Rattle.apex_config.specs.Text.{ConfigText, config_text_of}
 use Rattle.apex_config.specs.Passes.{found_by, passes}
-use Rattle.apex_config.specs.Meaning.{RefusalData, refused_by, first_refusal, refusal_of, configuration_of, unless_refused, not_toml, read_of_value, read_of_document, read_of}
+use Rattle.apex_config.specs.Meaning.{RefusalData, refused_by, first_refusal, refusal_of, configuration_of, unless_refused, document_of, read_of_document, read_of}
 
-not_toml_in : (bytes : List ℕ) (b : Bool) → is_utf8 bytes ≡ b → (IsUtf8 bytes → parse_document bytes ≡ None) → cond b (read_of_document (parse_document bytes)) (Err not_toml) ≡ Err not_toml
-not_toml_in bytes true is refused = ap read_of_document (refused (IsUtf8-from_is_utf8 bytes is))
-not_toml_in bytes false is refused = refl
+-- ---- bytes and their document
 
-pub is_not_toml : (bytes : List ℕ) → (IsUtf8 bytes → parse_document bytes ≡ None) → read_of bytes ≡ Err not_toml
-unfolding read_of
-is_not_toml bytes refused = not_toml_in bytes (is_utf8 bytes) refl refused
-
-pub is_document : (bytes : List ℕ) (document : Members) → IsUtf8 bytes → parse_document bytes ≡ Some document → read_of bytes ≡ read_of_value (table document)
-unfolding read_of
+pub is_document : (bytes : List ℕ) (document : Members) → IsUtf8 bytes → parse_document bytes ≡ Some document → document_of bytes ≡ Some (table document)
 is_document bytes document text parsed = rw (is_utf8-from_IsUtf8 bytes text, parsed) refl
+
+none_in : (bytes : List ℕ) (b : Bool) → is_utf8 bytes ≡ b → (IsUtf8 bytes → parse_document bytes ≡ None) → cond b (option_map table (parse_document bytes)) None ≡ None
+none_in bytes true is refused = ap (option_map table) (refused (IsUtf8-from_is_utf8 bytes is))
+none_in bytes false is refused = refl
+
+pub no_document : (bytes : List ℕ) → (IsUtf8 bytes → parse_document bytes ≡ None) → document_of bytes ≡ None
+no_document bytes refused = none_in bytes (is_utf8 bytes) refl refused
 
 -- ---- each refusal has a place
 
@@ -43,17 +43,13 @@ unless_placed : (config : Configuration) (refusal : Option RefusalData) → IfSo
 unless_placed config None h = tt
 unless_placed config (Some refusal) h = h
 
-document_placed : (document : Option Members) → IfErr (read_of_document document) (λ refusal. refusal.places ≢ [])
+document_placed : (document : Option Data) → IfErr (read_of_document document) (λ refusal. refusal.places ≢ [])
 document_placed None = λ e. absurd cc
-document_placed (Some members) = unless_placed (configuration_of (config_text_of (table members))) (refusal_of (table members)) (value_placed (table members))
-
-bytes_placed : (b : Bool) (document : Option Members) → IfErr (cond b (read_of_document document) (Err not_toml)) (λ refusal. refusal.places ≢ [])
-bytes_placed true document = document_placed document
-bytes_placed false document = λ e. absurd cc
+document_placed (Some document) = unless_placed (configuration_of (config_text_of document)) (refusal_of document) (value_placed document)
 
 is_placed : (bytes : List ℕ) (refusal : RefusalData) → Err refusal ≡ read_of bytes → refusal.places ≢ []
 unfolding read_of
-is_placed bytes refusal is = subst (λ (answer : Result Configuration RefusalData). IfErr answer (λ refusal. refusal.places ≢ [])) (sym is) (bytes_placed (is_utf8 bytes) (parse_document bytes))
+is_placed bytes refusal is = subst (λ (answer : Result Configuration RefusalData). IfErr answer (λ refusal. refusal.places ≢ [])) (sym is) (document_placed (document_of bytes))
 
 pub answer_placed : (bytes : List ℕ) (answer : Result Configuration RefusalData) → answer ≡ read_of bytes → IfErr answer (λ refusal. refusal.fault ≢ OutOfMemory → refusal.places ≢ [])
 answer_placed bytes (Ok config) is = tt

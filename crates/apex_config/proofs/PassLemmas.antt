@@ -1,5 +1,5 @@
 -- What it says of one entry that a pass finds no place in a text.
-use Rattle.std.proofs.Common.{◌≡◌, ℕ, zero, suc, ◌+◌, ◌-◌, ◌<◌, ◌≤◌, ℤ, pos, negsuc, Bool, true, false, cond, ◌||◌, not, eqb, ltb, leb, List, [], ◌∷◌, ◌++◌, map, length, take, Option, Some, None, option_map, Result, Ok, Err, is_ok, refl, sym, ap, subst, ◌∙◌, arith}
+use Rattle.std.proofs.Common.{◌≡◌, ℕ, zero, suc, ◌+◌, ◌<◌, ◌≤◌, ℤ, pos, negsuc, Bool, true, false, cond, ◌||◌, not, eqb, ltb, leb, List, [], ◌∷◌, ◌++◌, map, length, take, Option, Some, None, option_map, Result, Ok, Err, is_ok, refl, sym, ap, subst, ◌∙◌, arith}
 use Rattle.std.specs.Prelude.{is_some, is_none}
 use Rattle.std.specs.List.{slice_get, list_all, list_any, count_by}
 use Rattle.std.proofs.lemmas.Bool.{and_parts, false≢true, not-true, leb-true, eqb-true, ltb-false}
@@ -10,17 +10,19 @@ use Rattle.std.specs.Str.{bytes_eq}
 use Rattle.std.proofs.lemmas.Slice.Eq.{bytes_eq-Decides}
 use Rattle.apex_types.specs.Name.{IsName, is_name_byte}
 use Rattle.apex_types.specs.declared.direction.Direction.{Direction}
-use Rattle.apex_types.specs.declared.direction.Direction.TheVariants.{Source, Destination}
 use Rattle.apex_types.specs.declared.name.NameFault.{NameFault}
 use Rattle.apex_types.specs.declared.name.NameFault.TheVariants.{Empty, TooLong, BadCharacter}
-use Rattle.apex_config.specs.declared.port.Port.{Port}
-use Rattle.apex_config.specs.declared.limits.TheConstants.{PORT_LIMIT, DEPTH_LIMIT, REFRESH_LIMIT}
+use Rattle.apex_module.specs.declared.port.Port.{Port}
+use Rattle.apex_module.specs.declared.limits.TheConstants.{PORT_LIMIT, DEPTH_LIMIT, REFRESH_LIMIT}
 use Rattle.apex_config.specs.declared.place.Part.{Part}
 use Rattle.apex_config.specs.declared.place.Place.{Place}
-use Rattle.apex_config.specs.Configuration.{PartitionData, ports_of_partition, port_at, port_of, is_queuing_port, is_queuing_channel, IsRefresh, IsDepth}
+use Rattle.apex_module.specs.Configuration.{PartitionData, ports_of_partition, port_at, port_of, is_queuing_port, is_queuing_channel, IsRefresh, IsDepth}
+use Rattle.apex_module.specs.Equality.{same_direction}
+use Rattle.apex_module.specs.EqualityLaws.{direction_decides}
+use Rattle.apex_module.proofs.PortLemmas.{port_at_suc}
 use Rattle.apex_config.specs.Places.{unless, at_each}
 use Rattle.apex_config.specs.Text.{PortText, PartitionText, ChannelText, ConfigText}
-use Rattle.apex_config.specs.Passes.{at_ports, is_name, stood_before, repeated, is_within, is_from_one_to, is_from_one_to_if_any, index_of_channel, channel_of_port, is_of_kind, same_direction, is_end, end_count, may_have_several, is_alone, too_many_ports, passes}
+use Rattle.apex_config.specs.Passes.{at_ports, is_name, stood_before, repeated, is_within, is_from_one_to, is_from_one_to_if_any, index_of_channel, channel_of_port, is_of_kind, is_end, end_count, may_have_several, is_alone, too_many_ports, passes}
 use Rattle.apex_config.specs.Meaning.{natural, channel_kind_of, port_kind_of, port_of_text, partition_of_text, configuration_of}
 use Rattle.apex_config.proofs.Indexes.{no_index, same_index, any_at, part-le-sum_by, one_part, some_part}
 
@@ -69,12 +71,6 @@ pub record StandsAt (text : ConfigText) (p id : ℕ) (port : Port) : Type 0 wher
   pub inside : slice_get partition.ports index ≡ Some entry
   pub is : port ≡ port_of_text text.channels entry
   pub numbered : id ≡ suc index
-
-pub port_at_suc : (ports : List Port) (i : ℕ) → port_at ports (suc i) ≡ slice_get ports i
-port_at_suc ports i =
-    let above : eqb (suc i) 0 ≡ false = grind (arith, nat_tests) in
-    let before : suc i - 1 ≡ i = omega arith in
-    rw (above, before)
 
 stands_in : (text : ConfigText) (p : ℕ) (o : Option PartitionText) (id : ℕ) (port : Port) → slice_get text.partitions p ≡ o
     → port_at (ports_of_partition (option_map (partition_of_text text.channels) o)) id ≡ Some port → StandsAt text p id port
@@ -182,20 +178,8 @@ linked_in entry (Some channel) there kind = (channel, refl, kinds_agree entry.re
 
 -- ---- ends
 
-same_direction_from : (d e : Direction) → d ≡ e → same_direction d e ≡ true
-same_direction_from Source Source h = refl
-same_direction_from Source Destination h = absurd cc
-same_direction_from Destination Source h = absurd cc
-same_direction_from Destination Destination h = refl
-
-same_direction_is : (d e : Direction) → same_direction d e ≡ true → d ≡ e
-same_direction_is Source Source h = refl
-same_direction_is Source Destination h = absurd (false≢true h)
-same_direction_is Destination Source h = absurd (false≢true h)
-same_direction_is Destination Destination h = refl
-
 pub is_end_from : (channels : List ChannelText) (direction : Direction) (c : ℕ) (port : PortText) → port.direction ≡ direction → index_of_channel channels port.channel ≡ c → is_end channels direction c port ≡ true
-is_end_from channels direction c port here there = rw (same_direction_from port.direction direction here, same_number (index_of_channel channels port.channel) c there)
+is_end_from channels direction c port here there = rw ((direction_decides port.direction direction).1 here, same_number (index_of_channel channels port.channel) c there)
   where
     same_number : (a b : ℕ) → a ≡ b → eqb a b ≡ true
     same_number a b h = grind (arith, nat_tests)
@@ -203,7 +187,7 @@ is_end_from channels direction c port here there = rw (same_direction_from port.
 is_end_is : (channels : List ChannelText) (direction : Direction) (c : ℕ) (port : PortText) → is_end channels direction c port ≡ true → (port.direction ≡ direction) × (index_of_channel channels port.channel ≡ c)
 is_end_is channels direction c port h =
     let parts = and_parts (same_direction port.direction direction) (eqb (index_of_channel channels port.channel) c) h in
-    (same_direction_is port.direction direction parts.0, eqb-true (index_of_channel channels port.channel) c parts.1)
+    ((direction_decides port.direction direction).0 parts.0, eqb-true (index_of_channel channels port.channel) c parts.1)
 
 abbrev ends_in : List ChannelText → Direction → ℕ → PartitionText → ℕ
 ends_in channels direction c partition = count_by (is_end channels direction c) partition.ports
@@ -249,4 +233,4 @@ clear false b c h k m = absurd (false≢true h)
 pub alone : (text : ConfigText) (direction : Direction) (entry : PortText) → entry.direction ≡ direction → may_have_several direction (channel_of_port text.channels entry) ≡ false
     → is_alone direction text entry ≡ true → end_count text.channels direction (index_of_channel text.channels entry.channel) text.partitions ≤ 1
 alone text direction entry same single passes =
-    leb-true _ 1 (clear (same_direction entry.direction direction) (may_have_several direction (channel_of_port text.channels entry)) _ (same_direction_from entry.direction direction same) single passes)
+    leb-true _ 1 (clear (same_direction entry.direction direction) (may_have_several direction (channel_of_port text.channels entry)) _ ((direction_decides entry.direction direction).1 same) single passes)

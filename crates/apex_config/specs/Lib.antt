@@ -1,11 +1,6 @@
 pub mod Accepted
-pub mod Configuration
 pub mod Ends
-pub mod Equality
-pub mod EqualityLaws
-pub mod Fault
 pub mod Form
-pub mod Limits
 pub mod Meaning
 pub mod Numbers
 pub mod Passes

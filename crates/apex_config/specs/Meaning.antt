@@ -1,19 +1,19 @@
 -- What the bytes of a configuration mean: the configuration that they are, or the refusal of the first pass that finds places.
-use Rattle.std.specs.Prelude.{ℕ, ℤ, pos, negsuc, if◌then◌else◌, List, [], ◌∷◌, map, Option, Some, None, Result, Ok, Err, ◌≡◌, ◌≢◌}
+use Rattle.std.specs.Prelude.{ℕ, ℤ, pos, negsuc, if◌then◌else◌, List, [], ◌∷◌, map, Option, Some, None, option_map, Result, Ok, Err, ◌≡◌, ◌≢◌}
 use Rattle.std.specs.Str.{is_utf8}
-use Rattle.apex_config.specs.declared.port.Port.{Port}
-use Rattle.apex_config.specs.declared.port.PortKind.{PortKind}
-use Rattle.apex_config.specs.declared.port.PortKind.TheVariants as port_kind
-use Rattle.apex_config.specs.declared.channel.Channel.{Channel}
-use Rattle.apex_config.specs.declared.channel.ChannelKind.{ChannelKind}
-use Rattle.apex_config.specs.declared.channel.ChannelKind.TheVariants as channel_kind
-use Rattle.apex_config.specs.declared.fault.ConfigFault.{ConfigFault}
-use Rattle.apex_config.specs.declared.fault.ConfigFault.TheVariants.{NotToml, Shape, OutOfMemory}
+use Rattle.apex_module.specs.declared.port.Port.{Port}
+use Rattle.apex_module.specs.declared.port.PortKind.{PortKind}
+use Rattle.apex_module.specs.declared.port.PortKind.TheVariants as port_kind
+use Rattle.apex_module.specs.declared.channel.Channel.{Channel}
+use Rattle.apex_module.specs.declared.channel.ChannelKind.{ChannelKind}
+use Rattle.apex_module.specs.declared.channel.ChannelKind.TheVariants as channel_kind
+use Rattle.apex_module.specs.declared.fault.ConfigFault.{ConfigFault}
+use Rattle.apex_module.specs.declared.fault.ConfigFault.TheVariants.{NotToml, Shape, OutOfMemory}
 use Rattle.apex_config.specs.declared.place.Part.TheVariants.{Document}
 use Rattle.apex_config.specs.declared.place.Place.{Place}
-use Rattle.toml.specs.Data.{Data, Members, table}
+use Rattle.toml.specs.Data.{Data, table}
 use Rattle.toml.specs.Parse.{parse_document}
-use Rattle.apex_config.specs.Configuration.{PartitionData, Configuration}
+use Rattle.apex_module.specs.Configuration.{PartitionData, Configuration}
 use Rattle.apex_config.specs.Form.{wrong_form}
 use Rattle.apex_config.specs.Text.{PortText, PartitionText, ChannelText, ConfigText, config_text_of}
 use Rattle.apex_config.specs.Passes.{index_of_channel, found_by, passes}
@@ -78,13 +78,17 @@ not_toml = record { fault = NotToml; places = whole Document ∷ [] }
 abbrev pub read_of_value : Data → Result Configuration RefusalData
 read_of_value document = unless_refused (configuration_of (config_text_of document)) (refusal_of document)
 
-abbrev pub read_of_document : Option Members → Result Configuration RefusalData
+-- the document that bytes are; none of bytes that are no TOML
+abbrev pub document_of : List ℕ → Option Data
+document_of bytes = if is_utf8 bytes then option_map table (parse_document bytes) else None
+
+abbrev pub read_of_document : Option Data → Result Configuration RefusalData
 read_of_document None = Err not_toml
-read_of_document (Some members) = read_of_value (table members)
+read_of_document (Some document) = read_of_value document
 
 -- the configuration that bytes are, or their refusal
 unfoldable pub read_of : List ℕ → Result Configuration RefusalData
-read_of bytes = if is_utf8 bytes then read_of_document (parse_document bytes) else Err not_toml
+read_of bytes = read_of_document (document_of bytes)
 
 -- the configuration, or the fault alone
 abbrev pub fault_alone : Result Configuration RefusalData → Result Configuration ConfigFault

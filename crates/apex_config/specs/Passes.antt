@@ -5,9 +5,9 @@ use Rattle.std.specs.Str.{bytes_eq}
 use Rattle.apex_types.specs.Name.{name_of}
 use Rattle.apex_types.specs.declared.direction.Direction.{Direction}
 use Rattle.apex_types.specs.declared.direction.Direction.TheVariants.{Source, Destination}
-use Rattle.apex_config.specs.declared.fault.ConfigFault.{ConfigFault}
-use Rattle.apex_config.specs.declared.fault.ConfigFault.TheVariants.{NotToml, Shape, BadName, NameTwice, OutOfRange, UnknownChannel, KindDiffers, Sources, Destinations, Counts, OutOfMemory}
-use Rattle.apex_config.specs.declared.limits.TheConstants.{PARTITION_LIMIT, PORT_LIMIT, CHANNEL_LIMIT, SIZE_LIMIT, DEPTH_LIMIT, REFRESH_LIMIT}
+use Rattle.apex_module.specs.declared.fault.ConfigFault.{ConfigFault}
+use Rattle.apex_module.specs.declared.fault.ConfigFault.TheVariants.{NotToml, Shape, BadName, NameTwice, OutOfRange, UnknownChannel, KindDiffers, Sources, Destinations, Counts, OutOfMemory}
+use Rattle.apex_module.specs.declared.limits.TheConstants.{PARTITION_LIMIT, PORT_LIMIT, CHANNEL_LIMIT, SIZE_LIMIT, DEPTH_LIMIT, REFRESH_LIMIT}
 use Rattle.apex_config.specs.declared.key.Key.TheVariants as key
 use Rattle.apex_config.specs.declared.place.Part.{Part}
 use Rattle.apex_config.specs.declared.place.Part.TheVariants as part
@@ -15,6 +15,7 @@ use Rattle.apex_config.specs.declared.place.Place.{Place}
 use Rattle.apex_config.specs.declared.place.Spot.{Spot}
 use Rattle.apex_config.specs.declared.names.Entries.{Entries}
 use Rattle.apex_config.specs.declared.names.Entries.TheVariants as entries
+use Rattle.apex_module.specs.Equality.{same_direction}
 use Rattle.apex_config.specs.Places.{whole, at, unless, at_each}
 use Rattle.apex_config.specs.Text.{PortText, PartitionText, ChannelText, ConfigText}
 
@@ -127,12 +128,6 @@ unfoldable pub other_kinds : ConfigText → List Place
 other_kinds config = at_ports (other_kind config.channels) config.partitions
 
 -- ---- the ends of channels
-
-abbrev pub same_direction : Direction → Direction → Bool
-same_direction Source Source = true
-same_direction Source Destination = false
-same_direction Destination Source = false
-same_direction Destination Destination = true
 
 abbrev pub is_end : List ChannelText → Direction → ℕ → PortText → Bool
 is_end channels direction c port = same_direction port.direction direction && (index_of_channel channels port.channel == c)

@@ -5,12 +5,9 @@ ghost use Rattle.apex_config.specs.Meaning.{natural, port_kind_of, channel_kind_
 ghost use Rattle.apex_config.specs.Passes.{is_name, passes};
 ghost use Rattle.apex_config.specs.Accepted.{has_names, is_acceptable};
 
-use crate::channel::{Channel, ChannelKind};
 use crate::channel_index::ChannelIndex;
-use crate::config::Config;
 use crate::config_text::{ChannelText, ConfigText, PartitionText, PortText};
-use crate::partition::Partition;
-use crate::port::{Port, PortKind};
+use apex_module::{Channel, ChannelKind, Config, Partition, Port, PortKind};
 use apex_types::Name;
 use std::alloc::{AllocError, Global};
 

@@ -7,8 +7,8 @@ ghost use Rattle.apex_config.specs.Ends.{CountEnds, CountMoreEnds, ends_at};
 
 use crate::channel_index::ChannelIndex;
 use crate::config_text::{ChannelText, PartitionText, PortText};
-use crate::found::{Finder, add_each, add_unless};
-use crate::place::{Part, Place, Spot};
+use crate::found::{Added, Finder, Places, add_each, add_unless};
+use crate::place::{Part, Spot};
 use crate::ports::{PortTest, add_ports_unless};
 use apex_types::Direction;
 use std::alloc::{AllocError, Global};
@@ -151,7 +151,7 @@ struct HasEnd;
 impl Finder<usize> for HasEnd {
     ghost find = { λ _ c count. unless (nat_le 1 count) (whole (part.Channel c)) };
 
-    fn add(&self, places: &mut Vec<Place>, index: usize, entry: &usize) -> Result<(), AllocError> {
+    fn add(&self, places: &mut Places, index: usize, entry: &usize) -> Added {
         let part = Part::Channel { channel: index };
         add_unless(places, 1 <= *entry, part.whole())
     }
@@ -160,11 +160,11 @@ impl Finder<usize> for HasEnd {
 /// Adds the channels without an end of a direction, and then the ports of the others that have too many.
 pub fn add_wrong_ends<'a>(
     alloc: Global,
-    places: &mut Vec<Place>,
+    places: &mut Places,
     channels: &ChannelIndex<'_, 'a>,
     partitions: &[PartitionText<'a>],
     direction: Direction,
-) -> Result<(), AllocError>
+) -> Added
     ensures { OnOk result (Adds
         (wrong_ends direction
         (record { partitions = partitions.now; channels = channels.now }))

@@ -7,38 +7,27 @@ ghost use Rattle.apex_config.specs.Values.{value_at};
 ghost use Rattle.apex_config.specs.Form.{is_array_if_any, wants_text, wants_number, wants_array, wants_array_if_any, wants_kind, wants_direction, is_known, unknown_keys, wrong_channel, channel_keys, port_keys, wrong_port, wrong_partition_keys, wrong_partition, wrong_document_keys, wrong_form};
 
 use crate::document::{is_queuing, is_sampling, is_source};
-use crate::found::{Finder, add_each, add_unless};
+use crate::found::{Added, Finder, Places, add_each, add_unless};
 use crate::key::Key;
-use crate::place::{Part, Place};
+use crate::place::Part;
 use crate::value::{array_at, has_word, items_at, number_at, text_at, value_at};
-use std::alloc::AllocError;
 use toml::{Table, Value};
 
-fn want_text(places: &mut Vec<Place>, part: Part, key: Key, value: &Value) -> Result<(), AllocError>
+fn want_text(places: &mut Places, part: Part, key: Key, value: &Value) -> Added
     ensures { OnOk result
         (Adds (wants_text part key (view value.now)) places.old.items places.new.items) }
 {
     add_unless(places, text_at(value, key).is_some(), part.at(key))
 }
 
-fn want_number(
-    places: &mut Vec<Place>,
-    part: Part,
-    key: Key,
-    value: &Value,
-) -> Result<(), AllocError>
+fn want_number(places: &mut Places, part: Part, key: Key, value: &Value) -> Added
     ensures { OnOk result
         (Adds (wants_number part key (view value.now)) places.old.items places.new.items) }
 {
     add_unless(places, number_at(value, key).is_some(), part.at(key))
 }
 
-fn want_array(
-    places: &mut Vec<Place>,
-    part: Part,
-    key: Key,
-    value: &Value,
-) -> Result<(), AllocError>
+fn want_array(places: &mut Places, part: Part, key: Key, value: &Value) -> Added
     ensures { OnOk result
         (Adds (wants_array part key (view value.now)) places.old.items places.new.items) }
 {
@@ -54,19 +43,14 @@ fn is_array_if_any(value: &Value, key: Key) -> bool
     }
 }
 
-fn want_array_if_any(
-    places: &mut Vec<Place>,
-    part: Part,
-    key: Key,
-    value: &Value,
-) -> Result<(), AllocError>
+fn want_array_if_any(places: &mut Places, part: Part, key: Key, value: &Value) -> Added
     ensures { OnOk result
         (Adds (wants_array_if_any part key (view value.now)) places.old.items places.new.items) }
 {
     add_unless(places, is_array_if_any(value, key), part.at(key))
 }
 
-fn want_kind(places: &mut Vec<Place>, part: Part, value: &Value) -> Result<(), AllocError>
+fn want_kind(places: &mut Places, part: Part, value: &Value) -> Added
     ensures { OnOk result
         (Adds (wants_kind part (view value.now)) places.old.items places.new.items) }
 {
@@ -74,7 +58,7 @@ fn want_kind(places: &mut Vec<Place>, part: Part, value: &Value) -> Result<(), A
     add_unless(places, passes, part.at(Key::Kind))
 }
 
-fn want_direction(places: &mut Vec<Place>, part: Part, value: &Value) -> Result<(), AllocError>
+fn want_direction(places: &mut Places, part: Part, value: &Value) -> Added
     ensures { OnOk result
         (Adds (wants_direction part (view value.now)) places.old.items places.new.items) }
 {
@@ -82,19 +66,15 @@ fn want_direction(places: &mut Vec<Place>, part: Part, value: &Value) -> Result<
     add_unless(places, passes, part.at(Key::Direction))
 }
 
-fn is_known(keys: &[Key], word: &str) -> bool
+/// Whether a word is one of these keys.
+pub fn is_known(keys: &[Key], word: &str) -> bool
     ensures { result ≡ is_known keys.now word.now }
 {
     keys.iter().any(|known| known.word() == word)
 }
 
 /// Adds the keys of a table that are none of these.
-fn add_unknown_keys(
-    places: &mut Vec<Place>,
-    part: Part,
-    keys: &[Key],
-    table: &Table,
-) -> Result<(), AllocError>
+fn add_unknown_keys(places: &mut Places, part: Part, keys: &[Key], table: &Table) -> Added
     ensures { OnOk result
         (Adds (unknown_keys part keys.now (table_view table.now))
         places.old.items places.new.items) }
@@ -106,7 +86,7 @@ fn add_unknown_keys(
 }
 
 /// The keys that a channel takes.
-fn channel_keys(value: &Value) -> &'static [Key]
+pub fn channel_keys(value: &Value) -> &'static [Key]
     ensures { result.now ≡ channel_keys (view value.now) }
 {
     if is_sampling(value) {
@@ -117,7 +97,7 @@ fn channel_keys(value: &Value) -> &'static [Key]
 }
 
 /// The keys that a port takes.
-fn port_keys(value: &Value) -> &'static [Key]
+pub fn port_keys(value: &Value) -> &'static [Key]
     ensures { result.now ≡ port_keys (view value.now) }
 {
     if is_queuing(value) {
@@ -140,7 +120,7 @@ impl Finder<Value> for ChannelForm {
     ghost find = { λ _ c value. wrong_channel c (view value) };
 
     #[tactic(auto, unfolding(crate::specs::Form::wrong_channel))]
-    fn add(&self, places: &mut Vec<Place>, index: usize, entry: &Value) -> Result<(), AllocError> {
+    fn add(&self, places: &mut Places, index: usize, entry: &Value) -> Added {
         let part = Part::Channel { channel: index };
         let Some(table) = entry.as_table() else {
             return add_unless(places, false, part.whole());
@@ -164,7 +144,7 @@ impl Finder<Value> for PortForm {
     ghost find = { λ form i value. wrong_port form.partition i (view value) };
 
     #[tactic(auto, unfolding(crate::specs::Form::wrong_port))]
-    fn add(&self, places: &mut Vec<Place>, index: usize, entry: &Value) -> Result<(), AllocError> {
+    fn add(&self, places: &mut Places, index: usize, entry: &Value) -> Added {
         let part = Part::Port {
             partition: self.partition,
             port: index,
@@ -190,7 +170,7 @@ impl Finder<Value> for PartitionForm {
     ghost find = { λ _ p value. wrong_partition p (view value) };
 
     #[tactic(auto, unfolding(crate::specs::Form::wrong_partition))]
-    fn add(&self, places: &mut Vec<Place>, index: usize, entry: &Value) -> Result<(), AllocError> {
+    fn add(&self, places: &mut Places, index: usize, entry: &Value) -> Added {
         add_wrong_partition_keys(places, index, entry)?;
         add_each(
             places,
@@ -200,11 +180,7 @@ impl Finder<Value> for PartitionForm {
     }
 }
 
-fn add_wrong_partition_keys(
-    places: &mut Vec<Place>,
-    index: usize,
-    entry: &Value,
-) -> Result<(), AllocError>
+fn add_wrong_partition_keys(places: &mut Places, index: usize, entry: &Value) -> Added
     ensures { OnOk result
         (Adds (wrong_partition_keys index (view entry.now)) places.old.items places.new.items) }
 {
@@ -217,7 +193,7 @@ fn add_wrong_partition_keys(
     add_unknown_keys(places, part, &[Key::Name, Key::Port], table)
 }
 
-fn add_wrong_document_keys(places: &mut Vec<Place>, document: &Value) -> Result<(), AllocError>
+fn add_wrong_document_keys(places: &mut Places, document: &Value) -> Added
     ensures { OnOk result
         (Adds (wrong_document_keys (view document.now)) places.old.items places.new.items) }
 {
@@ -232,7 +208,7 @@ fn add_wrong_document_keys(places: &mut Vec<Place>, document: &Value) -> Result<
 
 /// Adds the places at which the form of a document is wrong.
 #[tactic(auto, unfolding(crate::specs::Form::wrong_form))]
-pub fn add_wrong_form(places: &mut Vec<Place>, document: &Value) -> Result<(), AllocError>
+pub fn add_wrong_form(places: &mut Places, document: &Value) -> Added
     ensures { OnOk result
         (Adds (wrong_form (view document.now)) places.old.items places.new.items) }
 {

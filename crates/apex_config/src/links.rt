@@ -5,10 +5,10 @@ ghost use Rattle.apex_config.specs.Passes.{channel_of_port, is_of_kind, at_ports
 
 use crate::channel_index::ChannelIndex;
 use crate::config_text::{PartitionText, PortText};
+use crate::found::{Added, Places};
 use crate::key::Key;
-use crate::place::{Place, Spot};
+use crate::place::Spot;
 use crate::ports::{PortTest, add_ports_unless};
-use std::alloc::AllocError;
 
 #[derive(Drop)]
 struct NamesChannel<'t, 'a> {
@@ -25,10 +25,10 @@ impl<'t, 'a> PortTest<PortText<'a>> for NamesChannel<'t, 'a> {
 
 /// Adds the ports that name no channel.
 pub fn add_unknown_channels<'a>(
-    places: &mut Vec<Place>,
+    places: &mut Places,
     channels: &ChannelIndex<'_, 'a>,
     partitions: &[PartitionText<'a>],
-) -> Result<(), AllocError>
+) -> Added
     ensures { OnOk result (Adds
         (at_ports (unknown_channel channels.now) partitions.now)
         places.old.items places.new.items) }
@@ -56,10 +56,10 @@ impl<'t, 'a> PortTest<PortText<'a>> for IsOfKind<'t, 'a> {
 
 /// Adds the ports of another kind than the channel that they name.
 pub fn add_other_kinds<'a>(
-    places: &mut Vec<Place>,
+    places: &mut Places,
     channels: &ChannelIndex<'_, 'a>,
     partitions: &[PartitionText<'a>],
-) -> Result<(), AllocError>
+) -> Added
     ensures { OnOk result (Adds
         (at_ports (other_kind channels.now) partitions.now)
         places.old.items places.new.items) }

@@ -4,11 +4,11 @@ ghost use Rattle.apex_config.specs.Places.{Adds};
 ghost use Rattle.apex_config.specs.Passes.{is_name, bad_port_name, bad_partition_names, bad_channel_name, bad_names, part_in, repeated, repeated_port_names, repeated_names};
 
 use crate::config_text::{ChannelText, ConfigText, PartitionText, PortText};
-use crate::found::{Finder, add_each, add_unless};
+use crate::found::{Added, Finder, Places, add_each, add_unless};
 use crate::key::Key;
-use crate::place::{Part, Place};
+use crate::place::Part;
 use apex_types::Name;
-use std::alloc::{AllocError, Global};
+use std::alloc::Global;
 use std::collections::BTreeSet;
 
 fn is_name(text: &str) -> bool
@@ -25,12 +25,7 @@ struct PortNames {
 impl<'a> Finder<PortText<'a>> for PortNames {
     ghost find = { λ names. bad_port_name names.partition };
 
-    fn add(
-        &self,
-        places: &mut Vec<Place>,
-        index: usize,
-        entry: &PortText<'a>,
-    ) -> Result<(), AllocError> {
+    fn add(&self, places: &mut Places, index: usize, entry: &PortText<'a>) -> Added {
         let part = Part::Port {
             partition: self.partition,
             port: index,
@@ -45,12 +40,7 @@ struct PartitionNames;
 impl<'a> Finder<PartitionText<'a>> for PartitionNames {
     ghost find = { λ _. bad_partition_names };
 
-    fn add(
-        &self,
-        places: &mut Vec<Place>,
-        index: usize,
-        entry: &PartitionText<'a>,
-    ) -> Result<(), AllocError> {
+    fn add(&self, places: &mut Places, index: usize, entry: &PartitionText<'a>) -> Added {
         let part = Part::Partition { partition: index };
         add_unless(places, is_name(entry.name), part.at(Key::Name))?;
         add_each(
@@ -67,12 +57,7 @@ struct ChannelNames;
 impl<'a> Finder<ChannelText<'a>> for ChannelNames {
     ghost find = { λ _. bad_channel_name };
 
-    fn add(
-        &self,
-        places: &mut Vec<Place>,
-        index: usize,
-        entry: &ChannelText<'a>,
-    ) -> Result<(), AllocError> {
+    fn add(&self, places: &mut Places, index: usize, entry: &ChannelText<'a>) -> Added {
         let part = Part::Channel { channel: index };
         add_unless(places, is_name(entry.name), part.at(Key::Name))
     }
@@ -80,7 +65,7 @@ impl<'a> Finder<ChannelText<'a>> for ChannelNames {
 
 /// Adds the places whose name is no name.
 #[tactic(auto, unfolding(crate::specs::Passes::bad_names))]
-pub fn add_bad_names(places: &mut Vec<Place>, config: &ConfigText) -> Result<(), AllocError>
+pub fn add_bad_names(places: &mut Places, config: &ConfigText) -> Added
     ensures { OnOk result (Adds (bad_names config.now) places.old.items places.new.items) }
 {
     add_each(places, config.partitions.as_slice(), &PartitionNames)?;
@@ -146,12 +131,7 @@ impl Entries {
 }
 
 /// Adds the entries with the name of one before them.
-fn add_repeated<T: Named>(
-    alloc: Global,
-    places: &mut Vec<Place>,
-    list: Entries,
-    entries: &[T],
-) -> Result<(), AllocError>
+fn add_repeated<T: Named>(alloc: Global, places: &mut Places, list: Entries, entries: &[T]) -> Added
     ensures { OnOk result (Adds
         (repeated (part_in list) (map T.name_of entries.now))
         places.old.items places.new.items) }
@@ -172,12 +152,7 @@ struct RepeatedPortNames {
 impl<'a> Finder<PartitionText<'a>> for RepeatedPortNames {
     ghost find = { λ _. repeated_port_names };
 
-    fn add(
-        &self,
-        places: &mut Vec<Place>,
-        index: usize,
-        entry: &PartitionText<'a>,
-    ) -> Result<(), AllocError> {
+    fn add(&self, places: &mut Places, index: usize, entry: &PartitionText<'a>) -> Added {
         let list = Entries::PortsOf { partition: index };
         add_repeated(self.alloc, places, list, entry.ports.as_slice())
     }
@@ -185,11 +160,7 @@ impl<'a> Finder<PartitionText<'a>> for RepeatedPortNames {
 
 /// Adds the places whose name stood before.
 #[tactic(auto, unfolding(crate::specs::Passes::repeated_names))]
-pub fn add_repeated_names(
-    alloc: Global,
-    places: &mut Vec<Place>,
-    config: &ConfigText,
-) -> Result<(), AllocError>
+pub fn add_repeated_names(alloc: Global, places: &mut Places, config: &ConfigText) -> Added
     ensures { OnOk result (Adds (repeated_names config.now) places.old.items places.new.items) }
 {
     add_repeated(

@@ -1,18 +1,17 @@
 //! The passes over numbers and counts: each is within its limits.
 ghost use Rattle.std.specs.Prelude.{◌≡◌, OnOk};
-ghost use Rattle.apex_config.specs.declared.limits.TheConstants.{REFRESH_LIMIT};
+ghost use Rattle.apex_module.specs.declared.limits.TheConstants.{REFRESH_LIMIT};
 ghost use Rattle.apex_config.specs.Places.{Adds};
 ghost use Rattle.apex_config.specs.Passes.{is_from_one_to, is_from_one_to_if_any, bad_channel_numbers, bad_numbers, too_many_ports, bad_counts};
 
 use crate::config_text::{ChannelText, ConfigText, PartitionText, PortText};
-use crate::found::{Finder, add_each, add_unless};
+use crate::found::{Added, Finder, Places, add_each, add_unless};
 use crate::key::Key;
-use crate::limits::{
+use crate::place::{Part, Spot};
+use crate::ports::{PortTest, add_ports_unless};
+use apex_module::{
     CHANNEL_LIMIT, DEPTH_LIMIT, PARTITION_LIMIT, PORT_LIMIT, REFRESH_LIMIT, SIZE_LIMIT,
 };
-use crate::place::{Part, Place, Spot};
-use crate::ports::{PortTest, add_ports_unless};
-use std::alloc::AllocError;
 
 fn is_from_one_to(limit: u64, number: i64) -> bool
     ensures { result ≡ is_from_one_to limit number }
@@ -46,12 +45,7 @@ struct ChannelNumbers;
 impl<'a> Finder<ChannelText<'a>> for ChannelNumbers {
     ghost find = { λ _. bad_channel_numbers };
 
-    fn add(
-        &self,
-        places: &mut Vec<Place>,
-        index: usize,
-        entry: &ChannelText<'a>,
-    ) -> Result<(), AllocError> {
+    fn add(&self, places: &mut Places, index: usize, entry: &ChannelText<'a>) -> Added {
         let part = Part::Channel { channel: index };
         let has_size = is_from_one_to(SIZE_LIMIT as u64, entry.size);
         add_unless(places, has_size, part.at(Key::Size))?;
@@ -62,7 +56,7 @@ impl<'a> Finder<ChannelText<'a>> for ChannelNumbers {
 
 /// Adds the places whose number is out of its limits.
 #[tactic(auto, unfolding(crate::specs::Passes::bad_numbers))]
-pub fn add_bad_numbers(places: &mut Vec<Place>, config: &ConfigText) -> Result<(), AllocError>
+pub fn add_bad_numbers(places: &mut Places, config: &ConfigText) -> Added
     ensures { OnOk result (Adds (bad_numbers config.now) places.old.items places.new.items) }
 {
     let spot = Spot::At { key: Key::Refresh };
@@ -76,12 +70,7 @@ struct PortCounts;
 impl<'a> Finder<PartitionText<'a>> for PortCounts {
     ghost find = { λ _. too_many_ports };
 
-    fn add(
-        &self,
-        places: &mut Vec<Place>,
-        index: usize,
-        entry: &PartitionText<'a>,
-    ) -> Result<(), AllocError> {
+    fn add(&self, places: &mut Places, index: usize, entry: &PartitionText<'a>) -> Added {
         let part = Part::Partition { partition: index };
         add_unless(places, entry.ports.len() <= PORT_LIMIT, part.at(Key::Port))
     }
@@ -89,7 +78,7 @@ impl<'a> Finder<PartitionText<'a>> for PortCounts {
 
 /// Adds the places with too few or too many entries.
 #[tactic(auto, unfolding(crate::specs::Passes::bad_counts))]
-pub fn add_bad_counts(places: &mut Vec<Place>, config: &ConfigText) -> Result<(), AllocError>
+pub fn add_bad_counts(places: &mut Places, config: &ConfigText) -> Added
     ensures { OnOk result (Adds (bad_counts config.now) places.old.items places.new.items) }
 {
     let count = config.partitions.len();

@@ -6,12 +6,12 @@ ghost use Rattle.apex_config.specs.Meaning.{first_refusal};
 use crate::channel_index::ChannelIndex;
 use crate::config_text::ConfigText;
 use crate::ends::add_wrong_ends;
-use crate::fault::ConfigFault;
 use crate::links::{add_other_kinds, add_unknown_channels};
 use crate::names::{add_bad_names, add_repeated_names};
 use crate::numbers::{add_bad_counts, add_bad_numbers};
 use crate::place::Place;
 use crate::refusal::Refusal;
+use apex_module::ConfigFault;
 use apex_types::Direction;
 use std::alloc::{AllocError, Global};
 

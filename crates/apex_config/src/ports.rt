@@ -4,9 +4,8 @@ ghost use Rattle.apex_config.specs.Places.{Adds, unless, at_each};
 ghost use Rattle.apex_config.specs.Passes.{at_ports, spot_of_port};
 
 use crate::config_text::{PartitionText, PortText};
-use crate::found::{Finder, add_each, add_unless};
+use crate::found::{Added, Finder, Places, add_each, add_unless};
 use crate::place::{Part, Place, Spot};
-use std::alloc::AllocError;
 
 /// A test of a port.
 pub trait PortTest<X> {
@@ -29,12 +28,7 @@ impl<'t, 'a, T: PortTest<PortText<'a>>> Finder<PortText<'a>> for PortsOf<'t, T> 
     ghost find = { λ ports i port.
         unless (T.passes ports.test.now port) (spot_of_port ports.spot ports.partition i) };
 
-    fn add(
-        &self,
-        places: &mut Vec<Place>,
-        index: usize,
-        entry: &PortText<'a>,
-    ) -> Result<(), AllocError> {
+    fn add(&self, places: &mut Places, index: usize, entry: &PortText<'a>) -> Added {
         let part = Part::Port {
             partition: self.partition,
             port: index,
@@ -55,12 +49,7 @@ impl<'t, 'a, T: PortTest<PortText<'a>>> Finder<PartitionText<'a>> for AllPorts<'
         (λ i port. unless (T.passes ports.test.now port) (spot_of_port ports.spot p i))
         0 partition.ports };
 
-    fn add(
-        &self,
-        places: &mut Vec<Place>,
-        index: usize,
-        entry: &PartitionText<'a>,
-    ) -> Result<(), AllocError> {
+    fn add(&self, places: &mut Places, index: usize, entry: &PartitionText<'a>) -> Added {
         let ports = PortsOf {
             partition: index,
             spot: self.spot,
@@ -72,11 +61,11 @@ impl<'t, 'a, T: PortTest<PortText<'a>>> Finder<PartitionText<'a>> for AllPorts<'
 
 /// Adds a spot of each port that fails a test.
 pub fn add_ports_unless<'a, T: PortTest<PortText<'a>>>(
-    places: &mut Vec<Place>,
+    places: &mut Places,
     partitions: &[PartitionText<'a>],
     spot: Spot,
     test: &T,
-) -> Result<(), AllocError>
+) -> Added
     ensures { OnOk result (Adds
         (at_ports (λ p i port. unless (T.passes test.now port) (spot_of_port spot p i))
         partitions.now)

@@ -1,6 +1,6 @@
 //! Why the text of a configuration is refused, and where.
-use crate::fault::ConfigFault;
 use crate::place::Place;
+use apex_module::ConfigFault;
 use std::marker::Model;
 
 /// Why a text is refused: the fault of the first pass that finds one, and all places that this pass finds. There is no

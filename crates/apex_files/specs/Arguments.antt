@@ -2,7 +2,7 @@
 use Rattle.std.specs.Prelude.{◌≡◌, ℕ, ◌==◌, Bool, false, if◌then◌else◌, List, [], ◌∷◌, length, Option, Some, None, IfSome, All}
 use Rattle.std.specs.List.{slice_get, filter, list_any, before_first, after_first}
 use Rattle.std.specs.Borrow.{Bor}
-use Rattle.apex_config.specs.Configuration.{Configuration, partition_named}
+use Rattle.apex_module.specs.Configuration.{Configuration, partition_named}
 use Rattle.apex_files.specs.Reading.{FileBytes}
 
 -- ---- one argument

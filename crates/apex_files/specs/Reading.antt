@@ -1,7 +1,7 @@
 -- What a file at a path gives, where its bytes are known: the bytes, the configuration that they are, or a refusal.
 use Rattle.std.specs.Prelude.{◌≡◌, ℕ, List, Option, Result, Ok, Err, IfSome}
 use Rattle.std.specs.Global.{Vec}
-use Rattle.apex_config.specs.Configuration.{Configuration}
+use Rattle.apex_module.specs.Configuration.{Configuration}
 use Rattle.apex_config.specs.Meaning.{config_of}
 use Rattle.apex_texts.specs.declared.fault.Fault.TheVariants as faults
 use Rattle.apex_files.specs.Files.{IsFaultOf}

@@ -2,7 +2,7 @@
 use Rattle.std.specs.Prelude.{ℕ, List, ◌++◌, codes}
 use Rattle.apex_command_line.specs.declared.WordsFault.{WordsFault}
 use Rattle.apex_command_line.specs.declared.WordsFault.TheVariants as words
-use Rattle.apex_config.specs.declared.fault.ConfigFault.TheVariants as config_faults
+use Rattle.apex_module.specs.declared.fault.ConfigFault.TheVariants as config_faults
 use Rattle.apex_texts.specs.declared.fault.Fault.TheVariants as faults
 use Rattle.apex_texts.specs.declared.fault.TraceFault.TheVariants as trace_faults
 use Rattle.apex_texts.specs.FaultLine.{fault_line}

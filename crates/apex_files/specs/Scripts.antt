@@ -5,7 +5,7 @@ use Rattle.std.specs.Borrow.{Bor}
 use Rattle.std.specs.Global.{Vec}
 use Rattle.apex_types.specs.declared.call.Call.{Call}
 use Rattle.apex_types.specs.declared.moment.Moment.{Moment}
-use Rattle.apex_config.specs.Configuration.{Configuration, partition_name_of}
+use Rattle.apex_module.specs.Configuration.{Configuration, partition_name_of}
 use Rattle.apex_texts.specs.Script.{IsScriptRead, script_of}
 use Rattle.apex_texts.specs.declared.fault.Fault.TheVariants as faults
 use Rattle.apex_files.specs.Arguments.{Arguments, AreGiven, arguments_for, partition_in, path_in}

@@ -8,7 +8,7 @@ use crate::files::Opener;
 use crate::packed_scripts::read_packed_script;
 use crate::reading::read_file;
 use crate::refusal::Refusal;
-use apex_config::Config;
+use apex_module::Config;
 use apex_texts::{Fault, TraceFault};
 use apex_threads::PackedScript;
 use std::alloc::{AllocError, Global};

@@ -4,7 +4,8 @@ ghost use Rattle.apex_files.specs.Reading.{IsFileRead, IsConfigRead};
 
 use crate::files::{FileFault, Opener, read_path};
 use crate::refusal::Refusal;
-use apex_config::Config;
+use apex_config::ReadConfig;
+use apex_module::Config;
 use apex_texts::Fault;
 use std::alloc::Global;
 

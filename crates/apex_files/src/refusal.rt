@@ -6,7 +6,7 @@ ghost use Rattle.apex_files.specs.Refusal.{status_of, words_refusal, refusal_lin
 
 use crate::files::Obstacle;
 use apex_command_line::WordsFault;
-use apex_config::ConfigFault;
+use apex_module::ConfigFault;
 use apex_texts::{Fault, TraceFault};
 use std::alloc::AllocError;
 use std::error::Error;

@@ -1,5 +1,5 @@
 -- Items in each other's place.
-use Rattle.std.proofs.Common.{◌≡◌, ◌≢◌, ⊎_elim, ℕ, zero, suc, ◌+◌, ◌<◌, ◌≤◌, ◌&&◌, ltb, Bool, true, false, cond, List, [], ◌∷◌, ◌++◌, length, set, take, drop, Option, Some, None, refl, sym, ap, ◌∙◌, subst, arith}
+use Rattle.std.proofs.Common.{◌≡◌, ◌≢◌, ⊎_elim, ℕ, zero, suc, ◌+◌, ◌<◌, ◌≤◌, ◌&&◌, ltb, Bool, true, false, cond, List, [], ◌∷◌, length, set, Option, Some, None, refl, sym, ap, ◌∙◌, subst, arith}
 use Rattle.std.specs.Prelude.{replicate, IfOk, Result, Ok, Err}
 use Rattle.std.specs.List.{slice_get}
 use Rattle.std.specs.Option.{unwrap_or}
@@ -7,25 +7,12 @@ use Rattle.std.proofs.lemmas.Bool.{cases_eq, cases_lt}
 use Rattle.std.proofs.lemmas.Bool.Decides.{nat_tests}
 use Rattle.std.proofs.lemmas.List.{length-set}
 use Rattle.std.proofs.lemmas.Option.{slice_get_past}
+use Rattle.apex_log_orders.proofs.Counts.{set_here, set_elsewhere}
 use Rattle.apex_groups.specs.Groups.{AreExchanged, IsPart, list_of}
 
 -- those inside below a number
 abbrev pub below : ℕ → (ℕ → Bool) → ℕ → Bool
 below count inside p = ltb p count && inside p
-
--- ---- places of lists
-
-at_set : {X : Type 0} (xs : List X) (i : ℕ) (x : X) → i < length xs → slice_get (set xs i x) i ≡ Some x
-at_set [] i x within = absurd (omega arith)
-at_set (y ∷ xs) zero x within = refl
-at_set (y ∷ xs) (suc i) x within = at_set xs i x (omega arith)
-
-beside_set : {X : Type 0} (xs : List X) (i p : ℕ) (x : X) → p ≢ i → slice_get (set xs i x) p ≡ slice_get xs p
-beside_set [] i p x apart = refl
-beside_set (y ∷ xs) zero zero x apart = absurd (apart refl)
-beside_set (y ∷ xs) zero (suc p) x apart = refl
-beside_set (y ∷ xs) (suc i) zero x apart = refl
-beside_set (y ∷ xs) (suc i) (suc p) x apart = beside_set xs i p x (λ same. apart (ap suc same))
 
 pub same_items : {X : Type 0} (xs ys : List X) → ((p : ℕ) → slice_get xs p ≡ slice_get ys p) → xs ≡ ys
 same_items [] [] each = refl
@@ -82,8 +69,8 @@ module _ {X : Type 0} (inside : ℕ → Bool) (xs other : List X) where
         put : (p : ℕ) → slice_get (set now i x) p ≡ one_of p (below (i + 1) inside p)
         put p = ⊎_elim
             (λ (same : p ≡ i). subst (λ (n : ℕ). slice_get (set now i x) n ≡ one_of n (below (i + 1) inside n)) (sym same)
-            (at_set now i x within ∙ (value ∙ sym (ap (one_of i) (below_last i inside ∙ here)))))
-            (λ (apart : p ≡ i → ⊥). beside_set now i p x apart ∙ (is.each p ∙ sym (ap (one_of p) (below_more i inside p apart))))
+            (set_here now i x within ∙ (value ∙ sym (ap (one_of i) (below_last i inside ∙ here)))))
+            (λ (apart : p ≡ i → ⊥). set_elsewhere now i x p apart ∙ (is.each p ∙ sym (ap (one_of p) (below_more i inside p apart))))
             (cases_eq p i)
 
     -- what was not exchanged yet
@@ -140,11 +127,3 @@ module _ {X : Type 0} (inside : ℕ → Bool) (lists part : List (List X)) (is :
 pub of_ok : {X E : Type 0} (P Q : X → Type 0) (result : Result X E) → ((x : X) → P x → Q x) → IfOk result P → IfOk result Q
 of_ok P Q (Ok x) goes holds = goes x holds
 of_ok P Q (Err e) goes holds = holds
-
--- a list put back whole
-take_front : {X : Type 0} (xs ys : List X) → take (length xs) (xs ++ ys) ≡ xs
-take_front [] ys = refl
-take_front (x ∷ xs) ys = ap (λ zs. x ∷ zs) (take_front xs ys)
-
-pub itself_again : {X : Type 0} (n : ℕ) (xs : List X) → n ≡ length xs → take n (xs ++ drop (length xs) xs) ≡ xs
-itself_again n xs is = ap (λ (m : ℕ). take m (xs ++ drop (length xs) xs)) is ∙ take_front xs (drop (length xs) xs)

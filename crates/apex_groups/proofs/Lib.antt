@@ -1,3 +1,10 @@
+pub mod ChannelLemmas
 pub mod Exchanged
 pub mod GroupLemmas
+pub mod GroupSteps
 pub mod Inside
+pub mod Joined
+pub mod Lists
+pub mod LogGroupLemmas
+pub mod PartLemmas
+pub mod WholeLemmas

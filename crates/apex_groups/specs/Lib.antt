@@ -1,1 +1,4 @@
+pub mod Counts
 pub mod Groups
+pub mod LogParts
+pub mod ScriptParts

@@ -2,7 +2,7 @@
 ghost use Rattle.std.specs.Prelude.{◌≡◌, ◌≢◌, ◌<◌, ℕ, length, IsTrue};
 ghost use Rattle.apex_groups.specs.Groups.{AreApart, HasItsChannels, HasNone, group_of};
 
-use apex_config::Config;
+use apex_module::Config;
 use std::alloc::{AllocError, Global};
 
 /// The number of the group that each partition is in, and of the group that has each channel.

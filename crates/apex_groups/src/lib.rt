@@ -1,8 +1,17 @@
-//! Groups of partitions that share no channel with the others.
+//! Groups of partitions that share no channel with the others, and searches of orders that take each group by itself.
 #![tactic(auto)]
 
+mod ends;
 pub mod exchanging;
 pub mod groups;
+mod log_orders;
+mod log_parts;
+pub mod outcomes;
+mod script_parts;
+pub mod witness;
 
 pub use crate::exchanging::exchange;
 pub use crate::groups::Groups;
+pub use crate::log_orders::find_order_apart;
+pub use crate::outcomes::{GroupCounts, OutcomesApart, all_outcomes_apart};
+pub use crate::witness::order_giving_apart;

@@ -1,15 +1,17 @@
 -- What an entry of a log does to the channels.
-use Rattle.std.proofs.Common.{◌≡◌, ◌≢◌, ℕ, ◌==◌, ◌≤◌, ◌^◌, ◌-◌, Bool, true, false, ◌&&◌, ◌||◌, if◌then◌else◌, List, [], ◌∷◌, ◌++◌, length, set, Some, None, refl, sym, ap, ◌∙◌, arith, append-nil}
+use Rattle.std.proofs.Common.{◌≡◌, ◌≢◌, ℕ, ◌==◌, ◌≤◌, ◌^◌, ◌-◌, ◌+◌, Bool, true, false, ◌&&◌, ◌||◌, if◌then◌else◌, List, [], ◌∷◌, ◌++◌, length, set, position, Option, Some, None, refl, sym, ap, ◌∙◌, arith, append-nil}
 use Rattle.std.specs.Option.{option_to_list}
 use Rattle.std.specs.List.{slice_get}
+use Rattle.std.specs.Str.{bytes_eq}
 use Rattle.std.proofs.lemmas.Bool.Decides.{nat_tests}
+use Rattle.std.proofs.lemmas.List.{length-drop}
 use Rattle.std.proofs.lemmas.List.Sums.{fold-append}
 use Rattle.apex_types.specs.declared.call.Call.{Call}
 use Rattle.apex_types.specs.declared.call.Call.TheVariants.{SendQueuing, ReceiveQueuing, ClearQueuing, WriteSampling}
 use Rattle.apex_types.specs.declared.moment.Moment.{Moment}
 use Rattle.apex_types.specs.declared.reply.Reply.{Reply}
 use Rattle.apex_types.specs.declared.reply.Reply.TheVariants.{Code}
-use Rattle.apex_config.specs.Configuration.{Configuration, port_of}
+use Rattle.apex_module.specs.Configuration.{Configuration, port_of}
 use Rattle.apex_ports.specs.declared.history.Entry.{Entry}
 use Rattle.apex_ports.specs.History.{History, entry_of}
 use Rattle.apex_ports.specs.Kept.{EachAt}
@@ -19,7 +21,7 @@ use Rattle.apex_ports.specs.Channels.{message_sent, message_accepted, message_in
 use Rattle.apex_ports.proofs.Stays.{none_or_none, and_false, sample_stays, sample_changes, each_at_set}
 use Rattle.apex_judge.specs.declared.channel.ChannelState.{ChannelState}
 use Rattle.apex_judge.specs.Kept.{IsChannelShown, ChannelsStay}
-use Rattle.apex_judge.specs.Waiting.{is_code_not_available, empties, left_after, waiting_after, waiting_shown}
+use Rattle.apex_judge.specs.Waiting.{is_code_not_available, empties, behind, left_after, waiting_after, waiting_shown}
 
 pub waiting_shown-append : (config : Configuration) (c : ℕ) (h : History) (e : Entry) → waiting_shown config c (h ++ e ∷ []) ≡ waiting_after config c (waiting_shown config c h) e
 waiting_shown-append config c h e = fold-append (λ waiting entry. waiting_after config c waiting entry) [] h (e ∷ [])
@@ -54,14 +56,18 @@ module _ {A : Type 0} (config : Configuration) (h : History) (e : Entry) where
   one_changes channels i new each left mine =
       each_at_set (IsChannelShown config h) (IsChannelShown config (h ++ e ∷ [])) channels i new each (λ c state apart was. channel_stays c state was (left c apart)) mine
 
+few_behind : (at : Option ℕ) (waiting : List (List ℕ)) → length (behind at waiting) ≤ length waiting
+few_behind None waiting = omega arith
+few_behind (Some index) waiting = let left = length-drop (index + 1) waiting in omega (arith, left)
+
 -- a channel that shows what it showed
 pub one_same : {A : Type 0} (config : Configuration) (channels : List (ChannelState A)) (i : ℕ) (old new : ChannelState A) → slice_get channels i ≡ Some old
-    → new.waiting.items ≡ old.waiting.items → new.sample ≡ old.sample → ChannelsStay config channels (set channels i new)
+    → new.waiting ≡ old.waiting → new.sample ≡ old.sample → ChannelsStay config channels (set channels i new)
 one_same config channels i old new here waiting sample log each =
     let was = each i old here in
     each_at_set (IsChannelShown config log) (IsChannelShown config log) channels i new each (λ c state apart was. was) (record {
       waiting = waiting ∙ was.waiting;
-      few = let few = was.few in let count : length new.waiting.items ≡ length old.waiting.items = ap (λ (xs : List (List ℕ)). length xs) waiting in omega (arith, count, few);
+      few = let few = was.few in let count : length new.waiting ≡ length old.waiting = ap (λ (xs : List (List ℕ)). length xs) waiting in omega (arith, count, few);
       sample = sample ∙ was.sample;
     })
 
@@ -195,7 +201,7 @@ module _ (config : Configuration) (c p : ℕ) (at : Moment) (id : ℕ) (reply : 
 
 module _ {A : Type 0} (config : Configuration) (p : ℕ) (at : Moment) (id : ℕ) (reply : Reply) (channels : List (ChannelState A)) (i : ℕ) (old new : ChannelState A) (here : slice_get channels i ≡ Some old) (h : History) (each : EachAt (IsChannelShown config h) channels) where
   pub sent_notes : (m : List ℕ) → ((c : ℕ) → is_source_of c (port_of config p id) ≡ (i == c)) → is_code_no_error reply ≡ true
-      → new.waiting.items ≡ old.waiting.items ++ m ∷ [] → length new.waiting.items ≤ 2 ^ 32 - 1 → new.sample ≡ old.sample
+      → new.waiting ≡ old.waiting ++ m ∷ [] → length new.waiting ≤ 2 ^ 32 - 1 → new.sample ≡ old.sample
       → EachAt (IsChannelShown config (h ++ entry_of p at (SendQueuing id m) reply ∷ [])) (set channels i new)
   sent_notes m source ok waiting few sample =
       let was = each i old here in
@@ -207,13 +213,13 @@ module _ {A : Type 0} (config : Configuration) (p : ℕ) (at : Moment) (id : ℕ
       })
 
   pub written_notes : (m : List ℕ) → ((c : ℕ) → is_source_of c (port_of config p id) ≡ (i == c)) → is_code_no_error reply ≡ true
-      → new.waiting.items ≡ old.waiting.items → new.sample ≡ Some (record { message = m; at = at })
+      → new.waiting ≡ old.waiting → new.sample ≡ Some (record { message = m; at = at })
       → EachAt (IsChannelShown config (h ++ entry_of p at (WriteSampling id m) reply ∷ [])) (set channels i new)
   written_notes m source ok waiting sample =
       let was = each i old here in
       let few = was.few in
       let e = entry_of p at (WriteSampling id m) reply in
-      let count : length new.waiting.items ≡ length old.waiting.items = ap (λ (xs : List (List ℕ)). length xs) waiting in
+      let count : length new.waiting ≡ length old.waiting = ap (λ (xs : List (List ℕ)). length xs) waiting in
       let here_source = source i ∙ same_number i in
       one_changes config h e channels i new each
       (λ c apart. write_elsewhere config c p at id m reply (source c ∙ other_number i c apart)) (record {
@@ -223,24 +229,26 @@ module _ {A : Type 0} (config : Configuration) (p : ℕ) (at : Moment) (id : ℕ
       })
 
   pub received_notes : (m : List ℕ) → ((c : ℕ) → is_destination_of c (port_of config p id) ≡ (i == c)) → message_in reply ≡ Some m
-      → new.waiting.items ≡ left_after (Some m) old.waiting.items → length new.waiting.items ≤ length old.waiting.items → new.sample ≡ old.sample
+      → new.waiting ≡ left_after (Some m) old.waiting → new.sample ≡ old.sample
       → EachAt (IsChannelShown config (h ++ entry_of p at (ReceiveQueuing id) reply ∷ [])) (set channels i new)
-  received_notes m destination shown waiting fewer sample =
+  received_notes m destination shown waiting sample =
       let was = each i old here in
       let few = was.few in
+      let count : length new.waiting ≡ length (left_after (Some m) old.waiting) = ap (λ (xs : List (List ℕ)). length xs) waiting in
+      let fewer = few_behind (position (λ one. bytes_eq one m) old.waiting) old.waiting in
       one_changes config h (entry_of p at (ReceiveQueuing id) reply) channels i new each
       (λ c apart. receive_elsewhere config c p at id reply (destination c ∙ other_number i c apart)) (record {
         waiting = waiting ∙ (ap (λ (xs : List (List ℕ)). left_after (Some m) xs) was.waiting ∙ sym (waiting_shown-append config i h (entry_of p at (ReceiveQueuing id) reply) ∙ received_after config i p at id reply (waiting_shown config i h) m (destination i ∙ same_number i) shown));
-        few = omega (arith, fewer, few);
+        few = omega (arith, count, fewer, few);
         sample = sample ∙ (was.sample ∙ sym (sample_stays config h (entry_of p at (ReceiveQueuing id) reply) i (none_or_none (is_code_no_error reply))));
       })
 
   pub emptied_notes : ((c : ℕ) → is_destination_of c (port_of config p id) ≡ (i == c)) → is_code_not_available reply ≡ true
-      → new.waiting.items ≡ [] → new.sample ≡ old.sample
+      → new.waiting ≡ [] → new.sample ≡ old.sample
       → EachAt (IsChannelShown config (h ++ entry_of p at (ReceiveQueuing id) reply ∷ [])) (set channels i new)
   emptied_notes destination none waiting sample =
       let was = each i old here in
-      let count : length new.waiting.items ≡ 0 = ap (λ (xs : List (List ℕ)). length xs) waiting in
+      let count : length new.waiting ≡ 0 = ap (λ (xs : List (List ℕ)). length xs) waiting in
       one_changes config h (entry_of p at (ReceiveQueuing id) reply) channels i new each
       (λ c apart. receive_elsewhere config c p at id reply (destination c ∙ other_number i c apart)) (record {
         waiting = waiting ∙ sym (waiting_shown-append config i h (entry_of p at (ReceiveQueuing id) reply) ∙ none_after config i p at id reply (waiting_shown config i h) (destination i ∙ same_number i) none);
@@ -249,11 +257,11 @@ module _ {A : Type 0} (config : Configuration) (p : ℕ) (at : Moment) (id : ℕ
       })
 
   pub cleared_notes : ((c : ℕ) → is_destination_of c (port_of config p id) ≡ (i == c)) → is_code_no_error reply ≡ true
-      → new.waiting.items ≡ [] → new.sample ≡ old.sample
+      → new.waiting ≡ [] → new.sample ≡ old.sample
       → EachAt (IsChannelShown config (h ++ entry_of p at (ClearQueuing id) reply ∷ [])) (set channels i new)
   cleared_notes destination ok waiting sample =
       let was = each i old here in
-      let count : length new.waiting.items ≡ 0 = ap (λ (xs : List (List ℕ)). length xs) waiting in
+      let count : length new.waiting ≡ 0 = ap (λ (xs : List (List ℕ)). length xs) waiting in
       one_changes config h (entry_of p at (ClearQueuing id) reply) channels i new each
       (λ c apart. clear_elsewhere config c p at id reply (destination c ∙ other_number i c apart)) (record {
         waiting = waiting ∙ sym (waiting_shown-append config i h (entry_of p at (ClearQueuing id) reply) ∙ cleared_after config i p at id reply (waiting_shown config i h) (destination i ∙ same_number i) ok);

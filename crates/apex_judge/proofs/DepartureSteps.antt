@@ -1,7 +1,7 @@
 -- The departures of a log, entry by entry.
 use Rattle.std.proofs.Common.{◌≡◌, ℕ, zero, suc, List, [], ◌∷◌, ◌++◌, length, take, drop, Option, Some, refl, sym, ap, ◌∙◌, append_assoc}
 use Rattle.std.specs.List.{slice_get}
-use Rattle.apex_config.specs.Configuration.{Configuration}
+use Rattle.apex_module.specs.Configuration.{Configuration}
 use Rattle.apex_ports.specs.declared.history.Entry.{Entry}
 use Rattle.apex_ports.specs.History.{History}
 use Rattle.apex_judge.specs.declared.departure.Departure.{Departure}

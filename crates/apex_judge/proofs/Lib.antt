@@ -6,3 +6,5 @@ pub mod DepartureSteps
 pub mod WaitingLaws
 pub mod ReplyTests
 pub mod JudgedLogs
+mod QueueSteps
+mod TallySteps

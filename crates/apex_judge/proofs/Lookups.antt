@@ -1,6 +1,6 @@
 -- What a state that is shown says at one index.
 use Rattle.std.proofs.Common.{◌≡◌, ℕ, ◌<◌, List, length, get_or, arith}
-use Rattle.apex_config.specs.Configuration.{Configuration}
+use Rattle.apex_module.specs.Configuration.{Configuration}
 use Rattle.apex_ports.specs.History.{History}
 use Rattle.apex_ports.proofs.Lookups.{at_index}
 use Rattle.apex_judge.specs.declared.partition.PartitionState.{PartitionState}

@@ -10,8 +10,8 @@ use Rattle.apex_types.specs.declared.call.Call.TheVariants.{SendQueuing, Receive
 use Rattle.apex_types.specs.declared.moment.Moment.{Moment}
 use Rattle.apex_types.specs.declared.reply.Reply.{Reply}
 use Rattle.apex_types.specs.declared.taken.Taken.{Taken}
-use Rattle.apex_config.specs.Configuration.{Configuration, port_of}
-use Rattle.apex_config.specs.declared.port.Port.{Port}
+use Rattle.apex_module.specs.Configuration.{Configuration, port_of}
+use Rattle.apex_module.specs.declared.port.Port.{Port}
 use Rattle.apex_ports.specs.declared.history.Entry.{Entry}
 use Rattle.apex_ports.specs.declared.rows.Refusal.TheVariants.{NotDestination}
 use Rattle.apex_ports.specs.declared.rows.Row.{Row}

@@ -1,6 +1,6 @@
 -- What departures say of a log.
 use Rattle.std.specs.Prelude.{ℕ, ◌≡◌, ◌≢◌, ◌<◌, List, [], ◌∷◌, length, take, slice_get, Some}
-use Rattle.apex_config.specs.Configuration.{Configuration, IsConfiguration}
+use Rattle.apex_module.specs.Configuration.{Configuration, IsConfiguration}
 use Rattle.apex_ports.specs.declared.history.Entry.{Entry}
 use Rattle.apex_ports.specs.Channels.{waiting_on}
 use Rattle.apex_ports.specs.History.{History}

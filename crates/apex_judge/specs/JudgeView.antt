@@ -1,5 +1,5 @@
 -- A judge as plain data.
-use Rattle.apex_config.specs.Configuration.{Configuration}
+use Rattle.apex_module.specs.Configuration.{Configuration}
 use Rattle.apex_ports.specs.History.{History}
 
 -- the configuration, and the log so far

@@ -5,7 +5,7 @@ use Rattle.apex_types.specs.declared.moment.Moment.{Moment}
 use Rattle.apex_types.specs.declared.reply.Reply.{Reply}
 use Rattle.apex_types.specs.declared.validity.Validity.{Validity}
 use Rattle.apex_types.specs.declared.validity.Validity.TheVariants.{Invalid}
-use Rattle.apex_config.specs.Configuration.{Configuration, ports_of}
+use Rattle.apex_module.specs.Configuration.{Configuration, ports_of}
 use Rattle.apex_ports.specs.declared.history.Entry.{Entry}
 use Rattle.apex_ports.specs.History.{History, entry_of}
 use Rattle.apex_ports.specs.Kept.{EachAt}
@@ -37,8 +37,8 @@ pub record IsPartitionShown {A : Type 0} (config : Configuration) (log : History
   pub last : (id : ℕ) → IsIdentifier (ports_of config p) id → last_in (state_at state.ports.items id) ≡ last_validity_of p id log
 
 pub record IsChannelShown {A : Type 0} (config : Configuration) (log : History) (c : ℕ) (state : ChannelState A) : Type 0 where
-  pub waiting : state.waiting.items ≡ waiting_shown config c log
-  pub few : length state.waiting.items ≤ 2 ^ 32 - 1
+  pub waiting : state.waiting ≡ waiting_shown config c log
+  pub few : length state.waiting ≤ 2 ^ 32 - 1
   pub sample : state.sample ≡ last_write_on config c log
 
 pub record AreShown {A : Type 0} (config : Configuration) (log : History) (partitions : List (PartitionState A)) (channels : List (ChannelState A)) : Type 0 where

@@ -4,6 +4,6 @@ pub mod JudgeView
 pub mod Kept
 pub mod Past
 pub mod Replies
-pub mod Rows
 pub mod Shown
+pub mod Tally
 pub mod Waiting

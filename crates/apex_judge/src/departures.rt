@@ -5,7 +5,7 @@ ghost use Rattle.apex_judge.specs.DepartureLaws.{HasPartitions};
 
 use crate::departure::{Departure, Expected};
 use crate::judge::Judge;
-use apex_config::Config;
+use apex_module::Config;
 use apex_ports::Entry;
 use apex_types::OutOfMemory;
 use std::alloc::{AllocFailed, Allocator};

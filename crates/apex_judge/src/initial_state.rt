@@ -7,11 +7,11 @@ ghost use Rattle.apex_judge.specs.Kept.{IsPartitionShown, IsChannelShown, IsShow
 use crate::channel::ChannelState;
 use crate::partition::{PartitionState, PortState};
 use crate::past::Past;
+use crate::queue::Queue;
 use crate::state::State;
-use apex_config::Config;
+use apex_module::Config;
 use apex_types::{Mode, Validity};
 use std::alloc::{AllocError, Allocator};
-use std::collections::VecDeque;
 
 /// A port that isn't created.
 const NOT_CREATED: PortState = PortState {
@@ -75,7 +75,7 @@ fn new_channels<A: Allocator + Copy>(
     let mut channels = Vec::with_capacity(alloc, config.channels())?;
     for _ in 0..config.channels() {
         channels.push(ChannelState {
-            waiting: VecDeque::new(alloc),
+            waiting: Queue::new(alloc),
             sample: None,
         })?;
     }

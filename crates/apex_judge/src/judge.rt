@@ -3,14 +3,16 @@ ghost use Rattle.std.specs.Prelude.{◌≡◌, ◌<◌, ◌∷◌, ◌++◌, [],
 
 use crate::departure::Expected;
 use crate::state::State;
-use apex_config::Config;
+use apex_module::Config;
 use apex_ports::Row;
+use apex_ports::table::{replies, row};
 use apex_types::{Call, Moment, OutOfMemory, Reply};
 use std::alloc::{Allocator, Global};
 use std::marker::Model;
 
 /// Judges the entries of a log one after another, each after what the entries before it show, and keeps of them
-/// what later entries need: no more than the messages that wait, and what the configuration has room for.
+/// what later entries need: the messages that wait, their bytes once more where they were counted, and what the
+/// configuration has room for.
 ///
 /// To a contract it is its configuration and the log so far, which no run stores. The log may be any, lawful or not.
 #[derive(Drop)]
@@ -61,7 +63,7 @@ impl<A: Allocator> Judge<A> {
         requires { partition < length self.now.config.partitions }
         ensures { result ≡ row_shown self.now.config self.now.log partition at call.now }
     {
-        self.state.row(&self.config, partition, at, call)
+        row(&self.state, &self.config, partition, at, call)
     }
 
     /// The reply that the standard has for a call of the partition after the log.
@@ -69,8 +71,8 @@ impl<A: Allocator> Judge<A> {
         requires { partition < length self.now.config.partitions }
         ensures { result ≡ reply_shown self.now.config self.now.log partition at call.now }
     {
-        let row = self.state.row(&self.config, partition, at, call);
-        self.state.reply(&self.config, partition, row)
+        let row = row(&self.state, &self.config, partition, at, call);
+        replies::reply(&self.state, &self.config, partition, row)
     }
 
     /// Whether a logged reply is the standard's. No message is copied.
@@ -81,7 +83,7 @@ impl<A: Allocator> Judge<A> {
         ensures exact { IsTrue result ↔
             (reply.now ≡ reply_shown self.now.config self.now.log partition at call.now) }
     {
-        let row = self.state.row(&self.config, partition, at, call);
+        let row = row(&self.state, &self.config, partition, at, call);
         self.state.agrees(&self.config, partition, row, reply)
     }
 
@@ -97,15 +99,20 @@ impl<A: Allocator> Judge<A> {
         ensures { result ≡ instead_of self.now.config self.now.log
             (entry_of partition at call.now reply.now) }
     {
-        let row = self.state.row(&self.config, partition, at, call);
+        let row = row(&self.state, &self.config, partition, at, call);
         if self.state.agrees(&self.config, partition, row, reply) {
             return None;
         }
         Some(Expected {
             row,
-            reply: self.state.reply(&self.config, partition, row),
+            reply: replies::reply(&self.state, &self.config, partition, row),
         })
     }
+}
+
+impl<A: Allocator + Copy> Judge<A> {
+    ghost use Rattle.apex_ports.specs.History.{entry_of};
+    ghost use Rattle.apex_judge.specs.Departures.{instead_of};
 
     /// The log gains an entry, whatever the standard has there. Where there is no memory for its message, it is
     /// what it was.

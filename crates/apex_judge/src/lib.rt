@@ -3,22 +3,19 @@
 #![tactic(auto)]
 
 mod channel;
-mod creation;
 pub mod departure;
 pub mod departures;
 mod initial_state;
 pub mod judge;
 pub mod laws;
-mod lookup;
-mod modes;
 mod partition;
 mod past;
-mod queuing;
+mod queue;
 mod replies;
-mod sampling;
 mod state;
 mod steps;
-mod table;
+mod tally;
+mod view;
 
 pub use crate::departure::{Departure, Expected};
 pub use crate::departures::{has_partitions, judge_log};

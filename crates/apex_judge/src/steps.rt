@@ -4,7 +4,7 @@ ghost use Rattle.std.specs.Option.{option_copied};
 ghost use Rattle.apex_types.specs.declared.call.Call.{Call};
 ghost use Rattle.apex_types.specs.declared.call.Call.TheVariants as call;
 ghost use Rattle.apex_types.specs.declared.moment.Moment.{Moment};
-ghost use Rattle.apex_config.specs.Configuration.{port_of};
+ghost use Rattle.apex_module.specs.Configuration.{port_of};
 ghost use Rattle.apex_ports.specs.Channels.{message_in as message_in_reply, validity_in as validity_in_reply};
 ghost use Rattle.apex_ports.specs.History.{entry_of};
 ghost use Rattle.apex_ports.specs.Modes.{is_code_no_error};
@@ -15,7 +15,7 @@ ghost use Rattle.apex_judge.specs.Waiting.{is_code_not_available};
 use crate::channel::ChannelState;
 use crate::partition::{PartitionState, PortState};
 use crate::state::State;
-use apex_config::Config;
+use apex_module::Config;
 use apex_types::{
     Call, Direction, Message, Mode, Moment, OutOfMemory, Reply, ReturnCode, Sample, Validity,
 };
@@ -27,7 +27,7 @@ const CREATED: PortState = PortState {
     last: Validity::Invalid,
 };
 
-impl<A: Allocator> State<A> {
+impl<A: Allocator + Copy> State<A> {
     /// The log gains one entry. Where there is no memory for its message, nothing changes.
     pub(crate) fn add(
         &mut self,
@@ -107,7 +107,7 @@ impl<A: Allocator> PartitionState<A> {
 // ---- channels
 
 // All channels go along with an entry.
-fn note_channels<A: Allocator>(
+fn note_channels<A: Allocator + Copy>(
     config: &Config,
     channels: &mut [ChannelState<A>],
     partition: usize,
@@ -169,7 +169,7 @@ fn note_send<A: Allocator>(
 }
 
 // A message that was received is taken. Where none was there, none waits.
-fn note_receive<A: Allocator>(
+fn note_receive<A: Allocator + Copy>(
     config: &Config,
     channels: &mut [ChannelState<A>],
     partition: usize,

@@ -3,14 +3,14 @@ use Rattle.std.proofs.Common.{◌≡◌, ◌⊎◌, inl, inr, ⊎_elim, ℕ, zer
 use Rattle.std.specs.List.{slice_get}
 use Rattle.std.specs.Option.{option_to_list, unwrap_or}
 use Rattle.std.proofs.lemmas.Bool.{cases_eq, cases_lt}
-use Rattle.std.proofs.lemmas.List.{take-append-le}
-use Rattle.std.proofs.lemmas.Option.{slice_get_within}
-use Rattle.apex_config.specs.Configuration.{Configuration, IsConfiguration}
+use Rattle.std.proofs.lemmas.List.{take-append-le, take_all}
+use Rattle.std.proofs.lemmas.Option.{slice_get_within, slice_get_past}
+use Rattle.apex_module.specs.Configuration.{Configuration, IsConfiguration}
 use Rattle.apex_ports.specs.declared.history.Entry.{Entry}
 use Rattle.apex_ports.specs.History.{History, entries_of}
 use Rattle.apex_ports.specs.Lawful.{IsLawful, IsLawfulEntry}
-use Rattle.apex_states.proofs.GoingOn.{lawful_here, push_entry}
-use Rattle.apex_orders.proofs.Lists.{at_seam, stays_before, take_one_more, take_whole, none_beyond}
+use Rattle.apex_orders.proofs.GoingOn.{lawful_here, push_entry}
+use Rattle.apex_orders.proofs.Lists.{at_seam, stays_before, take_one_more}
 use Rattle.apex_orders.proofs.Walks.{own_entry, other_entry, entries_of-append}
 use Rattle.apex_log_orders.specs.declared.answer.CallPlace.{CallPlace}
 use Rattle.apex_log_orders.specs.LogOrders.{Logs, log_in, IsOrder, IsBeginning, entry_at, entries_at}
@@ -128,10 +128,10 @@ module _ (config : Configuration) (logs : Logs) where
   all_made h count begins all = record { lawful = begins.lawful; entries = λ p. whole p }
     where
       no_log : (p : ℕ) → length config.partitions ≤ p → log_in logs p ≡ []
-      no_log p beyond = ap (λ (o : Option History). unwrap_or o []) (none_beyond logs p (omega (arith, count, beyond)))
+      no_log p beyond = ap (λ (o : Option History). unwrap_or o []) (slice_get_past logs p (omega (arith, count, beyond)))
 
       whole : (p : ℕ) → entries_of p h ≡ log_in logs p
-      whole p = begins.entries p ∙ take_whole (length (entries_of p h)) (log_in logs p) (long p (cases_lt p (length config.partitions)))
+      whole p = begins.entries p ∙ take_all (length (entries_of p h)) (log_in logs p) (long p (cases_lt p (length config.partitions)))
         where
           long : (p : ℕ) → (p < length config.partitions) ⊎ (length config.partitions ≤ p) → length (log_in logs p) ≤ length (entries_of p h)
           long p (inl within) = let same = all p within in omega (arith, same)

@@ -3,19 +3,19 @@ use Rattle.std.proofs.Common.{◌≡◌, ◌≢◌, ⊎_elim, ℕ, zero, suc, �
 use Rattle.std.proofs.lemmas.List.{length-replicate}
 use Rattle.std.specs.List.{slice_get}
 use Rattle.std.proofs.lemmas.Bool.{cases_eq}
-use Rattle.apex_config.specs.Configuration.{Configuration}
+use Rattle.apex_module.specs.Configuration.{Configuration}
 use Rattle.apex_ports.specs.declared.history.Entry.{Entry}
 use Rattle.apex_ports.specs.History.{History, entries_of}
 use Rattle.apex_log_orders.specs.LogOrders.{Logs, IsBeginning}
 use Rattle.apex_log_orders.specs.Walking.{GoesOn, IsMade}
 use Rattle.apex_log_orders.proofs.Beginnings.{made_mine, made_others}
 
-set_here : {X : Type 0} (xs : List X) (i : ℕ) (y : X) → i < length xs → slice_get (set xs i y) i ≡ Some y
+pub set_here : {X : Type 0} (xs : List X) (i : ℕ) (y : X) → i < length xs → slice_get (set xs i y) i ≡ Some y
 set_here [] i y within = absurd (omega (arith, within))
 set_here (x ∷ xs) zero y within = refl
 set_here (x ∷ xs) (suc i) y within = set_here xs i y (omega (arith, within))
 
-set_elsewhere : {X : Type 0} (xs : List X) (i : ℕ) (y : X) (k : ℕ) → k ≢ i → slice_get (set xs i y) k ≡ slice_get xs k
+pub set_elsewhere : {X : Type 0} (xs : List X) (i : ℕ) (y : X) (k : ℕ) → k ≢ i → slice_get (set xs i y) k ≡ slice_get xs k
 set_elsewhere [] i y k apart = refl
 set_elsewhere (x ∷ xs) zero y zero apart = absurd (apart refl)
 set_elsewhere (x ∷ xs) zero y (suc k) apart = refl

@@ -4,7 +4,7 @@ use Rattle.std.specs.List.{slice_get}
 use Rattle.std.specs.Option.{option_to_list}
 use Rattle.apex_types.specs.declared.call.Call.TheVariants.{SendQueuing, ReceiveQueuing}
 use Rattle.apex_types.specs.declared.reply.Reply.TheVariants.{Received}
-use Rattle.apex_config.specs.Configuration.{Configuration, port_of}
+use Rattle.apex_module.specs.Configuration.{Configuration, port_of}
 use Rattle.apex_ports.specs.declared.history.Entry.{Entry}
 use Rattle.apex_ports.specs.History.{History}
 use Rattle.apex_ports.specs.Channels.{accepted_on, received_on, message_accepted, message_received, message_sent, message_in, is_receive}

@@ -3,10 +3,10 @@ use Rattle.std.proofs.Common.{◌≡◌, ⊎_elim, ℕ, zero, suc, ◌<◌, ◌�
 use Rattle.std.specs.List.{slice_get}
 use Rattle.std.proofs.lemmas.Bool.{cases_eq, cases_lt}
 use Rattle.std.proofs.lemmas.Option.{slice_get_within}
-use Rattle.apex_config.specs.Configuration.{Configuration, IsConfiguration}
+use Rattle.std.proofs.lemmas.List.{take_all}
+use Rattle.apex_module.specs.Configuration.{Configuration, IsConfiguration}
 use Rattle.apex_ports.specs.declared.history.Entry.{Entry}
 use Rattle.apex_ports.specs.History.{History, entries_of}
-use Rattle.apex_orders.proofs.Lists.{take_whole}
 use Rattle.apex_log_orders.specs.LogOrders.{Logs, log_in, IsOrder, IsBeginning, HasNoOrder}
 use Rattle.apex_log_orders.specs.Walking.{GoesOn, Ends}
 use Rattle.apex_log_orders.specs.Stuck.{IsWithin, NeverNext}
@@ -35,7 +35,7 @@ module _ (config : Configuration) (logs : Logs) where
   pub order_begins : (h : History) → IsOrder config logs h → IsBeginning config logs h
   order_begins h order = record {
     lawful = order.lawful;
-    entries = λ q. order.entries q ∙ sym (ap (λ (es : History). take (length es) (log_in logs q)) (order.entries q) ∙ take_whole (length (log_in logs q)) (log_in logs q) (omega arith));
+    entries = λ q. order.entries q ∙ sym (ap (λ (es : History). take (length es) (log_in logs q)) (order.entries q) ∙ take_all (length (log_in logs q)) (log_in logs q) (omega arith));
   }
 
   -- an order that begins with a history goes on from it with a next call
@@ -50,7 +50,7 @@ module _ (config : Configuration) (logs : Logs) where
     whole_front : (h : History) → IsOrder config logs h → IsWithin h front → IsOrder config logs front
     whole_front h order within = record {
       lawful = leads.lawful;
-      entries = λ p. leads.entries p ∙ take_whole (length (entries_of p front)) (log_in logs p)
+      entries = λ p. leads.entries p ∙ take_all (length (entries_of p front)) (log_in logs p)
           (let all = ap (λ (es : History). length es) (order.entries p) in let few = within p in omega (arith, all, few));
     }
 

@@ -13,9 +13,9 @@ use Rattle.apex_types.specs.declared.direction.Direction.TheVariants.{Source, De
 use Rattle.apex_types.specs.declared.moment.Moment.{Moment}
 use Rattle.apex_types.specs.declared.sample.Sample.{Sample}
 use Rattle.apex_types.specs.declared.taken.Taken.{Taken}
-use Rattle.apex_config.specs.Configuration.{Configuration, IsConfiguration, port_of, channel_of, is_queuing_port, is_queuing_channel}
-use Rattle.apex_config.specs.declared.channel.Channel.{Channel}
-use Rattle.apex_config.specs.declared.port.Port.{Port}
+use Rattle.apex_module.specs.Configuration.{Configuration, IsConfiguration, port_of, channel_of, is_queuing_port, is_queuing_channel}
+use Rattle.apex_module.specs.declared.channel.Channel.{Channel}
+use Rattle.apex_module.specs.declared.port.Port.{Port}
 use Rattle.apex_ports.specs.declared.history.Entry.{Entry}
 use Rattle.apex_ports.specs.declared.rows.Row.{Row}
 use Rattle.apex_ports.specs.declared.rows.Row.TheVariants as row

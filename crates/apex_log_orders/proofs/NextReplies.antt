@@ -6,8 +6,8 @@ use Rattle.apex_types.specs.declared.moment.Moment.{Moment}
 use Rattle.apex_types.specs.declared.reply.Reply.{Reply}
 use Rattle.apex_types.specs.declared.reply.Reply.TheVariants.{Code, Received}
 use Rattle.apex_types.specs.declared.return_code.ReturnCode.TheVariants.{NotAvailable}
-use Rattle.apex_config.specs.Configuration.{Configuration, port_of}
-use Rattle.apex_config.specs.declared.port.Port.{Port}
+use Rattle.apex_module.specs.Configuration.{Configuration, port_of}
+use Rattle.apex_module.specs.declared.port.Port.{Port}
 use Rattle.apex_ports.specs.declared.rows.Refusal.TheVariants.{EmptyMessage, MessageTooLong, NotSource, NotDestination, QueueFull}
 use Rattle.apex_ports.specs.declared.rows.Row.{Row}
 use Rattle.apex_ports.specs.declared.rows.Row.TheVariants as row

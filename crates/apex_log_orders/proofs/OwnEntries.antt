@@ -9,8 +9,8 @@ use Rattle.apex_types.specs.declared.direction.Direction.{Direction}
 use Rattle.apex_types.specs.declared.direction.Direction.TheVariants.{Source, Destination}
 use Rattle.apex_types.specs.declared.mode.Mode.TheVariants.{ColdStart}
 use Rattle.apex_types.specs.declared.validity.Validity.TheVariants.{Invalid}
-use Rattle.apex_config.specs.Configuration.{Configuration, IsConfiguration, port_of, is_queuing_port}
-use Rattle.apex_config.specs.declared.port.Port.{Port}
+use Rattle.apex_module.specs.Configuration.{Configuration, IsConfiguration, port_of, is_queuing_port}
+use Rattle.apex_module.specs.declared.port.Port.{Port}
 use Rattle.apex_ports.specs.declared.history.Entry.{Entry}
 use Rattle.apex_ports.specs.History.{History, entries_of}
 use Rattle.apex_ports.specs.Modes.{mode_of, mode_set, restarts, is_restart, is_code_no_error}

@@ -9,8 +9,8 @@ use Rattle.apex_types.specs.declared.mode.Mode.TheVariants.{Idle, ColdStart, War
 use Rattle.apex_types.specs.declared.moment.Moment.{Moment}
 use Rattle.apex_types.specs.declared.sample.Sample.{Sample}
 use Rattle.apex_types.specs.declared.validity.Validity.{Validity}
-use Rattle.apex_config.specs.Configuration.{Configuration, refresh_of_kind}
-use Rattle.apex_config.specs.declared.port.Port.{Port}
+use Rattle.apex_module.specs.Configuration.{Configuration, refresh_of_kind}
+use Rattle.apex_module.specs.declared.port.Port.{Port}
 use Rattle.apex_ports.specs.declared.rows.Row.{Row}
 use Rattle.apex_ports.specs.declared.rows.Row.TheVariants as row
 use Rattle.apex_ports.specs.declared.rows.Refusal.TheVariants.{AlreadyCreated, SizeDiffers, DepthDiffers, DirectionDiffers, RefreshDiffers, UnknownDiscipline, InNormal, NotCreated, EmptyMessage, MessageTooLong, NotSource, NotDestination, AlreadyNormal, WarmStartInColdStart}
@@ -112,27 +112,15 @@ module _ (config : Configuration) (p : ℕ) (mode : Mode) (created : ℕ → Boo
   plain_reply (row.OldestReceived id) plain = absurd cc
   plain_reply (row.QueuingStatus id) plain = absurd cc
   plain_reply (row.LastRead id validity) plain = absurd cc
-  plain_reply row.Idle plain = refl
-  plain_reply (row.Refused refusal) plain = refl
-  plain_reply (row.Created id) plain = refl
-  plain_reply (row.Identified id) plain = refl
-  plain_reply row.Sent plain = refl
-  plain_reply row.Cleared plain = refl
-  plain_reply row.Written plain = refl
-  plain_reply (row.SamplingStatus id) plain = refl
-  plain_reply row.ModeSet plain = refl
+  plain_reply _ plain = refl
 
   -- the row is the same, since no check of these calls looks at a channel
   same_row : (now : Moment) (asked : Call) → is_own asked ≡ true → row_of config one p now asked ≡ row_of config other p now asked
-  same_row now (call.CreateSampling name size direction refresh) own = refl
-  same_row now (call.CreateQueuing name size depth direction discipline) own = refl
-  same_row now (call.SamplingId name) own = refl
-  same_row now (call.QueuingId name) own = refl
-  same_row now (call.WriteSampling id message) own = refl
-  same_row now (call.ClearQueuing id) own = refl
-  same_row now (call.SamplingStatus id) own = refl
-  same_row now (call.SetMode number) own = refl
-  same_row now _ own = absurd cc
+  same_row now (call.SendQueuing id message) own = absurd cc
+  same_row now (call.ReceiveQueuing id) own = absurd cc
+  same_row now (call.QueuingStatus id) own = absurd cc
+  same_row now (call.ReadSampling id) own = absurd cc
+  same_row now _ own = refl
 
   pub own_reply : (now : Moment) (asked : Call) → is_own asked ≡ true → reply_of config one p (row_of config one p now asked) ≡ reply_of config other p (row_of config other p now asked)
   own_reply now asked own =

@@ -7,7 +7,7 @@ use Rattle.apex_ports.specs.History.{History}
 use Rattle.apex_log_orders.specs.declared.answer.CallPlace.{CallPlace}
 use Rattle.apex_log_orders.specs.LogOrders.{Logs, entry_at}
 use Rattle.apex_log_orders.specs.Walking.{IsOwn, AreOwn}
-use Rattle.apex_config.specs.Configuration.{Configuration}
+use Rattle.apex_module.specs.Configuration.{Configuration}
 use Rattle.apex_orders.proofs.Lists.{before_or_last}
 
 -- the log that has the place

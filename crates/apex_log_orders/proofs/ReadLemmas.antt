@@ -9,8 +9,8 @@ use Rattle.apex_types.specs.declared.reply.Reply.TheVariants.{Read}
 use Rattle.apex_types.specs.declared.sample.Sample.{Sample}
 use Rattle.apex_types.specs.declared.validity.Validity.{Validity}
 use Rattle.apex_types.specs.Sample.{validity_at}
-use Rattle.apex_config.specs.Configuration.{Configuration, IsConfiguration, port_of, refresh_of_kind}
-use Rattle.apex_config.specs.declared.port.Port.{Port}
+use Rattle.apex_module.specs.Configuration.{Configuration, IsConfiguration, port_of, refresh_of_kind}
+use Rattle.apex_module.specs.declared.port.Port.{Port}
 use Rattle.apex_ports.specs.declared.history.Entry.{Entry}
 use Rattle.apex_ports.specs.declared.rows.Refusal.TheVariants.{NotDestination}
 use Rattle.apex_ports.specs.declared.rows.Row.{Row}

@@ -3,12 +3,12 @@ use Rattle.std.proofs.Common.{◌≡◌, ◌⊎◌, inl, inr, ⊎_elim, ℕ, zer
 use Rattle.std.specs.List.{slice_get}
 use Rattle.std.proofs.lemmas.Bool.{cases_eq, cases_lt}
 use Rattle.std.proofs.lemmas.Bool.Decides.{nat_tests}
-use Rattle.std.proofs.lemmas.List.{take-append-le}
+use Rattle.std.proofs.lemmas.List.{take-append-le, take_all}
 use Rattle.std.proofs.lemmas.Option.{slice_get_within}
-use Rattle.apex_config.specs.Configuration.{Configuration}
+use Rattle.apex_module.specs.Configuration.{Configuration}
 use Rattle.apex_ports.specs.declared.history.Entry.{Entry}
 use Rattle.apex_ports.specs.History.{History}
-use Rattle.apex_orders.proofs.Lists.{at_seam, stays_before, before_or_last, take_whole}
+use Rattle.apex_orders.proofs.Lists.{at_seam, stays_before, before_or_last}
 use Rattle.apex_log_orders.specs.declared.answer.CallPlace.{CallPlace}
 use Rattle.apex_log_orders.specs.declared.choice.Choice.{Choice}
 use Rattle.apex_log_orders.specs.LogOrders.{Logs, IsOrder, entries_at}
@@ -145,7 +145,7 @@ module _ (config : Configuration) (logs : Logs) where
           found.2 ∙ ap (λ (c : Choice). candidate n c.first c.tried) same
 
       whole : take (length path) path ≡ path
-      whole = take_whole (length path) path (omega arith)
+      whole = take_all (length path) path (omega arith)
 
       no_way : (k : ℕ) (choice : Choice) → (slice_get front k ≡ Some choice) ⊎ ((k ≡ length front) × (next ≡ choice)) → HaveNoWay config logs (entries_at logs (take k path)) choice
       no_way k choice (inl here) = tried.none k choice (stays_before front (top ∷ []) k choice here)
@@ -193,7 +193,7 @@ module _ (config : Configuration) (logs : Logs) where
       ⊎_elim unfinished
       (λ (more : (p : ℕ) × (e : Entry) × (p < length config.partitions) × (GoesOn config logs h p e) × Ends config logs (h ++ e ∷ [])).
       let k = reached (length config.partitions) top.0.first more.0 more.2 in
-      let here : h ≡ entries_at logs (take (length path) path) = is ∙ ap (entries_at logs) (sym (take_whole (length path) path (omega arith))) in
+      let here : h ≡ entries_at logs (take (length path) path) = is ∙ ap (entries_at logs) (sym (take_all (length path) path (omega arith))) in
       let no_way : HasNoWay config logs h more.0 =
       subst (λ (g : History). HasNoWay config logs g more.0) (sym here) (tried.none (length path) top.0 top.1 k.0 more.0 (omega (arith, k.1, all)) k.2) in
       no_way more.1 more.3 more.4)

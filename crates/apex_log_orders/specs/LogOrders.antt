@@ -1,7 +1,7 @@
 -- Logs that partitions kept apart, and the orders of all their entries.
 use Rattle.std.specs.Prelude.{ℕ, ◌≡◌, List, [], ◌∷◌, ◌++◌, length, take, slice_get, unwrap_or, Option}
 use Rattle.std.specs.Option.{option_to_list}
-use Rattle.apex_config.specs.Configuration.{Configuration}
+use Rattle.apex_module.specs.Configuration.{Configuration}
 use Rattle.apex_ports.specs.declared.history.Entry.{Entry}
 use Rattle.apex_ports.specs.History.{History, entries_of}
 use Rattle.apex_ports.specs.Lawful.{IsLawful}

@@ -4,8 +4,8 @@ use Rattle.std.specs.Prelude.{ℕ, ◌≡◌, ◌≤◌, ◌<◌, Bool, true, fa
 use Rattle.apex_types.specs.declared.call.Call.{Call}
 use Rattle.apex_types.specs.declared.call.Call.TheVariants.{SendQueuing, ReceiveQueuing, QueuingStatus, ReadSampling}
 use Rattle.apex_types.specs.declared.direction.Direction.{Direction}
-use Rattle.apex_config.specs.Configuration.{Configuration, port_of, is_queuing_port}
-use Rattle.apex_config.specs.declared.port.Port.{Port}
+use Rattle.apex_module.specs.Configuration.{Configuration, port_of, is_queuing_port}
+use Rattle.apex_module.specs.declared.port.Port.{Port}
 use Rattle.apex_ports.specs.declared.history.Entry.{Entry}
 use Rattle.apex_ports.specs.Channels.{message_written}
 use Rattle.apex_ports.specs.History.{History, entries_of}

@@ -1,6 +1,6 @@
 -- A search that goes on call by call, and goes back where no partition can go on.
 use Rattle.std.specs.Prelude.{ℕ, ◌≡◌, ◌⊎◌, ◌<◌, ◌+◌, ◌-◌, suc, if◌then◌else◌, ltb, List, [], ◌∷◌, ◌++◌, length, take, slice_get, Option, Some, None}
-use Rattle.apex_config.specs.Configuration.{Configuration, IsConfiguration}
+use Rattle.apex_module.specs.Configuration.{Configuration, IsConfiguration}
 use Rattle.apex_ports.specs.declared.history.Entry.{Entry}
 use Rattle.apex_ports.specs.History.{History, entries_of}
 use Rattle.apex_ports.specs.Lawful.{IsLawfulEntry}

@@ -1,10 +1,10 @@
-//! Which partition to try first. Nothing rests on it but how soon an order is found.
+//! Which partition to try first. Only how soon an order is found depends on it.
 use crate::answer::{CallPlace, OwnLog};
-use crate::bounds::{Bounds, Progress};
+use crate::bounds::{Advance, Bounds};
 use crate::log_reader::LogReader;
 use crate::messages::sent_messages;
-use apex_config::Config;
 use apex_judge::Judge;
+use apex_module::Config;
 use std::alloc::{AllocError, Global};
 
 /// What the logs say of the order before any call is tried: how far each call takes an end of a channel, and how far the
@@ -12,7 +12,7 @@ use std::alloc::{AllocError, Global};
 #[derive(Drop)]
 pub(crate) struct Advice {
     /// Of each partition, what each of its calls does.
-    progress: Vec<Vec<Option<Progress>>>,
+    advances: Vec<Vec<Option<Advance>>>,
     bounds: Bounds,
 }
 
@@ -25,7 +25,7 @@ impl Advice {
     ) -> Result<Advice, AllocError> {
         let sent = sent_messages(alloc, config, logs)?;
         let mut advice = Advice {
-            progress: Vec::new(alloc),
+            advances: Vec::new(alloc),
             bounds: Bounds::new(alloc, config)?,
         };
         for p in 0..config.partitions() {
@@ -43,20 +43,20 @@ impl Advice {
         sent: &[Vec<CallPlace>],
         p: usize,
     ) -> Result<(), AllocError> {
-        let mut progress = Vec::new(alloc);
+        let mut advances = Vec::new(alloc);
         if let Some(log) = logs.get(p) {
             let mut reader = LogReader::new(alloc, config, p)?;
             for (index, entry) in log.entries.iter().enumerate() {
                 let one = reader.read(config, logs, sent, &mut self.bounds, index, entry)?;
-                progress.push(one)?;
+                advances.push(one)?;
             }
         }
-        self.progress.push(progress)?;
+        self.advances.push(advances)?;
         Ok(())
     }
 
-    /// The partition to try first, after so many calls of each: from the one that made the last call upward, and around,
-    /// the first whose next call gets the reply that was logged and hinders no call to come.
+    /// The partition to try first after `made` calls of each: from the one that made the last call upward, and around, the
+    /// first whose next call gets the reply that was logged and hinders no call to come.
     pub(crate) fn first(
         &self,
         judge: &Judge,
@@ -97,16 +97,16 @@ impl Advice {
 
     /// The first call to come that the partition's next call hinders.
     pub(crate) fn hindered(&self, made: &[usize], p: usize) -> Option<CallPlace> {
-        let progress = self.progress_of(p, *made.get(p)?)?;
-        for bound in self.bounds.on(progress) {
-            if bound.hinders(made, progress) {
+        let advance = self.advance_of(p, *made.get(p)?)?;
+        for bound in self.bounds.on(advance) {
+            if bound.hinders(made, advance) {
                 return Some(bound.place);
             }
         }
         None
     }
 
-    fn progress_of(&self, p: usize, index: usize) -> Option<Progress> {
-        *self.progress.get(p)?.get(index)?
+    fn advance_of(&self, p: usize, index: usize) -> Option<Advance> {
+        *self.advances.get(p)?.get(index)?
     }
 }

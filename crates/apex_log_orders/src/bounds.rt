@@ -1,13 +1,12 @@
 //! How far the two ends of a channel may be when a call is made.
 use crate::answer::CallPlace;
-use apex_config::Config;
+use apex_module::Config;
 use apex_types::Direction;
 use std::alloc::{AllocError, Global};
 
-/// A call that takes an end of a channel further: the channel has accepted so many messages after it, or so many are
-/// taken.
+/// A call that takes an end of a channel further: after it, the channel has accepted `count` messages, or `count` are taken.
 #[derive(Clone, Copy)]
-pub(crate) struct Progress {
+pub(crate) struct Advance {
     pub(crate) channel: usize,
     pub(crate) end: Direction,
     pub(crate) count: usize,
@@ -22,9 +21,9 @@ pub(crate) struct Bound {
 
 impl Bound {
     /// Whether the call isn't made yet, and could not be made after the other one.
-    pub(crate) fn hinders(&self, made: &[usize], progress: Progress) -> bool {
+    pub(crate) fn hinders(&self, made: &[usize], advance: Advance) -> bool {
         match made.get(self.place.partition) {
-            Some(made) => *made <= self.place.index && self.most < progress.count,
+            Some(made) => *made <= self.place.index && self.most < advance.count,
             None => false,
         }
     }
@@ -47,18 +46,18 @@ impl Bounds {
     }
 
     /// The bounds on the end of a channel that a call takes further.
-    pub(crate) fn on(&self, progress: Progress) -> &[Bound] {
-        let all = match progress.end {
+    pub(crate) fn on(&self, advance: Advance) -> &[Bound] {
+        let all = match advance.end {
             Direction::Source => self.on_sources.as_slice(),
             Direction::Destination => self.on_destinations.as_slice(),
         };
-        match all.get(progress.channel) {
+        match all.get(advance.channel) {
             Some(bounds) => bounds.as_slice(),
             None => &[],
         }
     }
 
-    /// The other end of the channel may have at most so many messages behind it when the call is made.
+    /// The other end of the channel may have handled at most `most` messages when the call is made.
     pub(crate) fn add(
         &mut self,
         end: Direction,
@@ -75,16 +74,13 @@ impl Bounds {
 }
 
 fn add_bound(all: &mut [Vec<Bound>], channel: usize, bound: Bound) -> Result<(), AllocError> {
-    match all.get_mut(channel) {
-        Some(bounds) => {
-            bounds.push(bound)?;
-            Ok(())
-        }
-        None => Ok(()),
+    if let Some(bounds) = all.get_mut(channel) {
+        bounds.push(bound)?;
     }
+    Ok(())
 }
 
-/// No bounds on so many channels.
+/// No bounds on `channels` channels.
 fn no_bounds(alloc: Global, channels: usize) -> Result<Vec<Vec<Bound>>, AllocError> {
     let mut all = Vec::new(alloc);
     for _ in 0..channels {

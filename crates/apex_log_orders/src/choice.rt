@@ -2,7 +2,7 @@
 ghost use Rattle.std.specs.Prelude.{◌≡◌, ◌<◌, IfSome};
 ghost use Rattle.apex_log_orders.specs.Walking.{candidate};
 
-/// The partitions that are tried where the calls so far have led to: from a first one upward, and around.
+/// The partitions that are tried after the calls so far: from a first one upward, and around.
 #[derive(Clone, Copy)]
 pub(crate) struct Choice {
     /// The one to try first.
@@ -12,7 +12,7 @@ pub(crate) struct Choice {
 }
 
 impl Choice {
-    /// The partition to try, of so many.
+    /// The partition to try, of this number of partitions.
     pub(crate) fn candidate(&self, partitions: usize) -> Option<usize>
         ensures exact { result ≡ candidate partitions self.now.first self.now.tried }
         ensures within { IfSome result (λ p. p < partitions) }

@@ -4,11 +4,11 @@ ghost use Rattle.std.specs.Option.{option_to_list};
 ghost use Rattle.apex_ports.specs.Channels.{accepted_on, received_on, message_accepted, message_received};
 ghost use Rattle.apex_ports.specs.Modes.{is_code_no_error};
 ghost use Rattle.apex_ports.specs.Ports.{is_source_of, is_destination_of};
-ghost use Rattle.apex_config.specs.Configuration.{port_of};
+ghost use Rattle.apex_module.specs.Configuration.{port_of};
 ghost use Rattle.apex_log_orders.specs.Stuck.{HasEnd};
 
 use crate::answer::OwnLog;
-use apex_config::{Config, PortKind};
+use apex_module::{Config, PortKind};
 use apex_ports::Entry;
 use apex_types::{Call, Direction, Reply, ReturnCode};
 

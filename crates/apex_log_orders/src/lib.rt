@@ -6,9 +6,9 @@ pub mod answer;
 mod bounds;
 mod choice;
 mod ends;
-mod listener;
 mod log_reader;
 mod messages;
+mod progress;
 mod reads;
 mod replay;
 mod search;
@@ -17,5 +17,5 @@ mod too_soon;
 mod walk;
 
 pub use crate::answer::{Answer, CallPlace, OwnLog};
-pub use crate::listener::{Listener, Nobody};
-pub use crate::search::{find_order, find_order_telling};
+pub use crate::progress::{NoProgress, Progress};
+pub use crate::search::{find_order, find_order_with_progress};

@@ -1,8 +1,8 @@
 //! What the log of one partition says of the ends of its channels.
 use crate::answer::{CallPlace, OwnLog};
-use crate::bounds::{Bounds, Progress};
+use crate::bounds::{Advance, Bounds};
 use crate::messages::{index_of, is_accepted, received_next};
-use apex_config::Config;
+use apex_module::Config;
 use apex_ports::Entry;
 use apex_types::{Call, Direction, Reply, ReturnCode};
 use std::alloc::{AllocError, Global};
@@ -45,7 +45,7 @@ impl LogReader {
         bounds: &mut Bounds,
         index: usize,
         entry: &Entry,
-    ) -> Result<Option<Progress>, AllocError> {
+    ) -> Result<Option<Advance>, AllocError> {
         let Some(id) = port_of(&entry.call) else {
             return Ok(None);
         };
@@ -79,14 +79,14 @@ impl LogReader {
         depth: usize,
         index: usize,
         entry: &Entry,
-    ) -> Result<Option<Progress>, AllocError> {
+    ) -> Result<Option<Advance>, AllocError> {
         let place = self.place(index);
         let Some(count) = self.accepted.get_mut(channel) else {
             return Ok(None);
         };
         if is_accepted(entry) {
             *count = count.saturating_add(1);
-            return Ok(Some(Progress {
+            return Ok(Some(Advance {
                 channel,
                 end: Direction::Source,
                 count: *count,
@@ -113,7 +113,7 @@ impl LogReader {
         depth: usize,
         index: usize,
         entry: &Entry,
-    ) -> Result<Option<Progress>, AllocError> {
+    ) -> Result<Option<Advance>, AllocError> {
         let place = self.place(index);
         let Some(messages) = sent.get(channel) else {
             return Ok(None);
@@ -129,7 +129,7 @@ impl LogReader {
             bounds.add(Direction::Destination, channel, place, most)?;
         }
         *taken = effect.taken;
-        Ok(effect.progress(channel, count))
+        Ok(effect.advance(channel, count))
     }
 }
 
@@ -142,13 +142,13 @@ struct Effect {
 }
 
 impl Effect {
-    /// What it takes further, of so many messages.
-    fn progress(&self, channel: usize, before: usize) -> Option<Progress> {
+    /// What it takes further, if `before` messages were taken before it.
+    fn advance(&self, channel: usize, before: usize) -> Option<Advance> {
         let count = self.taken?;
         if count == before {
             return None;
         }
-        Some(Progress {
+        Some(Advance {
             channel,
             end: Direction::Destination,
             count,
@@ -182,10 +182,7 @@ fn effect_of(
         },
         _ => Effect {
             taken: Some(count),
-            most: match waiting_shown(entry, depth) {
-                Some(waiting) => Some(count.saturating_add(waiting)),
-                None => None,
-            },
+            most: waiting_shown(entry, depth).map(|waiting| count.saturating_add(waiting)),
         },
     }
 }
@@ -198,7 +195,7 @@ fn nothing(count: usize) -> Effect {
     }
 }
 
-/// A clear takes what was sent before the next message that is received; it is unknown what, where none is.
+/// A clear takes what was sent before the next message that is received. If none is, that is unknown.
 fn clearing(
     logs: &[OwnLog],
     messages: &[CallPlace],
@@ -206,12 +203,12 @@ fn clearing(
     id: u32,
     count: usize,
 ) -> Effect {
-    let taken = match received_next(logs, place, id) {
-        Some(message) => index_of(logs, messages, count, message),
-        None => None,
-    };
+    let taken = received_next(logs, place, id).and_then(|message| index_of(
+        logs, messages, count, message,
+    ));
     Effect { taken, most: taken }
 }
+
 /// How many messages the reply shows to wait on a channel of the depth.
 fn waiting_shown(entry: &Entry, depth: usize) -> Option<usize> {
     match &entry.reply {

@@ -1,11 +1,11 @@
 //! The messages that the logs show.
 use crate::answer::{CallPlace, OwnLog};
-use apex_config::Config;
+use apex_module::Config;
 use apex_ports::Entry;
 use apex_types::{Call, Direction, Message, Reply, ReturnCode};
 use std::alloc::{AllocError, Global};
 
-/// Of each channel, the places of the calls whose messages it accepted, in their order.
+/// For each channel, the places of the calls whose messages it accepted, in their order.
 pub(crate) fn sent_messages(
     alloc: Global,
     config: &Config,
@@ -43,13 +43,10 @@ fn add_place(
     channel: usize,
     place: CallPlace,
 ) -> Result<(), AllocError> {
-    match sent.get_mut(channel) {
-        Some(places) => {
-            places.push(place)?;
-            Ok(())
-        }
-        None => Ok(()),
+    if let Some(places) = sent.get_mut(channel) {
+        places.push(place)?;
     }
+    Ok(())
 }
 
 /// The channel that accepted the message of an entry.
@@ -86,19 +83,14 @@ fn message_of(entry: &Entry) -> Option<&Message> {
     }
 }
 
-/// The number, from so many on, of the first of these messages that has the bytes.
+/// The number of the first message with these bytes, from the number `from` on.
 pub(crate) fn index_of(
     logs: &[OwnLog],
     messages: &[CallPlace],
     from: usize,
     message: &Message,
 ) -> Option<usize> {
-    for index in from..messages.len() {
-        if has_message(logs, messages[index], message) {
-            return Some(index);
-        }
-    }
-    None
+    (from..messages.len()).find(|&index| has_message(logs, messages[index], message))
 }
 
 fn has_message(logs: &[OwnLog], place: CallPlace, message: &Message) -> bool {

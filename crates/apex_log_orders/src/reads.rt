@@ -6,7 +6,7 @@ ghost use Rattle.apex_log_orders.specs.Walking.{IsWalk, next_of};
 use crate::answer::OwnLog;
 use crate::ends::is_source_of;
 use crate::walk::Walk;
-use apex_config::Config;
+use apex_module::Config;
 use apex_ports::Entry;
 use apex_types::{Call, Message, Reply};
 

@@ -4,8 +4,8 @@ ghost use Rattle.apex_log_orders.specs.LogOrders.{entries_at};
 ghost use Rattle.apex_log_orders.specs.Walking.{AreOwn, IsOwn};
 
 use crate::answer::{CallPlace, OwnLog};
-use apex_config::Config;
 use apex_judge::Judge;
+use apex_module::Config;
 use apex_types::OutOfMemory;
 use std::alloc::Global;
 

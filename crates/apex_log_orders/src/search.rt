@@ -5,16 +5,16 @@ ghost use Rattle.apex_log_orders.specs.Walking.{IsWalk, IsStep, IsOneOf};
 
 use crate::advice::Advice;
 use crate::answer::{Answer, CallPlace, OwnLog};
-use crate::listener::{Listener, Nobody, Report};
+use crate::progress::{NoProgress, Progress, Reports};
 use crate::stuck::{have_no_clear, is_stuck};
 use crate::walk::Walk;
-use apex_config::Config;
+use apex_module::Config;
 use apex_types::OutOfMemory;
 use std::alloc::{AllocError, Global};
 
-/// Looks for an order of all entries of the logs in which each reply is the reply table's: each partition's entries stay
-/// in their order, and their moments order nothing. Each call that is tried is a step, and each that is looked at again
-/// where no call is advised, or after going back.
+/// Looks for an order of all entries of the logs in which each reply is the reply table's. Each partition's entries keep
+/// their order, and their moments order nothing. A step is a call that is tried, or that is looked at again because no call
+/// is advised or the search went back.
 pub fn find_order(
     alloc: Global,
     config: &Config,
@@ -24,16 +24,16 @@ pub fn find_order(
     requires { length logs.now ≡ length config.now.partitions }
     ensures { IfOk result (λ answer. IsAnswer config.now logs.now answer) }
 {
-    find_order_telling(alloc, config, logs, steps, &mut Nobody)
+    find_order_with_progress(alloc, config, logs, steps, &mut NoProgress)
 }
 
-/// What `find_order` answers. The listener is told from time to time how far the search is.
-pub fn find_order_telling<L: Listener>(
+/// The answer of `find_order`. `progress` receives from time to time how far the search is.
+pub fn find_order_with_progress<P: Progress>(
     alloc: Global,
     config: &Config,
     logs: &[OwnLog],
     steps: u64,
-    listener: &mut L,
+    progress: &mut P,
 ) -> Result<Answer, OutOfMemory>
     requires { length logs.now ≡ length config.now.partitions }
     ensures { IfOk result (λ answer. IsAnswer config.now logs.now answer) }
@@ -43,10 +43,10 @@ pub fn find_order_telling<L: Listener>(
     let mut longest = Vec::new(alloc);
     let is_clear_free = have_no_clear(logs);
     let mut left = steps;
-    let mut report = Report::new(steps);
+    let mut reports = Reports::new(steps);
     while left > 0 {
         left -= 1;
-        report.tell(listener, left, walk.path.len());
+        reports.report(progress, left, walk.path.len());
         if is_clear_free && !walk.follows(&advice, logs) {
             left = left.saturating_sub(walk.path.len() as u64);
             if is_stuck(config, logs, &advice, &walk) {
@@ -58,7 +58,7 @@ pub fn find_order_telling<L: Listener>(
             Step::On => {}
             Step::Whole => return Ok(Answer::Order(walk.path)),
             Step::Back => {
-                report.meet_dead_end();
+                reports.meet_dead_end();
                 keep_longest(alloc, &mut longest, walk.path.as_slice())?;
                 left = left.saturating_sub(walk.path.len() as u64);
                 if !walk.go_back(alloc, config, logs)? {
@@ -71,7 +71,7 @@ pub fn find_order_telling<L: Listener>(
     Ok(Answer::Undecided(longest))
 }
 
-/// What one step of a search comes to.
+/// The result of one step of a search.
 enum Step {
     /// The search goes on.
     On,
@@ -101,12 +101,12 @@ fn try_next(
     if walk.can_go_on(config, logs, p) {
         walk.go_on(config, logs, advice, p)?;
     } else {
-        walk.pass(config, logs)?;
+        walk.pass(config, logs);
     }
     Ok(Step::On)
 }
 
-/// Keeps the calls where they are more than those kept before.
+/// Keeps the calls if they are more than those kept before.
 fn keep_longest(
     alloc: Global,
     longest: &mut Vec<CallPlace>,

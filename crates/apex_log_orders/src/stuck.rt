@@ -1,5 +1,5 @@
-//! Whether no order goes on from the calls made so far, nor passes by them. That is told without trying: by what a call
-//! gets while others made fewer calls, and by what a call to come shows of the other end of its channel.
+//! Whether no order goes on from the calls made so far, nor passes by them. This needs no trying: it shows in what a call
+//! gets while others made fewer calls, and in what a call to come shows of the other end of its channel.
 ghost use Rattle.std.specs.Prelude.{◌≡◌, ◌<◌, length, Some, IsTrue};
 ghost use Rattle.apex_log_orders.specs.LogOrders.{HasNoOrder};
 ghost use Rattle.apex_log_orders.specs.Stuck.{HaveNoClear, NeverNext, is_own, is_transfer};
@@ -12,11 +12,11 @@ use crate::answer::OwnLog;
 use crate::reads::is_read_held;
 use crate::too_soon::comes_too_soon;
 use crate::walk::Walk;
-use apex_config::Config;
+use apex_module::Config;
 use apex_ports::Entry;
 use apex_types::{Call, Reply, ReturnCode};
 
-/// Whether it is told so that there is no order.
+/// Whether this shows that there is no order.
 pub(crate) fn is_stuck(config: &Config, logs: &[OwnLog], advice: &Advice, walk: &Walk) -> bool
     requires walk { IsWalk config.now logs.now walk.now }
     requires clears { HaveNoClear logs.now }
@@ -33,7 +33,7 @@ pub(crate) fn is_stuck(config: &Config, logs: &[OwnLog], advice: &Advice, walk: 
     true
 }
 
-/// Whether it is told so that no order goes on with the partition's next call, before another partition's.
+/// Whether this shows that no order goes on with the partition's next call before another partition's.
 fn is_never_next(config: &Config, logs: &[OwnLog], advice: &Advice, walk: &Walk, p: usize) -> bool
     requires walk { IsWalk config.now logs.now walk.now }
     requires clears { HaveNoClear logs.now }

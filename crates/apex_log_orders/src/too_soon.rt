@@ -7,7 +7,7 @@ use crate::answer::{CallPlace, OwnLog};
 use crate::ends::{count_accepted, count_received, is_no_error, queuing_end};
 use crate::stuck::is_not_available;
 use crate::walk::Walk;
-use apex_config::Config;
+use apex_module::Config;
 use apex_ports::Entry;
 use apex_types::{Call, Direction, Reply};
 

@@ -8,8 +8,8 @@ use crate::advice::Advice;
 use crate::answer::{CallPlace, OwnLog};
 use crate::choice::Choice;
 use crate::replay::judge_at;
-use apex_config::Config;
 use apex_judge::Judge;
+use apex_module::Config;
 use apex_ports::Entry;
 use apex_types::OutOfMemory;
 use std::alloc::Global;
@@ -66,7 +66,7 @@ impl Walk {
 
     /// Whether a call was tried here already, or the advice is for the next one.
     pub(crate) fn follows(&self, advice: &Advice, logs: &[OwnLog]) -> bool {
-        match self.choices.get(self.choices.len().saturating_sub(1)) {
+        match self.choices.last() {
             Some(choice) if choice.tried == 0 => {
                 advice.is_good(&self.judge, logs, self.made.as_slice(), choice.first)
             }
@@ -79,7 +79,7 @@ impl Walk {
         ensures exact { result ≡ candidate_of config.now self.now.choices.items }
         ensures within { IfSome result (λ p. p < length config.now.partitions) }
     {
-        let choice = self.choices.get(self.choices.len().saturating_sub(1))?;
+        let choice = self.choices.last()?;
         choice.candidate(config.partitions())
     }
 
@@ -139,19 +139,14 @@ impl Walk {
     }
 
     /// The partition to try next has no way on.
-    pub(crate) fn pass(&mut self, config: &Config, logs: &[OwnLog]) -> Result<(), OutOfMemory>
+    pub(crate) fn pass(&mut self, config: &Config, logs: &[OwnLog])
         requires walk { IsWalk config.now logs.now self.old }
         requires tried { HasNoWayNext config.now logs.now self.old }
-        ensures { OnOk result (IsWalk config.now logs.now self.new) }
+        ensures { IsWalk config.now logs.now self.new }
     {
-        let Some(choice) = self.choices.pop() else {
-            return Ok(());
-        };
-        self.choices.push(Choice {
-            first: choice.first,
-            tried: choice.tried + 1,
-        })?;
-        Ok(())
+        if let Some(choice) = self.choices.last_mut() {
+            choice.tried += 1;
+        }
     }
 
     /// Goes back before the last call, whose partition has no way on. Answers whether there was one.
@@ -172,12 +167,12 @@ impl Walk {
         let _ = self.choices.pop();
         self.made[last.partition] -= 1;
         self.judge = judge_at(alloc, config, logs, self.path.as_slice())?;
-        self.pass(config, logs)?;
+        self.pass(config, logs);
         Ok(true)
     }
 }
 
-/// A count of no calls for each of so many partitions.
+/// A count of 0 for each partition.
 fn no_calls(alloc: Global, partitions: usize) -> Result<Vec<usize>, OutOfMemory>
     ensures { IfOk result (λ made. made.items ≡ replicate partitions 0) }
 {

@@ -3,7 +3,7 @@
 -- A log of one partition has no PARTITION. A note may be left out, and is passed over.
 use Rattle.std.specs.Prelude.{ℕ, Bool, false, ◌+◌, ◌==◌, if◌then◌else◌, List, [], ◌∷◌, take, drop, codes, bytes_eq, position, Option, Some, None, Result, Ok, Err}
 use Rattle.memchr.specs.Find.{matches, first_of}
-use Rattle.apex_config.specs.Configuration.{Configuration}
+use Rattle.apex_module.specs.Configuration.{Configuration}
 use Rattle.apex_types.specs.declared.reply.Reply.{Reply}
 use Rattle.apex_ports.specs.declared.history.Entry.{Entry}
 use Rattle.apex_ports.specs.declared.history.Request.{Request}

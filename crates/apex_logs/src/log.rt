@@ -9,7 +9,7 @@ ghost use Rattle.apex_logs.specs.declared.log.LogError.TheVariants as errors;
 
 use crate::log_fault::LogFault;
 use crate::log_line::{ANY_ENTRY, ends_calls, read_log_line, read_partition_log_line};
-use apex_config::Config;
+use apex_module::Config;
 use apex_ports::Entry;
 use apex_texts::text::next_line;
 use std::alloc::{AllocFailed, Global};

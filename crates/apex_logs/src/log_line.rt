@@ -8,7 +8,7 @@ ghost use Rattle.apex_logs.specs.LogLine.{arrow_in, sides_of, is_bracket, is_clo
 
 use crate::log_fault::LogFault;
 use crate::reply_words::{first_word, read_reply};
-use apex_config::Config;
+use apex_module::Config;
 use apex_ports::Entry;
 use apex_texts::LineFault;
 use apex_texts::arguments::{moment_of, read_call, service_at, word_at};

@@ -1,6 +1,2 @@
-pub mod Hints
-pub mod Lines
-pub mod Mistakes
-pub mod Quoted
-pub mod Standard
-pub mod Words
+pub mod FaultyLines
+pub mod LinePlace

@@ -1,43 +1,27 @@
-//! What has to stand where a fault of a line stands, in words.
-ghost use Rattle.std.specs.Prelude.{◌≡◌, ◌++◌, [], map, take, nat_lt, length, if◌then◌else◌, codes, string_bytes, IfOk, OnOk};
-ghost use Rattle.std.specs.List.{flat_map};
-ghost use Rattle.apex_mistakes.specs.Words.{expected_words, partition_names, call_words, joined, listed, expected_text};
-
-use apex_config::Config;
+//! What was expected at the fault of a line, in words.
+use apex_module::Config;
 use apex_texts::{Expected, SERVICES};
 use std::alloc::{AllocError, Global};
 
-/// The most names of partitions that are listed.
+/// The most known words that are listed.
 const NAMES_SHOWN: usize = 12;
 
 /// Writes what was expected.
-#[tactic(auto, unfolding(crate::specs::Words::expected_text))]
 pub(crate) fn push_expected(
     alloc: Global,
     text: &mut String,
     config: &Config,
     expected: Expected,
-) -> Result<(), AllocError>
-    ensures { OnOk result (string_bytes text.new
-        ≡ string_bytes text.old ++ expected_text config.now expected) }
-{
-    text.push_str(words(expected))?;
+) -> Result<(), AllocError> {
+    text.push_str(expected_words(expected))?;
     match expected {
-        Expected::Partition => {
-            let names = partition_names(alloc, config)?;
-            push_listed(text, names.as_slice())
-        }
-        Expected::Service => {
-            let words = call_words(alloc)?;
-            push_listed(text, words.as_slice())
-        }
+        Expected::Partition => push_listed(text, partition_names(alloc, config)?.as_slice()),
+        Expected::Service => push_listed(text, call_words(alloc)?.as_slice()),
         _ => Ok(()),
     }
 }
 
-fn words(expected: Expected) -> &'static str
-    ensures { result.now ≡ expected_words expected }
-{
+fn expected_words(expected: Expected) -> &'static str {
     match expected {
         Expected::Ascii => "ASCII",
         Expected::Moment => "a moment: nanoseconds, a whole number without sign and unit",
@@ -62,10 +46,7 @@ fn words(expected: Expected) -> &'static str
 pub(crate) fn partition_names<'a>(
     alloc: Global,
     config: &'a Config,
-) -> Result<Vec<&'a str>, AllocError>
-    ensures { IfOk result
-        (λ names. map (λ name. name.now) names.items ≡ partition_names config.now) }
-{
+) -> Result<Vec<&'a str>, AllocError> {
     let mut names = Vec::new(alloc);
     for p in 0..config.partitions() {
         names.push(config.partition_name(p).text())?;
@@ -74,9 +55,7 @@ pub(crate) fn partition_names<'a>(
 }
 
 /// The call words of all services.
-pub(crate) fn call_words<'a>(alloc: Global) -> Result<Vec<&'a str>, AllocError>
-    ensures { IfOk result (λ words. map (λ word. word.now) words.items ≡ call_words) }
-{
+pub(crate) fn call_words<'a>(alloc: Global) -> Result<Vec<&'a str>, AllocError> {
     let mut words = Vec::new(alloc);
     for service in &SERVICES {
         words.push(service.word())?;
@@ -84,52 +63,16 @@ pub(crate) fn call_words<'a>(alloc: Global) -> Result<Vec<&'a str>, AllocError>
     Ok(words)
 }
 
-/// Writes the first of the known words, and `..` where there are more.
-fn push_listed(text: &mut String, words: &[&str]) -> Result<(), AllocError>
-    ensures { OnOk result (string_bytes text.new
-        ≡ string_bytes text.old ++ listed (map (λ word. word.now) words.now)) }
-{
-    text.push_str(": ")?;
-    push_joined(text, first_of(words))?;
-    if words.len() > NAMES_SHOWN {
-        text.push_str(", ..")
-    } else {
-        Ok(())
-    }
-}
-
-/// The words that are listed.
-fn first_of<'w, 'a>(words: &'w [&'a str]) -> &'w [&'a str]
-    ensures { result.now ≡ take NAMES_SHOWN words.now }
-{
-    if words.len() > NAMES_SHOWN {
-        &words[..NAMES_SHOWN]
-    } else {
-        words
-    }
-}
-
-/// Writes words, parted by commas.
-fn push_joined(text: &mut String, words: &[&str]) -> Result<(), AllocError>
-    ensures { OnOk result (string_bytes text.new
-        ≡ string_bytes text.old ++ joined (map (λ word. word.now) words.now)) }
-{
-    match words.split_first() {
-        Some((first, rest)) => {
-            text.push_str(first)?;
-            push_others(text, rest)
+/// Writes the first of the known words, and `..` if there are more.
+fn push_listed(text: &mut String, words: &[&str]) -> Result<(), AllocError> {
+    for (index, word) in words.iter().enumerate() {
+        if index < NAMES_SHOWN {
+            let mark = if index == 0 { ":" } else { "," };
+            write!(text, "{mark} {word}")?;
         }
-        None => Ok(()),
     }
-}
-
-fn push_others(text: &mut String, words: &[&str]) -> Result<(), AllocError>
-    ensures { OnOk result (string_bytes text.new ≡ string_bytes text.old
-        ++ flat_map (λ word. codes ", " ++ word) (map (λ word. word.now) words.now)) }
-{
-    for word in words {
-        text.push_str(", ")?;
-        text.push_str(word)?;
+    if words.len() > NAMES_SHOWN {
+        text.push_str(", ..")?;
     }
     Ok(())
 }

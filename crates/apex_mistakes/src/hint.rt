@@ -1,18 +1,15 @@
-//! What was most likely meant where a fault of a line stands.
-ghost use Rattle.std.specs.Prelude.{◌≡◌, ◌||◌, is_some, map, Some, option_map, IfOk};
-ghost use Rattle.std.specs.Char.{is_ascii_hexdigit};
-ghost use Rattle.std.specs.List.{list_all};
-ghost use Rattle.apex_mistakes.specs.Lines.{caller_of};
-ghost use Rattle.apex_mistakes.specs.Hints.{hint_words, meant_words, names_service, moment_hint, partition_hint, service_hint, number_hint, identifier_hint, has_prefix, message_hint, end_hint, word_hint, byte_order_mark, hint_of};
-ghost use Rattle.apex_mistake_words.specs.Nearest.{nearest_of};
-
+//! What was most likely meant at the fault of a line.
 use crate::expected::{call_words, partition_names};
+use crate::habits::{advice_of, is_number};
 use crate::known::FaultyLine;
-use crate::standard::{DIRECTIONS, DISCIPLINES, MODES, Numbered, numbered, service_of_standard};
-use apex_config::Config;
-use apex_mistake_words::nearest;
-use apex_texts::arguments::name_in;
-use apex_texts::{Expected, LineFault, Service};
+use crate::standard::{
+    DIRECTIONS, DISCIPLINES, MODES, Numbered, OtherWord, numbered, service_of_standard,
+    services_called,
+};
+use apex_module::Config;
+use apex_refusals::nearest;
+use apex_texts::arguments::{MOMENT_LIMIT, NUMBER_LIMIT, name_in};
+use apex_texts::{Expected, Service};
 use std::alloc::{AllocError, Global};
 use std::fmt;
 
@@ -21,37 +18,37 @@ use std::fmt;
 pub(crate) enum Hint<'a> {
     /// Another word.
     Word(&'a str),
+    /// The word of one of two services.
+    Either(Service, Service),
     /// The number of the standard's word, or the identifier of the port.
     Number { word: &'a str, number: u32 },
-    /// What is to be done.
+    /// The greatest number.
+    AtMost(u64),
+    /// What to do.
     Advice(&'static str),
 }
 
 impl fmt::Display for Hint<'_> {
-    ghost output = { λ hint. Some (hint_words hint) };
-
     fn fmt<W: fmt::Write>(&self, f: &mut fmt::Formatter<W>) -> fmt::Result {
         match self {
             Hint::Word(word) => write!(f, "did you mean `{word}`?"),
+            Hint::Either(one, other) => {
+                write!(f, "did you mean `{}` or `{}`?", one.word(), other.word())
+            }
             Hint::Number { word, number } => write!(f, "{word} is {number}"),
+            Hint::AtMost(limit) => write!(f, "the number is too great: at most {limit}"),
             Hint::Advice(words) => f.write_str(words),
         }
     }
 }
 
-/// What was most likely meant, where something can be said of it.
-#[tactic(auto, unfolding(crate::specs::Hints::hint_of))]
+/// What was most likely meant, if the line gives a hint.
 pub(crate) fn hint_of<'a>(
     alloc: Global,
     faulty: &FaultyLine<'a>,
-) -> Result<Option<Hint<'a>>, AllocError>
-    ensures { let line = faulty.now.line.now in
-        let caller = caller_of faulty.now.config.now faulty.now.caller line in
-        let told = hint_of faulty.now.config.now caller line faulty.now.place in
-        IfOk result (λ hint. option_map hint_words hint ≡ told) }
-{
-    if let LineFault::NotAscii = faulty.place.fault {
-        return Ok(byte_order_mark(faulty.line));
+) -> Result<Option<Hint<'a>>, AllocError> {
+    if let Some(words) = advice_of(faulty) {
+        return Ok(Some(Hint::Advice(words)));
     }
     match faulty.faulty_word() {
         Some(word) => word_hint(alloc, faulty, word),
@@ -59,18 +56,15 @@ pub(crate) fn hint_of<'a>(
     }
 }
 
-/// What was most likely meant by the word at a place.
-#[tactic(auto, unfolding(crate::specs::Hints::word_hint))]
+/// What was most likely meant by a faulty word.
 fn word_hint<'a>(
     alloc: Global,
     faulty: &FaultyLine<'a>,
     word: &[u8],
-) -> Result<Option<Hint<'a>>, AllocError>
-    ensures { let caller = caller_of faulty.now.config.now faulty.now.caller in
-        let told = word_hint faulty.now.config.now (caller faulty.now.line.now)
-        faulty.now.place.expected word.now in
-        IfOk result (λ hint. option_map hint_words hint ≡ told) }
-{
+) -> Result<Option<Hint<'a>>, AllocError> {
+    if let Some(hint) = limit_hint(faulty.place.expected, word) {
+        return Ok(Some(hint));
+    }
     match faulty.place.expected {
         Expected::Moment => Ok(Some(moment_hint(faulty.config, word))),
         Expected::Partition => partition_hint(alloc, faulty.config, word),
@@ -80,32 +74,33 @@ fn word_hint<'a>(
         Expected::Discipline => Ok(number_hint(&DISCIPLINES, word)),
         Expected::Mode => Ok(number_hint(&MODES, word)),
         Expected::Message => Ok(Some(message_hint(word))),
-        Expected::EndOfLine => Ok(end_hint(word)),
         _ => Ok(None),
     }
 }
 
-/// A byte order mark at the begin of a line.
-fn byte_order_mark<'a>(line: &[u8]) -> Option<Hint<'a>>
-    ensures { option_map hint_words result ≡ byte_order_mark line.now }
-{
-    if line.starts_with(b"\xEF\xBB\xBF") {
-        Some(Hint::Advice("the line begins with a byte order mark: save the file without it"))
-    } else {
-        None
+/// The greatest number that may stand where this is expected, for a word that is a number.
+fn limit_hint<'a>(expected: Expected, word: &[u8]) -> Option<Hint<'a>> {
+    if !is_number(word) {
+        return None;
+    }
+    match expected {
+        Expected::Moment | Expected::Refresh => Some(Hint::AtMost(MOMENT_LIMIT)),
+        Expected::Size
+        | Expected::Depth
+        | Expected::Direction
+        | Expected::Discipline
+        | Expected::Identifier
+        | Expected::Mode => Some(Hint::AtMost(NUMBER_LIMIT)),
+        _ => None,
     }
 }
 
 /// Whether a word is a call word, or the name of a service in the standard.
-fn names_service(word: &[u8]) -> bool
-    ensures { result ≡ names_service word.now }
-{
+fn names_service(word: &[u8]) -> bool {
     Service::named(word).is_some() || service_of_standard(word).is_some()
 }
 
-fn moment_hint<'a>(config: &Config, word: &[u8]) -> Hint<'a>
-    ensures { hint_words result ≡ moment_hint config.now word.now }
-{
+fn moment_hint<'a>(config: &Config, word: &[u8]) -> Hint<'a> {
     if names_service(word) || config.partition_called(word).is_some() {
         Hint::Advice("a line begins with the moment of its call")
     } else {
@@ -117,10 +112,7 @@ fn partition_hint<'a>(
     alloc: Global,
     config: &'a Config,
     word: &[u8],
-) -> Result<Option<Hint<'a>>, AllocError>
-    ensures { IfOk result
-        (λ hint. option_map hint_words hint ≡ partition_hint config.now word.now) }
-{
+) -> Result<Option<Hint<'a>>, AllocError> {
     if names_service(word) {
         return Ok(Some(Hint::Advice(
             "the partition that makes the call stands before the call word",
@@ -130,11 +122,14 @@ fn partition_hint<'a>(
     nearest_hint(alloc, word, names.as_slice())
 }
 
-fn service_hint<'a>(alloc: Global, word: &[u8]) -> Result<Option<Hint<'a>>, AllocError>
-    ensures { IfOk result (λ hint. option_map hint_words hint ≡ service_hint word.now) }
-{
+fn service_hint<'a>(alloc: Global, word: &[u8]) -> Result<Option<Hint<'a>>, AllocError> {
     if let Some(service) = service_of_standard(word) {
         return Ok(Some(Hint::Word(service.word())));
+    }
+    match services_called(word) {
+        Some(OtherWord::One(service)) => return Ok(Some(Hint::Word(service.word()))),
+        Some(OtherWord::Either(one, other)) => return Ok(Some(Hint::Either(one, other))),
+        None => {}
     }
     let words = call_words(alloc)?;
     nearest_hint(alloc, word, words.as_slice())
@@ -145,11 +140,7 @@ fn nearest_hint<'a>(
     alloc: Global,
     word: &[u8],
     known: &[&'a str],
-) -> Result<Option<Hint<'a>>, AllocError>
-    ensures { let words = map (λ name. name.now) known.now in
-        let told = option_map meant_words (nearest_of word.now words) in
-        IfOk result (λ hint. option_map hint_words hint ≡ told) }
-{
+) -> Result<Option<Hint<'a>>, AllocError> {
     match nearest(alloc, word, known)? {
         Some(name) => Ok(Some(Hint::Word(name))),
         None => Ok(None),
@@ -157,20 +148,13 @@ fn nearest_hint<'a>(
 }
 
 /// The number of the standard's word.
-fn number_hint<'a>(words: &[Numbered], word: &[u8]) -> Option<Hint<'a>>
-    ensures { let known = map (λ entry. (entry.0.now, entry.1)) words.now in
-        option_map hint_words result ≡ number_hint known word.now }
-{
+fn number_hint<'a>(words: &[Numbered], word: &[u8]) -> Option<Hint<'a>> {
     let (word, number) = numbered(words, word)?;
     Some(Hint::Number { word, number })
 }
 
-/// The identifier of the port of this name.
-fn identifier_hint<'a>(faulty: &FaultyLine<'a>, word: &[u8]) -> Option<Hint<'a>>
-    ensures { let caller = caller_of faulty.now.config.now faulty.now.caller in
-        option_map hint_words result
-        ≡ identifier_hint faulty.now.config.now (caller faulty.now.line.now) word.now }
-{
+/// The identifier of the port with this name.
+fn identifier_hint<'a>(faulty: &FaultyLine<'a>, word: &[u8]) -> Option<Hint<'a>> {
     let name = name_in(word)?;
     let partition = faulty.partition()?;
     match faulty.config.port_named(partition, &name) {
@@ -185,23 +169,17 @@ fn identifier_hint<'a>(faulty: &FaultyLine<'a>, word: &[u8]) -> Option<Hint<'a>>
     }
 }
 
-/// Whether a word begins with `0x`, as hexadecimal numbers of other texts do.
-fn has_prefix(word: &[u8]) -> bool
-    ensures { result ≡ has_prefix word.now }
-{
+/// Whether a word begins with `0x`, as hexadecimal numbers do elsewhere.
+fn has_prefix(word: &[u8]) -> bool {
     word.starts_with(b"0x") || word.starts_with(b"0X")
 }
 
 /// Whether a word has hexadecimal digits alone.
-fn are_digits(word: &[u8]) -> bool
-    ensures { result ≡ list_all is_ascii_hexdigit word.now }
-{
+fn are_digits(word: &[u8]) -> bool {
     word.iter().all(|byte| byte.is_ascii_hexdigit())
 }
 
-fn message_hint<'a>(word: &[u8]) -> Hint<'a>
-    ensures { hint_words result ≡ message_hint word.now }
-{
+fn message_hint<'a>(word: &[u8]) -> Hint<'a> {
     if has_prefix(word) {
         Hint::Advice("write the digits without `0x`")
     } else if !are_digits(word) {
@@ -210,16 +188,5 @@ fn message_hint<'a>(word: &[u8]) -> Hint<'a>
         Hint::Advice("the number of digits is odd")
     } else {
         Hint::Advice("the message is too long")
-    }
-}
-
-/// A comment behind a call.
-fn end_hint<'a>(word: &[u8]) -> Option<Hint<'a>>
-    ensures { option_map hint_words result ≡ end_hint word.now }
-{
-    if word.starts_with(b"#") {
-        Some(Hint::Advice("a comment has a line of its own"))
-    } else {
-        None
     }
 }

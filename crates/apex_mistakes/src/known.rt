@@ -1,22 +1,21 @@
 //! What is known of a faulty line.
-ghost use Rattle.std.specs.Prelude.{ℕ, List, ◌≡◌, ◌<◌, ◌-◌, drop, length, slice_get, option_map, unwrap_or, IfSome};
-ghost use Rattle.apex_texts.specs.Text.{words_of};
-ghost use Rattle.apex_mistakes.specs.Lines.{word_at, trace_caller, script_caller, caller_of, byte_at};
+ghost use Rattle.std.specs.Prelude.{◌<◌, length, IfSome};
 
-use apex_config::Config;
-use apex_line_faults::LinePlace;
+use crate::line_place::LinePlace;
+use apex_module::Config;
+use apex_texts::Service;
 use apex_texts::text::next_word;
 
-/// Whose calls a text has.
+/// The partition that makes the calls of a text.
 #[derive(Clone, Copy)]
 pub(crate) enum Caller {
-    /// The partition of this number.
+    /// The partition with this number.
     Script(usize),
     /// The partition that each line names.
     Trace,
 }
 
-/// A faulty line, with what the words of its mistake need.
+/// A faulty line and the place of its fault.
 #[derive(Clone, Copy)]
 pub(crate) struct FaultyLine<'a> {
     pub(crate) config: &'a Config,
@@ -26,75 +25,55 @@ pub(crate) struct FaultyLine<'a> {
 }
 
 impl<'a> FaultyLine<'a> {
-    /// The word at which the fault stands.
-    pub(crate) fn faulty_word(&self) -> Option<&'a [u8]>
-        ensures { option_map (λ word. word.now) result
-            ≡ word_at self.now.place.word self.now.line.now }
-    {
+    /// The faulty word. A word that is missing is none.
+    pub(crate) fn faulty_word(&self) -> Option<&'a [u8]> {
         word_at(self.line, self.place.word)
     }
 
+    /// The first word of the line.
+    pub(crate) fn first_word(&self) -> Option<&'a [u8]> {
+        word_at(self.line, 1)
+    }
+
+    /// The word after the faulty one.
+    pub(crate) fn next_word(&self) -> Option<&'a [u8]> {
+        word_at(self.line, self.place.word.saturating_add(1))
+    }
+
+    /// The service that the line calls.
+    pub(crate) fn service(&self) -> Option<Service> {
+        let number = match self.caller {
+            Caller::Script(_) => 2,
+            Caller::Trace => 3,
+        };
+        Service::named(word_at(self.line, number)?)
+    }
+
     /// The byte that isn't ASCII.
-    pub(crate) fn faulty_byte(&self) -> u8
-        ensures { result ≡ byte_at self.now.place.column self.now.line.now }
-    {
+    pub(crate) fn faulty_byte(&self) -> u8 {
         let byte = self.line.get(self.place.column.saturating_sub(1));
         byte.copied().unwrap_or(0)
     }
 
-    /// The partition that makes the call.
+    /// The partition that makes the call, if the configuration has it.
     pub(crate) fn partition(&self) -> Option<usize>
-        ensures found { let caller = caller_of self.now.config.now self.now.caller in
-            result ≡ caller self.now.line.now }
-        ensures known { IfSome result (λ p. p < length self.now.config.now.partitions) }
+        ensures { IfSome result (λ p. p < length self.now.config.now.partitions) }
     {
         match self.caller {
-            Caller::Script(partition) => script_caller(self.config, partition),
-            Caller::Trace => trace_caller(self.config, self.line),
+            Caller::Script(partition) if partition < self.config.partitions() => Some(partition),
+            Caller::Script(_) => None,
+            Caller::Trace => self.config.partition_called(word_at(self.line, 2)?),
         }
     }
 }
 
-/// The partition of this number, where there is one.
-fn script_caller(config: &Config, partition: usize) -> Option<usize>
-    ensures found { (line : List ℕ) → result ≡ script_caller config.now partition line }
-    ensures known { IfSome result (λ p. p < length config.now.partitions) }
-{
-    if partition < config.partitions() {
-        Some(partition)
-    } else {
-        None
-    }
-}
-
-/// The partition that a trace's line names.
-fn trace_caller(config: &Config, line: &[u8]) -> Option<usize>
-    ensures found { result ≡ trace_caller config.now line.now }
-    ensures known { IfSome result (λ p. p < length config.now.partitions) }
-{
-    config.partition_called(word_at(line, 2)?)
-}
-
-/// The word of this number, from 1.
-fn word_at(line: &[u8], number: usize) -> Option<&[u8]>
-    ensures { option_map (λ word. word.now) result ≡ word_at number line.now }
-{
-    match next_word(behind_words(line, number.saturating_sub(1))) {
-        Some((word, _)) => Some(word),
-        None => None,
-    }
-}
-
-/// A line behind so many words.
-fn behind_words(line: &[u8], count: usize) -> &[u8]
-    ensures { words_of result.now ≡ drop count (words_of line.now) }
-{
+/// The word with this number, from 1.
+fn word_at(line: &[u8], number: usize) -> Option<&[u8]> {
     let mut rest = line;
-    for passed in 0..count {
-        match next_word(rest) {
-            Some((_, after)) => rest = after,
-            None => return rest,
-        }
+    for before in 1..number {
+        let (_, after) = next_word(rest)?;
+        rest = after;
     }
-    rest
+    let (word, _) = next_word(rest)?;
+    Some(word)
 }

@@ -1,31 +1,8 @@
-//! The words of the standard that stand for a call word or for a number here.
-ghost use Rattle.std.specs.Prelude.{◌≡◌, find, map, option_map};
-ghost use Rattle.std.specs.Str.{str_eq_ignore_ascii_case};
-ghost use Rattle.apex_mistakes.specs.Standard.{standard_name, service_of_standard, numbered};
-
+//! The words of the standard for services and numbers.
 use apex_texts::{SERVICES, Service};
+use apex_words::standard_name;
 
-/// The name of a service in the standard.
-fn standard_name(service: Service) -> &'static str
-    ensures { result.now ≡ standard_name service }
-{
-    match service {
-        Service::CreateSampling => "CREATE_SAMPLING_PORT",
-        Service::WriteSampling => "WRITE_SAMPLING_MESSAGE",
-        Service::ReadSampling => "READ_SAMPLING_MESSAGE",
-        Service::SamplingId => "GET_SAMPLING_PORT_ID",
-        Service::SamplingStatus => "GET_SAMPLING_PORT_STATUS",
-        Service::CreateQueuing => "CREATE_QUEUING_PORT",
-        Service::SendQueuing => "SEND_QUEUING_MESSAGE",
-        Service::ReceiveQueuing => "RECEIVE_QUEUING_MESSAGE",
-        Service::QueuingId => "GET_QUEUING_PORT_ID",
-        Service::QueuingStatus => "GET_QUEUING_PORT_STATUS",
-        Service::ClearQueuing => "CLEAR_QUEUING_PORT",
-        Service::SetMode => "SET_PARTITION_MODE",
-    }
-}
-
-/// A word of the standard, and the number that it has.
+/// A word of the standard, and its number.
 pub(crate) type Numbered = (&'static str, u32);
 
 /// PORT_DIRECTION_TYPE.
@@ -42,27 +19,78 @@ pub(crate) const MODES: [Numbered; 4] = [
     ("NORMAL", 3),
 ];
 
-/// The service that has the name in the standard, whatever the case.
-pub(crate) fn service_of_standard(word: &[u8]) -> Option<Service>
-    ensures { result ≡ service_of_standard word.now }
-{
+/// The service, or the two, that a word other than a call word names.
+#[derive(Clone, Copy)]
+pub(crate) enum OtherWord {
+    One(Service),
+    Either(Service, Service),
+}
+
+/// Words for services that are no call words.
+static OTHER_WORDS: [(&str, OtherWord); 14] = [
+    (
+        "create",
+        OtherWord::Either(Service::CreateSampling, Service::CreateQueuing),
+    ),
+    (
+        "create-port",
+        OtherWord::Either(Service::CreateSampling, Service::CreateQueuing),
+    ),
+    (
+        "id",
+        OtherWord::Either(Service::SamplingId, Service::QueuingId),
+    ),
+    (
+        "get-id",
+        OtherWord::Either(Service::SamplingId, Service::QueuingId),
+    ),
+    (
+        "port-id",
+        OtherWord::Either(Service::SamplingId, Service::QueuingId),
+    ),
+    (
+        "status",
+        OtherWord::Either(Service::SamplingStatus, Service::QueuingStatus),
+    ),
+    (
+        "get-status",
+        OtherWord::Either(Service::SamplingStatus, Service::QueuingStatus),
+    ),
+    ("set-mode", OtherWord::One(Service::SetMode)),
+    ("write-sampling", OtherWord::One(Service::WriteSampling)),
+    ("read-sampling", OtherWord::One(Service::ReadSampling)),
+    ("send-queuing", OtherWord::One(Service::SendQueuing)),
+    ("receive-queuing", OtherWord::One(Service::ReceiveQueuing)),
+    ("recv", OtherWord::One(Service::ReceiveQueuing)),
+    ("clear-queuing", OtherWord::One(Service::ClearQueuing)),
+];
+
+/// The services that such a word names, in letters of either case and with `_` for `-`.
+pub(crate) fn services_called(word: &[u8]) -> Option<OtherWord> {
+    let (_, services) = OTHER_WORDS
+        .iter()
+        .copied()
+        .find(|entry| is_same_word(word, entry.0.as_bytes()))?;
+    Some(services)
+}
+
+/// Whether two words are the same, in letters of either case and with `_` for `-`.
+fn is_same_word(word: &[u8], known: &[u8]) -> bool {
+    word.len() == known.len()
+        && word.iter().zip(known.iter()).all(|(one, other)| {
+            one.eq_ignore_ascii_case(other) || *one == b'_' && *other == b'-'
+        })
+}
+
+/// The service with this name in the standard, in letters of either case.
+pub(crate) fn service_of_standard(word: &[u8]) -> Option<Service> {
     SERVICES.iter().copied().find(|service| standard_name(*service)
         .as_bytes()
         .eq_ignore_ascii_case(word))
 }
 
-/// The word of these that a word is, whatever the case, with its number.
-pub(crate) fn numbered(words: &[Numbered], word: &[u8]) -> Option<Numbered>
-    ensures { option_map (λ found. (found.0.now, found.1)) result
-        ≡ numbered (map (λ entry. (entry.0.now, entry.1)) words.now) word.now }
-{
-    entry_named(words, word)
-}
-
-fn entry_named(words: &[Numbered], word: &[u8]) -> Option<Numbered>
-    ensures { result
-        ≡ find (λ entry. str_eq_ignore_ascii_case entry.0.now word.now) words.now }
-{
+/// The entry for this word, in letters of either case.
+pub(crate) fn numbered(words: &[Numbered], word: &[u8]) -> Option<Numbered> {
     words
         .iter()
         .copied()

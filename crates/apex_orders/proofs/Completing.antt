@@ -1,30 +1,35 @@
--- A search that has come to its end knows every beginning, and each reply.
-use Rattle.std.proofs.Common.{◌≡◌, ◌⊎◌, inl, inr, ⊎_elim, ℕ, zero, suc, ◌+◌, ◌<◌, ◌≤◌, List, [], ◌∷◌, ◌++◌, length, map, Option, Some, None, refl, sym, ap, ◌∙◌, subst, arith, append-nil, length-append}
+-- A search that has come to its end has found each reply and each end.
+use Rattle.std.proofs.Common.{◌≡◌, ◌⊎◌, inl, inr, ⊎_elim, ℕ, zero, suc, ◌+◌, ◌<◌, ◌≤◌, List, [], ◌∷◌, ◌++◌, length, map, Option, Some, None, refl, sym, ap, ◌∙◌, subst, arith, append_assoc, append-nil, length-append}
 use Rattle.std.specs.List.{slice_get}
 use Rattle.std.specs.Option.{unwrap_or}
 use Rattle.std.proofs.lemmas.Bool.{cases_eq}
 use Rattle.std.proofs.lemmas.Option.{slice_get_within}
+use Rattle.std.proofs.lemmas.List.{take_all}
 use Rattle.apex_types.specs.declared.call.Call.{Call}
 use Rattle.apex_types.specs.declared.moment.Moment.{Moment}
 use Rattle.apex_types.specs.declared.reply.Reply.{Reply}
-use Rattle.apex_config.specs.Configuration.{Configuration}
-use Rattle.apex_config.specs.Configuration.{IsConfiguration}
+use Rattle.apex_module.specs.Configuration.{Configuration}
+use Rattle.apex_module.specs.Configuration.{IsConfiguration}
 use Rattle.apex_ports.specs.declared.history.Entry.{Entry}
 use Rattle.apex_ports.specs.History.{History, entry_of, entries_of}
 use Rattle.apex_ports.proofs.LawfulSteps.{sound-nil}
-use Rattle.apex_orders.specs.declared.replies.Possible.{Possible}
-use Rattle.apex_orders.specs.Orders.{Scripts, script_of, calls_of, replies_of, IsBeginning, IsWay, order_of, IsOrder, next_entries, continued, history_of}
+use Rattle.apex_orders.specs.declared.replies.PossibleReply.{PossibleReply}
+use Rattle.apex_orders.specs.Orders.{Scripts, script_of, calls_of, replies_of, IsBeginning, IsWay, IsOrder, next_entries, continued, history_of}
 use Rattle.apex_orders.specs.Outcomes.{CanOccur, AreReplies, AreEnds, EndsAtOne}
 use Rattle.apex_orders.specs.Points.{IsSamePoint}
-use Rattle.apex_orders.specs.Possibles.{Has}
-use Rattle.apex_orders.specs.Searching.{Knows, IsTried, IsSearched, IsGivenByAnOrder}
+use Rattle.apex_orders.specs.Lists.{Has}
+use Rattle.apex_orders.specs.Searching.{IsSearched, IsGivenByAnOrder}
 use Rattle.apex_orders.specs.Steps.{Makes}
-use Rattle.apex_orders.proofs.Lists.{stays_before, before_or_last, take_whole, none_past, at_seam}
-use Rattle.apex_orders.proofs.Walks.{own_entry, other_entry, calls_of-append, replies_of-append, calls_count, replies_count, IsGood, IsDone, IsNext, answered, next_cases, same_history, one_longer, good_next, first_of, rest_of, none_ordered, first_ordered, joined, good_walk, continued-append, ordered, history_of_order}
-use Rattle.apex_orders.proofs.Following.{AreShort, same_self, same_along, same_next, same_count, point_next}
+use Rattle.apex_orders.proofs.Enough.{begins, enough_goes_first}
+use Rattle.apex_orders.proofs.GoingOn.{lawful_here}
+use Rattle.apex_orders.proofs.Lists.{stays_before, before_or_last, none_past, at_seam, past_both}
+use Rattle.apex_orders.proofs.SameWays.{next_entry}
+use Rattle.apex_orders.proofs.Swapping.{lawful_start}
+use Rattle.apex_orders.proofs.Walks.{own_entry, other_entry, calls_of-append, replies_of-append, calls_count, replies_count, IsGood, IsDone, IsNext, answered, next_cases, same_history, one_longer, good_next, none_ordered, first_ordered, joined, good_walk, continued-append}
+use Rattle.apex_orders.proofs.Following.{same_self, same_along, same_next, same_count, point_next}
 
 -- the call at the index was answered so
-abbrev pub IsAnswered : History → Possible → Type 0
+abbrev pub IsAnswered : History → PossibleReply → Type 0
 IsAnswered h one = slice_get (replies_of one.partition h) one.index ≡ Some one.reply
 
 pub good_nil : (config : Configuration) (scripts : Scripts) → IsConfiguration config → IsGood config scripts []
@@ -36,17 +41,17 @@ module _ (config : Configuration) (scripts : Scripts) (valid : IsConfiguration c
 
   -- ---- replies of histories that go on
 
-  still_answered : (h more : History) (one : Possible) → IsAnswered h one → IsAnswered (h ++ more) one
+  still_answered : (h more : History) (one : PossibleReply) → IsAnswered h one → IsAnswered (h ++ more) one
   still_answered h more one here =
       ap (λ (replies : List Reply). slice_get replies one.index) (replies_of-append one.partition h more)
       ∙ stays_before (replies_of one.partition h) (replies_of one.partition more) one.index one.reply here
 
-  pub answered_on : (h : History) (order : List ℕ) (one : Possible) → IsAnswered h one → IsAnswered (continued config scripts h order) one
+  pub answered_on : (h : History) (order : List ℕ) (one : PossibleReply) → IsAnswered h one → IsAnswered (continued config scripts h order) one
   answered_on h [] one here = here
   answered_on h (p ∷ order) one here = answered_on (h ++ next_entries config scripts h p) order one (still_answered h (next_entries config scripts h p) one here)
 
   -- the reply that a step gives is there behind it
-  pub made_is_answered : (h : History) (p : ℕ) (one : Possible) → Makes config scripts h p one → IsAnswered (h ++ next_entries config scripts h p) one
+  pub made_is_answered : (h : History) (p : ℕ) (one : PossibleReply) → Makes config scripts h p one → IsAnswered (h ++ next_entries config scripts h p) one
   made_is_answered h p one makes =
       let e = entry_of p makes.at makes.call one.reply in
       let longer : replies_of one.partition (h ++ next_entries config scripts h p) ≡ replies_of one.partition h ++ one.reply ∷ [] =
@@ -58,7 +63,7 @@ module _ (config : Configuration) (scripts : Scripts) (valid : IsConfiguration c
       ∙ (ap (λ (n : ℕ). slice_get (replies_of one.partition h ++ one.reply ∷ []) n) index ∙ at_seam (replies_of one.partition h) one.reply [])
 
   -- what is answered behind a step was answered before it, or by it
-  answered_by : (h : History) (p : ℕ) (one : Possible) → IsAnswered (h ++ next_entries config scripts h p) one → IsAnswered h one ⊎ Makes config scripts h p one
+  answered_by : (h : History) (p : ℕ) (one : PossibleReply) → IsAnswered (h ++ next_entries config scripts h p) one → IsAnswered h one ⊎ Makes config scripts h p one
   answered_by h p one here =
       ⊎_elim
       (λ (done : IsDone config scripts h p). inl (subst (λ (g : History). IsAnswered g one) (same_history config scripts h p done) here))
@@ -158,7 +163,7 @@ module _ (config : Configuration) (scripts : Scripts) (valid : IsConfiguration c
   pub way_of : length scripts ≡ length config.partitions → (h : History) → IsGood config scripts h → AreFull (length config.partitions) h → IsWay config scripts h
   way_of count h good full = record {
     lawful = good.sound.lawful;
-    calls = λ p. good.calls p ∙ take_whole (length (calls_of p h)) (script_of scripts p) (of_index p (slice_get scripts p) refl);
+    calls = λ p. good.calls p ∙ take_all (length (calls_of p h)) (script_of scripts p) (of_index p (slice_get scripts p) refl);
   }
     where
       of_index : (p : ℕ) (o : Option (List (Moment × Call))) → slice_get scripts p ≡ o → length (script_of scripts p) ≤ length (calls_of p h)
@@ -174,93 +179,183 @@ module _ (config : Configuration) (scripts : Scripts) (valid : IsConfiguration c
   pub begins_of : (h : History) → IsWay config scripts h → IsBeginning config scripts h
   begins_of h way = record {
     lawful = way.lawful;
-    calls = λ p. way.calls p ∙ sym (take_whole (length (calls_of p h)) (script_of scripts p) (let same = ap (λ (calls : List (Moment × Call)). length calls) (way.calls p) in omega (arith, same)));
+    calls = λ p. way.calls p ∙ sym (take_all (length (calls_of p h)) (script_of scripts p) (let same = ap (λ (calls : List (Moment × Call)). length calls) (way.calls p) in omega (arith, same)));
   }
 
   -- ---- what a search knows that has come to its end
 
-  module _ (short : AreShort scripts) (orders : List (List ℕ)) (replies : List Possible) (done : IsSearched config scripts orders replies) where
-    good_known : (h : History) (known : Knows config scripts orders h) → IsGood config scripts (history_of config scripts known.order)
-    good_known h known = good_history known.order (done.valid known.here.0 known.order known.here.1)
+  good_start : (h rest : History) → IsWay config scripts (h ++ rest) → IsGood config scripts h
+  good_start h rest is = record {
+    sound = record { valid = valid; lawful = lawful_start config h rest is.lawful };
+    calls = (begins config scripts h rest is).calls;
+  }
 
-    tried_here : (h : History) (known : Knows config scripts orders h) (p : ℕ) → p < length config.partitions → IsTried config scripts orders replies known.order p
-    tried_here h known p within = done.tried known.here.0 (slice_get_within orders known.here.0 known.order known.here.1) known.order known.here.1 p within
+  -- what is answered at the end was answered before, or is so later
+  now_or_later : (h more : History) (one : PossibleReply) → IsAnswered (h ++ more) one → IsAnswered h one ⊎ (length (replies_of one.partition h) ≤ one.index)
+  now_or_later h more one here = by_item (slice_get (replies_of one.partition h) one.index) refl
+    where
+      by_item : (o : Option Reply) → slice_get (replies_of one.partition h) one.index ≡ o → IsAnswered h one ⊎ (length (replies_of one.partition h) ≤ one.index)
+      by_item None none = inr (none_past (replies_of one.partition h) one.index none)
+      by_item (Some reply) at =
+          let both : Some reply ≡ Some one.reply =
+          sym (stays_before (replies_of one.partition h) (replies_of one.partition more) one.index reply at)
+          ∙ (ap (λ (replies : List Reply). slice_get replies one.index) (sym (replies_of-append one.partition h more)) ∙ here) in
+          inl (at ∙ both)
 
-    knows_next : (h : History) (p : ℕ) → p < length config.partitions → IsGood config scripts h → Knows config scripts orders h → Knows config scripts orders (h ++ next_entries config scripts h p)
-    knows_next h p within good known =
-        let tried = tried_here h known p within in
-        let there = history_of config scripts known.order in
-        let stepped = point_next config scripts short h there p within good (good_known h known) known.same in
-        let behind : history_of config scripts (known.order ++ p ∷ []) ≡ there ++ next_entries config scripts there p = continued-append config scripts [] known.order (p ∷ []) in
-        record {
-          order = tried.point.order;
-          here = tried.point.here;
-          same = same_along config (h ++ next_entries config scripts h p) (there ++ next_entries config scripts there p) (history_of config scripts tried.point.order) stepped
-              (subst (λ (g : History). IsSamePoint config g (history_of config scripts tried.point.order)) behind tried.point.same);
+  -- what is answered later is answered so after another history with as many replies
+  carried : (h other more : History) (one : PossibleReply) → length (replies_of one.partition h) ≡ length (replies_of one.partition other) → length (replies_of one.partition h) ≤ one.index
+      → IsAnswered (h ++ more) one → IsAnswered (other ++ more) one
+  carried h other more one as_many past here =
+      let q = one.partition in
+      ap (λ (replies : List Reply). slice_get replies one.index) (replies_of-append q other more)
+      ∙ (sym (past_both (replies_of q h) (replies_of q other) (replies_of q more) one.index as_many past)
+      ∙ (ap (λ (replies : List Reply). slice_get replies one.index) (sym (replies_of-append q h more)) ∙ here))
+
+  -- only partitions with a script make calls on a way
+  is_partition : length scripts ≡ length config.partitions → (way : History) (one : PossibleReply) → IsWay config scripts way → IsAnswered way one → one.partition < length config.partitions
+  is_partition all way one is here =
+      let q = one.partition in
+      let made = slice_get_within (replies_of q way) one.index one.reply here in
+      let replies = replies_count q way in
+      let calls = calls_count q way in
+      let own = ap (λ (calls : List (Moment × Call)). length calls) (is.calls q) in
+      of_script q (omega (arith, made, replies, calls, own))
+    where
+      of_script : (q : ℕ) → 0 < length (script_of scripts q) → q < length config.partitions
+      of_script q some = by_script (slice_get scripts q) refl
+        where
+          by_script : (o : Option (List (Moment × Call))) → slice_get scripts q ≡ o → q < length config.partitions
+          by_script None none =
+              let empty = ap (λ (o : Option (List (Moment × Call))). length (unwrap_or o [])) none in
+              absurd (omega (arith, empty, some))
+          by_script (Some script) here = let within = slice_get_within scripts q script here in omega (arith, within, all)
+
+  module _ (orders : List (List ℕ)) (replies : List PossibleReply) (done : IsSearched config scripts orders replies) where
+    -- what goes on from one history to a way goes on so from another that came to the same point
+    follow : (rest : List Entry) (h other : History) → IsWay config scripts (h ++ rest) → IsGood config scripts h → IsGood config scripts other → IsSamePoint config h other
+        → IsGood config scripts (other ++ rest) × IsSamePoint config (h ++ rest) (other ++ rest)
+    follow [] h other is good good_too same = (
+      subst (IsGood config scripts) (sym (append-nil other)) good_too,
+      subst (λ (both : History × History). IsSamePoint config both.0 both.1) (λ i. (sym (append-nil h) i, sym (append-nil other) i)) same,
+    )
+    follow (e ∷ rest) h other is good good_too same =
+        let p = e.partition in
+        let within : p < length config.partitions = (lawful_here config h e rest is.lawful).0 in
+        let next : next_entries config scripts h p ≡ e ∷ [] = next_entry config scripts h e rest is in
+        let next_too : next_entries config scripts other p ≡ e ∷ [] = sym (same_next config scripts done.short h other p within good good_too same) ∙ next in
+        let good_on = subst (λ (es : History). IsGood config scripts (h ++ es)) next (good_next config scripts h p within good) in
+        let good_on_too = subst (λ (es : History). IsGood config scripts (other ++ es)) next_too (good_next config scripts other p within good_too) in
+        let stepped : IsSamePoint config (h ++ e ∷ []) (other ++ e ∷ []) =
+        subst (λ (both : History × History). IsSamePoint config (h ++ both.0) (other ++ both.1)) (λ i. (next i, next_too i)) (point_next config scripts done.short h other p within good good_too same) in
+        let both = follow rest (h ++ e ∷ []) (other ++ e ∷ []) (subst (IsWay config scripts) (sym (append_assoc h (e ∷ []) rest)) is) good_on good_on_too stepped in (
+          subst (IsGood config scripts) (append_assoc other (e ∷ []) rest) both.0,
+          subst (λ (two : History × History). IsSamePoint config two.0 two.1) (λ i. (append_assoc h (e ∷ []) rest i, append_assoc other (e ∷ []) rest i)) both.1,
+        )
+
+    is_full : (way other : History) → IsWay config scripts way → IsGood config scripts way → IsGood config scripts other → IsSamePoint config way other → AreFull (length config.partitions) other
+    is_full way other is good good_too same p within =
+        let entries = same_count config scripts done.short way other p within good good_too same in
+        let mine = calls_count p way in
+        let theirs = calls_count p other in
+        let all = ap (λ (calls : List (Moment × Call)). length calls) (is.calls p) in
+        omega (arith, entries, mine, theirs, all)
+
+    -- a reply is given after one of the orders, and was found
+    record IsGivenAndFound (one : PossibleReply) : Type 0 where
+      by : IsGivenByAnOrder config scripts orders one
+      found : Has replies one
+
+    -- the search has the way's end, and each reply that the way gives after the history
+    record IsFollowed (h way : History) : Type 0 where
+      end : EndsAtOne config scripts orders way
+      given : (one : PossibleReply) → one.partition < length config.partitions → IsAnswered way one → IsAnswered h one ⊎ IsGivenAndFound one
+
+    follow_way : (n : ℕ) (order : List ℕ) (has : Has orders order) (rest : List Entry) → length rest ≤ n → IsWay config scripts (history_of config scripts order ++ rest)
+        → IsFollowed (history_of config scripts order) (history_of config scripts order ++ rest)
+    follow_way n order has [] few is =
+        let g = history_of config scripts order in record {
+          end = record { order = order; here = has; same = subst (λ (h : History). IsSamePoint config h g) (sym (append-nil g)) (same_self config g) };
+          given = λ one within here. inl (subst (λ (h : History). IsAnswered h one) (append-nil g) here);
         }
-
-    knows_on : (h : History) (order : List ℕ) → IsOrder config order → IsGood config scripts h → Knows config scripts orders h → Knows config scripts orders (continued config scripts h order)
-    knows_on h [] is good known = known
-    knows_on h (p ∷ order) is good known =
-        let within = first_of config scripts p order is in
-        knows_on (h ++ next_entries config scripts h p) order (rest_of config scripts p order is) (good_next config scripts h p within good) (knows_next h p within good known)
-
-    knows_nothing : Knows config scripts orders []
-    knows_nothing = record { order = []; here = done.first; same = same_self config [] }
-
-    pub knows_all : (h : History) → IsBeginning config scripts h → Knows config scripts orders h
-    knows_all h begins =
-        subst (Knows config scripts orders) (history_of_order config scripts h begins)
-        (knows_on [] (order_of h) (ordered config scripts h begins.lawful) (good_nil config scripts valid) knows_nothing)
-
-    -- a step behind a known point gives a reply that one of the orders gives
-    given_next : (h : History) (p : ℕ) → p < length config.partitions → IsGood config scripts h → Knows config scripts orders h → (one : Possible) → Makes config scripts h p one → IsGivenByAnOrder config scripts orders one
-    given_next h p within good known one makes =
-        let there = history_of config scripts known.order in
-        let good_too = good_known h known in
-        let own : p ≡ one.partition = sym makes.partition in
-        let made : Makes config scripts there p one = record {
-          partition = makes.partition;
-          index = makes.index ∙ same_count config scripts short h there p within good good_too known.same;
-          at = makes.at;
-          call = makes.call;
-          entry = sym (same_next config scripts short h there p within good good_too known.same) ∙ makes.entry;
-        } in
+    follow_way zero order has (x ∷ rest) few is = absurd (omega arith)
+    follow_way (suc n) order has (x ∷ rest) few is =
+        let g = history_of config scripts order in
+        let t = done.tried has.0 (slice_get_within orders has.0 order has.1) order has.1 in
+        let first = enough_goes_first config scripts g t.tried x rest t.enough is in
+        let e = first.e in
+        let more = first.rest in
+        let fewer = first.as_long in
+        let within : e.partition < length config.partitions = (lawful_here config g e more first.is_way.lawful).0 in
+        let step = t.each e.partition within first.own in
+        let point = step.point in
+        let g_too = history_of config scripts point.order in
+        let ahead : history_of config scripts (order ++ e.partition ∷ []) ≡ g ++ e ∷ [] = continued-append config scripts [] order (e.partition ∷ []) ∙ ap (λ (es : History). g ++ es) first.next in
+        let same : IsSamePoint config (g ++ e ∷ []) g_too = subst (λ (h : History). IsSamePoint config h g_too) ahead point.same in
+        let regroup = append_assoc g (e ∷ []) more in
+        let on : IsWay config scripts ((g ++ e ∷ []) ++ more) = subst (IsWay config scripts) (sym regroup) first.is_way in
+        let good = good_start (g ++ e ∷ []) more on in
+        let good_too = good_history point.order (done.valid point.here.0 point.order point.here.1) in
+        let followed = follow more (g ++ e ∷ []) g_too on good good_too same in
+        let whole : IsGood config scripts ((g ++ e ∷ []) ++ more) = good_start ((g ++ e ∷ []) ++ more) [] (subst (IsWay config scripts) (sym (append-nil ((g ++ e ∷ []) ++ more))) on) in
+        let there = way_of done.all (g_too ++ more) followed.0 (is_full ((g ++ e ∷ []) ++ more) (g_too ++ more) on whole followed.0 followed.1) in
+        let last = follow_way n point.order point.here more (omega (arith, few, fewer)) there in
         record {
-          order = known.order;
-          here = known.here;
-          given = record {
-            within = subst (λ (q : ℕ). q < length config.partitions) own within;
-            makes = subst (λ (q : ℕ). Makes config scripts there q one) own made;
+          end = record {
+            order = last.end.order;
+            here = last.end.here;
+            same = same_along config (g ++ x ∷ rest) (g ++ e ∷ more) (history_of config scripts last.end.order) first.same.point
+                (same_along config (g ++ e ∷ more) (g_too ++ more) (history_of config scripts last.end.order)
+                (subst (λ (h : History). IsSamePoint config h (g_too ++ more)) regroup followed.1) last.end.same);
           };
+          given = λ one inside here.
+              let q = one.partition in
+              let moved : IsAnswered (g ++ e ∷ more) one = ap (λ (es : List Entry). slice_get (map (λ (entry : Entry). entry.reply) es) one.index) (first.same.entries q) ∙ here in
+              let at : IsAnswered ((g ++ e ∷ []) ++ more) one = subst (λ (h : History). IsAnswered h one) (sym regroup) moved in
+              ⊎_elim
+              (λ (now : IsAnswered (g ++ e ∷ []) one).
+              ⊎_elim
+              (λ (before : IsAnswered g one). inl before)
+              (λ (makes : Makes config scripts g e.partition one).
+              inr (record {
+                by = record {
+                  order = order;
+                  here = has;
+                  given = record {
+                    within = subst (λ (p : ℕ). p < length config.partitions) (sym makes.partition) within;
+                    makes = subst (λ (p : ℕ). Makes config scripts g p one) (sym makes.partition) makes;
+                  };
+                };
+                found = step.reply one makes;
+              }))
+              (answered_by g e.partition one (subst (λ (es : History). IsAnswered (g ++ es) one) (sym first.next) now)))
+              (λ (past : length (replies_of q (g ++ e ∷ [])) ≤ one.index).
+              let counts = same_count config scripts done.short (g ++ e ∷ []) g_too q inside good good_too same in
+              let mine = replies_count q (g ++ e ∷ []) in
+              let theirs = replies_count q g_too in
+              let as_many : length (replies_of q (g ++ e ∷ [])) ≡ length (replies_of q g_too) = omega (arith, counts, mine, theirs) in
+              ⊎_elim
+              (λ (early : IsAnswered g_too one). absurd (let few = slice_get_within (replies_of q g_too) one.index one.reply early in omega (arith, few, past, as_many)))
+              (λ (later : IsGivenAndFound one). inr later)
+              (last.given one inside (carried (g ++ e ∷ []) g_too more one as_many past at)))
+              (now_or_later (g ++ e ∷ []) more one at);
         }
 
-    given_on : (h : History) (order : List ℕ) → IsOrder config order → IsGood config scripts h → Knows config scripts orders h → ((one : Possible) → IsAnswered h one → IsGivenByAnOrder config scripts orders one)
-        → (one : Possible) → IsAnswered (continued config scripts h order) one → IsGivenByAnOrder config scripts orders one
-    given_on h [] is good known before one here = before one here
-    given_on h (p ∷ order) is good known before one here =
-        let within = first_of config scripts p order is in
-        given_on (h ++ next_entries config scripts h p) order (rest_of config scripts p order is) (good_next config scripts h p within good) (knows_next h p within good known)
-        (λ other at. ⊎_elim
-        (λ (earlier : IsAnswered h other). before other earlier)
-        (λ (now : Makes config scripts h p other). given_next h p within good known other now)
-        (answered_by h p other at))
-        one here
+    follow_from_start : (way : History) → IsWay config scripts way → IsFollowed [] way
+    follow_from_start way is = follow_way (length way) [] done.first way (omega arith) is
+
+    found_of_occurs : (one : PossibleReply) → CanOccur config scripts one → IsGivenAndFound one
+    found_of_occurs one can =
+        ⊎_elim
+        (λ (never : IsAnswered [] one). absurd (cc))
+        (λ (found : IsGivenAndFound one). found)
+        ((follow_from_start can.way can.is_way).given one (is_partition done.all can.way one can.is_way can.reply) can.reply)
 
     -- each reply that can occur is given behind one of the orders
-    pub given_of_occurs : (one : Possible) → CanOccur config scripts one → IsGivenByAnOrder config scripts orders one
-    given_of_occurs one can =
-        let begins = begins_of can.way can.is_way in
-        given_on [] (order_of can.way) (ordered config scripts can.way begins.lawful) (good_nil config scripts valid) knows_nothing (λ other at. absurd (cc)) one
-        (subst (λ (h : History). IsAnswered h one) (sym (history_of_order config scripts can.way begins)) can.reply)
+    pub given_of_occurs : (one : PossibleReply) → CanOccur config scripts one → IsGivenByAnOrder config scripts orders one
+    given_of_occurs one can = (found_of_occurs one can).by
 
-    -- and so was found
-    found_of_given : (one : Possible) → IsGivenByAnOrder config scripts orders one → Has replies one
-    found_of_given one by =
-        (done.tried by.here.0 (slice_get_within orders by.here.0 by.order by.here.1) by.order by.here.1 one.partition by.given.within).reply one by.given.makes
-
-    pub are_replies : length scripts ≡ length config.partitions → AreReplies config scripts replies
-    are_replies count one = (occurs, found)
+    pub are_replies : AreReplies config scripts replies
+    are_replies one = (occurs, λ (can : CanOccur config scripts one). (found_of_occurs one can).found)
       where
         occurs : Has replies one → CanOccur config scripts one
         occurs has =
@@ -268,41 +363,29 @@ module _ (config : Configuration) (scripts : Scripts) (valid : IsConfiguration c
             let h = history_of config scripts here.order in
             let good = good_history here.order here.valid in
             let ahead = h ++ next_entries config scripts h here.partition in
-            let ended = finish count ahead (good_next config scripts h here.partition here.within good) in
+            let ended = finish done.all ahead (good_next config scripts h here.partition here.within good) in
             record {
               way = continued config scripts ahead ended.order;
               is_way = ended.finished;
               reply = answered_on ahead ended.order one (made_is_answered h here.partition one here.makes);
             }
 
-        found : CanOccur config scripts one → Has replies one
-        found can = found_of_given one (given_of_occurs one can)
-
     -- the orders that make all calls are the ends
-    pub are_ends : length scripts ≡ length config.partitions → (ends : List (List ℕ))
+    pub are_ends : (ends : List (List ℕ))
         → ((order : List ℕ) → Has ends order → Has orders order × AreFull (length config.partitions) (history_of config scripts order))
         → ((order : List ℕ) → Has orders order → AreFull (length config.partitions) (history_of config scripts order) → Has ends order)
         → AreEnds config scripts ends
-    are_ends count ends each every = record {
+    are_ends ends each every = record {
       ways = λ order has.
           let is = each order has in
-          way_of count (history_of config scripts order) (good_history order (done.valid is.0.0 order is.0.1)) is.1;
-      all = ends_at;
+          way_of done.all (history_of config scripts order) (good_history order (done.valid is.0.0 order is.0.1)) is.1;
+      all = λ way is.
+          let end = (follow_from_start way is).end in
+          let good : IsGood config scripts way = record { sound = record { valid = valid; lawful = is.lawful }; calls = (begins_of way is).calls } in
+          let good_too = good_history end.order (done.valid end.here.0 end.order end.here.1) in
+          record {
+            order = end.order;
+            here = every end.order end.here (is_full way (history_of config scripts end.order) is good good_too end.same);
+            same = end.same;
+          };
     }
-      where
-        ends_at : (way : History) → IsWay config scripts way → EndsAtOne config scripts ends way
-        ends_at way is_way =
-            let begins = begins_of way is_way in
-            let known = knows_all way begins in
-            let good : IsGood config scripts way = record { sound = record { valid = valid; lawful = is_way.lawful }; calls = begins.calls } in
-            let there = history_of config scripts known.order in
-            record {
-              order = known.order;
-              here = every known.order known.here (λ p within.
-                  let made = same_count config scripts short way there p within good (good_known way known) known.same in
-                  let mine = calls_count p way in
-                  let theirs = calls_count p there in
-                  let all = ap (λ (calls : List (Moment × Call)). length calls) (is_way.calls p) in
-                  omega (arith, made, mine, theirs, all));
-              same = known.same;
-            }

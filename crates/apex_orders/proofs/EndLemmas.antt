@@ -3,20 +3,19 @@ use Rattle.std.proofs.Common.{◌≡◌, ◌⊎◌, inl, inr, ⊎_elim, ℕ, zer
 use Rattle.std.specs.List.{slice_get}
 use Rattle.std.proofs.lemmas.List.{length-map}
 use Rattle.std.proofs.lemmas.List.Sums.{sum_by-cons}
-use Rattle.apex_config.specs.Configuration.{Configuration, IsConfiguration}
+use Rattle.apex_module.specs.Configuration.{Configuration, IsConfiguration}
 use Rattle.apex_ports.specs.declared.history.Entry.{Entry}
 use Rattle.apex_ports.specs.Counts.{count_of}
 use Rattle.apex_ports.specs.History.{History, entries_of}
 use Rattle.apex_orders.specs.declared.orders_fault.OrdersFault.{OrdersFault}
 use Rattle.apex_orders.specs.declared.orders_fault.OrdersFault.TheVariants.{TooManyStates, OutOfMemory}
-use Rattle.apex_orders.specs.Orders.{Scripts, script_of, calls_of, IsBeginning, next_entries, continued, history_of, times}
+use Rattle.apex_orders.specs.Orders.{Scripts, script_of, AreShort, calls_of, IsBeginning, next_entries, continued, history_of, times}
 use Rattle.apex_orders.specs.Outcomes.{HasMorePoints, IsUndecided}
 use Rattle.apex_orders.specs.Points.{IsSamePoint}
-use Rattle.apex_orders.specs.Possibles.{Has}
+use Rattle.apex_orders.specs.Lists.{Has}
 use Rattle.apex_orders.specs.Searching.{HasMadeAll, AreEndsOf, HasMoreOrders, IsGivenUp}
 use Rattle.apex_orders.proofs.Lists.{stays_before, before_or_last, at_seam}
 use Rattle.apex_orders.proofs.Walks.{entries_of-append, calls_count, IsDone, IsNext, next_cases, answered, is_beginning}
-use Rattle.apex_orders.proofs.Following.{AreShort}
 use Rattle.apex_orders.proofs.Completing.{good_history}
 
 module _ (config : Configuration) (scripts : Scripts) where
@@ -67,8 +66,8 @@ module _ (config : Configuration) (scripts : Scripts) where
   pub full_of_made : (h : History) (p : ℕ) → length (script_of scripts p) ≤ count_of (entries_of p h) → length (script_of scripts p) ≤ length (calls_of p h)
   full_of_made h p made = let count = calls_count p h in omega (arith, made, count)
 
-  pub made_of_full : AreShort scripts → (h : History) (p : ℕ) → length (script_of scripts p) ≤ length (calls_of p h) → length (script_of scripts p) ≤ count_of (entries_of p h)
-  made_of_full short h p full = let count = calls_count p h in let limit = short p in omega (arith, full, count, limit)
+  pub made_of_full : AreShort config scripts → (h : History) (p : ℕ) → p < length config.partitions → length (script_of scripts p) ≤ length (calls_of p h) → length (script_of scripts p) ≤ count_of (entries_of p h)
+  made_of_full short h p within full = let count = calls_count p h in let limit = short p within in omega (arith, full, count, limit)
 
   -- ---- how many calls an order names
 

@@ -1,25 +1,25 @@
 -- Histories that come to one point go on alike.
-use Rattle.std.proofs.Common.{◌≡◌, ⊎_elim, ℕ, ◌-◌, ◌^◌, ◌<◌, ◌≤◌, List, [], ◌∷◌, ◌++◌, length, filter, Option, Some, None, refl, sym, ap, ◌∙◌, subst, arith, length-append, append-nil}
+use Rattle.std.proofs.Common.{◌≡◌, ⊎_elim, ℕ, ◌<◌, ◌≤◌, List, [], ◌∷◌, ◌++◌, length, filter, Option, Some, None, refl, sym, ap, ◌∙◌, subst, arith, length-append, append-nil}
 use Rattle.std.specs.List.{slice_get}
 use Rattle.std.specs.Option.{option_to_list}
 use Rattle.std.proofs.lemmas.List.Elements.{filter-append}
+use Rattle.std.proofs.lemmas.List.{length-take}
 use Rattle.apex_types.specs.declared.call.Call.{Call}
 use Rattle.apex_types.specs.declared.moment.Moment.{Moment}
 use Rattle.apex_types.specs.declared.reply.Reply.{Reply}
 use Rattle.apex_types.specs.declared.taken.Taken.{Taken}
-use Rattle.apex_config.specs.Configuration.{Configuration}
+use Rattle.apex_module.specs.Configuration.{Configuration}
 use Rattle.apex_ports.specs.declared.history.Entry.{Entry}
 use Rattle.apex_ports.specs.Channels.{accepted_on, received_on, cleared_on, taken_on, taken_by, waiting_on, message_accepted, message_received}
 use Rattle.apex_ports.specs.Counts.{count_of}
 use Rattle.apex_ports.specs.History.{History, entry_of, entries_of}
 use Rattle.apex_ports.specs.Sound.{IsSound}
 use Rattle.apex_ports.proofs.Appends.{accepted_on-append, received_on-append, taken_on-append}
-use Rattle.apex_states.specs.States.{IsSameChannel}
-use Rattle.apex_states.proofs.SeenAlike.{same_reply}
-use Rattle.apex_states.proofs.StateSteps.{state_step}
-use Rattle.apex_orders.specs.Orders.{Scripts, script_of, calls_of, entries_for, next_entries}
+use Rattle.apex_orders.specs.States.{IsSameChannel}
+use Rattle.apex_orders.proofs.SeenAlike.{same_reply}
+use Rattle.apex_orders.proofs.StateSteps.{state_step}
+use Rattle.apex_orders.specs.Orders.{Scripts, script_of, AreShort, calls_of, entries_for, next_entries}
 use Rattle.apex_orders.specs.Points.{IsSameCalls, HasSameCounts, IsSamePoint}
-use Rattle.apex_orders.proofs.Lists.{take_within}
 use Rattle.apex_orders.proofs.Walks.{IsGood, IsDone, IsNext, next_cases, answered, calls_count, entries_of-append, same_history, one_longer}
 
 -- ---- one point is the same as itself, either way round, and along a third
@@ -98,16 +98,12 @@ module _ (config : Configuration) (h other : History) (e : Entry) where
     state = state_step config h other e sound sound_too same.state;
   }
 
--- no script is longer than the greatest count
-abbrev pub AreShort : Scripts → Type 0
-AreShort scripts = (p : ℕ) → length (script_of scripts p) ≤ 2 ^ 64 - 1
-
-module _ (config : Configuration) (scripts : Scripts) (short : AreShort scripts) where
+module _ (config : Configuration) (scripts : Scripts) (short : AreShort config scripts) where
   few_calls : (h : History) (p : ℕ) → IsGood config scripts h → length (entries_of p h) ≤ length (script_of scripts p)
   few_calls h p good =
       let count = calls_count p h in
       let begins = ap (λ (calls : List (Moment × Call)). length calls) (good.calls p) in
-      let within = take_within (length (calls_of p h)) (script_of scripts p) in
+      let within = length-take (length (calls_of p h)) (script_of scripts p) in
       omega (arith, count, begins, within)
 
   module _ (h other : History) (p : ℕ) (within : p < length config.partitions) (good : IsGood config scripts h) (good_too : IsGood config scripts other) (same : IsSamePoint config h other) where
@@ -115,7 +111,7 @@ module _ (config : Configuration) (scripts : Scripts) (short : AreShort scripts)
     same_count =
         let mine = few_calls h p good in
         let theirs = few_calls other p good_too in
-        let limit = short p in
+        let limit = short p within in
         let count = same.calls p within in
         omega (arith, mine, theirs, limit, count)
 

@@ -3,21 +3,21 @@ use Rattle.std.proofs.Common.{◌≡◌, ⊎_elim, ℕ, suc, ◌+◌, ◌-◌, �
 use Rattle.std.specs.List.{slice_get}
 use Rattle.std.specs.Option.{MatchOption, IfSome, option_copied}
 use Rattle.std.proofs.lemmas.Option.{slice_get_within}
-use Rattle.apex_config.specs.Configuration.{Configuration}
+use Rattle.apex_module.specs.Configuration.{Configuration}
 use Rattle.apex_ports.specs.PortsView.{PortsView}
 use Rattle.apex_orders.specs.declared.points.Points.{Points}
 use Rattle.apex_orders.specs.Known.{IsAfter, ArePoints, IsTaken, IsLeft}
-use Rattle.apex_orders.specs.Marks.{mark_of, AreMarked}
+use Rattle.apex_orders.specs.Hashes.{hash_of, AreHashes}
 use Rattle.apex_orders.specs.Orders.{Scripts, history_of}
 use Rattle.apex_orders.proofs.Lists.{before_or_last}
-use Rattle.apex_orders.proofs.MarkLemmas.{marked_push}
+use Rattle.apex_orders.proofs.HashLemmas.{hashed_push}
 
 module _ (config : Configuration) (scripts : Scripts) (orders : List (List ℕ)) (old new : Points) (are : ArePoints config scripts orders old) where
-  pub points_push : (order : List ℕ) (ports : PortsView) (mark : ℕ) → IsAfter config scripts order ports → mark ≡ mark_of config (history_of config scripts order)
-      → new.first ≡ old.first → new.marks ≡ old.marks ++ mark ∷ [] → new.saved.items ≡ old.saved.items ++ ports ∷ []
+  pub points_push : (order : List ℕ) (ports : PortsView) (hash : ℕ) → IsAfter config scripts order ports → hash ≡ hash_of config (history_of config scripts order)
+      → new.first ≡ old.first → new.hashes ≡ old.hashes ++ hash ∷ [] → new.saved.items ≡ old.saved.items ++ ports ∷ []
       → ArePoints config scripts (orders ++ order ∷ []) new
-  points_push order ports mark after is first marks saved = record {
-    marked = subst (λ (ms : List ℕ). AreMarked config scripts (orders ++ order ∷ []) ms) (sym marks) (marked_push config scripts orders old.marks order mark are.marked is);
+  points_push order ports hash after is first hashes saved = record {
+    hashed = subst (λ (ms : List ℕ). AreHashes config scripts (orders ++ order ∷ []) ms) (sym hashes) (hashed_push config scripts orders old.hashes order hash are.hashed is);
     count =
         let count = are.count in
         let longer = ap (λ (ps : List PortsView). length ps) saved in
@@ -53,7 +53,7 @@ module _ (config : Configuration) (scripts : Scripts) (orders : List (List ℕ))
 
   pub points_taken : (k : ℕ) (ports : PortsView) → IsTaken old new k ports → ArePoints config scripts orders new
   points_taken k ports taken = record {
-    marked = subst (λ (ms : List ℕ). AreMarked config scripts orders ms) (sym taken.marks) are.marked;
+    hashed = subst (λ (ms : List ℕ). AreHashes config scripts orders ms) (sym taken.hashes) are.hashed;
     count =
         let count = are.count in
         let first = taken.first in
@@ -69,7 +69,7 @@ module _ (config : Configuration) (scripts : Scripts) (orders : List (List ℕ))
 
   pub points_left : IsLeft old new → ArePoints config scripts orders new
   points_left left = record {
-    marked = subst (λ (ms : List ℕ). AreMarked config scripts orders ms) (sym left.marks) are.marked;
+    hashed = subst (λ (ms : List ℕ). AreHashes config scripts orders ms) (sym left.hashes) are.hashed;
     count =
         let count = are.count in
         let first = left.first in

@@ -1,5 +1,5 @@
 -- Indexes of lists.
-use Rattle.std.proofs.Common.{◌≡◌, ◌⊎◌, inl, inr, ⊎_elim, ℕ, zero, suc, ◌≤◌, List, [], ◌∷◌, ◌++◌, length, take, Some, None, refl, ap, arith}
+use Rattle.std.proofs.Common.{◌≡◌, ◌⊎◌, inl, inr, ⊎_elim, ℕ, zero, suc, ◌<◌, ◌≤◌, List, [], ◌∷◌, ◌++◌, length, take, Some, None, refl, ap, arith}
 use Rattle.std.specs.List.{slice_get}
 
 pub at_seam : {X : Type 0} (xs : List X) (x : X) (ys : List X) → slice_get (xs ++ x ∷ ys) (length xs) ≡ Some x
@@ -32,23 +32,26 @@ taken_from (suc n) [] k x at = absurd (cc)
 taken_from (suc n) (y ∷ xs) zero x at = at
 taken_from (suc n) (y ∷ xs) (suc k) x at = taken_from n xs k x at
 
-pub take_whole : {X : Type 0} (n : ℕ) (xs : List X) → length xs ≤ n → take n xs ≡ xs
-take_whole zero [] long = refl
-take_whole (suc n) [] long = refl
-take_whole zero (x ∷ xs) long = absurd (omega arith)
-take_whole (suc n) (x ∷ xs) long = ap (λ ys. x ∷ ys) (take_whole n xs (omega arith))
-
-pub take_within : {X : Type 0} (n : ℕ) (xs : List X) → length (take n xs) ≤ length xs
-take_within zero xs = omega arith
-take_within (suc n) [] = omega arith
-take_within (suc n) (x ∷ xs) = let rest = take_within n xs in omega arith
-
 pub none_past : {X : Type 0} (xs : List X) (n : ℕ) → slice_get xs n ≡ None → length xs ≤ n
 none_past [] n at = omega arith
 none_past (x ∷ xs) zero at = absurd (cc)
 none_past (x ∷ xs) (suc n) at = let rest = none_past xs n at in omega arith
 
-pub none_beyond : {X : Type 0} (xs : List X) (n : ℕ) → length xs ≤ n → slice_get xs n ≡ None
-none_beyond [] n past = refl
-none_beyond (x ∷ xs) zero past = absurd (omega arith)
-none_beyond (x ∷ xs) (suc n) past = none_beyond xs n (omega arith)
+-- behind two lists of one length the same items follow
+pub past_both : {X : Type 0} (xs ys more : List X) (k : ℕ) → length xs ≡ length ys → length xs ≤ k → slice_get (xs ++ more) k ≡ slice_get (ys ++ more) k
+past_both [] [] more k count past = refl
+past_both [] (y ∷ ys) more k count past = absurd (omega arith)
+past_both (x ∷ xs) [] more k count past = absurd (omega arith)
+past_both (x ∷ xs) (y ∷ ys) more zero count past = absurd (omega arith)
+past_both (x ∷ xs) (y ∷ ys) more (suc k) count past = past_both xs ys more k (omega arith) (omega arith)
+
+-- lists of one length with the same items at each index are equal
+pub same_items : {X : Type 0} (xs ys : List X) → length xs ≡ length ys → ((k : ℕ) → k < length xs → slice_get xs k ≡ slice_get ys k) → xs ≡ ys
+same_items [] [] count each = refl
+same_items [] (y ∷ ys) count each = absurd (omega arith)
+same_items (x ∷ xs) [] count each = absurd (omega arith)
+same_items (x ∷ xs) (y ∷ ys) count each =
+    let first : Some x ≡ Some y = each 0 (omega arith) in
+    let head : x ≡ y = cc in
+    let rest : xs ≡ ys = same_items xs ys (omega arith) (λ k within. each (suc k) (omega arith)) in
+    cc

@@ -3,13 +3,15 @@ use Rattle.std.proofs.Common.{◌≡◌, ◌⊎◌, ⊎_elim, ℕ, ◌<◌, List
 use Rattle.std.specs.List.{slice_get}
 use Rattle.std.proofs.lemmas.Option.{slice_get_within, slice_get-get_or}
 use Rattle.apex_types.specs.declared.reply.Reply.{Reply}
-use Rattle.apex_config.specs.Configuration.{Configuration}
+use Rattle.apex_module.specs.Configuration.{Configuration}
 use Rattle.apex_ports.specs.History.{History}
+use Rattle.apex_ports.specs.PortsView.{PortsView}
 use Rattle.apex_orders.specs.declared.asked.Asked.{Asked}
-use Rattle.apex_orders.specs.declared.replies.Possible.{Possible}
+use Rattle.apex_orders.specs.declared.replies.PossibleReply.{PossibleReply}
+use Rattle.apex_orders.specs.Known.{IsAfter}
 use Rattle.apex_orders.specs.Orders.{Scripts, IsOrder, next_entries, history_of}
 use Rattle.apex_orders.specs.Points.{IsSamePoint}
-use Rattle.apex_orders.specs.Possibles.{Has}
+use Rattle.apex_orders.specs.Lists.{Has}
 use Rattle.apex_orders.specs.Searching.{Knows, Keeps, Includes, AreOrders, AreApart, IsUnansweredAt, IsTried, HasTried, IsFound, AreFound}
 use Rattle.apex_orders.specs.Steps.{MakesNothing, Makes}
 use Rattle.apex_orders.proofs.Lists.{at_seam, stays_before, before_or_last}
@@ -80,7 +82,18 @@ module _ (config : Configuration) (scripts : Scripts) where
   pub behind : (order : List ℕ) (p : ℕ) → history_of config scripts (order ++ p ∷ []) ≡ history_of config scripts order ++ next_entries config scripts (history_of config scripts order) p
   behind order p = continued-append config scripts [] order (p ∷ [])
 
-  pub tried_nothing : (orders : List (List ℕ)) (replies : List Possible) (order : List ℕ) (p : ℕ) → Has orders order → MakesNothing config scripts (history_of config scripts order) p
+  -- the call behind an order, by what ports are that come after the order
+  pub steps_to : (ports : PortsView) (order : List ℕ) (p : ℕ) (h : History) → IsAfter config scripts order ports → h ≡ ports.history ++ next_entries ports.config scripts ports.history p
+      → h ≡ history_of config scripts (order ++ p ∷ [])
+  steps_to ports order p h after step =
+      step ∙ ((λ i. after.history i ++ next_entries (after.configured i) scripts (after.history i) p) ∙ sym (behind order p))
+
+  pub makes_after : (ports : PortsView) (order : List ℕ) (p : ℕ) (one : PossibleReply) → IsAfter config scripts order ports → Makes ports.config scripts ports.history p one
+      → Makes config scripts (history_of config scripts order) p one
+  makes_after ports order p one after makes =
+      subst (λ (x : Configuration × History). Makes x.0 scripts x.1 p one) (λ i. (after.configured i, after.history i)) makes
+
+  pub tried_nothing : (orders : List (List ℕ)) (replies : List PossibleReply) (order : List ℕ) (p : ℕ) → Has orders order → MakesNothing config scripts (history_of config scripts order) p
       → IsTried config scripts orders replies order p
   tried_nothing orders replies order p here nothing = record {
     point = record {
@@ -94,22 +107,22 @@ module _ (config : Configuration) (scripts : Scripts) where
     reply = λ one makes. absurd (let both = sym nothing ∙ makes.entry in cc);
   }
 
-  same_made : (h : History) (p : ℕ) (one other : Possible) → Makes config scripts h p one → Makes config scripts h p other → one ≡ other
+  same_made : (h : History) (p : ℕ) (one other : PossibleReply) → Makes config scripts h p one → Makes config scripts h p other → one ≡ other
   same_made h p one other makes makes_too =
       let reply : one.reply ≡ other.reply = ap (first_reply one.reply) (sym makes.entry ∙ makes_too.entry) in
       let partition : one.partition ≡ other.partition = makes.partition ∙ sym makes_too.partition in
       let index : one.index ≡ other.index = makes.index ∙ sym makes_too.index in
       λ i. record { partition = partition i; index = index i; reply = reply i }
 
-  pub tried_one : (orders : List (List ℕ)) (replies : List Possible) (order : List ℕ) (p : ℕ) (one : Possible) → Knows config scripts orders (history_of config scripts (order ++ p ∷ []))
+  pub tried_one : (orders : List (List ℕ)) (replies : List PossibleReply) (order : List ℕ) (p : ℕ) (one : PossibleReply) → Knows config scripts orders (history_of config scripts (order ++ p ∷ []))
       → Has replies one → Makes config scripts (history_of config scripts order) p one → IsTried config scripts orders replies order p
   tried_one orders replies order p one known has makes = record {
     point = known;
     reply = λ other makes_too. subst (Has replies) (same_made (history_of config scripts order) p one other makes makes_too) has;
   }
 
-  pub found_one : (old new : List Possible) (order : List ℕ) (p : ℕ) (one : Possible) → AreFound config scripts old → IsOrder config order → p < length config.partitions
-      → Makes config scripts (history_of config scripts order) p one → ((other : Possible) → Has new other → Has old other ⊎ (other ≡ one)) → AreFound config scripts new
+  pub found_one : (old new : List PossibleReply) (order : List ℕ) (p : ℕ) (one : PossibleReply) → AreFound config scripts old → IsOrder config order → p < length config.partitions
+      → Makes config scripts (history_of config scripts order) p one → ((other : PossibleReply) → Has new other → Has old other ⊎ (other ≡ one)) → AreFound config scripts new
   found_one old new order p one found is within makes only other has =
       ⊎_elim
       (λ (before : Has old other). found other before)
@@ -125,7 +138,7 @@ module _ (config : Configuration) (scripts : Scripts) where
     same = known.same;
   }
 
-  pub tried_kept : (old new : List (List ℕ)) (replies more : List Possible) (order : List ℕ) (p : ℕ) → Keeps old new → Includes replies more
+  pub tried_kept : (old new : List (List ℕ)) (replies more : List PossibleReply) (order : List ℕ) (p : ℕ) → Keeps old new → Includes replies more
       → IsTried config scripts old replies order p → IsTried config scripts new more order p
   tried_kept old new replies more order p keeps includes tried = record {
     point = knows_kept old new (history_of config scripts (order ++ p ∷ [])) keeps tried.point;
@@ -142,10 +155,15 @@ module _ (config : Configuration) (scripts : Scripts) where
       → IsUnansweredAt config scripts asked old k → IsUnansweredAt config scripts asked new k
   unanswered_kept asked old new k keeps within unanswered order at = unanswered order (same_index old new k order keeps within at)
 
-  pub has_tried_kept : (old new : List (List ℕ)) (replies more : List Possible) (k : ℕ) → Keeps old new → Includes replies more → k < length old
+  pub has_tried_kept : (old new : List (List ℕ)) (replies more : List PossibleReply) (k : ℕ) → Keeps old new → Includes replies more → k < length old
       → HasTried config scripts old replies k → HasTried config scripts new more k
-  has_tried_kept old new replies more k keeps includes within tried order at p inside =
-      tried_kept old new replies more order p keeps includes (tried order (same_index old new k order keeps within at) p inside)
+  has_tried_kept old new replies more k keeps includes within tried order at =
+      let was = tried order (same_index old new k order keeps within at) in
+      record {
+        tried = was.tried;
+        enough = was.enough;
+        each = λ p inside own. tried_kept old new replies more order p keeps includes (was.each p inside own);
+      }
 
 pub keeps_along : {X : Type 0} (a b c : List X) → Keeps a b → Keeps b c → Keeps a c
 keeps_along a b c one two k x at = two k x (one k x at)

@@ -2,13 +2,13 @@
 use Rattle.std.proofs.Common.{◌≡◌, ℕ, ◌-◌, ◌^◌, ◌<◌, ◌≤◌, List, [], ◌∷◌, length, Option, Some, sym, ap, ◌∙◌, arith}
 use Rattle.std.specs.List.{slice_get}
 use Rattle.std.specs.Option.{unwrap_or}
+use Rattle.std.proofs.lemmas.Option.{slice_get_past}
 use Rattle.apex_types.specs.declared.call.Call.{Call}
 use Rattle.apex_types.specs.declared.moment.Moment.{Moment}
-use Rattle.apex_config.specs.Configuration.{Configuration}
+use Rattle.apex_module.specs.Configuration.{Configuration}
 use Rattle.apex_ports.specs.Counts.{count_of}
 use Rattle.apex_ports.specs.History.{History, entries_of}
 use Rattle.apex_orders.specs.Orders.{Scripts, script_of, entries_for, next_entries}
-use Rattle.apex_orders.proofs.Lists.{none_beyond}
 use Rattle.apex_orders.proofs.Walks.{answered}
 
 module _ (config : Configuration) (scripts : Scripts) (h : History) (p : ℕ) (script : List (Moment × Call)) (here : slice_get scripts p ≡ Some script) where
@@ -17,7 +17,7 @@ module _ (config : Configuration) (scripts : Scripts) (h : History) (p : ℕ) (s
 
   pub makes_nothing : length script ≤ count_of (entries_of p h) → next_entries config scripts h p ≡ []
   makes_nothing made =
-      ap (entries_for config h p) (call_at (length (entries_of p h)) ∙ none_beyond script (length (entries_of p h)) (omega (arith, made)))
+      ap (entries_for config h p) (call_at (length (entries_of p h)) ∙ slice_get_past script (length (entries_of p h)) (omega (arith, made)))
 
   pub whole_count : (index : ℕ) → index ≡ count_of (entries_of p h) → index < 2 ^ 64 - 1 → index ≡ length (entries_of p h)
   whole_count index is few = omega (arith, is, few)

@@ -8,14 +8,14 @@ use Rattle.std.proofs.lemmas.List.Elements.{filter-append}
 use Rattle.apex_types.specs.declared.call.Call.{Call}
 use Rattle.apex_types.specs.declared.moment.Moment.{Moment}
 use Rattle.apex_types.specs.declared.reply.Reply.{Reply}
-use Rattle.apex_config.specs.Configuration.{Configuration}
+use Rattle.apex_module.specs.Configuration.{Configuration}
 use Rattle.apex_ports.specs.declared.history.Entry.{Entry}
 use Rattle.apex_ports.specs.History.{History, entry_of, entries_of}
 use Rattle.apex_ports.specs.Lawful.{IsLawful}
 use Rattle.apex_ports.specs.ReplyTable.{reply_to}
 use Rattle.apex_ports.specs.Sound.{IsSound}
 use Rattle.apex_ports.proofs.LawfulSteps.{sound-push}
-use Rattle.apex_states.proofs.GoingOn.{lawful_here}
+use Rattle.apex_orders.proofs.GoingOn.{lawful_here}
 use Rattle.apex_orders.specs.Orders.{Scripts, script_of, calls_of, replies_of, IsBeginning, order_of, IsOrder, entries_for, next_entries, continued, history_of}
 use Rattle.apex_orders.proofs.Lists.{at_seam, take_one_more, taken_from}
 

@@ -1,21 +1,20 @@
 -- An order in which a call gets a reply.
 use Rattle.std.proofs.Common.{◌≡◌, ℕ, List, [], ◌∷◌, ◌++◌, Option, Some, None, refl, sym, ap, ◌∙◌, subst}
 use Rattle.std.proofs.lemmas.Option.{slice_get_within}
-use Rattle.apex_config.specs.Configuration.{Configuration, IsConfiguration}
+use Rattle.apex_module.specs.Configuration.{Configuration, IsConfiguration}
 use Rattle.apex_ports.specs.History.{History, entry_of}
 use Rattle.apex_orders.specs.declared.asked.Asked.{Asked}
-use Rattle.apex_orders.specs.declared.replies.Possible.{Possible}
+use Rattle.apex_orders.specs.declared.replies.PossibleReply.{PossibleReply}
 use Rattle.apex_orders.specs.Orders.{Scripts, IsOrder, IsBeginning, next_entries, history_of}
 use Rattle.apex_orders.specs.Outcomes.{CanBeAnswered, IsAnsweredBy, IsGivenBy}
-use Rattle.apex_orders.specs.Searching.{HasEnded, IsAnsweredBehind, IsGivenBehind, IsSearched, IsSearchedInVain}
-use Rattle.apex_orders.proofs.Following.{AreShort}
+use Rattle.apex_orders.specs.Searching.{HasEnded, IsAnsweredAfter, IsGivenAfter, IsSearched, IsSearchedInVain}
 use Rattle.apex_orders.proofs.Walks.{good_next, is_beginning}
 use Rattle.apex_orders.proofs.Completing.{IsAnswered, given_of_occurs, good_history, made_is_answered}
 use Rattle.apex_orders.proofs.SearchLemmas.{behind, longer_is_order}
 
 module _ (config : Configuration) (scripts : Scripts) where
   -- with the call behind it, the order gives the reply
-  pub longer_gives : IsConfiguration config → (order : List ℕ) (one : Possible) → IsOrder config order → IsGivenBehind config scripts order one
+  pub longer_gives : IsConfiguration config → (order : List ℕ) (one : PossibleReply) → IsOrder config order → IsGivenAfter config scripts order one
       → IsGivenBy config scripts one (order ++ one.partition ∷ [])
   longer_gives valid order one is given =
       let p = one.partition in
@@ -39,7 +38,7 @@ module _ (config : Configuration) (scripts : Scripts) where
 
   -- ---- questions
 
-  pub longer_answers : IsConfiguration config → (asked : Asked) (order : List ℕ) → IsOrder config order → IsAnsweredBehind config scripts asked order
+  pub longer_answers : IsConfiguration config → (asked : Asked) (order : List ℕ) → IsOrder config order → IsAnsweredAfter config scripts asked order
       → IsAnsweredBy config scripts asked (order ++ asked.partition ∷ [])
   longer_answers valid asked order is answered = record {
     one = answered.one;
@@ -48,17 +47,17 @@ module _ (config : Configuration) (scripts : Scripts) where
   }
 
   -- what was answered behind none of the orders of an ended search is answered by no way
-  pub never_answered : IsConfiguration config → AreShort scripts → (asked : Asked) (orders : List (List ℕ)) (replies : List Possible)
+  pub never_answered : IsConfiguration config → (asked : Asked) (orders : List (List ℕ)) (replies : List PossibleReply)
       → IsSearchedInVain config scripts (Some asked) orders replies → CanBeAnswered config scripts asked → ⊥
-  never_answered valid short asked orders replies ended can =
-      let by = given_of_occurs config scripts valid short orders replies ended.searched can.one can.occurs in
+  never_answered valid asked orders replies ended can =
+      let by = given_of_occurs config scripts valid orders replies ended.searched can.one can.occurs in
       ended.unanswered by.here.0 (slice_get_within orders by.here.0 by.order by.here.1) by.order by.here.1
       (record { one = can.one; answers = can.answers; given = by.given })
 
   -- ---- what a search ended with
 
   -- where nothing is asked, all was searched
-  pub searched_all : (orders : List (List ℕ)) (replies : List Possible) (answer : Option (List ℕ)) → HasEnded config scripts None orders replies answer
+  pub searched_all : (orders : List (List ℕ)) (replies : List PossibleReply) (answer : Option (List ℕ)) → HasEnded config scripts None orders replies answer
       → IsSearched config scripts orders replies
   searched_all orders replies None ended = ended.searched
   searched_all orders replies (Some order) ended = absurd ended

@@ -1,10 +1,10 @@
 -- The points that a search knows.
 use Rattle.std.specs.Prelude.{ℕ, ◌≡◌, ◌+◌, List, ◌∷◌, length, slice_get, Some}
-use Rattle.apex_config.specs.Configuration.{Configuration}
+use Rattle.apex_module.specs.Configuration.{Configuration}
 use Rattle.apex_ports.specs.PortsView.{PortsView}
 use Rattle.apex_orders.specs.declared.trial.Trial.{Trial}
 use Rattle.apex_orders.specs.declared.points.Points.{Points}
-use Rattle.apex_orders.specs.Marks.{AreMarked}
+use Rattle.apex_orders.specs.Hashes.{AreHashes}
 use Rattle.apex_orders.specs.Orders.{Scripts, history_of}
 
 -- the ports have answered the calls in this order
@@ -12,9 +12,9 @@ pub record IsAfter (config : Configuration) (scripts : Scripts) (order : List �
   pub configured : ports.config ≡ config
   pub history : ports.history ≡ history_of config scripts order
 
--- each order has the mark of its point, and of the last orders it is saved what the ports came to
+-- each order has the hash of its point, and of the last orders it is saved what the ports came to
 pub record ArePoints (config : Configuration) (scripts : Scripts) (orders : List (List ℕ)) (points : Points) : Type 0 where
-  pub marked : AreMarked config scripts orders points.marks
+  pub hashed : AreHashes config scripts orders points.hashes
   pub count : points.first + length points.saved.items ≡ length orders
   pub each : (j : ℕ) (ports : PortsView) (order : List ℕ) → slice_get points.saved.items j ≡ Some ports
       → slice_get orders (points.first + j) ≡ Some order → IsAfter config scripts order ports
@@ -24,13 +24,13 @@ pub record IsTaken (old new : Points) (index : ℕ) (ports : PortsView) : Type 0
   pub here : old.first ≡ index
   pub first : new.first ≡ old.first + 1
   pub saved : old.saved.items ≡ ports ∷ new.saved.items
-  pub marks : new.marks ≡ old.marks
+  pub hashes : new.hashes ≡ old.hashes
 
 -- nothing was taken out
 pub record IsLeft (old new : Points) : Type 0 where
   pub first : new.first ≡ old.first
   pub saved : new.saved.items ≡ old.saved.items
-  pub marks : new.marks ≡ old.marks
+  pub hashes : new.hashes ≡ old.hashes
 
 -- both are ports of the configuration
 pub record IsTrialOf (config : Configuration) (trial : Trial) : Type 0 where

@@ -1,9 +1,9 @@
 -- Orders of the calls of scripts, and the histories that they lead to.
-use Rattle.std.specs.Prelude.{ℕ, ◌≡◌, ◌<◌, List, [], ◌∷◌, ◌++◌, length, map, take, count_by, ◌==◌, slice_get, unwrap_or, Option, Some, None}
+use Rattle.std.specs.Prelude.{ℕ, ◌≡◌, ◌<◌, ◌≤◌, ◌-◌, ◌^◌, List, [], ◌∷◌, ◌++◌, length, map, take, count_by, ◌==◌, slice_get, unwrap_or, Option, Some, None}
 use Rattle.apex_types.specs.declared.call.Call.{Call}
 use Rattle.apex_types.specs.declared.moment.Moment.{Moment}
 use Rattle.apex_types.specs.declared.reply.Reply.{Reply}
-use Rattle.apex_config.specs.Configuration.{Configuration}
+use Rattle.apex_module.specs.Configuration.{Configuration}
 use Rattle.apex_ports.specs.declared.history.Entry.{Entry}
 use Rattle.apex_ports.specs.History.{History, entry_of, entries_of}
 use Rattle.apex_ports.specs.Lawful.{IsLawful}
@@ -18,6 +18,10 @@ Scripts = List (List (Moment × Call))
 -- the script of a partition; no calls where it has none
 abbrev pub script_of : Scripts → ℕ → List (Moment × Call)
 script_of scripts p = unwrap_or (slice_get scripts p) []
+
+-- no script has more calls than are counted
+abbrev pub AreShort : Configuration → Scripts → Type 0
+AreShort config scripts = (p : ℕ) → p < length config.partitions → length (script_of scripts p) ≤ 2 ^ 64 - 1
 
 -- the calls that the partition made, in order, each with its moment
 abbrev pub calls_of : ℕ → History → List (Moment × Call)

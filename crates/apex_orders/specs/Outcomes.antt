@@ -3,7 +3,7 @@ use Rattle.std.specs.Prelude.{ℕ, ◌≡◌, ◌<◌, ◌↔◌, List, [], ◌�
 use Rattle.apex_types.specs.Reply.{code_of}
 use Rattle.apex_types.specs.declared.reply.Reply.{Reply}
 use Rattle.apex_types.specs.declared.reply.Reply.TheVariants as reply
-use Rattle.apex_config.specs.Configuration.{Configuration}
+use Rattle.apex_module.specs.Configuration.{Configuration}
 use Rattle.apex_ports.specs.declared.history.Entry.{Entry}
 use Rattle.apex_ports.specs.History.{History, entries_of}
 use Rattle.apex_orders.specs.declared.asked.Admitted.{Admitted}
@@ -11,19 +11,19 @@ use Rattle.apex_orders.specs.declared.asked.Admitted.TheVariants as admitted
 use Rattle.apex_orders.specs.declared.asked.Asked.{Asked}
 use Rattle.apex_orders.specs.declared.orders_fault.OrdersFault.{OrdersFault}
 use Rattle.apex_orders.specs.declared.orders_fault.OrdersFault.TheVariants.{TooManyStates}
-use Rattle.apex_orders.specs.declared.replies.Possible.{Possible}
+use Rattle.apex_orders.specs.declared.replies.PossibleReply.{PossibleReply}
 use Rattle.apex_orders.specs.Orders.{Scripts, IsBeginning, IsWay, IsOrder, history_of, replies_of}
 use Rattle.apex_orders.specs.Points.{IsSamePoint}
-use Rattle.apex_orders.specs.Possibles.{Has}
+use Rattle.apex_orders.specs.Lists.{Has}
 
 -- some way of all calls gives the partition's call at the index this reply
-pub record CanOccur (config : Configuration) (scripts : Scripts) (one : Possible) : Type 0 where
+pub record CanOccur (config : Configuration) (scripts : Scripts) (one : PossibleReply) : Type 0 where
   pub way : History
   pub is_way : IsWay config scripts way
   pub reply : slice_get (replies_of one.partition way) one.index ≡ Some one.reply
 
 -- the last entry of the history is that of the call at the index, with the reply
-pub record EndsWith (history : History) (one : Possible) : Type 0 where
+pub record EndsWith (history : History) (one : PossibleReply) : Type 0 where
   pub before : History
   pub entry : Entry
   pub whole : history ≡ before ++ entry ∷ []
@@ -32,7 +32,7 @@ pub record EndsWith (history : History) (one : Possible) : Type 0 where
   pub reply : entry.reply ≡ one.reply
 
 -- the calls in this order are a beginning, which ends with the call at the index, and gives it the reply
-pub record IsGivenBy (config : Configuration) (scripts : Scripts) (one : Possible) (order : List ℕ) : Type 0 where
+pub record IsGivenBy (config : Configuration) (scripts : Scripts) (one : PossibleReply) (order : List ℕ) : Type 0 where
   pub valid : IsOrder config order
   pub begins : IsBeginning config scripts (history_of config scripts order)
   pub reply : slice_get (replies_of one.partition (history_of config scripts order)) one.index ≡ Some one.reply
@@ -51,28 +51,28 @@ Admits (admitted.Reply one) given = given ≡ one
 Admits (admitted.Code code) given = code_of given ≡ Some code
 
 -- the reply is to the call that is asked of, and admitted
-pub record Answers (asked : Asked) (one : Possible) : Type 0 where
+pub record Answers (asked : Asked) (one : PossibleReply) : Type 0 where
   pub partition : one.partition ≡ asked.partition
   pub index : one.index ≡ asked.index
   pub reply : Admits asked.admitted one.reply
 
 -- some way of all calls gives the call that is asked of an admitted reply
 pub record CanBeAnswered (config : Configuration) (scripts : Scripts) (asked : Asked) : Type 0 where
-  pub one : Possible
+  pub one : PossibleReply
   pub answers : Answers asked one
   pub occurs : CanOccur config scripts one
 
 -- the calls in this order are a beginning, which ends with the call that is asked of, and gives it an admitted reply
 pub record IsAnsweredBy (config : Configuration) (scripts : Scripts) (asked : Asked) (order : List ℕ) : Type 0 where
-  pub one : Possible
+  pub one : PossibleReply
   pub answers : Answers asked one
   pub given : IsGivenBy config scripts one order
 
 -- ---- all replies and ends
 
 -- these are the replies that calls can get, and no others
-abbrev pub AreReplies : Configuration → Scripts → List Possible → Type 0
-AreReplies config scripts replies = (one : Possible) → Has replies one ↔ CanOccur config scripts one
+abbrev pub AreReplies : Configuration → Scripts → List PossibleReply → Type 0
+AreReplies config scripts replies = (one : PossibleReply) → Has replies one ↔ CanOccur config scripts one
 
 -- the way comes to the point of one of the orders
 pub record EndsAtOne (config : Configuration) (scripts : Scripts) (ends : List (List ℕ)) (way : History) : Type 0 where

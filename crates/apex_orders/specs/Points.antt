@@ -1,10 +1,10 @@
 -- The points that orders lead to.
 use Rattle.std.specs.Prelude.{ℕ, ◌≡◌, ◌<◌, length}
-use Rattle.apex_config.specs.Configuration.{Configuration}
+use Rattle.apex_module.specs.Configuration.{Configuration}
 use Rattle.apex_ports.specs.Channels.{accepted_on, received_on, cleared_on}
 use Rattle.apex_ports.specs.Counts.{count_of}
 use Rattle.apex_ports.specs.History.{History, entries_of}
-use Rattle.apex_states.specs.States.{IsSameState}
+use Rattle.apex_orders.specs.States.{IsSameState}
 
 -- each partition made as many calls in both
 abbrev pub IsSameCalls : Configuration → History → History → Type 0

@@ -1,16 +1,20 @@
 -- What a search has found.
-use Rattle.std.specs.Prelude.{ℕ, ◌≡◌, ◌<◌, ◌≤◌, List, ◌∷◌, [], ◌++◌, length, slice_get, Option, Some, None, IfSome, MatchOption, Result, Err}
-use Rattle.apex_config.specs.Configuration.{Configuration}
+use Rattle.std.specs.Prelude.{ℕ, Bool, true, ◌≡◌, ◌<◌, ◌≤◌, List, ◌∷◌, [], ◌++◌, length, slice_get, Option, Some, None, IfSome, MatchOption, Result, Err}
+use Rattle.apex_module.specs.Configuration.{Configuration}
 use Rattle.apex_ports.specs.Counts.{count_of}
 use Rattle.apex_ports.specs.History.{History, entries_of}
 use Rattle.apex_orders.specs.declared.asked.Asked.{Asked}
-use Rattle.apex_orders.specs.declared.replies.Possible.{Possible}
+use Rattle.apex_orders.specs.declared.replies.PossibleReply.{PossibleReply}
 use Rattle.apex_orders.specs.declared.orders_fault.OrdersFault.{OrdersFault}
 use Rattle.apex_orders.specs.declared.orders_fault.OrdersFault.TheVariants.{TooManyStates}
-use Rattle.apex_orders.specs.Orders.{Scripts, script_of, IsOrder, history_of}
+use Rattle.apex_orders.specs.declared.search.Search.{Search}
+use Rattle.apex_orders.specs.Enough.{IsEnough}
+use Rattle.apex_orders.specs.Known.{ArePoints, IsTrialOf}
+use Rattle.apex_orders.specs.LastUses.{AreOfScripts}
+use Rattle.apex_orders.specs.Orders.{Scripts, script_of, AreShort, IsOrder, history_of}
 use Rattle.apex_orders.specs.Outcomes.{Answers, IsAnsweredBy}
 use Rattle.apex_orders.specs.Points.{IsSamePoint}
-use Rattle.apex_orders.specs.Possibles.{Has}
+use Rattle.apex_orders.specs.Lists.{Has}
 use Rattle.apex_orders.specs.Steps.{Makes}
 
 -- one of the orders leads to the history's point
@@ -31,32 +35,32 @@ Includes {X} old new = (x : X) → Has old x → Has new x
 abbrev pub AreOrders : Configuration → List (List ℕ) → Type 0
 AreOrders config orders = (k : ℕ) (order : List ℕ) → slice_get orders k ≡ Some order → IsOrder config order
 
--- what the partition's next call behind the order leads to is known, and the reply that it gets
-pub record IsTried (config : Configuration) (scripts : Scripts) (orders : List (List ℕ)) (replies : List Possible) (order : List ℕ) (p : ℕ) : Type 0 where
+-- what the partition's next call after the order leads to is known, and the reply that it gets
+pub record IsTried (config : Configuration) (scripts : Scripts) (orders : List (List ℕ)) (replies : List PossibleReply) (order : List ℕ) (p : ℕ) : Type 0 where
   pub point : Knows config scripts orders (history_of config scripts (order ++ p ∷ []))
-  pub reply : (one : Possible) → Makes config scripts (history_of config scripts order) p one → Has replies one
+  pub reply : (one : PossibleReply) → Makes config scripts (history_of config scripts order) p one → Has replies one
 
--- each reply is given behind an order
-pub record IsFound (config : Configuration) (scripts : Scripts) (one : Possible) : Type 0 where
+-- each reply is given after an order
+pub record IsFound (config : Configuration) (scripts : Scripts) (one : PossibleReply) : Type 0 where
   pub order : List ℕ
   pub valid : IsOrder config order
   pub partition : ℕ
   pub within : partition < length config.partitions
   pub makes : Makes config scripts (history_of config scripts order) partition one
 
-abbrev pub AreFound : Configuration → Scripts → List Possible → Type 0
-AreFound config scripts replies = (one : Possible) → Has replies one → IsFound config scripts one
+abbrev pub AreFound : Configuration → Scripts → List PossibleReply → Type 0
+AreFound config scripts replies = (one : PossibleReply) → Has replies one → IsFound config scripts one
 
--- behind the order, the partition's next call is the one at the index, and gets the reply
-pub record IsGivenBehind (config : Configuration) (scripts : Scripts) (order : List ℕ) (one : Possible) : Type 0 where
+-- after the order, the partition's next call is the one at the index, and gets the reply
+pub record IsGivenAfter (config : Configuration) (scripts : Scripts) (order : List ℕ) (one : PossibleReply) : Type 0 where
   pub within : one.partition < length config.partitions
   pub makes : Makes config scripts (history_of config scripts order) one.partition one
 
--- it is so behind one of the orders
-pub record IsGivenByAnOrder (config : Configuration) (scripts : Scripts) (orders : List (List ℕ)) (one : Possible) : Type 0 where
+-- it is so after one of the orders
+pub record IsGivenByAnOrder (config : Configuration) (scripts : Scripts) (orders : List (List ℕ)) (one : PossibleReply) : Type 0 where
   pub order : List ℕ
   pub here : Has orders order
-  pub given : IsGivenBehind config scripts order one
+  pub given : IsGivenAfter config scripts order one
 
 -- no two of the orders lead to one point
 abbrev pub AreApart : Configuration → Scripts → List (List ℕ) → Type 0
@@ -64,35 +68,57 @@ AreApart config scripts orders =
     (j k : ℕ) (order other : List ℕ) → j < k → slice_get orders j ≡ Some order → slice_get orders k ≡ Some other
     → ¬ IsSamePoint config (history_of config scripts other) (history_of config scripts order)
 
--- of the order at the index every partition was tried
-abbrev pub HasTried : Configuration → Scripts → List (List ℕ) → List Possible → ℕ → Type 0
+-- what is kept along a search
+pub record IsSearch (config : Configuration) (scripts : Scripts) (current : Search) : Type 0 where
+  pub all : length scripts ≡ length config.partitions
+  pub orders : AreOrders config current.orders.items
+  pub apart : AreApart config scripts current.orders.items
+  pub points : ArePoints config scripts current.orders.items current.points
+  pub found : AreFound config scripts current.replies
+  pub trial : IsTrialOf config current.trial
+  pub uses : AreOfScripts config scripts current.uses.items
+
+-- nothing that was found is lost
+pub record IsLater (old new : Search) : Type 0 where
+  pub orders : Keeps old.orders.items new.orders.items
+  pub replies : Includes old.replies new.replies
+
+-- after the order the next calls of enough partitions were tried
+pub record HasTriedEnough (config : Configuration) (scripts : Scripts) (orders : List (List ℕ)) (replies : List PossibleReply) (order : List ℕ) : Type 0 where
+  pub tried : ℕ → Bool
+  pub enough : IsEnough config scripts (history_of config scripts order) tried
+  pub each : (p : ℕ) → p < length config.partitions → tried p ≡ true → IsTried config scripts orders replies order p
+
+-- so it is of the order at the index
+abbrev pub HasTried : Configuration → Scripts → List (List ℕ) → List PossibleReply → ℕ → Type 0
 HasTried config scripts orders replies k =
-    (order : List ℕ) → slice_get orders k ≡ Some order
-    → (p : ℕ) → p < length config.partitions → IsTried config scripts orders replies order p
+    (order : List ℕ) → slice_get orders k ≡ Some order → HasTriedEnough config scripts orders replies order
 
 -- the search has come to its end
-pub record IsSearched (config : Configuration) (scripts : Scripts) (orders : List (List ℕ)) (replies : List Possible) : Type 0 where
+pub record IsSearched (config : Configuration) (scripts : Scripts) (orders : List (List ℕ)) (replies : List PossibleReply) : Type 0 where
+  pub all : length scripts ≡ length config.partitions
+  pub short : AreShort config scripts
   pub first : Has orders []
   pub valid : AreOrders config orders
   pub found : AreFound config scripts replies
   pub tried : (k : ℕ) → k < length orders → HasTried config scripts orders replies k
 
--- behind the order, the call that is asked of is its partition's next one, and gets an admitted reply
-pub record IsAnsweredBehind (config : Configuration) (scripts : Scripts) (asked : Asked) (order : List ℕ) : Type 0 where
-  pub one : Possible
+-- after the order, the call that is asked of is its partition's next one, and gets an admitted reply
+pub record IsAnsweredAfter (config : Configuration) (scripts : Scripts) (asked : Asked) (order : List ℕ) : Type 0 where
+  pub one : PossibleReply
   pub answers : Answers asked one
-  pub given : IsGivenBehind config scripts order one
+  pub given : IsGivenAfter config scripts order one
 
--- where something is asked, it isn't answered behind the order
+-- where something is asked, it isn't answered after the order
 abbrev pub IsUnanswered : Configuration → Scripts → Option Asked → List ℕ → Type 0
-IsUnanswered config scripts asked order = IfSome asked (λ one. ¬ IsAnsweredBehind config scripts one order)
+IsUnanswered config scripts asked order = IfSome asked (λ one. ¬ IsAnsweredAfter config scripts one order)
 
--- nor behind the order at the index
+-- nor after the order at the index
 abbrev pub IsUnansweredAt : Configuration → Scripts → Option Asked → List (List ℕ) → ℕ → Type 0
 IsUnansweredAt config scripts asked orders k = (order : List ℕ) → slice_get orders k ≡ Some order → IsUnanswered config scripts asked order
 
 -- the search has come to its end without an answer
-pub record IsSearchedInVain (config : Configuration) (scripts : Scripts) (asked : Option Asked) (orders : List (List ℕ)) (replies : List Possible) : Type 0 where
+pub record IsSearchedInVain (config : Configuration) (scripts : Scripts) (asked : Option Asked) (orders : List (List ℕ)) (replies : List PossibleReply) : Type 0 where
   pub searched : IsSearched config scripts orders replies
   pub unanswered : (k : ℕ) → k < length orders → IsUnansweredAt config scripts asked orders k
 
@@ -102,7 +128,7 @@ IsAnswer config scripts None order = ⊥
 IsAnswer config scripts (Some asked) order = IsAnsweredBy config scripts asked order
 
 -- the search has an answer, or has come to its end without one
-abbrev pub HasEnded : Configuration → Scripts → Option Asked → List (List ℕ) → List Possible → Option (List ℕ) → Type 0
+abbrev pub HasEnded : Configuration → Scripts → Option Asked → List (List ℕ) → List PossibleReply → Option (List ℕ) → Type 0
 HasEnded config scripts asked orders replies answer = MatchOption answer (IsSearchedInVain config scripts asked orders replies) (IsAnswer config scripts asked)
 
 -- each partition has made all calls of its script

@@ -2,9 +2,9 @@
 use Rattle.std.specs.Prelude.{ℕ, ◌≡◌, [], ◌∷◌, length}
 use Rattle.apex_types.specs.declared.call.Call.{Call}
 use Rattle.apex_types.specs.declared.moment.Moment.{Moment}
-use Rattle.apex_config.specs.Configuration.{Configuration}
+use Rattle.apex_module.specs.Configuration.{Configuration}
 use Rattle.apex_ports.specs.History.{History, entry_of, entries_of}
-use Rattle.apex_orders.specs.declared.replies.Possible.{Possible}
+use Rattle.apex_orders.specs.declared.replies.PossibleReply.{PossibleReply}
 use Rattle.apex_orders.specs.Orders.{Scripts, next_entries}
 
 -- the partition has made all calls of its script
@@ -12,7 +12,7 @@ abbrev pub MakesNothing : Configuration → Scripts → History → ℕ → Type
 MakesNothing config scripts history p = next_entries config scripts history p ≡ []
 
 -- the partition's next call is at this index, and gets this reply
-pub record Makes (config : Configuration) (scripts : Scripts) (history : History) (p : ℕ) (one : Possible) : Type 0 where
+pub record Makes (config : Configuration) (scripts : Scripts) (history : History) (p : ℕ) (one : PossibleReply) : Type 0 where
   pub partition : one.partition ≡ p
   pub index : one.index ≡ length (entries_of p history)
   pub at : Moment

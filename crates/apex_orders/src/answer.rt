@@ -1,42 +1,38 @@
 //! The order that answers a question.
-ghost use Rattle.std.specs.Prelude.{◌≡◌, ◌<◌, ◌↔◌, length, slice_get, IsTrue, IfOk, IfSome, MatchOption};
+ghost use Rattle.std.specs.Prelude.{◌≡◌, ◌<◌, ◌↔◌, length, IsTrue, IfOk, OnOk, IfSome, MatchOption};
 ghost use Rattle.std.specs.Option.{option_copied};
-ghost use Rattle.apex_orders.specs.Known.{ArePoints, IsAfter, IsTrialOf};
+ghost use Rattle.apex_orders.specs.Known.{IsAfter};
 ghost use Rattle.apex_orders.specs.Orders.{IsOrder};
-ghost use Rattle.apex_orders.specs.Searching.{AreOrders, IsAnswer, IsAnsweredBehind, IsUnansweredAt};
+ghost use Rattle.apex_orders.specs.Searching.{IsAnswer, IsAnsweredAfter, IsSearch, IsUnansweredAt};
 
 use crate::asked::Asked;
 use crate::order::PackedOrder;
-use crate::points::{Points, go_to};
+use crate::points::go_to;
+use crate::search::Search;
 use crate::step::step;
-use crate::trial::Trial;
-use apex_config::Config;
+use apex_module::Config;
 use apex_ports::{Ports, SavedPorts, Script};
 use apex_types::OutOfMemory;
 use std::alloc::Global;
 
-/// The order at the index with the call that is asked of behind it, where that call is the next there and gets an
-/// admitted reply.
-pub(crate) fn answer_behind(
+/// The order at the index with the asked call at its end, if that call is the next there and gets an admitted reply.
+pub(crate) fn answer_after(
     alloc: Global,
     config: &Config,
     scripts: &[Script],
     asked: Option<&Asked>,
-    orders: &[PackedOrder],
-    points: &Points,
-    trial: &mut Trial,
+    current: &mut Search,
     i: usize,
 ) -> Result<Option<PackedOrder>, OutOfMemory>
-    requires scripts { length scripts.now ≡ length config.now.partitions }
-    requires within { i < length orders.now }
-    requires orders { AreOrders config.now orders.now }
-    requires points { ArePoints config.now scripts.now orders.now points.now }
-    requires trial { IsTrialOf config.now trial.old }
+    requires valid { IsSearch config.now scripts.now current.old }
+    requires within { i < length current.old.orders.items }
     ensures answer { let asked = option_copied asked.entry in
         IfOk result (λ answer. MatchOption answer
-        (IsUnansweredAt config.now scripts.now asked orders.now i)
+        (IsUnansweredAt config.now scripts.now asked current.old.orders.items i)
         (IsAnswer config.now scripts.now asked)) }
-    ensures trial { IsTrialOf config.now trial.new }
+    ensures valid { OnOk result (IsSearch config.now scripts.now current.new) }
+    ensures orders { current.new.orders.items ≡ current.old.orders.items }
+    ensures replies { current.new.replies ≡ current.old.replies }
 {
     let Some(asked) = asked else {
         return Ok(None);
@@ -45,24 +41,17 @@ pub(crate) fn answer_behind(
     if asked.partition >= partitions {
         return Ok(None);
     }
-    let order = &orders[i];
-    let saved = points.saved_at(i);
-    if !gives(
-        alloc,
-        config,
-        scripts,
-        asked,
-        order,
-        saved,
-        &mut trial.ports,
-    )? {
+    let order = &current.orders[i];
+    let saved = current.points.saved_at(i);
+    let ports = &mut current.trial.ports;
+    if !gives(alloc, config, scripts, asked, order, saved, ports)? {
         return Ok(None);
     }
     let answer = order.followed_by(alloc, asked.partition)?;
     Ok(Some(answer))
 }
 
-/// Whether the call that is asked of is its partition's next behind the order, and gets an admitted reply.
+/// Whether the asked call is its partition's next after the order, and gets an admitted reply.
 fn gives(
     alloc: Global,
     config: &Config,
@@ -78,7 +67,7 @@ fn gives(
     requires saved { IfSome saved (λ one. IsAfter config.now scripts.now order.now one.now) }
     requires config { ports.old.config ≡ config.now }
     ensures given { IfOk result (λ given. IsTrue given
-        ↔ IsAnsweredBehind config.now scripts.now asked.now order.now) }
+        ↔ IsAnsweredAfter config.now scripts.now asked.now order.now) }
     ensures config { ports.new.config ≡ config.now }
 {
     go_to(alloc, config, scripts, order, saved, ports)?;

@@ -2,7 +2,7 @@
 ghost use Rattle.std.specs.Prelude.{◌≡◌, ◌↔◌, IsTrue};
 ghost use Rattle.apex_orders.specs.Outcomes.{Admits, Answers, admitted_by};
 
-use crate::replies::{Possible, is_same_reply};
+use crate::replies::{PossibleReply, is_same_reply};
 use apex_types::{Reply, ReturnCode};
 
 /// The replies that a question admits.
@@ -48,7 +48,7 @@ impl Admitted {
 
 impl Asked {
     /// Whether the reply is to the call that is asked of, and admitted.
-    pub(crate) fn is_answered_by(&self, one: &Possible) -> bool
+    pub(crate) fn is_answered_by(&self, one: &PossibleReply) -> bool
         ensures { IsTrue result ↔ Answers self.now one.now }
     {
         one.index == self.index

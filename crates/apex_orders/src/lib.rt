@@ -1,28 +1,34 @@
-//! All that can happen to scripts of a module, over every order of their calls.
+//! All that can happen to the scripts of a module, over every order of their calls; and the states that replies depend on.
 #![tactic(auto)]
 
 mod answer;
 pub mod asked;
-mod listener;
-mod longest;
-mod mark;
-mod marks;
+mod choice;
+mod commuting;
+pub mod commuting_law;
+mod hash;
+mod hash_index;
+mod last_uses;
 pub mod order;
 pub mod orders_fault;
 pub mod outcomes;
 mod point;
 mod points;
+mod progress;
 mod replay;
 mod replies;
+pub mod same_state;
 mod search;
+pub mod state_law;
 pub mod step;
 mod trial;
 pub mod witness;
 
 pub use crate::asked::{Admitted, Asked};
-pub use crate::listener::{Listener, Nobody};
 pub use crate::order::Order;
 pub use crate::orders_fault::OrdersFault;
-pub use crate::outcomes::{Outcomes, all_outcomes, all_outcomes_telling};
-pub use crate::replies::Possible;
-pub use crate::witness::{order_giving, order_giving_telling};
+pub use crate::outcomes::{Outcomes, all_outcomes, all_outcomes_with_progress};
+pub use crate::progress::{NoProgress, Progress};
+pub use crate::replies::PossibleReply;
+pub use crate::same_state::is_same_state;
+pub use crate::witness::{order_giving, order_giving_with_progress};

@@ -1,4 +1,4 @@
-//! Why it isn't told what all orders lead to.
+//! Why a search of all orders has no answer.
 ghost use Rattle.std.specs.Prelude.{◌≡◌};
 ghost use Rattle.apex_orders.specs.declared.orders_fault.OrdersFault.TheVariants as orders_fault;
 
@@ -6,7 +6,7 @@ use apex_types::OutOfMemory;
 use std::alloc::AllocError;
 use thiserror::Error;
 
-/// Why it isn't told what all orders lead to.
+/// Why a search of all orders has no answer.
 #[derive(Clone, Copy, Debug, PartialEq, Eq, Error)]
 pub enum OrdersFault {
     /// An allocation was refused.

@@ -1,17 +1,17 @@
 //! All that can happen to scripts.
 ghost use Rattle.std.specs.Prelude.{◌≡◌, length, IfOk, IsTrue, ◌↔◌};
-ghost use Rattle.apex_config.specs.Configuration.{Configuration};
+ghost use Rattle.apex_module.specs.Configuration.{Configuration};
 ghost use Rattle.apex_orders.specs.Orders.{IsOrder, history_of};
 ghost use Rattle.apex_orders.specs.Outcomes.{AreReplies, AreEnds, IsUndecided};
 ghost use Rattle.apex_orders.specs.Searching.{AreOrders, AreEndsOf, HasMadeAll};
 
-use crate::listener::{Listener, Nobody};
 use crate::order::{Order, PackedOrder};
 use crate::orders_fault::OrdersFault;
+use crate::progress::{NoProgress, Progress};
 use crate::replay::replay;
-use crate::replies::Possible;
-use crate::search::search;
-use apex_config::Config;
+use crate::replies::PossibleReply;
+use crate::search::search_points;
+use apex_module::Config;
 use apex_ports::{Ports, Script};
 use apex_types::OutOfMemory;
 use std::alloc::Global;
@@ -20,7 +20,7 @@ use std::alloc::Global;
 #[derive(Debug, Drop)]
 pub struct Outcomes {
     /// The replies that the calls can get, each once.
-    pub replies: Vec<Possible>,
+    pub replies: Vec<PossibleReply>,
     /// One order to each point that all calls can lead to.
     pub ends: Vec<Order>,
     /// How many points there are, with those on the way.
@@ -28,7 +28,7 @@ pub struct Outcomes {
 }
 
 /// All that can happen to the partitions' scripts on new ports of the configuration, over every order of their calls.
-/// It is undecided where they come to more states than the bound.
+/// It is undecided if they come to more states than the bound.
 pub fn all_outcomes(
     alloc: Global,
     config: &Config,
@@ -41,16 +41,16 @@ pub fn all_outcomes(
     ensures ends { IfOk result (λ found. AreEnds config.now scripts.now found.ends.items) }
     ensures undecided { IsUndecided config.now scripts.now bound result }
 {
-    all_outcomes_telling(alloc, config, scripts, bound, &mut Nobody)
+    all_outcomes_with_progress(alloc, config, scripts, bound, &mut NoProgress)
 }
 
-/// What `all_outcomes` answers. The listener is told from time to time how far the search is.
-pub fn all_outcomes_telling<L: Listener>(
+/// The answer of `all_outcomes`. `progress` receives from time to time how far the search is.
+pub fn all_outcomes_with_progress<P: Progress>(
     alloc: Global,
     config: &Config,
     scripts: &[Script],
     bound: usize,
-    listener: &mut L,
+    progress: &mut P,
 ) -> Result<Outcomes, OrdersFault>
     requires { length scripts.now ≡ length config.now.partitions }
     ensures replies { IfOk result
@@ -60,7 +60,7 @@ pub fn all_outcomes_telling<L: Listener>(
 {
     let partitions = config.partitions();
     prove!(scripts.len() == partitions);
-    let found = match search(alloc, config, scripts, None, bound, listener) {
+    let found = match search_points(alloc, config, scripts, None, bound, progress) {
         Err(fault) => return Err(fault),
         Ok(found) => found,
     };

@@ -2,8 +2,8 @@
 ghost use Rattle.std.specs.Prelude.{◌≡◌, ◌↔◌, IsTrue};
 ghost use Rattle.apex_orders.specs.Points.{IsSamePoint, IsSameCalls, IsSameCounts};
 
+use crate::same_state::is_same_state;
 use apex_ports::Ports;
-use apex_states::is_same_state;
 
 /// Whether both made as many calls of each partition and came to one state, with the same counts of messages.
 pub(crate) fn is_same_point(a: &Ports, b: &Ports) -> bool

@@ -1,31 +1,31 @@
-//! The known points: their marks, and what the ports were at those that the search has yet to go on from.
+//! The known points: their hashes, and what the ports were at those that the search has yet to go on from.
 ghost use Rattle.std.specs.Prelude.{◌≡◌, ◌-◌, ◌<◌, ◌≤◌, ◌↔◌, ◌++◌, [], ◌∷◌, ℕ, List, length, IfOk, OnOk, IfSome, MatchOption, IsTrue, slice_get, Some};
 ghost use Rattle.apex_ports.specs.Sound.{IsSound};
 ghost use Rattle.apex_orders.specs.Known.{ArePoints, IsAfter, IsTrialOf, IsLeft, IsTaken};
-ghost use Rattle.apex_orders.specs.Marks.{mark_of};
+ghost use Rattle.apex_orders.specs.Hashes.{hash_of};
 ghost use Rattle.apex_orders.specs.Orders.{Scripts, IsOrder, history_of};
 ghost use Rattle.apex_orders.specs.Points.{IsSamePoint};
 ghost use Rattle.apex_orders.specs.Searching.{Knows, AreOrders};
 
-use crate::mark::mark_of;
-use crate::marks::Marks;
+use crate::hash::hash_of;
+use crate::hash_index::HashIndex;
 use crate::order::PackedOrder;
 use crate::point::is_same_point;
 use crate::replay::replay;
 use crate::trial::Trial;
-use apex_config::Config;
+use apex_module::Config;
 use apex_ports::{Ports, SavedPorts, Script};
 use apex_types::OutOfMemory;
 use std::alloc::Global;
 use std::collections::VecDeque;
 
-/// How many buckets the marks of points have: a prime.
+/// How many buckets the hashes of points have: a prime.
 const BUCKETS: usize = 131_071;
 
-/// The marks of all known points, and what the ports were at those from the index `first` on.
+/// The hashes of all known points, and what the ports were at those from the index `first` on.
 #[derive(Drop)]
 pub(crate) struct Points {
-    pub(crate) marks: Marks,
+    pub(crate) hashes: HashIndex,
     pub(crate) first: usize,
     pub(crate) saved: VecDeque<SavedPorts>,
 }
@@ -38,12 +38,12 @@ impl Points {
             ArePoints config.now scripts ([] ∷ []) points) }
     {
         let ports = Ports::new(alloc, config.copy()?)?;
-        let mut marks = Marks::new(alloc, BUCKETS)?;
-        marks.push(mark_of(&ports))?;
+        let mut hashes = HashIndex::new(alloc, BUCKETS)?;
+        hashes.push(hash_of(&ports))?;
         let mut saved = VecDeque::new(alloc);
         saved.push_back(ports.save(alloc)?)?;
         Ok(Points {
-            marks,
+            hashes,
             first: 0,
             saved,
         })
@@ -72,14 +72,14 @@ impl Points {
         &mut self,
         alloc: Global,
         ports: &Ports,
-        mark: u64,
+        hash: u64,
     ) -> Result<(), OutOfMemory>
         ensures first { self.new.first ≡ self.old.first }
-        ensures marks { OnOk result (self.new.marks ≡ self.old.marks ++ mark ∷ []) }
+        ensures hashes { OnOk result (self.new.hashes ≡ self.old.hashes ++ hash ∷ []) }
         ensures saved { OnOk result
             (self.new.saved.items ≡ self.old.saved.items ++ ports.now ∷ []) }
     {
-        self.marks.push(mark)?;
+        self.hashes.push(hash)?;
         self.saved.push_back(ports.save(alloc)?)?;
         Ok(())
     }
@@ -105,20 +105,20 @@ pub(crate) fn is_known(
     orders: &[PackedOrder],
     points: &Points,
     trial: &mut Trial,
-    mark: u64,
+    hash: u64,
 ) -> Result<bool, OutOfMemory>
     requires scripts { length scripts.now ≡ length config.now.partitions }
     requires trial { IsTrialOf config.now trial.old }
     requires orders { AreOrders config.now orders.now }
     requires points { ArePoints config.now scripts.now orders.now points.now }
-    requires mark { mark ≡ mark_of config.now trial.old.ports.history }
+    requires hash { hash ≡ hash_of config.now trial.old.ports.history }
     ensures known { IfOk result (λ known.
         IsTrue known ↔ Knows config.now scripts.now orders.now trial.old.ports.history) }
     ensures ports { trial.new.ports ≡ trial.old.ports }
     ensures trial { IsTrialOf config.now trial.new }
 {
-    for k in points.marks.indexes(mark) {
-        if points.marks.stands_at(mark, *k) {
+    for k in points.hashes.indexes(hash) {
+        if points.hashes.stands_at(hash, *k) {
             go_to(
                 alloc,
                 config,

@@ -5,7 +5,7 @@ ghost use Rattle.apex_orders.specs.Orders.{history_of, IsOrder};
 
 use crate::order::PackedOrder;
 use crate::step::step;
-use apex_config::Config;
+use apex_module::Config;
 use apex_ports::{Ports, Script};
 use apex_types::OutOfMemory;
 use std::alloc::Global;

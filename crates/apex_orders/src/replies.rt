@@ -1,16 +1,16 @@
 //! Replies that calls can get.
 ghost use Rattle.std.specs.Prelude.{◌≡◌, ◌⊎◌, ◌↔◌, [], IsTrue, IfOk, OnOk};
-ghost use Rattle.apex_orders.specs.declared.replies.Possible.{Possible};
-ghost use Rattle.apex_orders.specs.Possibles.{Has};
+ghost use Rattle.apex_orders.specs.declared.replies.PossibleReply.{PossibleReply};
+ghost use Rattle.apex_orders.specs.Lists.{Has};
 
-use crate::marks::Marks;
+use crate::hash_index::HashIndex;
 use apex_types::{OutOfMemory, Reply};
 use std::alloc::Global;
 use std::marker::Model;
 
 /// A reply that a call of a script can get.
 #[derive(Debug, Drop, PartialEq, Eq)]
-pub struct Possible {
+pub struct PossibleReply {
     /// The partition's number, from 0.
     pub partition: usize,
     /// The index of the call in the partition's script, from 0.
@@ -18,21 +18,21 @@ pub struct Possible {
     pub reply: Reply,
 }
 
-/// How many buckets the marks of replies have: a prime.
+/// How many buckets the hashes of replies have: a prime.
 const BUCKETS: usize = 1_021;
 
-/// The replies that were found, and marks by which they are looked up. To a contract it is the list of them.
+/// The replies that were found, and hashes by which they are looked up. To a contract it is the list of them.
 #[derive(Drop)]
 pub(crate) struct Replies {
-    pub(crate) found: Vec<Possible>,
-    marks: Marks,
+    pub(crate) found: Vec<PossibleReply>,
+    hashes: HashIndex,
 }
 
 impl Model for Replies {
     ghost use Rattle.std.specs.Prelude.{List};
-    ghost use Rattle.apex_orders.specs.declared.replies.Possible.{Possible};
+    ghost use Rattle.apex_orders.specs.declared.replies.PossibleReply.{PossibleReply};
 
-    ghost Value = { List Possible };
+    ghost Value = { List PossibleReply };
 
     ghost view = { λ replies. replies.found.items };
 }
@@ -42,33 +42,33 @@ impl Replies {
     pub(crate) fn new(alloc: Global) -> Result<Replies, OutOfMemory>
         ensures { IfOk result (λ replies. replies ≡ []) }
     {
-        let marks = Marks::new(alloc, BUCKETS)?;
+        let hashes = HashIndex::new(alloc, BUCKETS)?;
         Ok(Replies {
             found: Vec::new(alloc),
-            marks,
+            hashes,
         })
     }
 
     /// Adds the reply, unless it is there.
-    pub(crate) fn add(&mut self, one: Possible) -> Result<(), OutOfMemory>
-        ensures { OnOk result ((other : Possible) →
+    pub(crate) fn add(&mut self, one: PossibleReply) -> Result<(), OutOfMemory>
+        ensures { OnOk result ((other : PossibleReply) →
             Has self.new other ↔ (Has self.old other ⊎ (other ≡ one))) }
     {
-        let mark = call_mark(&one);
-        for k in self.marks.indexes(mark) {
+        let hash = call_hash(&one);
+        for k in self.hashes.indexes(hash) {
             if let Some(known) = self.found.get(*k) {
                 if is_same_possible(known, &one) {
                     return Ok(());
                 }
             }
         }
-        self.marks.push(mark)?;
+        self.hashes.push(hash)?;
         self.found.push(one)?;
         Ok(())
     }
 
     /// The replies alone.
-    pub(crate) fn into_found(self) -> Vec<Possible>
+    pub(crate) fn into_found(self) -> Vec<PossibleReply>
         ensures { result.items ≡ self }
     {
         self.found
@@ -76,14 +76,14 @@ impl Replies {
 }
 
 /// A number that is the same for the replies to one call.
-fn call_mark(one: &Possible) -> u64 {
+fn call_hash(one: &PossibleReply) -> u64 {
     (one.partition as u64)
         .wrapping_mul(1_000_003)
         .wrapping_add(one.index as u64)
 }
 
 /// Whether they are equal.
-fn is_same_possible(a: &Possible, b: &Possible) -> bool
+fn is_same_possible(a: &PossibleReply, b: &PossibleReply) -> bool
     ensures { IsTrue result ↔ (a.now ≡ b.now) }
 {
     a.index == b.index && a.partition == b.partition && is_same_reply(&a.reply, &b.reply)

@@ -1,23 +1,25 @@
 //! The search of all points that orders lead to.
-ghost use Rattle.std.specs.Prelude.{◌≡◌, ◌<◌, ◌≤◌, ◌++◌, [], ◌∷◌, ℕ, List, length, IfOk, OnOk, IfSome};
+ghost use Rattle.std.specs.Prelude.{◌≡◌, ◌<◌, ◌++◌, [], ◌∷◌, ℕ, true, length, IfOk, OnOk, IfSome};
 ghost use Rattle.std.specs.Option.{option_copied};
-ghost use Rattle.apex_orders.specs.Known.{ArePoints, IsAfter, IsTrialOf};
-ghost use Rattle.apex_orders.specs.Orders.{IsOrder, history_of, script_of};
-ghost use Rattle.apex_orders.specs.Possibles.{Has};
-ghost use Rattle.apex_orders.specs.Searching.{Knows, AreOrders, AreApart, AreFound, HasEnded, IsTried, HasTried, Includes, Keeps, IsGivenUp};
+ghost use Rattle.apex_orders.specs.Choices.{is_tried};
+ghost use Rattle.apex_orders.specs.Known.{IsAfter};
+ghost use Rattle.apex_orders.specs.Lists.{Has};
+ghost use Rattle.apex_orders.specs.Orders.{IsOrder, history_of};
+ghost use Rattle.apex_orders.specs.Searching.{Knows, HasEnded, IsTried, HasTried, HasTriedEnough, IsGivenUp, IsSearch, IsLater};
 
-use crate::answer::answer_behind;
+use crate::answer::answer_after;
 use crate::asked::Asked;
-use crate::listener::{Level, Listener};
-use crate::longest::longest_script;
-use crate::mark::mark_of;
+use crate::choice::{choose, is_tried};
+use crate::hash::hash_of;
+use crate::last_uses::{LastUses, last_uses};
 use crate::order::PackedOrder;
 use crate::orders_fault::OrdersFault;
 use crate::points::{Points, go_to, is_known};
-use crate::replies::{Possible, Replies};
+use crate::progress::{Level, Progress};
+use crate::replies::{PossibleReply, Replies};
 use crate::step::step;
 use crate::trial::Trial;
-use apex_config::Config;
+use apex_module::Config;
 use apex_ports::{SavedPorts, Script};
 use apex_types::OutOfMemory;
 use std::alloc::Global;
@@ -27,68 +29,242 @@ use std::alloc::Global;
 #[derive(Drop)]
 pub(crate) struct Found {
     pub(crate) orders: Vec<PackedOrder>,
-    pub(crate) replies: Vec<Possible>,
+    pub(crate) replies: Vec<PossibleReply>,
     pub(crate) answer: Option<PackedOrder>,
 }
 
 /// Searches on from each point, in the order in which they are found, until none is left, or until one order answers
-/// what is asked.
-pub(crate) fn search<L: Listener>(
+/// the question.
+pub(crate) fn search_points<P: Progress>(
     alloc: Global,
     config: &Config,
     scripts: &[Script],
     asked: Option<&Asked>,
     bound: usize,
-    listener: &mut L,
+    progress: &mut P,
 ) -> Result<Found, OrdersFault>
     requires { length scripts.now ≡ length config.now.partitions }
     ensures ended { let asked = option_copied asked.entry in
         IfOk result (λ found. HasEnded config.now scripts.now asked
         found.orders.items found.replies.items found.answer) }
-    ensures short { OnOk result ((p : ℕ) → length (script_of scripts.now p) ≤ usize.MAX) }
     ensures given_up { IsGivenUp config.now scripts.now bound result }
 {
-    let _longest = longest_script(scripts);
-    let mut orders = first_orders(alloc)?;
-    let mut points = Points::new(alloc, config)?;
-    let mut replies = Replies::new(alloc)?;
-    let mut trial = Trial::new(alloc, config)?;
+    let mut current = Search::new(alloc, config, scripts, asked)?;
     let mut level = Level::new();
     let mut i = 0;
-    while i < orders.len() {
-        let known = orders.as_slice();
-        if let Some(order) = answer_behind(
-            alloc, config, scripts, asked, known, &points, &mut trial, i,
-        )? {
-            let replies = replies.into_found();
-            return Ok(Found {
-                orders,
-                replies,
-                answer: Some(order),
-            });
+    while i < current.orders.len() {
+        if let Some(order) = answer_after(alloc, config, scripts, asked, &mut current, i)? {
+            return Ok(current.into_found(Some(order)));
         }
-        if orders.len() > bound {
+        if current.orders.len() > bound {
             return Err(OrdersFault::TooManyStates);
         }
-        level.tell(listener, i, orders.len());
-        try_all(
+        level.report(progress, i, current.orders.len());
+        current.try_all(alloc, config, scripts, i)?;
+        i += 1;
+    }
+    Ok(current.into_found(None))
+}
+
+/// A search: one order to each point, in the order in which they are found, what is kept of the points, the replies,
+/// ports on which calls are tried, the last uses of channels by the scripts, and the partition that a question is about:
+/// its next call is always tried, so that an order that answers is a short one.
+#[derive(Drop)]
+pub(crate) struct Search {
+    pub(crate) orders: Vec<PackedOrder>,
+    pub(crate) points: Points,
+    pub(crate) replies: Replies,
+    pub(crate) trial: Trial,
+    pub(crate) uses: Vec<LastUses>,
+    pub(crate) from: Option<usize>,
+}
+
+impl Search {
+    /// The order of no calls alone.
+    fn new(
+        alloc: Global,
+        config: &Config,
+        scripts: &[Script],
+        asked: Option<&Asked>,
+    ) -> Result<Search, OutOfMemory>
+        requires { length scripts.now ≡ length config.now.partitions }
+        ensures valid { IfOk result (λ one. IsSearch config.now scripts.now one) }
+        ensures first { IfOk result (λ one. Has one.orders.items []) }
+    {
+        let orders = first_orders(alloc)?;
+        let points = Points::new(alloc, config)?;
+        let replies = Replies::new(alloc)?;
+        let trial = Trial::new(alloc, config)?;
+        let uses = last_uses(alloc, config, scripts)?;
+        let from = match asked {
+            None => None,
+            Some(one) => Some(one.partition),
+        };
+        Ok(Search {
+            orders,
+            points,
+            replies,
+            trial,
+            uses,
+            from,
+        })
+    }
+
+    /// Tries the next calls of enough partitions after the order at an index.
+    fn try_all(
+        &mut self,
+        alloc: Global,
+        config: &Config,
+        scripts: &[Script],
+        i: usize,
+    ) -> Result<(), OutOfMemory>
+        requires valid { IsSearch config.now scripts.now self.old }
+        requires within { i < length self.old.orders.items }
+        ensures valid { OnOk result (IsSearch config.now scripts.now self.new) }
+        ensures later { OnOk result (IsLater self.old self.new) }
+        ensures tried { OnOk result
+            (HasTried config.now scripts.now self.new.orders.items self.new.replies i) }
+    {
+        let order = self.orders[i].copy(alloc)?;
+        let saved = self.points.take(i);
+        self.try_each(alloc, config, scripts, &order, saved.as_ref())?;
+        Ok(())
+    }
+
+    /// Tries the next calls of enough partitions after the order.
+    fn try_each(
+        &mut self,
+        alloc: Global,
+        config: &Config,
+        scripts: &[Script],
+        order: &PackedOrder,
+        saved: Option<&SavedPorts>,
+    ) -> Result<(), OutOfMemory>
+        requires valid { IsSearch config.now scripts.now self.old }
+        requires here { Has self.old.orders.items order.now }
+        requires saved { IfSome saved
+            (λ ports. IsAfter config.now scripts.now order.now ports.now) }
+        ensures valid { OnOk result (IsSearch config.now scripts.now self.new) }
+        ensures later { OnOk result (IsLater self.old self.new) }
+        ensures tried { OnOk result (HasTriedEnough config.now scripts.now
+            self.new.orders.items self.new.replies order.now) }
+    {
+        go_to(alloc, config, scripts, order, saved, &mut self.trial.ports)?;
+        let tried = choose(alloc, &self.trial.ports, scripts, &self.uses, self.from)?;
+        self.try_those(alloc, config, scripts, order, saved, &tried)?;
+        Ok(())
+    }
+
+    /// Tries the next calls of these partitions after the order.
+    fn try_those(
+        &mut self,
+        alloc: Global,
+        config: &Config,
+        scripts: &[Script],
+        order: &PackedOrder,
+        saved: Option<&SavedPorts>,
+        tried: &[bool],
+    ) -> Result<(), OutOfMemory>
+        requires valid { IsSearch config.now scripts.now self.old }
+        requires here { Has self.old.orders.items order.now }
+        requires saved { IfSome saved
+            (λ ports. IsAfter config.now scripts.now order.now ports.now) }
+        ensures valid { OnOk result (IsSearch config.now scripts.now self.new) }
+        ensures later { OnOk result (IsLater self.old self.new) }
+        ensures tried { OnOk result ((p : ℕ) → p < length config.now.partitions
+            → is_tried tried.now p ≡ true
+            → IsTried config.now scripts.now self.new.orders.items self.new.replies order.now p) }
+    {
+        for p in 0..config.partitions() {
+            if is_tried(tried, p) {
+                self.try_partition(alloc, config, scripts, order, saved, p)?;
+            }
+        }
+        Ok(())
+    }
+
+    /// Tries the partition's next call after an order.
+    fn try_partition(
+        &mut self,
+        alloc: Global,
+        config: &Config,
+        scripts: &[Script],
+        order: &PackedOrder,
+        saved: Option<&SavedPorts>,
+        p: usize,
+    ) -> Result<(), OutOfMemory>
+        requires valid { IsSearch config.now scripts.now self.old }
+        requires partition { p < length config.now.partitions }
+        requires here { Has self.old.orders.items order.now }
+        requires saved { IfSome saved
+            (λ ports. IsAfter config.now scripts.now order.now ports.now) }
+        ensures valid { OnOk result (IsSearch config.now scripts.now self.new) }
+        ensures later { OnOk result (IsLater self.old self.new) }
+        ensures tried { OnOk result
+            (IsTried config.now scripts.now self.new.orders.items self.new.replies order.now p) }
+    {
+        go_to(alloc, config, scripts, order, saved, &mut self.trial.ports)?;
+        let one = match step(&mut self.trial.ports, scripts, p) {
+            None => return Ok(()),
+            Some(one) => one,
+        };
+        self.replies.add(one)?;
+        self.learn(alloc, config, scripts, order, p)?;
+        Ok(())
+    }
+
+    /// Keeps the order with the partition's call at its end, unless another order leads to the same point.
+    fn learn(
+        &mut self,
+        alloc: Global,
+        config: &Config,
+        scripts: &[Script],
+        order: &PackedOrder,
+        p: usize,
+    ) -> Result<(), OutOfMemory>
+        requires valid { IsSearch config.now scripts.now self.old }
+        requires partition { p < length config.now.partitions }
+        requires history { self.old.trial.ports.history
+            ≡ history_of config.now scripts.now (order.now ++ p ∷ []) }
+        requires order { IsOrder config.now order.now }
+        ensures valid { OnOk result (IsSearch config.now scripts.now self.new) }
+        ensures later { OnOk result (IsLater self.old self.new) }
+        ensures known { OnOk result
+            (Knows config.now scripts.now self.new.orders.items self.old.trial.ports.history) }
+    {
+        let hash = hash_of(&self.trial.ports);
+        let known = self.orders.as_slice();
+        if is_known(
             alloc,
             config,
             scripts,
-            &mut orders,
-            &mut points,
-            &mut replies,
-            &mut trial,
-            i,
-        )?;
-        i += 1;
+            known,
+            &self.points,
+            &mut self.trial,
+            hash,
+        )? {
+            return Ok(());
+        }
+        let partitions = config.partitions();
+        prove!(p < partitions);
+        let longer = order.followed_by(alloc, p)?;
+        self.points.push(alloc, &self.trial.ports, hash)?;
+        self.orders.push(longer)?;
+        Ok(())
     }
-    let replies = replies.into_found();
-    Ok(Found {
-        orders,
-        replies,
-        answer: None,
-    })
+
+    /// What was found, with the order that answers the question.
+    fn into_found(self, answer: Option<PackedOrder>) -> Found
+        ensures orders { result.orders ≡ self.orders }
+        ensures replies { result.replies.items ≡ self.replies }
+        ensures answer { result.answer ≡ answer }
+    {
+        Found {
+            orders: self.orders,
+            replies: self.replies.into_found(),
+            answer,
+        }
+    }
 }
 
 /// The order of no calls alone.
@@ -98,182 +274,4 @@ fn first_orders(alloc: Global) -> Result<Vec<PackedOrder>, OutOfMemory>
     let mut orders = Vec::new(alloc);
     orders.push(PackedOrder::new(alloc))?;
     Ok(orders)
-}
-
-/// Tries the next call of every partition behind the order at an index.
-fn try_all(
-    alloc: Global,
-    config: &Config,
-    scripts: &[Script],
-    orders: &mut Vec<PackedOrder>,
-    points: &mut Points,
-    replies: &mut Replies,
-    trial: &mut Trial,
-    i: usize,
-) -> Result<(), OutOfMemory>
-    requires scripts { length scripts.now ≡ length config.now.partitions }
-    requires within { i < length orders.old.items }
-    requires orders { AreOrders config.now orders.old.items }
-    requires points { ArePoints config.now scripts.now orders.old.items points.old }
-    requires apart { AreApart config.now scripts.now orders.old.items }
-    requires found { AreFound config.now scripts.now replies.old }
-    requires trial { IsTrialOf config.now trial.old }
-    ensures orders { OnOk result (AreOrders config.now orders.new.items) }
-    ensures points { OnOk result
-        (ArePoints config.now scripts.now orders.new.items points.new) }
-    ensures apart { OnOk result (AreApart config.now scripts.now orders.new.items) }
-    ensures found { OnOk result (AreFound config.now scripts.now replies.new) }
-    ensures trial { OnOk result (IsTrialOf config.now trial.new) }
-    ensures orders_kept { OnOk result (Keeps orders.old.items orders.new.items) }
-    ensures replies_kept { OnOk result (Includes replies.old replies.new) }
-    ensures tried { OnOk result
-        (HasTried config.now scripts.now orders.new.items replies.new i) }
-{
-    let order = orders[i].copy(alloc)?;
-    let saved = points.take(i);
-    try_each(
-        alloc,
-        config,
-        scripts,
-        orders,
-        points,
-        replies,
-        trial,
-        &order,
-        saved.as_ref(),
-    )?;
-    Ok(())
-}
-
-/// Tries the next call of every partition behind the order.
-fn try_each(
-    alloc: Global,
-    config: &Config,
-    scripts: &[Script],
-    orders: &mut Vec<PackedOrder>,
-    points: &mut Points,
-    replies: &mut Replies,
-    trial: &mut Trial,
-    order: &PackedOrder,
-    saved: Option<&SavedPorts>,
-) -> Result<(), OutOfMemory>
-    requires scripts { length scripts.now ≡ length config.now.partitions }
-    requires here { Has orders.old.items order.now }
-    requires saved { IfSome saved
-        (λ ports. IsAfter config.now scripts.now order.now ports.now) }
-    requires orders { AreOrders config.now orders.old.items }
-    requires points { ArePoints config.now scripts.now orders.old.items points.old }
-    requires apart { AreApart config.now scripts.now orders.old.items }
-    requires found { AreFound config.now scripts.now replies.old }
-    requires trial { IsTrialOf config.now trial.old }
-    ensures orders { OnOk result (AreOrders config.now orders.new.items) }
-    ensures points { OnOk result
-        (ArePoints config.now scripts.now orders.new.items points.new) }
-    ensures apart { OnOk result (AreApart config.now scripts.now orders.new.items) }
-    ensures found { OnOk result (AreFound config.now scripts.now replies.new) }
-    ensures trial { OnOk result (IsTrialOf config.now trial.new) }
-    ensures orders_kept { OnOk result (Keeps orders.old.items orders.new.items) }
-    ensures replies_kept { OnOk result (Includes replies.old replies.new) }
-    ensures tried { OnOk result ((p : ℕ) → p < length config.now.partitions
-        → IsTried config.now scripts.now orders.new.items replies.new order.now p) }
-{
-    for p in 0..config.partitions() {
-        try_partition(
-            alloc, config, scripts, orders, points, replies, trial, order, saved, p,
-        )?;
-    }
-    Ok(())
-}
-
-/// Tries the partition's next call behind an order.
-fn try_partition(
-    alloc: Global,
-    config: &Config,
-    scripts: &[Script],
-    orders: &mut Vec<PackedOrder>,
-    points: &mut Points,
-    replies: &mut Replies,
-    trial: &mut Trial,
-    order: &PackedOrder,
-    saved: Option<&SavedPorts>,
-    p: usize,
-) -> Result<(), OutOfMemory>
-    requires scripts { length scripts.now ≡ length config.now.partitions }
-    requires partition { p < length config.now.partitions }
-    requires here { Has orders.old.items order.now }
-    requires saved { IfSome saved
-        (λ ports. IsAfter config.now scripts.now order.now ports.now) }
-    requires orders { AreOrders config.now orders.old.items }
-    requires points { ArePoints config.now scripts.now orders.old.items points.old }
-    requires apart { AreApart config.now scripts.now orders.old.items }
-    requires found { AreFound config.now scripts.now replies.old }
-    requires trial { IsTrialOf config.now trial.old }
-    ensures orders { OnOk result (AreOrders config.now orders.new.items) }
-    ensures points { OnOk result
-        (ArePoints config.now scripts.now orders.new.items points.new) }
-    ensures apart { OnOk result (AreApart config.now scripts.now orders.new.items) }
-    ensures found { OnOk result (AreFound config.now scripts.now replies.new) }
-    ensures trial { OnOk result (IsTrialOf config.now trial.new) }
-    ensures orders_kept { OnOk result (Keeps orders.old.items orders.new.items) }
-    ensures replies_kept { OnOk result (Includes replies.old replies.new) }
-    ensures tried { OnOk result
-        (IsTried config.now scripts.now orders.new.items replies.new order.now p) }
-{
-    go_to(alloc, config, scripts, order, saved, &mut trial.ports)?;
-    let one = match step(&mut trial.ports, scripts, p) {
-        None => return Ok(()),
-        Some(one) => one,
-    };
-    replies.add(one)?;
-    learn(alloc, config, scripts, orders, points, trial, order, p)?;
-    Ok(())
-}
-
-/// Keeps the order with the partition behind it, unless another order leads to the same point.
-fn learn(
-    alloc: Global,
-    config: &Config,
-    scripts: &[Script],
-    orders: &mut Vec<PackedOrder>,
-    points: &mut Points,
-    trial: &mut Trial,
-    order: &PackedOrder,
-    p: usize,
-) -> Result<(), OutOfMemory>
-    requires scripts { length scripts.now ≡ length config.now.partitions }
-    requires partition { p < length config.now.partitions }
-    requires trial { IsTrialOf config.now trial.old }
-    requires history { trial.old.ports.history
-        ≡ history_of config.now scripts.now (order.now ++ p ∷ []) }
-    requires order { IsOrder config.now order.now }
-    requires orders { AreOrders config.now orders.old.items }
-    requires points { ArePoints config.now scripts.now orders.old.items points.old }
-    requires apart { AreApart config.now scripts.now orders.old.items }
-    ensures orders { OnOk result (AreOrders config.now orders.new.items) }
-    ensures points { OnOk result
-        (ArePoints config.now scripts.now orders.new.items points.new) }
-    ensures apart { OnOk result (AreApart config.now scripts.now orders.new.items) }
-    ensures kept { OnOk result (Keeps orders.old.items orders.new.items) }
-    ensures known { OnOk result
-        (Knows config.now scripts.now orders.new.items trial.old.ports.history) }
-    ensures trial { OnOk result (IsTrialOf config.now trial.new) }
-{
-    let mark = mark_of(&trial.ports);
-    if is_known(
-        alloc,
-        config,
-        scripts,
-        orders.as_slice(),
-        points,
-        trial,
-        mark,
-    )? {
-        return Ok(());
-    }
-    let partitions = config.partitions();
-    prove!(p < partitions);
-    let longer = order.followed_by(alloc, p)?;
-    points.push(alloc, &trial.ports, mark)?;
-    orders.push(longer)?;
-    Ok(())
 }

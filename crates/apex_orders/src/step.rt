@@ -1,14 +1,14 @@
 //! The next call of a partition's script.
-ghost use Rattle.std.specs.Prelude.{◌≡◌, ◌<◌, ◌++◌, length, MatchOption};
+ghost use Rattle.std.specs.Prelude.{◌≡◌, ◌<◌, ◌≤◌, ◌++◌, length, MatchOption};
 ghost use Rattle.apex_ports.specs.Sound.{IsSound};
-ghost use Rattle.apex_orders.specs.Orders.{next_entries};
+ghost use Rattle.apex_orders.specs.Orders.{next_entries, script_of};
 ghost use Rattle.apex_orders.specs.Steps.{MakesNothing, Makes};
 
-use crate::replies::Possible;
+use crate::replies::PossibleReply;
 use apex_ports::{Ports, Script};
 
-/// The partition makes the next call of its script. `None` where it has made them all, and then nothing is called.
-pub fn step(ports: &mut Ports, scripts: &[Script], p: usize) -> Option<Possible>
+/// Makes the next call of the partition's script. Returns `None` if all are made, and then makes no call.
+pub fn step(ports: &mut Ports, scripts: &[Script], p: usize) -> Option<PossibleReply>
     requires partition { p < length ports.old.config.partitions }
     requires scripts { length scripts.now ≡ length ports.old.config.partitions }
     requires sound { IsSound ports.old.config ports.old.history }
@@ -19,6 +19,9 @@ pub fn step(ports: &mut Ports, scripts: &[Script], p: usize) -> Option<Possible>
     ensures call { MatchOption result
         (MakesNothing ports.old.config scripts.now ports.old.history p)
         (λ one. Makes ports.old.config scripts.now ports.old.history p one) }
+
+    // A script has no more calls than are counted.
+    ensures short { length (script_of scripts.now p) ≤ usize.MAX }
 {
     let script = &scripts[p];
     let index = ports.calls(p) as usize;
@@ -27,7 +30,7 @@ pub fn step(ports: &mut Ports, scripts: &[Script], p: usize) -> Option<Possible>
     }
     let (at, call) = &script.calls[index];
     let reply = ports.call(p, *at, call);
-    Some(Possible {
+    Some(PossibleReply {
         partition: p,
         index,
         reply,

@@ -2,7 +2,7 @@
 ghost use Rattle.std.specs.Prelude.{IfOk};
 ghost use Rattle.apex_orders.specs.Known.{IsTrialOf};
 
-use apex_config::Config;
+use apex_module::Config;
 use apex_ports::Ports;
 use apex_types::OutOfMemory;
 use std::alloc::Global;

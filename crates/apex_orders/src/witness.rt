@@ -3,17 +3,17 @@ ghost use Rattle.std.specs.Prelude.{◌≡◌, length, IfOk, IfSome, IfNone};
 ghost use Rattle.apex_orders.specs.Outcomes.{CanBeAnswered, IsAnsweredBy, IsUndecided};
 
 use crate::asked::Asked;
-use crate::listener::{Listener, Nobody};
 use crate::order::Order;
 use crate::orders_fault::OrdersFault;
-use crate::search::search;
-use apex_config::Config;
+use crate::progress::{NoProgress, Progress};
+use crate::search::search_points;
+use apex_module::Config;
 use apex_ports::Script;
 use std::alloc::Global;
 
-/// An order in which the call that is asked of gets an admitted reply: the calls up to that one, which is the last.
-/// `None` where no order of all calls gives it such a reply. The first order that gives one ends the search. Where none is
-/// found, it is undecided if orders come to more states than the bound.
+/// An order in which the asked call gets an admitted reply: the calls up to that one, which is the last. `None` if no order
+/// of all calls gives it such a reply. The first order that gives one ends the search. If none is found, it is undecided if
+/// orders come to more states than the bound.
 pub fn order_giving(
     alloc: Global,
     config: &Config,
@@ -28,17 +28,17 @@ pub fn order_giving(
         (λ answer. IfNone answer (¬ CanBeAnswered config.now scripts.now asked.now)) }
     ensures undecided { IsUndecided config.now scripts.now bound result }
 {
-    order_giving_telling(alloc, config, scripts, asked, bound, &mut Nobody)
+    order_giving_with_progress(alloc, config, scripts, asked, bound, &mut NoProgress)
 }
 
-/// What `order_giving` answers. The listener is told from time to time how far the search is.
-pub fn order_giving_telling<L: Listener>(
+/// The answer of `order_giving`. `progress` receives from time to time how far the search is.
+pub fn order_giving_with_progress<P: Progress>(
     alloc: Global,
     config: &Config,
     scripts: &[Script],
     asked: &Asked,
     bound: usize,
-    listener: &mut L,
+    progress: &mut P,
 ) -> Result<Option<Order>, OrdersFault>
     requires { length scripts.now ≡ length config.now.partitions }
     ensures found { IfOk result
@@ -49,7 +49,7 @@ pub fn order_giving_telling<L: Listener>(
 {
     let partitions = config.partitions();
     prove!(scripts.len() == partitions);
-    let found = match search(alloc, config, scripts, Some(asked), bound, listener) {
+    let found = match search_points(alloc, config, scripts, Some(asked), bound, progress) {
         Err(fault) => return Err(fault),
         Ok(found) => found,
     };

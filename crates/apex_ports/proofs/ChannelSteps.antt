@@ -6,13 +6,13 @@ use Rattle.apex_types.specs.declared.moment.Moment.{Moment}
 use Rattle.apex_types.specs.declared.reply.Reply.TheVariants.{Code, Received}
 use Rattle.apex_types.specs.declared.return_code.ReturnCode.TheVariants.{NoError}
 use Rattle.std.proofs.lemmas.List.{length-map}
-use Rattle.apex_config.specs.Configuration.{Configuration, port_of}
-use Rattle.apex_config.specs.declared.port.Port.{Port}
+use Rattle.apex_module.specs.Configuration.{Configuration, port_of}
+use Rattle.apex_module.specs.declared.port.Port.{Port}
 use Rattle.apex_ports.specs.declared.history.Entry.{Entry}
 use Rattle.apex_ports.specs.declared.partition.PartitionState.{PartitionState}
 use Rattle.apex_ports.specs.declared.channel.ChannelState.{ChannelState}
 use Rattle.apex_ports.specs.declared.channel.ChannelState.TheVariants.{Queuing, Sampling}
-use Rattle.apex_ports.specs.ChannelStates.{has_queue, waiting_in, ring_depth, accepted_in, received_in, cleared_in, sample_in}
+use Rattle.apex_ports.specs.ChannelStates.{has_queue, waiting_in, ring_depth, message_size, accepted_in, received_in, cleared_in, sample_in}
 use Rattle.apex_ports.specs.Counts.{count_of}
 use Rattle.apex_ports.specs.History.{History, entry_of}
 use Rattle.apex_ports.specs.Ports.{is_source_of, is_destination_of}
@@ -42,9 +42,9 @@ oldest_of (x ∷ xs) some = (x, refl, refl)
 module _ {A : Type 0} (config : Configuration) (h : History) (partitions : List (PartitionState A)) (channels : List (ChannelState A)) (p : ℕ) (at : Moment) (id c : ℕ) (m : List ℕ) (old new : ChannelState A) where
   -- the state after an accepted send
   pub sent_keeps : AreKept config h partitions channels → IsConserved config h c → is_source_of c (port_of config p id) ≡ true → IsChannelKept config h c old
-      → waiting_in new ≡ waiting_in old ++ m ∷ [] → ring_depth new ≡ ring_depth old → accepted_in new ≡ min (accepted_in old + 1) (2 ^ 64 - 1) → received_in new ≡ received_in old → cleared_in new ≡ cleared_in old → sample_in new ≡ sample_in old → has_queue new ≡ has_queue old
+      → waiting_in new ≡ waiting_in old ++ m ∷ [] → ring_depth new ≡ ring_depth old → message_size new ≡ message_size old → accepted_in new ≡ min (accepted_in old + 1) (2 ^ 64 - 1) → received_in new ≡ received_in old → cleared_in new ≡ cleared_in old → sample_in new ≡ sample_in old → has_queue new ≡ has_queue old
       → AreKept config (h ++ entry_of p at (SendQueuing id m) (Code NoError) ∷ []) partitions (set channels c new)
-  sent_keeps kept conserved source was waiting depth accepted received cleared sample kind =
+  sent_keeps kept conserved source was waiting depth size accepted received cleared sample kind =
       channel_changes config h e partitions channels kept c new
       (leaves_partition p at (SendQueuing id m) (Code NoError) refl refl (λ _. refl))
       (λ d apart. leaves_channel config d p at (SendQueuing id m) (Code NoError) (sends_elsewhere config d p id m (source_elsewhere (port_of config p id) c d source apart)))
@@ -52,6 +52,7 @@ module _ {A : Type 0} (config : Configuration) (h : History) (partitions : List 
         kind = kind ∙ was.kind;
         waiting = waiting ∙ (ap (λ xs. xs ++ m ∷ []) was.waiting ∙ sym (waiting-sent config c h e conserved m sent refl refl));
         depth = depth ∙ was.depth;
+        size = size ∙ was.size;
         accepted = accepted ∙ (count-push (accepted_on config c h) m (accepted_in old) was.accepted ∙ ap count_of (sym (accepted-sent config c h e m sent)));
         received = received ∙ (was.received ∙ ap count_of (sym (received_stays config c h e refl)));
         cleared = cleared ∙ (was.cleared ∙ ap count_of (sym (cleared_stays config c h e refl refl)));
@@ -66,9 +67,9 @@ module _ {A : Type 0} (config : Configuration) (h : History) (partitions : List 
 
   -- the state after a receive that found a message
   pub received_keeps : AreKept config h partitions channels → IsConserved config h c → is_destination_of c (port_of config p id) ≡ true → IsChannelKept config h c old
-      → slice_get (waiting_in old) 0 ≡ Some m → waiting_in new ≡ drop 1 (waiting_in old) → ring_depth new ≡ ring_depth old → accepted_in new ≡ accepted_in old → received_in new ≡ min (received_in old + 1) (2 ^ 64 - 1) → cleared_in new ≡ cleared_in old → sample_in new ≡ sample_in old → has_queue new ≡ has_queue old
+      → slice_get (waiting_in old) 0 ≡ Some m → waiting_in new ≡ drop 1 (waiting_in old) → ring_depth new ≡ ring_depth old → message_size new ≡ message_size old → accepted_in new ≡ accepted_in old → received_in new ≡ min (received_in old + 1) (2 ^ 64 - 1) → cleared_in new ≡ cleared_in old → sample_in new ≡ sample_in old → has_queue new ≡ has_queue old
       → AreKept config (h ++ entry_of p at (ReceiveQueuing id) (Received m) ∷ []) partitions (set channels c new)
-  received_keeps kept conserved destination was oldest waiting depth accepted received cleared sample kind =
+  received_keeps kept conserved destination was oldest waiting depth size accepted received cleared sample kind =
       channel_changes config h e partitions channels kept c new
       (leaves_partition p at (ReceiveQueuing id) (Received m) refl refl (λ _. refl))
       (λ d apart. leaves_channel config d p at (ReceiveQueuing id) (Received m) (receives_elsewhere config d p id (destination_elsewhere (port_of config p id) c d destination apart)))
@@ -76,6 +77,7 @@ module _ {A : Type 0} (config : Configuration) (h : History) (partitions : List 
         kind = kind ∙ was.kind;
         waiting = waiting ∙ (ap (λ (xs : List (List ℕ)). drop 1 xs) was.waiting ∙ sym (waiting-received config c h e conserved m refl received_now refl (ap (λ (xs : List (List ℕ)). slice_get xs 0) (sym was.waiting) ∙ oldest)));
         depth = depth ∙ was.depth;
+        size = size ∙ was.size;
         accepted = accepted ∙ (was.accepted ∙ ap count_of (sym (accepted_stays config c h e refl)));
         received = received ∙ (count-push (received_on config c h) m (received_in old) was.received ∙ ap count_of (sym (received-received config c h e m received_now)));
         cleared = cleared ∙ (was.cleared ∙ ap count_of (sym (cleared-received config c h e m received_now refl)));
@@ -91,9 +93,9 @@ module _ {A : Type 0} (config : Configuration) (h : History) (partitions : List 
 -- the state after an accepted clear
 pub cleared_keeps : {A : Type 0} (config : Configuration) (h : History) (partitions : List (PartitionState A)) (channels : List (ChannelState A)) (p : ℕ) (at : Moment) (id c : ℕ) (old new : ChannelState A)
     → AreKept config h partitions channels → IsConserved config h c → is_destination_of c (port_of config p id) ≡ true → IsChannelKept config h c old
-    → waiting_in new ≡ [] → ring_depth new ≡ ring_depth old → accepted_in new ≡ accepted_in old → received_in new ≡ received_in old → cleared_in new ≡ min (cleared_in old + length (waiting_in old)) (2 ^ 64 - 1) → sample_in new ≡ sample_in old → has_queue new ≡ has_queue old
+    → waiting_in new ≡ [] → ring_depth new ≡ ring_depth old → message_size new ≡ message_size old → accepted_in new ≡ accepted_in old → received_in new ≡ received_in old → cleared_in new ≡ min (cleared_in old + length (waiting_in old)) (2 ^ 64 - 1) → sample_in new ≡ sample_in old → has_queue new ≡ has_queue old
     → AreKept config (h ++ entry_of p at (ClearQueuing id) (Code NoError) ∷ []) partitions (set channels c new)
-cleared_keeps config h partitions channels p at id c old new kept conserved destination was waiting depth accepted received cleared sample kind =
+cleared_keeps config h partitions channels p at id c old new kept conserved destination was waiting depth size accepted received cleared sample kind =
     channel_changes config h e partitions channels kept c new
     (leaves_partition p at (ClearQueuing id) (Code NoError) refl refl (λ _. refl))
     (λ d apart. leaves_channel config d p at (ClearQueuing id) (Code NoError) (clears_elsewhere config d p id (destination_elsewhere (port_of config p id) c d destination apart)))
@@ -101,6 +103,7 @@ cleared_keeps config h partitions channels p at id c old new kept conserved dest
       kind = kind ∙ was.kind;
       waiting = waiting ∙ sym (waiting-cleared config c h e conserved refl clear);
       depth = depth ∙ was.depth;
+      size = size ∙ was.size;
       accepted = accepted ∙ (was.accepted ∙ ap count_of (sym (accepted_stays config c h e refl)));
       received = received ∙ (was.received ∙ ap count_of (sym (received_stays config c h e refl)));
       cleared = cleared ∙ (ap (λ (n : ℕ). min (cleared_in old + n) (2 ^ 64 - 1)) count ∙ (count-append (cleared_on config c h) (map as_cleared (waiting_on config c h)) (cleared_in old) was.cleared ∙ ap count_of (sym (cleared-cleared config c h e clear))));
@@ -117,9 +120,9 @@ cleared_keeps config h partitions channels p at id c old new kept conserved dest
     count = ap (λ (xs : List (List ℕ)). length xs) was.waiting ∙ sym (length-map (waiting_on config c h) as_cleared)
 
 -- a sampling channel has no queue
-no_queue : {A : Type 0} (state : ChannelState A) → has_queue state ≡ false → (waiting_in state ≡ []) × (ring_depth state ≡ 0) × (accepted_in state ≡ 0) × (received_in state ≡ 0) × (cleared_in state ≡ 0)
+no_queue : {A : Type 0} (state : ChannelState A) → has_queue state ≡ false → (waiting_in state ≡ []) × (ring_depth state ≡ 0) × (message_size state ≡ 0) × (accepted_in state ≡ 0) × (received_in state ≡ 0) × (cleared_in state ≡ 0)
 no_queue (Queuing queue) kind = absurd (cc)
-no_queue (Sampling sample) kind = (refl, refl, refl, refl, refl)
+no_queue (Sampling sample) kind = (refl, refl, refl, refl, refl, refl)
 
 -- the state after an accepted write
 pub written_keeps : {A : Type 0} (config : Configuration) (h : History) (partitions : List (PartitionState A)) (channels : List (ChannelState A)) (p : ℕ) (at : Moment) (id c : ℕ) (m : List ℕ) (old : ChannelState A)
@@ -134,9 +137,10 @@ written_keeps {A} config h partitions channels p at id c m old kept source was s
       kind = sym sampling ∙ was.kind;
       waiting = sym none.0 ∙ (was.waiting ∙ sym (waiting_stays config c h e refl refl refl));
       depth = sym none.1 ∙ was.depth;
-      accepted = sym none.2 ∙ (was.accepted ∙ ap count_of (sym (accepted_stays config c h e refl)));
-      received = sym none.3 ∙ (was.received ∙ ap count_of (sym (received_stays config c h e refl)));
-      cleared = sym none.4 ∙ (was.cleared ∙ ap count_of (sym (cleared_stays config c h e refl refl)));
+      size = sym none.2 ∙ was.size;
+      accepted = sym none.3 ∙ (was.accepted ∙ ap count_of (sym (accepted_stays config c h e refl)));
+      received = sym none.4 ∙ (was.received ∙ ap count_of (sym (received_stays config c h e refl)));
+      cleared = sym none.5 ∙ (was.cleared ∙ ap count_of (sym (cleared_stays config c h e refl refl)));
       sample = sym (sample_changes config h e c (record { message = m; at = at }) (λ i. sample_at at (if source i then Some m else None)));
     })
   where

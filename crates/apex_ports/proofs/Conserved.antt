@@ -9,11 +9,11 @@ use Rattle.apex_types.specs.declared.call.Call.TheVariants.{SendQueuing, Receive
 use Rattle.apex_types.specs.declared.moment.Moment.{Moment}
 use Rattle.apex_types.specs.declared.taken.Taken.{Taken}
 use Rattle.apex_types.specs.declared.reply.Reply.{Reply}
-use Rattle.apex_config.specs.Configuration.{Configuration, IsConfiguration, port_of, channel_of, is_queuing_port, is_queuing_channel, depth_of_kind}
-use Rattle.apex_config.specs.declared.channel.Channel.{Channel}
-use Rattle.apex_config.specs.declared.channel.ChannelKind.{ChannelKind}
-use Rattle.apex_config.specs.declared.channel.ChannelKind.TheVariants.{Queuing, Sampling}
-use Rattle.apex_config.specs.declared.port.Port.{Port}
+use Rattle.apex_module.specs.Configuration.{Configuration, IsConfiguration, port_of, channel_of, is_queuing_port, is_queuing_channel, depth_of_kind}
+use Rattle.apex_module.specs.declared.channel.Channel.{Channel}
+use Rattle.apex_module.specs.declared.channel.ChannelKind.{ChannelKind}
+use Rattle.apex_module.specs.declared.channel.ChannelKind.TheVariants.{Queuing, Sampling}
+use Rattle.apex_module.specs.declared.port.Port.{Port}
 use Rattle.apex_ports.specs.declared.history.Entry.{Entry}
 use Rattle.apex_ports.specs.declared.rows.Refusal.TheVariants.{EmptyMessage, MessageTooLong, NotSource, NotDestination, QueueFull}
 use Rattle.apex_ports.specs.declared.rows.Row.{Row}
@@ -111,7 +111,7 @@ module _ (config : Configuration) (h : History) (p : ℕ) (at : Moment) (id : �
   abbrev here : Seen
   here = seen config h p
 
-  send_free : reply ≡ reply_to config h p at (SendQueuing id m) → is_code_no_error reply ≡ true → is_source_of c (port_of config p id) ≡ true
+  pub send_free : reply ≡ reply_to config h p at (SendQueuing id m) → is_code_no_error reply ≡ true → is_source_of c (port_of config p id) ≡ true
       → (length (waiting_on config c h) == depth_of config c) ≡ false
   send_free is ok source =
       let found = accepting config here p id (queuing_port config here p id) m (served config here p (is_idle (mode_of p h)) _ (ap is_code_no_error (sym is) ∙ ok)) in
@@ -127,7 +127,7 @@ module _ (config : Configuration) (h : History) (p : ℕ) (at : Moment) (id : �
       let oldest = subst (λ (o : Option Port). slice_get (waiting_of config h o) 0 ≡ Some m) configured found.2 in
       subst (λ (d : ℕ). slice_get (waiting_on config d h) 0 ≡ Some m) (channel_of_destination (port_of config p id) found.0 c configured destination) oldest
 
-  write_sampling : IsConfiguration config → reply ≡ reply_to config h p at (WriteSampling id m) → is_code_no_error reply ≡ true → is_source_of c (port_of config p id) ≡ true
+  pub write_sampling : IsConfiguration config → reply ≡ reply_to config h p at (WriteSampling id m) → is_code_no_error reply ≡ true → is_source_of c (port_of config p id) ≡ true
       → is_queuing config c ≡ false
   write_sampling valid is ok source =
       let found = writing config here p (sampling_port config here p id) m (served config here p (is_idle (mode_of p h)) _ (ap is_code_no_error (sym is) ∙ ok)) in

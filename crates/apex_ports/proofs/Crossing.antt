@@ -5,7 +5,7 @@ use denote.Param.SendFields.{declared_send, as_row_send}
 use Rattle.std.specs.declared.alloc.Allocator.{Ghosts}
 use Rattle.std.proofs.Crossing.{crosses}
 use Rattle.std_alloc.proofs.SendSync.{FreesAnywhere, Vec-send}
-use Rattle.apex_config.proofs.config.Config.TheSendSync as config
+use Rattle.apex_module.proofs.config.Config.TheSendSync as config
 use Rattle.apex_ports.proofs.channel.ChannelState.TheSendSync as channel
 use Rattle.apex_ports.proofs.partition.PartitionState.TheSendSync as partition
 use Rattle.apex_ports.proofs.past.Trail.TheLaws.TheKnot as trail

@@ -11,8 +11,8 @@ use Rattle.apex_types.specs.declared.mode.Mode.TheVariants.{ColdStart}
 use Rattle.apex_types.specs.declared.sample.Sample.{Sample}
 use Rattle.apex_types.specs.declared.taken.Taken.{Taken}
 use Rattle.apex_types.specs.declared.validity.Validity.TheVariants.{Invalid}
-use Rattle.apex_config.specs.Configuration.{Configuration, port_of}
-use Rattle.apex_config.specs.declared.port.Port.{Port}
+use Rattle.apex_module.specs.Configuration.{Configuration, port_of}
+use Rattle.apex_module.specs.declared.port.Port.{Port}
 use Rattle.apex_ports.specs.declared.history.Entry.{Entry}
 use Rattle.apex_ports.specs.History.{History}
 use Rattle.apex_ports.specs.Interference.{IsClosed, entries_inside, requests_inside, IsIndependent, AlwaysFreeFromInterference}

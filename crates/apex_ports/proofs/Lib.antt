@@ -9,9 +9,11 @@ pub mod InPlace
 pub mod Interference
 pub mod LawfulSteps
 pub mod Lookups
+pub mod MessageRings
 pub mod OneChannel
 pub mod PartitionSteps
 pub mod Refused
+pub mod RowFacts
 pub mod Saving
 pub mod Stays
 pub mod WithoutClears

@@ -4,19 +4,19 @@ use Rattle.std.specs.List.{slice_get}
 use Rattle.std.specs.Option.{option_copied}
 use Rattle.std.proofs.lemmas.Bool.Decides.{nat_tests}
 use Rattle.std.proofs.lemmas.Option.{slice_get-get_or, slice_get_within}
-use Rattle.apex_config.specs.Configuration.{Configuration, IsConfiguration, ports_of, port_of, channel_of, IsDepth, depth_of_kind}
-use Rattle.apex_config.specs.declared.channel.Channel.{Channel}
-use Rattle.apex_config.specs.declared.channel.ChannelKind.{ChannelKind}
-use Rattle.apex_config.specs.declared.channel.ChannelKind.TheVariants.{Queuing, Sampling}
-use Rattle.apex_config.specs.declared.limits.TheConstants.{DEPTH_LIMIT}
+use Rattle.apex_module.specs.Configuration.{Configuration, IsConfiguration, ports_of, port_of, channel_of, IsDepth, depth_of_kind, is_queuing_channel}
+use Rattle.apex_module.specs.declared.channel.Channel.{Channel}
+use Rattle.apex_module.specs.declared.channel.ChannelKind.{ChannelKind}
+use Rattle.apex_module.specs.declared.channel.ChannelKind.TheVariants.{Queuing, Sampling}
+use Rattle.apex_module.specs.declared.limits.TheConstants.{DEPTH_LIMIT}
 use Rattle.apex_ports.specs.declared.partition.PartitionState.{PartitionState}
 use Rattle.apex_ports.specs.declared.channel.ChannelState.{ChannelState}
-use Rattle.apex_ports.specs.ChannelStates.{waiting_in, ring_depth}
+use Rattle.apex_ports.specs.ChannelStates.{waiting_in}
 use Rattle.apex_ports.specs.History.{History}
-use Rattle.apex_config.specs.declared.port.Port.{Port}
+use Rattle.apex_module.specs.declared.port.Port.{Port}
 use Rattle.apex_ports.specs.Channels.{waiting_on}
 use Rattle.apex_ports.specs.Ports.{IsIdentifier}
-use Rattle.apex_ports.specs.ReplyTable.{depth_of, depth_in}
+use Rattle.apex_ports.specs.ReplyTable.{depth_of, depth_in, size_in, queue_size_in}
 use Rattle.apex_ports.specs.Kept.{AreKept, IsPartitionKept, IsChannelKept}
 
 -- what an index reads
@@ -44,10 +44,14 @@ pub waiting_count_is : {A : Type 0} (config : Configuration) (history : History)
     → length (waiting_in state) ≡ length (waiting_on config c history)
 waiting_count_is config history c state kept = ap (λ (xs : List (List ℕ)). length xs) kept.waiting
 
--- there is no room where as many messages wait as the depth
-pub full_is : {A : Type 0} (config : Configuration) (history : History) (c : ℕ) (state : ChannelState A) → IsChannelKept config history c state
-    → (length (waiting_in state) == ring_depth state) ≡ (length (waiting_on config c history) == depth_of config c)
-full_is config history c state kept = λ i. length (kept.waiting i) == kept.depth i
+-- where messages can wait, they may be as long as the channel's size
+pub queue_size_is : (channel : Option Channel) → 0 < depth_in channel → queue_size_in channel ≡ size_in channel
+queue_size_is None some = absurd (omega arith)
+queue_size_is (Some channel) some = of_kind channel.kind some
+  where
+    of_kind : (kind : ChannelKind) → 0 < depth_of_kind kind → (if is_queuing_channel kind then channel.size else 0) ≡ channel.size
+    of_kind (Queuing depth) some = refl
+    of_kind Sampling some = absurd (omega (arith, some))
 
 depth_in_small : (channel : Option Channel) → ((c : Channel) → channel ≡ Some c → IsDepth c.kind) → depth_in channel ≤ DEPTH_LIMIT
 depth_in_small None limit = omega arith

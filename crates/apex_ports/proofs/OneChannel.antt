@@ -5,8 +5,8 @@ use Rattle.apex_types.specs.declared.call.Call.{Call}
 use Rattle.apex_types.specs.declared.call.Call.TheVariants.{SendQueuing, ReceiveQueuing, ClearQueuing, WriteSampling}
 use Rattle.apex_types.specs.declared.moment.Moment.{Moment}
 use Rattle.apex_types.specs.declared.reply.Reply.{Reply}
-use Rattle.apex_config.specs.Configuration.{Configuration, port_of}
-use Rattle.apex_config.specs.declared.port.Port.{Port}
+use Rattle.apex_module.specs.Configuration.{Configuration, port_of}
+use Rattle.apex_module.specs.declared.port.Port.{Port}
 use Rattle.apex_ports.specs.History.{History, entry_of}
 use Rattle.apex_ports.specs.Ports.{is_source, is_source_of, is_destination_of}
 use Rattle.apex_ports.specs.OneChannel.{SameChannel, ChangesOneChannel}

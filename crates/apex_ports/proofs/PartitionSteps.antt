@@ -12,7 +12,7 @@ use Rattle.apex_types.specs.declared.reply.Reply.TheVariants.{Code, Id, Read}
 use Rattle.apex_types.specs.declared.return_code.ReturnCode.TheVariants.{NoError}
 use Rattle.apex_types.specs.declared.validity.Validity.{Validity}
 use Rattle.apex_types.specs.declared.validity.Validity.TheVariants.{Invalid}
-use Rattle.apex_config.specs.Configuration.{Configuration}
+use Rattle.apex_module.specs.Configuration.{Configuration}
 use Rattle.apex_ports.specs.declared.history.Entry.{Entry}
 use Rattle.apex_ports.specs.declared.partition.PartitionState.{PartitionState}
 use Rattle.apex_ports.specs.declared.partition.PortState.{PortState}

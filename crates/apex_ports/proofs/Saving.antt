@@ -3,13 +3,13 @@ use Rattle.std.proofs.Common.{◌≡◌, ℕ, zero, suc, ◌<◌, List, [], ◌�
 use Rattle.std.specs.List.{slice_get}
 use Rattle.std.proofs.Math.Seq.{take-append_seam}
 use Rattle.std.proofs.lemmas.Option.{slice_get_within}
-use Rattle.apex_config.specs.Configuration.{Configuration}
+use Rattle.apex_module.specs.Configuration.{Configuration}
 use Rattle.apex_ports.specs.declared.partition.PortState.{PortState}
 use Rattle.apex_ports.specs.declared.partition.PartitionState.{PartitionState}
 use Rattle.apex_ports.specs.declared.channel.ChannelState.{ChannelState}
 use Rattle.apex_ports.specs.declared.saved_channel.SavedChannel.{SavedChannel}
 use Rattle.apex_ports.specs.declared.saved_channel.SavedChannel.TheVariants.{Queuing, Sampling}
-use Rattle.apex_ports.specs.ChannelStates.{has_queue, waiting_in, ring_depth}
+use Rattle.apex_ports.specs.ChannelStates.{has_queue, waiting_in, ring_depth, message_size}
 use Rattle.apex_ports.specs.History.{History}
 use Rattle.apex_ports.specs.Kept.{EachAt, IsPartitionKept, IsChannelKept, AreKept, state_at, created_in, last_in}
 use Rattle.apex_ports.specs.ReplyTable.{depth_of}
@@ -70,6 +70,10 @@ module _ {A : Type 0} (config : Configuration) where
   waiting_alike m n (Queuing queue) = refl
   waiting_alike m n (Sampling sample) = refl
 
+  size_alike : (m n : ℕ) (saved : SavedChannel A) → message_size (restored m saved) ≡ message_size (restored n saved)
+  size_alike m n (Queuing queue) = refl
+  size_alike m n (Sampling sample) = refl
+
   pub has_room : (h now : History) (c : ℕ) (state : ChannelState A) (saved : SavedChannel A) → IsSound config h → IsChannelKept config now c state
       → IsChannelKept config h c (restored (depth_of config c) saved) → HasRoomFor state saved
   has_room h now c state saved sound kept was = record {
@@ -79,6 +83,7 @@ module _ {A : Type 0} (config : Configuration) where
         let few = (always_conserved config h c sound).depth in
         let depth = kept.depth in
         omega (arith, count, few, depth);
+    size = size_alike 0 (depth_of config c) saved ∙ (was.size ∙ sym kept.size);
   }
 
   pub restored_kept : (h now : History) (c : ℕ) (was : ChannelState A) (saved : SavedChannel A) (state : ChannelState A) → IsChannelKept config now c was

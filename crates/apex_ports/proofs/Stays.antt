@@ -5,27 +5,24 @@ use Rattle.std.specs.List.{slice_get}
 use Rattle.circular_buffer.proofs.Places.{slice_get-last, slice_get-push}
 use Rattle.std.proofs.lemmas.Bool.Decides.{nat_tests}
 use Rattle.apex_types.specs.declared.validity.Validity.TheVariants.{Invalid}
-use Rattle.apex_config.specs.Configuration.{Configuration}
+use Rattle.apex_module.specs.Configuration.{Configuration}
 use Rattle.apex_types.specs.declared.call.Call.{Call}
 use Rattle.apex_types.specs.declared.moment.Moment.{Moment}
 use Rattle.apex_types.specs.declared.reply.Reply.{Reply}
 use Rattle.apex_types.specs.declared.reply.Reply.TheVariants.{Code, NotMade}
 use Rattle.apex_types.specs.declared.return_code.ReturnCode.{ReturnCode}
-use Rattle.apex_types.specs.declared.return_code.ReturnCode.TheVariants.{InvalidParam, InvalidConfig}
-use Rattle.apex_config.specs.declared.port.Port.{Port}
+use Rattle.apex_types.specs.declared.return_code.ReturnCode.TheVariants.{InvalidParam}
+use Rattle.apex_module.specs.declared.port.Port.{Port}
 use Rattle.apex_ports.specs.declared.history.Entry.{Entry}
 use Rattle.apex_types.specs.declared.sample.Sample.{Sample}
 use Rattle.apex_types.specs.declared.taken.Taken.{Taken}
-use Rattle.apex_ports.specs.declared.rows.Refusal.TheVariants.{NotCreated}
-use Rattle.apex_ports.specs.declared.rows.Row.{Row}
-use Rattle.apex_ports.specs.declared.rows.Row.TheVariants as row
 use Rattle.apex_ports.specs.declared.partition.PartitionState.{PartitionState}
 use Rattle.apex_ports.specs.declared.channel.ChannelState.{ChannelState}
 use Rattle.apex_ports.specs.History.{History, entry_of}
 use Rattle.apex_ports.specs.Modes.{mode_of, mode_set, mode_asked, is_restart, is_code_no_error, is_no_error}
-use Rattle.apex_ports.specs.Ports.{is_created, creates, is_create, is_id, NamedPort}
+use Rattle.apex_ports.specs.Ports.{is_created, creates, is_create, is_id}
 use Rattle.apex_ports.specs.Channels.{accepted_on, received_on, taken_on, cleared_on, waiting_on, writes_on, last_write_on, message_accepted, message_sent, message_received, message_in, is_receive, clears, is_clear, taken_by, as_received, as_cleared, sample_written, sample_at, message_written, last_validity_of, validity_read, validity_in, is_read}
-use Rattle.apex_ports.specs.ReplyTable.{queuing_status_reply, sampling_status_reply, status_row, id_row, reply_of}
+use Rattle.apex_ports.specs.ReplyTable.{queuing_status_reply, sampling_status_reply}
 use Rattle.apex_ports.specs.Seen.{Seen}
 use Rattle.apex_ports.specs.Counts.{count_of}
 use Rattle.apex_ports.specs.Kept.{EachAt, IsPartitionKept, IsChannelKept, AreKept}
@@ -101,6 +98,7 @@ channel_stays config h e c state kept left = record {
   kind = kept.kind;
   waiting = kept.waiting ∙ sym (waiting_stays config c h e left.accepted left.received left.cleared);
   depth = kept.depth;
+  size = kept.size;
   accepted = kept.accepted ∙ ap count_of (sym (accepted_stays config c h e left.accepted));
   received = kept.received ∙ ap count_of (sym (received_stays config c h e left.received));
   cleared = kept.cleared ∙ ap count_of (sym (cleared_stays config c h e left.received left.cleared));
@@ -274,19 +272,6 @@ module _ (config : Configuration) (s : Seen) (p : ℕ) (call : Call) where
   pub sampling_status_is_quiet : (id : ℕ) (port : Option Port) → IsQuiet call (sampling_status_reply config s id port)
   sampling_status_is_quiet id None = refused_is_quiet call InvalidParam refl
   sampling_status_is_quiet id (Some port) = record { accepted = refl; created = λ id. and_false (is_create call); received = refl; read = refl }
-
-  -- where a row is quiet, so is its status
-  pub status_is_quiet : (status : Row) (port : Option Port) → IsQuiet call (reply_of config s p status) → IsQuiet call (reply_of config s p (status_row status port))
-  status_is_quiet status None quiet = refused_is_quiet call InvalidParam refl
-  status_is_quiet status (Some port) quiet = quiet
-
-  pub id_is_quiet : (named : Option NamedPort) → is_create call ≡ false → IsQuiet call (reply_of config s p (id_row s named))
-  id_is_quiet None no_create = refused_is_quiet call InvalidConfig refl
-  id_is_quiet (Some named) no_create = by_created (s.created named.id)
-    where
-      by_created : (b : Bool) → IsQuiet call (reply_of config s p (if b then row.Identified named.id else row.Refused NotCreated))
-      by_created true = record { accepted = refl; created = λ id i. no_create i && (named.id == id); received = refl; read = refl }
-      by_created false = refused_is_quiet call InvalidConfig refl
 
 pub not_made_is_quiet : (call : Call) → IsQuiet call NotMade
 not_made_is_quiet call = record { accepted = refl; created = λ id. and_false (is_create call); received = refl; read = refl }

@@ -18,6 +18,11 @@ abbrev pub ring_depth : {A : Type 0} → ChannelState A → ℕ
 ring_depth (Queuing queue) = queue.waiting.capacity
 ring_depth (Sampling sample) = 0
 
+-- how many bytes each may have
+abbrev pub message_size : {A : Type 0} → ChannelState A → ℕ
+message_size (Queuing queue) = queue.waiting.size
+message_size (Sampling sample) = 0
+
 abbrev pub accepted_in : {A : Type 0} → ChannelState A → ℕ
 accepted_in (Queuing queue) = queue.accepted
 accepted_in (Sampling sample) = 0

@@ -11,7 +11,7 @@ use Rattle.apex_types.specs.declared.sample.Sample.{Sample}
 use Rattle.apex_types.specs.declared.taken.Taken.{Taken}
 use Rattle.apex_types.specs.declared.validity.Validity.{Validity}
 use Rattle.apex_types.specs.declared.validity.Validity.TheVariants.{Invalid}
-use Rattle.apex_config.specs.Configuration.{Configuration, port_of}
+use Rattle.apex_module.specs.Configuration.{Configuration, port_of}
 use Rattle.apex_ports.specs.declared.history.Entry.{Entry}
 use Rattle.apex_ports.specs.History.{History}
 use Rattle.apex_ports.specs.Modes.{is_code_no_error}

@@ -4,7 +4,7 @@ use Rattle.apex_ports.specs.declared.rows.Refusal.{Refusal}
 use Rattle.apex_ports.specs.declared.rows.Row.{Row}
 use Rattle.apex_ports.specs.declared.rows.Row.TheVariants.{Refused}
 
--- the table's row is what accepting gives, or the refusal
-abbrev pub Decides : {X : Type 0} → Row → (X → Row) → Result X Refusal → Type 0
-Decides row accepting (Ok x) = row ≡ accepting x
-Decides row accepting (Err refusal) = row ≡ Refused refusal
+-- the table's row is the accepted one, or the refusal
+abbrev pub IsRowOfDecision : Row → Result Row Refusal → Type 0
+IsRowOfDecision row (Ok accepted) = row ≡ accepted
+IsRowOfDecision row (Err refusal) = row ≡ Refused refusal

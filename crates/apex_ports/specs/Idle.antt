@@ -1,7 +1,7 @@
 -- Partitions in IDLE.
 use Rattle.std.specs.Prelude.{ℕ, true, ◌≡◌, Some, take, slice_get}
 use Rattle.apex_types.specs.declared.reply.Reply.TheVariants.{NotMade}
-use Rattle.apex_config.specs.Configuration.{Configuration, port_of}
+use Rattle.apex_module.specs.Configuration.{Configuration, port_of}
 use Rattle.apex_ports.specs.declared.history.Entry.{Entry}
 use Rattle.apex_ports.specs.History.{History}
 use Rattle.apex_ports.specs.Modes.{mode_of, is_idle}

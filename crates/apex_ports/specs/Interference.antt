@@ -2,8 +2,8 @@
 use Rattle.std.specs.Prelude.{ℕ, Bool, true, ◌≡◌, List, filter, Some}
 use Rattle.apex_types.specs.declared.call.Call.{Call}
 use Rattle.apex_types.specs.declared.moment.Moment.{Moment}
-use Rattle.apex_config.specs.Configuration.{Configuration, port_of}
-use Rattle.apex_config.specs.declared.port.Port.{Port}
+use Rattle.apex_module.specs.Configuration.{Configuration, port_of}
+use Rattle.apex_module.specs.declared.port.Port.{Port}
 use Rattle.apex_ports.specs.declared.history.Request.{Request}
 use Rattle.apex_ports.specs.History.{History, requests_of}
 use Rattle.apex_ports.specs.Lawful.{IsLawful}

@@ -3,19 +3,19 @@ use Rattle.std.specs.Prelude.{ℕ, ◌≡◌, ◌-◌, ◌==◌, Bool, false, if
 use Rattle.apex_types.specs.declared.validity.Validity.{Validity}
 use Rattle.apex_types.specs.declared.validity.Validity.TheVariants.{Invalid}
 use Rattle.std.specs.declared.vec.Vec.{Vec}
-use Rattle.apex_config.specs.Configuration.{Configuration, ports_of}
+use Rattle.apex_module.specs.Configuration.{Configuration, ports_of}
 use Rattle.apex_ports.specs.declared.history.Entry.{Entry}
 use Rattle.apex_ports.specs.declared.partition.PortState.{PortState}
 use Rattle.apex_ports.specs.declared.partition.PartitionState.{PartitionState}
 use Rattle.apex_ports.specs.declared.channel.ChannelState.{ChannelState}
 use Rattle.apex_ports.specs.declared.state.State.{State}
-use Rattle.apex_ports.specs.ChannelStates.{has_queue, waiting_in, ring_depth, accepted_in, received_in, cleared_in, sample_in}
+use Rattle.apex_ports.specs.ChannelStates.{has_queue, waiting_in, ring_depth, message_size, accepted_in, received_in, cleared_in, sample_in}
 use Rattle.apex_ports.specs.Counts.{count_of}
 use Rattle.apex_ports.specs.History.{History, entries_of}
 use Rattle.apex_ports.specs.Modes.{mode_of}
 use Rattle.apex_ports.specs.Ports.{is_created, is_queuing}
 use Rattle.apex_ports.specs.Channels.{accepted_on, received_on, cleared_on, waiting_on, last_write_on, last_validity_of}
-use Rattle.apex_ports.specs.ReplyTable.{depth_of}
+use Rattle.apex_ports.specs.ReplyTable.{depth_of, queue_size_of}
 use Rattle.apex_ports.specs.Sound.{IsSound}
 
 -- what holds of the item at each index
@@ -47,6 +47,7 @@ pub record IsChannelKept {A : Type 0} (config : Configuration) (history : Histor
   pub kind : has_queue state ≡ is_queuing config c
   pub waiting : waiting_in state ≡ waiting_on config c history
   pub depth : ring_depth state ≡ depth_of config c
+  pub size : message_size state ≡ queue_size_of config c
   pub accepted : accepted_in state ≡ count_of (accepted_on config c history)
   pub received : received_in state ≡ count_of (received_on config c history)
   pub cleared : cleared_in state ≡ count_of (cleared_on config c history)
@@ -68,6 +69,11 @@ IsKept config history state = AreKept config history state.partitions.items stat
 pub record AreCounted (config : Configuration) (history : History) (calls : List ℕ) : Type 0 where
   pub all : length calls ≡ length config.partitions
   pub each : EachAt (λ p count. count ≡ count_of (entries_of p history)) calls
+
+-- the state is what its history comes to, and that is sound
+pub record IsCurrent {A : Type 0} (config : Configuration) (state : State A) : Type 0 where
+  pub sound : IsSound config state.history
+  pub kept : IsKept config state.history state
 
 -- the new state is what the history comes to with one more entry
 abbrev pub IsKeptWith : {A : Type 0} → Configuration → State A → Entry → State A → Type 0

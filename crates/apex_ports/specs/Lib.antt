@@ -8,6 +8,7 @@ pub mod Interference
 pub mod Kept
 pub mod Lawful
 pub mod LawfulLaws
+pub mod MessageRing
 pub mod Modes
 pub mod OneChannel
 pub mod Past

@@ -6,9 +6,9 @@ use Rattle.apex_types.specs.declared.direction.Direction.{Direction}
 use Rattle.apex_types.specs.declared.direction.Direction.TheVariants.{Source, Destination}
 use Rattle.apex_types.specs.declared.reply.Reply.{Reply}
 use Rattle.apex_types.specs.declared.reply.Reply.TheVariants.{Id}
-use Rattle.apex_config.specs.Configuration.{Configuration, port_of, channel_of, id_named, is_queuing_port, is_queuing_channel}
-use Rattle.apex_config.specs.declared.channel.Channel.{Channel}
-use Rattle.apex_config.specs.declared.port.Port.{Port}
+use Rattle.apex_module.specs.Configuration.{Configuration, port_of, channel_of, id_named, is_queuing_port, is_queuing_channel}
+use Rattle.apex_module.specs.declared.channel.Channel.{Channel}
+use Rattle.apex_module.specs.declared.port.Port.{Port}
 use Rattle.apex_ports.specs.declared.history.Entry.{Entry}
 use Rattle.apex_ports.specs.History.{History}
 use Rattle.apex_ports.specs.Modes.{restarts}

@@ -1,5 +1,5 @@
 -- The reply table: of each service its rows. The first check that applies gives the row, and the row gives the reply.
-use Rattle.std.specs.Prelude.{ℕ, ◌==◌, ◌≡◌, nat_lt, not, if◌then◌else◌, List, [], ◌∷◌, length, Option, Some, None}
+use Rattle.std.specs.Prelude.{ℕ, ◌==◌, nat_lt, not, if◌then◌else◌, List, [], ◌∷◌, length, Option, Some, None}
 use Rattle.apex_types.specs.Direction.{number_of}
 use Rattle.apex_types.specs.Mode.{mode_numbered}
 use Rattle.apex_types.specs.Sample.{validity_at}
@@ -13,9 +13,9 @@ use Rattle.apex_types.specs.declared.reply.Reply.TheVariants as reply
 use Rattle.apex_types.specs.declared.return_code.ReturnCode.TheVariants.{NoError, NoAction, NotAvailable, InvalidParam}
 use Rattle.apex_types.specs.declared.sample.Sample.{Sample}
 use Rattle.apex_types.specs.declared.validity.Validity.{Validity}
-use Rattle.apex_config.specs.Configuration.{Configuration, channel_of, depth_of_kind, refresh_of_kind}
-use Rattle.apex_config.specs.declared.channel.Channel.{Channel}
-use Rattle.apex_config.specs.declared.port.Port.{Port}
+use Rattle.apex_module.specs.Configuration.{Configuration, channel_of, is_queuing_channel, depth_of_kind, refresh_of_kind}
+use Rattle.apex_module.specs.declared.channel.Channel.{Channel}
+use Rattle.apex_module.specs.declared.port.Port.{Port}
 use Rattle.apex_ports.specs.declared.rows.Row.{Row}
 use Rattle.apex_ports.specs.declared.rows.Row.TheVariants as row
 use Rattle.apex_ports.specs.declared.rows.Row.TheVariants.{Refused, Created, Identified, Sent, OldestReceived, Cleared, Written, LastRead, ModeSet}
@@ -43,6 +43,14 @@ depth_in (Some channel) = depth_of_kind channel.kind
 -- how many messages can wait on a channel; none on a sampling channel
 abbrev pub depth_of : Configuration → ℕ → ℕ
 depth_of config channel = depth_in (channel_of config channel)
+
+abbrev pub queue_size_in : Option Channel → ℕ
+queue_size_in None = 0
+queue_size_in (Some channel) = if is_queuing_channel channel.kind then channel.size else 0
+
+-- the greatest length of a message that waits on a channel; none waits on a sampling channel
+abbrev pub queue_size_of : Configuration → ℕ → ℕ
+queue_size_of config channel = queue_size_in (channel_of config channel)
 
 -- ---- creation, and identifiers by name
 
@@ -195,8 +203,3 @@ reply_of config seen p ModeSet = reply.Code NoError
 -- what is seen, and the call, give the row, and the row the reply
 abbrev pub reply_to : Configuration → History → ℕ → Moment → Call → Reply
 reply_to config history p now call = reply_of config (seen config history p) p (row_of config (seen config history p) p now call)
-
--- the reply to a call is its row's, whatever was called before
-abbrev pub RowsReply : Type 0
-RowsReply = (config : Configuration) (history : History) (p : ℕ) (now : Moment) (call : Call) →
-    reply_to config history p now call ≡ reply_of config (seen config history p) p (row_of config (seen config history p) p now call)

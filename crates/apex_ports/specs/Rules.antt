@@ -1,6 +1,6 @@
 -- What the reply table keeps true of each channel, in every lawful history.
 use Rattle.std.specs.Prelude.{ℕ, true, false, ◌≡◌, ◌≤◌, [], ◌++◌, length, None}
-use Rattle.apex_config.specs.Configuration.{Configuration}
+use Rattle.apex_module.specs.Configuration.{Configuration}
 use Rattle.apex_ports.specs.History.{History}
 use Rattle.apex_ports.specs.Ports.{is_queuing}
 use Rattle.apex_ports.specs.Channels.{accepted_on, taken_on, messages_of, waiting_on, last_write_on}

@@ -7,5 +7,5 @@ abbrev pub number_of : RunFault → ℕ
 number_of run_fault.OutOfMemory = 1
 number_of (run_fault.Held partition n) = 2
 number_of run_fault.WorkerNotStarted = 3
-number_of run_fault.Stranger = 4
+number_of run_fault.ResultsDiffer = 4
 number_of run_fault.NoObserver = 5

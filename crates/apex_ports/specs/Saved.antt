@@ -1,15 +1,15 @@
 -- What saved ports say of the history: what the state says of it, without the room that stands empty.
 use Rattle.std.specs.Prelude.{ℕ, ◌≡◌, ◌≤◌, List, length, slice_get, Some}
-use Rattle.circular_buffer.specs.Buffer.{buffer}
-use Rattle.apex_config.specs.Configuration.{Configuration}
+use Rattle.apex_module.specs.Configuration.{Configuration}
 use Rattle.apex_ports.specs.declared.partition.PartitionState.{PartitionState}
 use Rattle.apex_ports.specs.declared.channel.ChannelState.{ChannelState}
 use Rattle.apex_ports.specs.declared.channel.ChannelState.TheVariants as state
 use Rattle.apex_ports.specs.declared.saved_channel.SavedChannel.{SavedChannel}
 use Rattle.apex_ports.specs.declared.saved_channel.SavedChannel.TheVariants as saved
-use Rattle.apex_ports.specs.ChannelStates.{has_queue, waiting_in, ring_depth}
+use Rattle.apex_ports.specs.ChannelStates.{has_queue, waiting_in, ring_depth, message_size}
 use Rattle.apex_ports.specs.History.{History}
 use Rattle.apex_ports.specs.Kept.{EachAt, IsPartitionKept, IsChannelKept, AreCounted}
+use Rattle.apex_ports.specs.MessageRing.{messages}
 use Rattle.apex_ports.specs.ReplyTable.{depth_of}
 use Rattle.apex_ports.specs.Sound.{IsSound}
 
@@ -33,7 +33,7 @@ HasAsManyPorts state copy = length state.ports.items ≡ length copy.ports.items
 -- the state of the channel of this depth
 abbrev pub restored : {A : Type 0} → ℕ → SavedChannel A → ChannelState A
 restored depth (saved.Queuing queue) = state.Queuing (record {
-  waiting = buffer queue.waiting.items depth;
+  waiting = messages queue.waiting.items depth queue.size;
   accepted = queue.accepted;
   received = queue.received;
   cleared = queue.cleared;
@@ -44,10 +44,11 @@ restored depth (saved.Sampling sample) = state.Sampling sample
 abbrev pub IsSavedFrom : {A : Type 0} → ChannelState A → SavedChannel A → Type 0
 IsSavedFrom state saved = state ≡ restored (ring_depth state) saved
 
--- the channel is of the kind of the saved one, and has room for its messages
+-- the channel is of the kind and the size of the saved one, and has room for its messages
 pub record HasRoomFor {A : Type 0} (state : ChannelState A) (saved : SavedChannel A) : Type 0 where
   pub kind : has_queue state ≡ has_queue (restored 0 saved)
   pub room : length (waiting_in (restored 0 saved)) ≤ ring_depth state
+  pub size : message_size (restored 0 saved) ≡ message_size state
 
 -- each channel is what was saved, with the depth that it had
 abbrev pub AreRestored : {A : Type 0} → List (ChannelState A) → List (SavedChannel A) → List (ChannelState A) → Type 0

@@ -3,7 +3,7 @@ use Rattle.std.specs.Prelude.{ℕ, ◌≡◌, Bool, true, false, not, [], length
 use Rattle.std.specs.List.{list_any}
 use Rattle.apex_types.specs.declared.call.Call.{Call}
 use Rattle.apex_types.specs.declared.call.Call.TheVariants.{ClearQueuing}
-use Rattle.apex_config.specs.Configuration.{Configuration}
+use Rattle.apex_module.specs.Configuration.{Configuration}
 use Rattle.apex_ports.specs.History.{History}
 use Rattle.apex_ports.specs.Channels.{accepted_on, received_on, taken_on, cleared_on, waiting_on, as_received}
 

@@ -1,34 +1,35 @@
 //! The state of a channel: the queue of a queuing channel, or the last sample of a sampling channel.
-ghost use Rattle.std.specs.Prelude.{◌≡◌, ◌+◌, ◌<◌, ◌^◌, ◌-◌, ◌==◌, [], ◌∷◌, ◌++◌, false, length, min, drop, slice_get, Some, None, IfOk};
+ghost use Rattle.std.specs.Prelude.{◌≡◌, ◌+◌, ◌<◌, ◌≤◌, ◌^◌, ◌-◌, [], ◌∷◌, ◌++◌, false, length, min, drop, slice_get, Some, None, IfOk, IfSome};
 ghost use Rattle.std.specs.Option.{option_copied};
-ghost use Rattle.circular_buffer.specs.Buffer.{buffer};
 ghost use Rattle.apex_types.specs.declared.reply.Reply.TheVariants.{Received};
+ghost use Rattle.apex_ports.specs.MessageRing.{messages};
 ghost use Rattle.apex_ports.specs.ReplyTable.{oldest_reply};
 
-use apex_types::{Message, Reply, Sample};
-use circular_buffer::HeapCircularBuffer;
+use crate::message_ring::MessageRing;
+use apex_types::{MESSAGE_LIMIT, Message, Reply, Sample};
 use std::alloc::{AllocError, Allocator};
 
-/// The messages that wait on a queuing channel, in a ring of its depth. The counts
+/// The messages that wait on a queuing channel, in a ring of its depth and size. The counts
 /// of accepted, received and cleared messages stay at the greatest number.
 #[derive(Drop)]
 pub(crate) struct Queue<A: Allocator> {
-    pub(crate) waiting: HeapCircularBuffer<Message, A>,
+    pub(crate) waiting: MessageRing<A>,
     pub(crate) accepted: u64,
     pub(crate) received: u64,
     pub(crate) cleared: u64,
 }
 
-impl<A: Allocator> Queue<A> {
-    /// An empty queue for as many messages as `depth`.
-    pub(crate) fn new(alloc: A, depth: usize) -> Result<Queue<A>, AllocError>
-        ensures waiting { IfOk result (λ queue. queue.waiting ≡ buffer [] depth) }
+impl<A: Allocator + Copy> Queue<A> {
+    /// An empty queue for as many messages as `depth`, each of at most `size` bytes.
+    pub(crate) fn new(alloc: A, depth: u32, size: u32) -> Result<Queue<A>, AllocError>
+        requires { size ≤ MESSAGE_LIMIT }
+        ensures waiting { IfOk result (λ queue. queue.waiting ≡ messages [] depth size) }
         ensures accepted { IfOk result (λ queue. queue.accepted ≡ 0) }
         ensures received { IfOk result (λ queue. queue.received ≡ 0) }
         ensures cleared { IfOk result (λ queue. queue.cleared ≡ 0) }
     {
         Ok(Queue {
-            waiting: HeapCircularBuffer::with_capacity(alloc, depth)?,
+            waiting: MessageRing::new(alloc, depth, size)?,
             accepted: 0,
             received: 0,
             cleared: 0,
@@ -44,7 +45,7 @@ pub(crate) enum ChannelState<A: Allocator> {
 }
 
 impl<A: Allocator> ChannelState<A> {
-    ghost use Rattle.apex_ports.specs.ChannelStates.{has_queue, waiting_in, ring_depth, accepted_in, received_in, cleared_in, sample_in};
+    ghost use Rattle.apex_ports.specs.ChannelStates.{has_queue, waiting_in, ring_depth, message_size, accepted_in, received_in, cleared_in, sample_in};
 
     /// How many messages wait.
     pub(crate) fn waiting_count(&self) -> usize
@@ -57,32 +58,13 @@ impl<A: Allocator> ChannelState<A> {
     }
 
     /// The message at an index; index 0 has the oldest.
-    pub(crate) fn waiting(&self, index: usize) -> Option<&Message>
-        ensures { option_copied result ≡ slice_get (waiting_in self.now) index }
+    pub(crate) fn waiting(&self, index: usize) -> Option<&[u8]>
+        ensures message { option_copied result ≡ slice_get (waiting_in self.now) index }
+        ensures short { IfSome result (λ message. length message.now ≤ MESSAGE_LIMIT) }
     {
         match self {
             ChannelState::Queuing(queue) => queue.waiting.get(index),
             ChannelState::Sampling(_) => None,
-        }
-    }
-
-    /// Whether there is no room for one more message.
-    pub(crate) fn is_full(&self) -> bool
-        ensures { result ≡ (length (waiting_in self.now) == ring_depth self.now) }
-    {
-        match self {
-            ChannelState::Queuing(queue) => queue.waiting.is_full(),
-            ChannelState::Sampling(_) => true,
-        }
-    }
-
-    /// How many messages can wait.
-    pub(crate) fn depth(&self) -> usize
-        ensures { result ≡ ring_depth self.now }
-    {
-        match self {
-            ChannelState::Queuing(queue) => queue.waiting.capacity(),
-            ChannelState::Sampling(_) => 0,
         }
     }
 
@@ -127,10 +109,12 @@ impl<A: Allocator> ChannelState<A> {
     }
 
     /// Puts a message last. There is room for it.
-    pub(crate) fn send(&mut self, message: &Message)
-        requires { length (waiting_in self.old) < ring_depth self.old }
+    pub(crate) fn send(&mut self, message: &[u8])
+        requires room { length (waiting_in self.old) < ring_depth self.old }
+        requires short { length message.now ≤ message_size self.old }
         ensures waiting { waiting_in self.new ≡ waiting_in self.old ++ message.now ∷ [] }
         ensures depth { ring_depth self.new ≡ ring_depth self.old }
+        ensures size { message_size self.new ≡ message_size self.old }
         ensures accepted { accepted_in self.new ≡ min (accepted_in self.old + 1) (2 ^ 64 - 1) }
         ensures received { received_in self.new ≡ received_in self.old }
         ensures cleared { cleared_in self.new ≡ cleared_in self.old }
@@ -139,7 +123,7 @@ impl<A: Allocator> ChannelState<A> {
     {
         match self {
             ChannelState::Queuing(queue) => {
-                let _ = queue.waiting.push_back(message.copy());
+                queue.waiting.push_back(message);
                 queue.accepted = queue.accepted.saturating_add(1);
             }
             ChannelState::Sampling(_) => unreachable!(),
@@ -152,6 +136,7 @@ impl<A: Allocator> ChannelState<A> {
         ensures reply { reply.new ≡ oldest_reply (waiting_in self.old) }
         ensures waiting { waiting_in self.new ≡ drop 1 (waiting_in self.old) }
         ensures depth { ring_depth self.new ≡ ring_depth self.old }
+        ensures size { message_size self.new ≡ message_size self.old }
         ensures accepted { accepted_in self.new ≡ accepted_in self.old }
         ensures received { received_in self.new ≡ min (received_in self.old + 1) (2 ^ 64 - 1) }
         ensures cleared { cleared_in self.new ≡ cleared_in self.old }
@@ -165,9 +150,9 @@ impl<A: Allocator> ChannelState<A> {
                     make_received(reply);
                 }
                 if let Reply::Received(message) = reply {
-                    message.copy_from(queue.waiting.front().unwrap());
+                    message.read_bytes(queue.waiting.get(0).unwrap()).unwrap();
                 }
-                let _ = queue.waiting.pop_front();
+                queue.waiting.pop_front();
             }
             ChannelState::Sampling(_) => unreachable!(),
         }
@@ -177,6 +162,7 @@ impl<A: Allocator> ChannelState<A> {
     pub(crate) fn clear(&mut self)
         ensures waiting { waiting_in self.new ≡ [] }
         ensures depth { ring_depth self.new ≡ ring_depth self.old }
+        ensures size { message_size self.new ≡ message_size self.old }
         ensures accepted { accepted_in self.new ≡ accepted_in self.old }
         ensures received { received_in self.new ≡ received_in self.old }
         ensures cleared { cleared_in self.new

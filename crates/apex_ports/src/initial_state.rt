@@ -7,7 +7,7 @@ use crate::channel::{ChannelState, Queue};
 use crate::partition::{PartitionState, PortState};
 use crate::past::Past;
 use crate::state::State;
-use apex_config::{ChannelKind, Config};
+use apex_module::{ChannelKind, Config};
 use apex_types::{Mode, Validity};
 use std::alloc::{AllocError, Allocator};
 
@@ -92,7 +92,7 @@ fn new_channels<A: Allocator + Copy>(
     Ok(channels)
 }
 
-fn new_channel<A: Allocator>(
+fn new_channel<A: Allocator + Copy>(
     alloc: A,
     config: &Config,
     c: usize,
@@ -100,9 +100,11 @@ fn new_channel<A: Allocator>(
     requires { c < length config.now.channels }
     ensures { IfOk result (λ state. IsChannelKept config.now [] c state) }
 {
-    match config.channel(c).kind {
+    let channel = config.channel(c);
+    match channel.kind {
         ChannelKind::Queuing { depth } => {
-            Ok(ChannelState::Queuing(Queue::new(alloc, depth as usize)?))
+            let queue = Queue::new(alloc, depth, channel.size)?;
+            Ok(ChannelState::Queuing(queue))
         }
         ChannelKind::Sampling => Ok(ChannelState::Sampling(None)),
     }

@@ -3,24 +3,24 @@
 #![tactic(auto)]
 
 mod channel;
-mod creation;
+mod effects;
 pub mod history;
 mod initial_state;
-mod lookup;
+mod message_ring;
 mod modes;
 mod partition;
 mod past;
 pub mod ports;
-mod queuing;
 pub mod rows;
 pub mod rules;
 pub mod run_fault;
-mod sampling;
 mod saved_channel;
 pub mod script;
 mod service;
-mod service_row;
 mod state;
+pub mod table;
+pub mod view;
+mod writes;
 
 pub use crate::history::{Entry, Request};
 pub use crate::ports::Ports;

@@ -3,7 +3,7 @@ ghost use Rattle.std.specs.Prelude.{◌≡◌, ◌<◌, ◌∷◌, ◌++◌, [],
 
 use crate::initial_state::new_counts;
 use crate::state::State;
-use apex_config::Config;
+use apex_module::Config;
 use apex_types::{Call, Moment, OutOfMemory, Reply};
 use std::alloc::{Allocator, Global};
 use std::marker::Model;

@@ -1,14 +1,7 @@
 //! What the reply table keeps true, whatever is called.
 ghost use Rattle.apex_ports.specs.Interference.{AlwaysFreeFromInterference};
-ghost use Rattle.apex_ports.specs.ReplyTable.{RowsReply};
 ghost use Rattle.apex_ports.specs.Rules.{AlwaysConserved};
 ghost use Rattle.apex_ports.specs.WithoutClears.{AlwaysReceivedOrCleared, WithoutClears};
-
-/// The law of the rows: the reply to a call is that of the row that it gets, and depends on no more than the
-/// row and what its partition sees. There is nothing to run.
-pub fn rows_reply()
-    ensures { RowsReply }
-{}
 
 /// The law of every lawful history: on each channel the messages received or cleared, followed by those
 /// that wait, are the messages accepted, in order, and no more wait than the depth. It speaks of the reply

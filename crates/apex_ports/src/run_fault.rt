@@ -21,7 +21,7 @@ pub enum RunFault {
     WorkerNotStarted,
     /// What the workers left isn't what was handed out to them.
     #[error("collected results do not match")]
-    Stranger,
+    ResultsDiffer,
     /// The board's observers couldn't be made.
     #[error("no observer")]
     NoObserver,
@@ -36,7 +36,7 @@ impl RunFault {
             RunFault::OutOfMemory => 1,
             RunFault::Held { .. } => 2,
             RunFault::WorkerNotStarted => 3,
-            RunFault::Stranger => 4,
+            RunFault::ResultsDiffer => 4,
             RunFault::NoObserver => 5,
         }
     }

@@ -1,12 +1,10 @@
 //! What a channel came to, in as little memory as that takes: a message is kept without the room of the longest.
-ghost use Rattle.std.specs.Prelude.{◌≡◌, ◌≤◌, ◌++◌, length, option_copied, IfOk, OnOk};
-ghost use Rattle.circular_buffer.specs.Buffer.{buffer};
-ghost use Rattle.apex_ports.specs.ChannelStates.{ring_depth};
-ghost use Rattle.apex_ports.specs.Saved.{restored, IsSavedFrom, HasRoomFor};
+ghost use Rattle.std.specs.Prelude.{◌≡◌, ◌≤◌, length, option_copied, IfOk};
+ghost use Rattle.apex_ports.specs.MessageRing.{messages, AreShort};
 
 use crate::channel::{ChannelState, Queue};
-use apex_types::{Message, Moment, Sample};
-use circular_buffer::HeapCircularBuffer;
+use crate::message_ring::MessageRing;
+use apex_types::{MESSAGE_LIMIT, Message, Moment, Sample};
 use std::alloc::{AllocError, Allocator};
 use std::marker::Model;
 
@@ -28,17 +26,19 @@ impl<A: Allocator> Model for SavedMessage<A> {
 }
 
 impl<A: Allocator> SavedMessage<A> {
-    fn of(alloc: A, message: &Message) -> Result<SavedMessage<A>, AllocError>
+    fn of(alloc: A, message: &[u8]) -> Result<SavedMessage<A>, AllocError>
+        requires { length message.now ≤ MESSAGE_LIMIT }
         ensures { IfOk result (λ saved. saved ≡ message.now) }
     {
-        let bytes = Vec::from_slice(alloc, message.bytes())?;
+        let bytes = Vec::from_slice(alloc, message)?;
         Ok(SavedMessage { bytes })
     }
 
-    fn message(&self) -> Message
-        ensures { result ≡ self.now }
+    fn bytes(&self) -> &[u8]
+        ensures bytes { result.now ≡ self.now }
+        ensures short { length result.now ≤ MESSAGE_LIMIT }
     {
-        Message::from_bytes(self.bytes.as_slice()).unwrap()
+        self.bytes.as_slice()
     }
 }
 
@@ -61,7 +61,7 @@ impl<A: Allocator> SavedSample<A> {
     fn of(alloc: A, sample: &Sample) -> Result<SavedSample<A>, AllocError>
         ensures { IfOk result (λ saved. saved ≡ sample.now) }
     {
-        let message = SavedMessage::of(alloc, &sample.message)?;
+        let message = SavedMessage::of(alloc, sample.message.bytes())?;
         Ok(SavedSample {
             message,
             at: sample.at,
@@ -72,25 +72,28 @@ impl<A: Allocator> SavedSample<A> {
         ensures { result ≡ self.now }
     {
         Sample {
-            message: self.message.message(),
+            message: Message::from_bytes(self.message.bytes()).unwrap(),
             at: self.at,
         }
     }
 }
 
-/// The messages that wait on a queuing channel, and its counts.
+/// The messages that wait on a queuing channel, how long they may be, and its counts.
 #[derive(Drop)]
 pub(crate) struct SavedQueue<A: Allocator> {
     pub(crate) waiting: Vec<SavedMessage<A>, A>,
+    pub(crate) size: u32,
     pub(crate) accepted: u64,
     pub(crate) received: u64,
     pub(crate) cleared: u64,
+    ghost short: { AreShort size waiting.items },
 }
 
 impl<A: Allocator + Copy> SavedQueue<A> {
     fn of(alloc: A, queue: &Queue<A>) -> Result<SavedQueue<A>, AllocError>
         ensures waiting { IfOk result
             (λ saved. saved.waiting.items ≡ queue.now.waiting.items) }
+        ensures size { IfOk result (λ saved. saved.size ≡ queue.now.waiting.size) }
         ensures accepted { IfOk result (λ saved. saved.accepted ≡ queue.now.accepted) }
         ensures received { IfOk result (λ saved. saved.received ≡ queue.now.received) }
         ensures cleared { IfOk result (λ saved. saved.cleared ≡ queue.now.cleared) }
@@ -98,6 +101,7 @@ impl<A: Allocator + Copy> SavedQueue<A> {
         let waiting = saved_messages(alloc, &queue.waiting)?;
         Ok(SavedQueue {
             waiting,
+            size: queue.waiting.size(),
             accepted: queue.accepted,
             received: queue.received,
             cleared: queue.cleared,
@@ -113,6 +117,8 @@ pub(crate) enum SavedChannel<A: Allocator> {
 }
 
 impl<A: Allocator + Copy> ChannelState<A> {
+    ghost use Rattle.apex_ports.specs.Saved.{IsSavedFrom};
+
     /// What the channel came to.
     pub(crate) fn save(&self, alloc: A) -> Result<SavedChannel<A>, AllocError>
         ensures { IfOk result (λ saved. IsSavedFrom self.now saved) }
@@ -132,6 +138,9 @@ impl<A: Allocator + Copy> ChannelState<A> {
 }
 
 impl<A: Allocator> ChannelState<A> {
+    ghost use Rattle.apex_ports.specs.ChannelStates.{ring_depth};
+    ghost use Rattle.apex_ports.specs.Saved.{restored, HasRoomFor};
+
     /// Makes the channel what was saved. Its depth stays.
     pub(crate) fn restore(&mut self, saved: &SavedChannel<A>)
         requires { HasRoomFor self.old saved.now }
@@ -149,9 +158,10 @@ impl<A: Allocator> ChannelState<A> {
 
 impl<A: Allocator> Queue<A> {
     fn restore(&mut self, saved: &SavedQueue<A>)
-        requires { length saved.now.waiting.items ≤ self.old.waiting.capacity }
+        requires room { length saved.now.waiting.items ≤ self.old.waiting.capacity }
+        requires size { saved.now.size ≡ self.old.waiting.size }
         ensures waiting { self.new.waiting
-            ≡ buffer saved.now.waiting.items self.old.waiting.capacity }
+            ≡ messages saved.now.waiting.items self.old.waiting.capacity saved.now.size }
         ensures accepted { self.new.accepted ≡ saved.now.accepted }
         ensures received { self.new.received ≡ saved.now.received }
         ensures cleared { self.new.cleared ≡ saved.now.cleared }
@@ -166,42 +176,27 @@ impl<A: Allocator> Queue<A> {
 // Saves all messages that wait.
 fn saved_messages<A: Allocator + Copy>(
     alloc: A,
-    messages: &HeapCircularBuffer<Message, A>,
+    waiting: &MessageRing<A>,
 ) -> Result<Vec<SavedMessage<A>, A>, AllocError>
-    ensures { IfOk result (λ saved. saved.items ≡ messages.now.items) }
+    ensures { IfOk result (λ saved. saved.items ≡ waiting.now.items) }
 {
-    let (first, second) = messages.as_slices();
-    let mut saved = Vec::with_capacity(alloc, messages.len())?;
-    push_saved(alloc, &mut saved, first)?;
-    push_saved(alloc, &mut saved, second)?;
+    let mut saved = Vec::with_capacity(alloc, waiting.len())?;
+    for index in 0..waiting.len() {
+        let one = SavedMessage::of(alloc, waiting.get(index).unwrap())?;
+        saved.push(one)?;
+    }
     Ok(saved)
 }
 
-fn push_saved<A: Allocator + Copy>(
-    alloc: A,
-    saved: &mut Vec<SavedMessage<A>, A>,
-    messages: &[Message],
-) -> Result<(), AllocError>
-    ensures { OnOk result (saved.new.items ≡ saved.old.items ++ messages.now) }
-{
-    for message in messages {
-        let one = SavedMessage::of(alloc, message)?;
-        saved.push(one)?;
-    }
-    Ok(())
-}
-
 // Only the saved messages wait then.
-fn put_messages<A: Allocator>(
-    waiting: &mut HeapCircularBuffer<Message, A>,
-    saved: &[SavedMessage<A>],
-)
-    requires { length saved.now ≤ waiting.old.capacity }
-    ensures { waiting.new ≡ buffer saved.now waiting.old.capacity }
+fn put_messages<A: Allocator>(waiting: &mut MessageRing<A>, saved: &[SavedMessage<A>])
+    requires room { length saved.now ≤ waiting.old.capacity }
+    requires short { AreShort waiting.old.size saved.now }
+    ensures { waiting.new ≡ messages saved.now waiting.old.capacity waiting.old.size }
 {
     waiting.clear();
     for message in saved {
-        let _ = waiting.push_back(message.message());
+        waiting.push_back(message.bytes());
     }
 }
 

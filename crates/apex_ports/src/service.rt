@@ -1,19 +1,18 @@
-//! Which service a call asks for. A partition in IDLE gets no service.
-ghost use Rattle.std.specs.Prelude.{◌≡◌, ◌<◌, false, length, MatchResult};
-ghost use Rattle.apex_types.specs.declared.reply.Reply.TheVariants.{Code, Id};
+//! Answering a call: its row, and then what the row does.
+ghost use Rattle.std.specs.Prelude.{◌≡◌, ◌<◌, false, length};
+ghost use Rattle.apex_types.specs.declared.reply.Reply.TheVariants.{Code};
 ghost use Rattle.apex_ports.specs.History.{entry_of};
-ghost use Rattle.apex_ports.specs.Kept.{IsKept, IsKeptWith};
+ghost use Rattle.apex_ports.specs.Kept.{IsCurrent, IsKeptWith};
 ghost use Rattle.apex_ports.specs.Modes.{is_no_error};
-ghost use Rattle.apex_ports.specs.ReplyTable.{reply_of, reply_to, service_row};
+ghost use Rattle.apex_ports.specs.ReplyTable.{reply_of, reply_to, row_of};
 ghost use Rattle.apex_ports.specs.Rows.{code_of};
 ghost use Rattle.apex_ports.specs.Seen.{seen};
-ghost use Rattle.apex_ports.specs.Sound.{IsSound};
 
-use crate::creation::{QueuingAttributes, SamplingAttributes};
-use crate::modes::is_idle;
-use crate::rows::Refusal;
+use crate::rows::{Refusal, Row};
 use crate::state::State;
-use apex_config::Config;
+use crate::table::replies::{queuing_status, sampling_status};
+use crate::table::row;
+use apex_module::Config;
 use apex_types::{Call, Moment, Reply, ReturnCode};
 use std::alloc::Allocator;
 
@@ -28,90 +27,72 @@ impl<A: Allocator> State<A> {
         reply: &mut Reply,
     )
         requires partition { partition < length config.now.partitions }
-        requires sound { IsSound config.now self.old.history }
-        requires kept { IsKept config.now self.old.history self.old }
+        requires current { IsCurrent config.now self.old }
         ensures reply { reply.new ≡ reply_to config.now self.old.history partition at call.now }
         ensures kept { let entry = entry_of partition at call.now reply.new in
             IsKeptWith config.now self.old entry self.new }
         ensures history { self.new.history ≡ self.old.history }
     {
-        if is_idle(self.partitions[partition].mode) {
-            *reply = Reply::NotMade;
-        } else {
-            self.serve(config, partition, at, call, reply);
-        }
+        let row = row(self, config, partition, at, call);
+        self.perform(config, partition, at, call, row, reply);
     }
 
-    // Performs the service that the call asks for.
-    fn serve(
+    // Does what the row of the call says, with its answer in `reply`.
+    fn perform(
         &mut self,
         config: &Config,
         partition: usize,
         at: Moment,
         call: &Call,
+        row: Row,
         reply: &mut Reply,
     )
         requires partition { partition < length config.now.partitions }
-        requires sound { IsSound config.now self.old.history }
-        requires kept { IsKept config.now self.old.history self.old }
+        requires current { IsCurrent config.now self.old }
+        requires row { let here = seen config.now self.old.history partition in
+            row_of config.now here partition at call.now ≡ row }
         ensures reply { let here = seen config.now self.old.history partition in
-            reply.new ≡ reply_of config.now here partition
-            (service_row config.now here partition at call.now) }
+            reply.new ≡ reply_of config.now here partition row }
         ensures kept { let entry = entry_of partition at call.now reply.new in
             IsKeptWith config.now self.old entry self.new }
         ensures history { self.new.history ≡ self.old.history }
     {
-        match call {
-            Call::CreateSampling {
-                name,
-                size,
-                direction,
-                refresh,
-            } => {
-                let asked = SamplingAttributes::new(*size, *direction, *refresh);
-                *reply = self.create_sampling(config, partition, name, asked);
+        match row {
+            Row::Idle => *reply = Reply::NotMade,
+            Row::Refused(refusal) => put_refusal(reply, refusal),
+            Row::Created { id } => {
+                self.create(config, partition, at, call, id);
+                *reply = Reply::Id(id);
             }
-            Call::WriteSampling { id, message } => {
-                self.write(config, partition, at, *id, message, reply);
+            Row::Identified { id } => *reply = Reply::Id(id),
+            Row::Sent => {
+                self.send(config, partition, at, call);
+                put_code(reply, ReturnCode::NoError);
             }
-            Call::ReadSampling { id } => self.read(config, partition, at, *id, reply),
-            Call::SamplingId { name } => put_id(reply, self.sampling_id(config, partition, name)),
-            Call::SamplingStatus { id } => *reply = self.sampling_status(config, partition, *id),
-            Call::CreateQueuing {
-                name,
-                size,
-                depth,
-                direction,
-                discipline,
-            } => {
-                let asked = QueuingAttributes::new(*size, *depth, *direction, *discipline);
-                *reply = self.create_queuing(config, partition, name, asked);
+            Row::OldestReceived { id } => self.receive(config, partition, at, call, id, reply),
+            Row::Cleared => {
+                self.clear(config, partition, at, call);
+                put_code(reply, ReturnCode::NoError);
             }
-            Call::SendQueuing { id, message } => {
-                self.send(config, partition, *id, message, reply);
+            Row::QueuingStatus { id } => *reply = queuing_status(self, config, partition, id),
+            Row::Written => {
+                self.write(config, partition, at, call);
+                put_code(reply, ReturnCode::NoError);
             }
-            Call::ReceiveQueuing { id } => self.receive(config, partition, *id, reply),
-            Call::QueuingId { name } => put_id(reply, self.queuing_id(config, partition, name)),
-            Call::QueuingStatus { id } => *reply = self.queuing_status(config, partition, *id),
-            Call::ClearQueuing { id } => self.clear(config, partition, *id, reply),
-            Call::SetMode { mode } => *reply = self.set_mode(config, partition, *mode),
+            Row::LastRead { id, validity } => {
+                self.read(config, partition, at, call, id, validity, reply);
+            }
+            Row::SamplingStatus { id } => *reply = sampling_status(self, config, partition, id),
+            Row::ModeSet => {
+                self.change_mode(config, partition, at, call);
+                put_code(reply, ReturnCode::NoError);
+            }
         }
     }
 }
 
-// Makes the reply the identifier of a port, or the code of the refusal.
-fn put_id(reply: &mut Reply, found: Result<u32, Refusal>)
-    ensures { MatchResult found (λ id. reply.new ≡ Id id)
-        (λ refusal. reply.new ≡ Code (code_of refusal)) }
-{
-    match found {
-        Ok(id) => *reply = Reply::Id(id),
-        Err(refusal) => put_refusal(reply, refusal),
-    }
-}
-
-/// Makes the reply the return code of a refusal.
-pub(crate) fn put_refusal(reply: &mut Reply, refusal: Refusal)
+// Makes the reply the return code of a refusal.
+fn put_refusal(reply: &mut Reply, refusal: Refusal)
     ensures code { reply.new ≡ Code (code_of refusal) }
     ensures refused { is_no_error (code_of refusal) ≡ false }
 {
@@ -119,7 +100,7 @@ pub(crate) fn put_refusal(reply: &mut Reply, refusal: Refusal)
 }
 
 // Makes the reply a return code. Where one stands there, the room of the longest reply isn't written whole.
-pub(crate) fn put_code(reply: &mut Reply, code: ReturnCode)
+fn put_code(reply: &mut Reply, code: ReturnCode)
     ensures { reply.new ≡ Code code }
 {
     match reply {

@@ -1,4 +1,3 @@
 pub mod Documents
-pub mod Folding
+pub mod Nearer
 pub mod PlaceLines
-pub mod Reading

@@ -1,13 +1,5 @@
-pub mod Documents
-pub mod Findings
-pub mod FormFindings
-pub mod Heads
-pub mod Hints
-pub mod Lines
-pub mod NotToml
+pub mod More
+pub mod Nearest
 pub mod Paths
 pub mod PlaceLines
 pub mod Places
-pub mod Printed
-pub mod ValueFindings
-pub mod Words

@@ -4,7 +4,7 @@ use Rattle.std.specs.Option.{option_or}
 use Rattle.toml.specs.Data.{Data}
 use Rattle.apex_config.specs.declared.place.Part.{Part}
 use Rattle.apex_config.specs.declared.place.Place.{Place}
-use Rattle.apex_refusals.specs.Documents.{document_of}
+use Rattle.apex_config.specs.Meaning.{document_of}
 use Rattle.apex_refusals.specs.Places.{key_at, stands}
 use Rattle.apex_refusals.specs.declared.line_of.TheConstants.{LOOKED_THROUGH}
 

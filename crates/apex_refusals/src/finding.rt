@@ -1,9 +1,4 @@
 //! What is wrong at a place of a configuration: what stands there, and what is expected.
-ghost use Rattle.std.specs.Prelude.{◌≡◌, Some};
-ghost use Rattle.toml.specs.View.{view};
-ghost use Rattle.apex_refusals.specs.Findings.{found_data, wanted_data, finding_data};
-ghost use Rattle.apex_refusals.specs.FormFindings.{found_of};
-ghost use Rattle.apex_refusals.specs.Words.{found_words, wanted_words, direction_word, finding_words};
 
 use crate::printed::{Quoted, QuotedKey};
 use apex_config::key::Key;
@@ -25,9 +20,7 @@ pub enum Found<'a> {
 
 impl<'a> Found<'a> {
     /// The value, or its type.
-    pub fn of(value: &'a Value) -> Found<'a>
-        ensures { found_data result ≡ found_of (view value.now) }
-    {
+    pub fn of(value: &'a Value) -> Found<'a> {
         match value {
             Value::String(text) => Found::Text(text.as_str()),
             Value::Integer(number) => Found::Number(*number),
@@ -41,8 +34,6 @@ impl<'a> Found<'a> {
 }
 
 impl fmt::Display for Found<'_> {
-    ghost output = { λ found. Some (found_words (found_data found)) };
-
     fn fmt<W: fmt::Write>(&self, f: &mut fmt::Formatter<W>) -> fmt::Result {
         match self {
             Found::Text(text) => write!(f, "{}", Quoted(text)),
@@ -74,8 +65,6 @@ pub enum Wanted<'a> {
 }
 
 impl fmt::Display for Wanted<'_> {
-    ghost output = { λ wanted. Some (wanted_words (wanted_data wanted)) };
-
     fn fmt<W: fmt::Write>(&self, f: &mut fmt::Formatter<W>) -> fmt::Result {
         match self {
             Wanted::Text => f.write_str("a text"),
@@ -142,9 +131,7 @@ pub enum Finding<'a> {
 }
 
 /// The word of a configuration for a direction.
-fn direction_word(direction: Direction) -> &'static str
-    ensures { result.now ≡ direction_word direction }
-{
+fn direction_word(direction: Direction) -> &'static str {
     match direction {
         Direction::Source => "source",
         Direction::Destination => "destination",
@@ -152,8 +139,6 @@ fn direction_word(direction: Direction) -> &'static str
 }
 
 impl fmt::Display for Finding<'_> {
-    ghost output = { λ finding. Some (finding_words (finding_data finding)) };
-
     fn fmt<W: fmt::Write>(&self, f: &mut fmt::Formatter<W>) -> fmt::Result {
         match self {
             Finding::Missing { key, wanted } => {

@@ -1,9 +1,4 @@
 //! What is wrong with the form at a place of a configuration.
-ghost use Rattle.std.specs.Prelude.{◌≡◌, option_map};
-ghost use Rattle.toml.specs.View.{view};
-ghost use Rattle.apex_config.specs.Values.{value_at};
-ghost use Rattle.apex_refusals.specs.Findings.{wanted_data, finding_data};
-ghost use Rattle.apex_refusals.specs.FormFindings.{wanted_at, known_keys, finding_at_key, form_finding};
 
 use crate::finding::{Finding, Found, Wanted};
 use crate::places::{key_numbered, value_of};
@@ -14,9 +9,7 @@ use apex_config::value::value_at;
 use toml::Value;
 
 /// What a key must have, by the form.
-fn wanted_at<'a>(part: Part, key: Key) -> Wanted<'a>
-    ensures { wanted_data result ≡ wanted_at part key }
-{
+fn wanted_at<'a>(part: Part, key: Key) -> Wanted<'a> {
     match key {
         Key::Partition | Key::Port => Wanted::Tables,
         Key::Channel => match part {
@@ -31,9 +24,7 @@ fn wanted_at<'a>(part: Part, key: Key) -> Wanted<'a>
 }
 
 /// The words for the keys that a part takes.
-fn known_keys(part: Part, value: &Value) -> &'static str
-    ensures { result.now ≡ known_keys part (view value.now) }
-{
+fn known_keys(part: Part, value: &Value) -> &'static str {
     match part {
         Part::Document => "`partition` and `channel`",
         Part::Partition { .. } => "`name` and `port`",
@@ -55,10 +46,7 @@ fn known_keys(part: Part, value: &Value) -> &'static str
 }
 
 /// A key that is missing, or what stands there.
-fn finding_at_key<'a>(value: &'a Value, part: Part, key: Key) -> Finding<'a>
-    ensures { finding_data result
-        ≡ finding_at_key key (wanted_at part key) (value_at key (view value.now)) }
-{
+fn finding_at_key<'a>(value: &'a Value, part: Part, key: Key) -> Finding<'a> {
     let wanted = wanted_at(part, key);
     match value_at(value, key) {
         Some(found) => Finding::Wrong {
@@ -71,9 +59,7 @@ fn finding_at_key<'a>(value: &'a Value, part: Part, key: Key) -> Finding<'a>
 }
 
 /// What is wrong with the form at a place.
-pub fn form_finding<'a>(document: &'a Value, place: Place) -> Option<Finding<'a>>
-    ensures { option_map finding_data result ≡ form_finding (view document.now) place }
-{
+pub fn form_finding<'a>(document: &'a Value, place: Place) -> Option<Finding<'a>> {
     let value = value_of(document, place.part)?;
     match place.spot {
         Spot::Whole => Some(Finding::NoTable(Found::of(value))),

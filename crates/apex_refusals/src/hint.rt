@@ -1,16 +1,15 @@
 //! What was most likely meant at a place of a configuration.
-ghost use Rattle.std.specs.Prelude.{◌≡◌, map, take, option_map, IfOk};
-ghost use Rattle.toml.specs.View.{view};
-ghost use Rattle.apex_refusals.specs.Findings.{wanted_data, finding_data};
-ghost use Rattle.apex_refusals.specs.Hints.{hint_data, nearest_hint, text_hint, hint_of};
-
 use crate::finding::{Finding, Found, Wanted};
-use crate::key_hint::unknown_hint;
+use crate::header::header_of;
+use crate::known_word::nearest;
 use apex_config::config_text::ChannelText;
+use apex_config::form::{channel_keys, is_known, port_keys};
 use apex_config::key::Key;
-use apex_config::limits::CHANNEL_LIMIT;
-use apex_mistake_words::nearest;
+use apex_config::place::Part;
+use apex_module::CHANNEL_LIMIT;
 use std::alloc::{AllocError, Global};
+use std::fmt;
+use toml::Value;
 
 /// What was most likely meant.
 #[derive(Clone, Copy)]
@@ -27,19 +26,56 @@ pub enum Hint<'a> {
     Tables(Key),
 }
 
+impl fmt::Display for Hint<'_> {
+    fn fmt<W: fmt::Write>(&self, f: &mut fmt::Formatter<W>) -> fmt::Result {
+        match self {
+            Hint::Near(word) => write!(f, "did you mean `{word}`?"),
+            Hint::Elsewhere(word) => write!(f, "`{word}` stands {}", parts_with(word)),
+            Hint::InQuotes => f.write_str("a text stands in quotes"),
+            Hint::WithoutQuotes => f.write_str("a number stands without quotes"),
+            Hint::Tables(key) => write!(f, "write `{}` for each", header_of(*key)),
+        }
+    }
+}
+
+/// The parts of a configuration that take a key.
+fn parts_with(key: &str) -> &'static str {
+    match key {
+        "partition" => "at the top only, as `[[partition]]`",
+        "port" => "at a partition only, as `[[partition.port]]`",
+        "channel" => "at the top, as `[[channel]]`, and at a port only",
+        "name" => "at a partition, a port and a channel only",
+        "kind" => "at a port and a channel only",
+        "direction" => "at a port only",
+        "size" => "at a channel only",
+        "depth" => "at a queuing channel only",
+        _ => "at a sampling port only",
+    }
+}
+
+/// The keys of a configuration.
+const KEYS: [&'static str; 9] = [
+    "partition",
+    "port",
+    "channel",
+    "name",
+    "kind",
+    "direction",
+    "size",
+    "depth",
+    "refresh",
+];
+
 const KINDS: [&'static str; 2] = ["queuing", "sampling"];
 
 const DIRECTIONS: [&'static str; 2] = ["source", "destination"];
 
-/// What was most likely meant, where something can be said of it.
+/// What was most likely meant, if something can be said of it. The channels are those of the text.
 pub fn hint_of<'a>(
     alloc: Global,
     finding: &Finding<'a>,
     channels: &[ChannelText<'a>],
-) -> Result<Option<Hint<'a>>, AllocError>
-    ensures { IfOk result (λ hint.
-        option_map hint_data hint ≡ hint_of channels.now (finding_data finding.now)) }
-{
+) -> Result<Option<Hint<'a>>, AllocError> {
     match finding {
         Finding::UnknownKey {
             key,
@@ -72,71 +108,83 @@ fn text_hint<'a>(
     text: &str,
     wanted: Wanted<'_>,
     channels: &[ChannelText<'a>],
-) -> Result<Option<Hint<'a>>, AllocError>
-    ensures { IfOk result (λ hint. option_map hint_data hint
-        ≡ text_hint channels.now text.now (wanted_data wanted.entry)) }
-{
+) -> Result<Option<Hint<'a>>, AllocError> {
     match wanted {
-        Wanted::Kind => nearest_word(alloc, text, &KINDS),
-        Wanted::Direction => nearest_word(alloc, text, &DIRECTIONS),
+        Wanted::Kind => near_known(alloc, text, &KINDS),
+        Wanted::Direction => near_known(alloc, text, &DIRECTIONS),
         Wanted::WholeNumber => Ok(Some(Hint::WithoutQuotes)),
         Wanted::ChannelName => {
-            let names = names_of(alloc, first_channels(channels))?;
-            nearest_hint(alloc, text, names.as_slice())
+            let mut names = Vec::new(alloc);
+            for channel in channels.iter().take(CHANNEL_LIMIT) {
+                names.push(channel.name)?;
+            }
+            near(alloc, text, names.as_slice())
         }
         _ => Ok(None),
     }
 }
 
-/// As many channels as a configuration can have.
-fn first_channels<'t, 'a>(channels: &'t [ChannelText<'a>]) -> &'t [ChannelText<'a>]
-    ensures { result.now ≡ take CHANNEL_LIMIT channels.now }
-{
-    if channels.len() > CHANNEL_LIMIT {
-        &channels[..CHANNEL_LIMIT]
-    } else {
-        channels
-    }
-}
-
-/// The names of channels.
-fn names_of<'a>(alloc: Global, channels: &[ChannelText<'a>]) -> Result<Vec<&'a str>, AllocError>
-    ensures { IfOk result (λ names. map (λ name. name.now) names.items
-        ≡ map (λ channel. channel.name) channels.now) }
-{
-    let mut names = Vec::with_capacity(alloc, channels.len())?;
-    for channel in channels {
-        names.push(channel.name)?;
-    }
-    Ok(names)
-}
-
-/// The nearest of the known words.
-fn nearest_hint<'a>(
-    alloc: Global,
-    word: &str,
-    known: &[&'a str],
-) -> Result<Option<Hint<'a>>, AllocError>
-    ensures { IfOk result (λ hint. option_map hint_data hint
-        ≡ nearest_hint word.now (map (λ name. name.now) known.now)) }
-{
-    match nearest(alloc, word.as_bytes(), known)? {
-        Some(known) => Ok(Some(Hint::Near(known))),
+/// The nearest of these words.
+fn near<'a>(alloc: Global, text: &str, words: &[&'a str]) -> Result<Option<Hint<'a>>, AllocError> {
+    match nearest(alloc, text.as_bytes(), words)? {
+        Some(word) => Ok(Some(Hint::Near(word))),
         None => Ok(None),
     }
 }
 
 /// The nearest of words that are known whatever the text.
-fn nearest_word<'a>(
+fn near_known<'a>(
     alloc: Global,
-    word: &str,
-    known: &[&'static str],
-) -> Result<Option<Hint<'a>>, AllocError>
-    ensures { IfOk result (λ hint. option_map hint_data hint
-        ≡ nearest_hint word.now (map (λ name. name.now) known.now)) }
-{
-    match nearest(alloc, word.as_bytes(), known)? {
-        Some(known) => Ok(Some(Hint::Near(known))),
+    text: &str,
+    words: &[&'static str],
+) -> Result<Option<Hint<'a>>, AllocError> {
+    match nearest(alloc, text.as_bytes(), words)? {
+        Some(word) => Ok(Some(Hint::Near(word))),
         None => Ok(None),
+    }
+}
+
+/// The key of a configuration that is nearest to a word.
+fn nearest_key(alloc: Global, word: &str) -> Result<Option<&'static str>, AllocError> {
+    nearest(alloc, word.as_bytes(), &KEYS)
+}
+
+/// What was most likely meant by a key that a part doesn't take: one that the part takes and that is free there, or one
+/// that other parts take.
+fn unknown_hint<'a>(
+    alloc: Global,
+    part: Part,
+    table: &Value,
+    key: &str,
+) -> Result<Option<Hint<'a>>, AllocError> {
+    let Some(word) = nearest_key(alloc, key)? else {
+        return Ok(None);
+    };
+    if !is_known(keys_of(part, table), word) {
+        return Ok(Some(Hint::Elsewhere(word)));
+    }
+    if is_list(part, word) || table.get(word).is_none() {
+        Ok(Some(Hint::Near(word)))
+    } else {
+        Ok(None)
+    }
+}
+
+/// The keys that a part takes.
+fn keys_of(part: Part, table: &Value) -> &'static [Key] {
+    match part {
+        Part::Document => &[Key::Partition, Key::Channel],
+        Part::Partition { .. } => &[Key::Name, Key::Port],
+        Part::Port { .. } => port_keys(table),
+        Part::Channel { .. } => channel_keys(table),
+    }
+}
+
+/// Whether a key that a part takes is an array of tables, to which a header adds one.
+fn is_list(part: Part, word: &str) -> bool {
+    match part {
+        Part::Document => true,
+        Part::Partition { .. } => word == "port",
+        Part::Port { .. } | Part::Channel { .. } => false,
     }
 }

@@ -2,11 +2,12 @@
 ghost use Rattle.std.specs.Prelude.{◌≡◌, ◌≤◌, ◌<◌, ◌+◌, ◌++◌, option_map, length, IfOk};
 ghost use Rattle.std.specs.Option.{option_copied};
 ghost use Rattle.toml.specs.View.{view};
-ghost use Rattle.apex_refusals.specs.Documents.{document_of};
+ghost use Rattle.apex_config.specs.Meaning.{document_of};
 ghost use Rattle.apex_refusals.specs.PlaceLines.{line_ends, first_lines, document_in, stands_in, IsLineNumber};
 
 use crate::places::stands;
 use apex_config::place::Part;
+use apex_config::reading::document_of;
 use std::alloc::{AllocError, Global};
 use toml::Value;
 
@@ -14,12 +15,11 @@ use toml::Value;
 const LOOKED_THROUGH: usize = 65_536;
 
 /// The document that a text is; none of one that is no TOML.
-fn document_of(alloc: Global, text: &[u8]) -> Result<Option<Value>, AllocError>
+fn document_in_text(alloc: Global, text: &[u8]) -> Result<Option<Value>, AllocError>
     ensures { IfOk result (λ found. option_map view found ≡ document_of text.now) }
 {
-    match toml::table_from_slice(alloc, text) {
-        Ok(table) => Ok(Some(Value::Table(table))),
-        Err(error) if error.is_memory() => Err(AllocError),
+    match document_of(alloc, text)? {
+        Ok(document) => Ok(Some(document)),
         Err(_) => Ok(None),
     }
 }
@@ -32,14 +32,14 @@ fn document_ended(alloc: Global, begin: &[u8], ending: &[u8]) -> Result<Option<V
     let mut text = Vec::new(alloc);
     text.extend_from_slice(begin)?;
     text.extend_from_slice(ending)?;
-    document_of(alloc, text.as_slice())
+    document_in_text(alloc, text.as_slice())
 }
 
 /// The document that the begin of a text is: as it stands, or with an end to the arrays that are open.
 fn document_in(alloc: Global, begin: &[u8]) -> Result<Option<Value>, AllocError>
     ensures { IfOk result (λ found. option_map view found ≡ document_in begin.now) }
 {
-    if let Some(whole) = document_of(alloc, begin)? {
+    if let Some(whole) = document_in_text(alloc, begin)? {
         return Ok(Some(whole));
     }
     if let Some(ended) = document_ended(alloc, begin, b"\n]")? {

@@ -1,169 +1,126 @@
-//! The lines that tell a refusal: what stands at each of its places, and what must stand there.
-ghost use Rattle.std.specs.Prelude.{◌≡◌, ◌++◌, take, string_bytes, option_map, Some, IfOk, OnOk};
-ghost use Rattle.std.specs.Option.{option_copied};
-ghost use Rattle.toml.specs.View.{view};
-ghost use Rattle.apex_refusals.specs.Findings.{finding_data};
-ghost use Rattle.apex_refusals.specs.ValueFindings.{direction_of, finding_in};
-ghost use Rattle.apex_refusals.specs.Lines.{name_of, partition_name_of, own_name_of, named_line, named_lines, IsTold, IsRefusalOf, IsRefusalTold};
+//! The lines of a refusal, one for each of its first places.
+ghost use Rattle.std.specs.Prelude.{◌≡◌, take};
+ghost use Rattle.apex_refusals.specs.declared.more.TheConstants.{MISTAKE_LIMIT};
 
-use crate::file_lines::{File, push_file_lines};
 use crate::finding::Finding;
 use crate::form_finding::form_finding;
-use crate::not_toml::not_toml;
+use crate::hint::hint_of;
+use crate::line_of::line_of;
+use crate::more::{MISTAKE_LIMIT, push_more};
 use crate::owner::Owner;
-use crate::places::value_of;
+use crate::path::PathOfPart;
+use crate::places::{key_at, key_there};
+use crate::printed::Named;
 use crate::value_finding::{ReadText, value_finding};
 use apex_config::channel_index::ChannelIndex;
+use apex_config::config_text::ChannelText;
 use apex_config::document::config_text;
 use apex_config::ends::Ends;
-use apex_config::fault::ConfigFault;
-use apex_config::key::Key;
 use apex_config::place::{Part, Place};
 use apex_config::refusal::Refusal;
-use apex_config::value::text_at;
-use apex_mistake_words::{MISTAKE_LIMIT, push_more};
+use apex_module::ConfigFault;
 use apex_types::Direction;
 use std::alloc::{AllocError, Global};
 use toml::Value;
 
-/// The name that stands in a part of a document.
-fn name_of(document: &Value, part: Part) -> Option<&str>
-    ensures { option_copied result ≡ name_of (view document.now) part }
-{
-    text_at(value_of(document, part)?, Key::Name)
-}
-
-/// The name of the partition that holds a port.
-fn partition_name_of(document: &Value, part: Part) -> Option<&str>
-    ensures { option_copied result ≡ partition_name_of (view document.now) part }
-{
-    match part {
-        Part::Port { partition, .. } => name_of(document, Part::Partition { partition }),
-        _ => None,
-    }
-}
-
-/// The name by which a part is called: none, where it stood before.
-fn own_name_of(document: &Value, fault: ConfigFault, part: Part) -> Option<&str>
-    ensures { option_copied result ≡ own_name_of fault (view document.now) part }
-{
-    match fault {
-        ConfigFault::NameTwice => None,
-        _ => name_of(document, part),
-    }
-}
-
-/// The part of a place with the names by which a line calls it.
-pub fn owner_of(document: &Value, fault: ConfigFault, part: Part) -> Owner<'_>
-    ensures part { result.part ≡ part }
-    ensures partition { option_copied result.partition
-        ≡ partition_name_of (view document.now) part }
-    ensures name { option_copied result.name ≡ own_name_of fault (view document.now) part }
-{
-    Owner {
-        part,
-        partition: partition_name_of(document, part),
-        name: own_name_of(document, fault, part),
-    }
-}
-
-/// Of which ends of channels a fault is.
-fn direction_of(fault: ConfigFault) -> Direction
-    ensures { result ≡ direction_of fault }
-{
-    match fault {
-        ConfigFault::Sources => Direction::Source,
-        _ => Direction::Destination,
-    }
-}
-
-/// What is wrong at a place.
-pub fn finding_in<'a>(
-    document: &'a Value,
-    read: &ReadText<'_, 'a>,
-    fault: ConfigFault,
-    place: Place,
-) -> Option<Finding<'a>>
-    ensures { option_map finding_data result
-        ≡ finding_in read.now fault (view document.now) place }
-{
-    match fault {
-        ConfigFault::Shape => form_finding(document, place),
-        _ => value_finding(document, read, fault, place),
-    }
-}
-
-/// Writes the line of a place by the names of what holds it.
-fn push_named_line<'a>(
-    told: &mut String,
-    document: &'a Value,
-    read: &ReadText<'_, 'a>,
-    fault: ConfigFault,
-    place: Place,
-) -> Result<(), AllocError>
-    ensures { OnOk result (string_bytes told.new
-        ≡ string_bytes told.old ++ named_line read.now fault (view document.now) place) }
-{
-    match finding_in(document, read, fault, place) {
-        Some(finding) => {
-            let owner = owner_of(document, fault, place.part);
-            writeln!(told, "{owner}: {finding}")
-        }
-        None => Ok(()),
-    }
-}
-
-/// Writes the lines of places by the names of what holds them.
-fn push_named_lines<'a>(
-    told: &mut String,
-    document: &'a Value,
-    read: &ReadText<'_, 'a>,
-    fault: ConfigFault,
-    places: &[Place],
-) -> Result<(), AllocError>
-    ensures { OnOk result (string_bytes told.new ≡ string_bytes told.old
-        ++ named_lines read.now fault (view document.now) places.now) }
-{
-    for place in places {
-        push_named_line(told, document, read, fault, *place)?;
-    }
-    Ok(())
-}
-
-/// How the lines of a refusal are told.
+/// How lines name their places.
 #[derive(Clone, Copy)]
 pub enum Form<'f> {
-    /// Each by the names of what holds its place.
+    /// By the names of what holds the place.
     Names,
-    /// Each by the file and the line as well, with what was most likely meant.
-    File(File<'f>),
+    /// By the file and the line as well, with what was most likely meant.
+    File { name: &'f str, text: &'f [u8] },
 }
 
-/// Writes the lines of places of a text that is TOML.
-pub fn push_lines(
+/// The lines so far of a document that is refused.
+#[derive(Drop)]
+struct Lines<'d> {
     alloc: Global,
-    told: &mut String,
-    document: &Value,
+    document: &'d Value,
     fault: ConfigFault,
-    places: &[Place],
-    form: Form<'_>,
-) -> Result<(), AllocError>
-    ensures { OnOk result (IsTold form.entry fault (view document.now) places.now
-        (string_bytes told.old) (string_bytes told.new)) }
-{
-    let config = config_text(alloc, document)?;
-    let channels = ChannelIndex::new(alloc, config.channels.as_slice())?;
-    let direction = direction_of(fault);
-    let ends = Ends::new(alloc, &channels, config.partitions.as_slice(), direction)?;
-    let read = ReadText::new(&config, &channels, &ends, direction);
-    match form {
-        Form::Names => push_named_lines(told, document, &read, fault, places),
-        Form::File(file) => push_file_lines(alloc, told, document, &read, fault, places, file),
+    form: Form<'d>,
+    text: String,
+    /// The line of the file at which the last place was found.
+    near: usize,
+}
+
+impl<'d> Lines<'d> {
+    /// Adds the line of a place.
+    fn push<'a>(
+        &mut self,
+        place: Place,
+        finding: &Finding<'a>,
+        channels: &[ChannelText<'a>],
+    ) -> Result<(), AllocError> {
+        let owner = Owner::new(self.document, self.fault, place.part);
+        let Form::File { name, text } = self.form else {
+            return writeln!(self.text, "{owner}: {finding}");
+        };
+        self.push_head(name, text, place)?;
+        write!(self.text, "{owner}: {finding}")?;
+        if let Some(hint) = hint_of(self.alloc, finding, channels)? {
+            write!(self.text, "; {hint}")?;
+        }
+        self.text.push('\n')
+    }
+
+    /// Adds the file, the line if it is known, and the path of a place.
+    fn push_head(&mut self, name: &str, text: &[u8], place: Place) -> Result<(), AllocError> {
+        let key = key_there(self.document, place);
+        self.text.push_str(name)?;
+        if let Some(number) = line_of(self.alloc, text, place.part, key, &mut self.near)? {
+            write!(self.text, ":{number}")?;
+        }
+        match (place.part, key_at(self.document, place)) {
+            (Part::Document, Some(key)) => write!(self.text, ": {}: ", Named(key)),
+            (part, Some(key)) => write!(self.text, ": {}.{}: ", PathOfPart(part), Named(key)),
+            (part, None) => write!(self.text, ": {}: ", PathOfPart(part)),
+        }
+    }
+
+    /// Adds the lines of places whose form is wrong.
+    fn push_forms(&mut self, places: &[Place]) -> Result<(), AllocError> {
+        for place in places {
+            if let Some(finding) = form_finding(self.document, *place) {
+                self.push(*place, &finding, &[])?;
+            }
+        }
+        Ok(())
+    }
+
+    /// Adds the lines of places in a document whose form is right.
+    fn push_values(&mut self, places: &[Place]) -> Result<(), AllocError> {
+        let config = config_text(self.alloc, self.document)?;
+        let channels = config.channels.as_slice();
+        let (partitions, indexed) = match self.fault {
+            ConfigFault::KindDiffers | ConfigFault::Sources | ConfigFault::Destinations => {
+                (config.partitions.as_slice(), channels)
+            }
+            _ => (&config.partitions.as_slice()[..0], &channels[..0]),
+        };
+        let direction = match self.fault {
+            ConfigFault::Sources => Direction::Source,
+            _ => Direction::Destination,
+        };
+        let index = ChannelIndex::new(self.alloc, indexed)?;
+        let ends = Ends::new(self.alloc, &index, partitions, direction)?;
+        let read = ReadText {
+            config: &config,
+            channels: &index,
+            ends: &ends,
+            direction,
+        };
+        for place in places {
+            if let Some(finding) = value_finding(self.document, &read, self.fault, *place) {
+                self.push(*place, &finding, channels)?;
+            }
+        }
+        Ok(())
     }
 }
 
-/// The places that are told.
-pub fn first_of(places: &[Place]) -> &[Place]
+/// The places that have lines: the first ones.
+fn first_of(places: &[Place]) -> &[Place]
     ensures { result.now ≡ take MISTAKE_LIMIT places.now }
 {
     if places.len() > MISTAKE_LIMIT {
@@ -173,37 +130,26 @@ pub fn first_of(places: &[Place]) -> &[Place]
     }
 }
 
-/// The lines of a text that is TOML.
-fn lines_in(alloc: Global, document: &Value, refusal: &Refusal) -> Result<String, AllocError>
-    ensures { IfOk result (λ lines.
-        IsRefusalOf (Some (view document.now)) refusal.now (string_bytes lines)) }
-{
-    let mut lines = String::new(alloc);
-    let places = refusal.places.as_slice();
-    push_lines(
+/// The lines of the first places of a refused document, and one that says how many more there are.
+pub fn lines_of(
+    alloc: Global,
+    document: &Value,
+    refusal: &Refusal,
+    form: Form<'_>,
+) -> Result<String, AllocError> {
+    let mut lines = Lines {
         alloc,
-        &mut lines,
         document,
-        refusal.fault,
-        first_of(places),
-        Form::Names,
-    )?;
-    push_more(&mut lines, places.len().saturating_sub(MISTAKE_LIMIT))?;
-    Ok(lines)
-}
-
-/// A line for each place at which a text was refused, at most `MISTAKE_LIMIT`, and then one that says how many more there
-/// are: what holds the place, what stands there, and what must stand there. The text is the one that was read; of another,
-/// places that it doesn't have are left out. The only error is that an allocation was refused.
-pub fn refusal_lines(alloc: Global, text: &[u8], refusal: &Refusal) -> Result<String, AllocError>
-    ensures { IfOk result (λ lines. IsRefusalTold text.now refusal.now (string_bytes lines)) }
-{
-    match toml::table_from_slice(alloc, text) {
-        Ok(table) => {
-            let document = Value::Table(table);
-            lines_in(alloc, &document, refusal)
-        }
-        Err(error) if error.is_memory() => Err(AllocError),
-        Err(error) => not_toml(alloc, text, &error),
+        fault: refusal.fault,
+        form,
+        text: String::new(alloc),
+        near: 0,
+    };
+    let places = refusal.places.as_slice();
+    match refusal.fault {
+        ConfigFault::Shape => lines.push_forms(first_of(places))?,
+        _ => lines.push_values(first_of(places))?,
     }
+    push_more(&mut lines.text, places.len().saturating_sub(MISTAKE_LIMIT))?;
+    Ok(lines.text)
 }

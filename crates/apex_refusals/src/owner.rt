@@ -1,11 +1,13 @@
 //! How a line calls the part of a configuration that holds a fault.
-ghost use Rattle.std.specs.Prelude.{Some};
-ghost use Rattle.std.specs.Option.{option_copied};
-ghost use Rattle.apex_refusals.specs.Words.{label_words, owner_words};
 
+use crate::places::value_of;
 use crate::printed::Named;
+use apex_config::key::Key;
 use apex_config::place::Part;
+use apex_config::value::text_at;
+use apex_module::ConfigFault;
 use std::fmt;
+use toml::Value;
 
 /// An entry of a list, by its name, or by its number from 1 where it has none.
 #[derive(Clone, Copy)]
@@ -15,8 +17,6 @@ struct Label<'a> {
 }
 
 impl fmt::Display for Label<'_> {
-    ghost output = { λ label. Some (label_words label.index (option_copied label.name)) };
-
     fn fmt<W: fmt::Write>(&self, f: &mut fmt::Formatter<W>) -> fmt::Result {
         match self.name {
             Some(name) => write!(f, "{}", Named(name)),
@@ -28,15 +28,36 @@ impl fmt::Display for Label<'_> {
 /// A part, with the name of its partition and its own, where it is to be called by them.
 #[derive(Clone, Copy)]
 pub struct Owner<'a> {
-    pub part: Part,
-    pub partition: Option<&'a str>,
-    pub name: Option<&'a str>,
+    part: Part,
+    partition: Option<&'a str>,
+    name: Option<&'a str>,
+}
+
+/// The name that a part of a document has.
+fn name_of(document: &Value, part: Part) -> Option<&str> {
+    text_at(value_of(document, part)?, Key::Name)
+}
+
+impl<'a> Owner<'a> {
+    /// A part of a document. A name that another part had before doesn't name its part.
+    pub fn new(document: &'a Value, fault: ConfigFault, part: Part) -> Owner<'a> {
+        let partition = match part {
+            Part::Port { partition, .. } => name_of(document, Part::Partition { partition }),
+            _ => None,
+        };
+        let name = match fault {
+            ConfigFault::NameTwice => None,
+            _ => name_of(document, part),
+        };
+        Owner {
+            part,
+            partition,
+            name,
+        }
+    }
 }
 
 impl fmt::Display for Owner<'_> {
-    ghost output = { λ owner. Some (owner_words owner.part
-        (option_copied owner.partition) (option_copied owner.name)) };
-
     fn fmt<W: fmt::Write>(&self, f: &mut fmt::Formatter<W>) -> fmt::Result {
         let name = self.name;
         match self.part {

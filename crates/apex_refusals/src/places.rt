@@ -3,6 +3,7 @@ ghost use Rattle.std.specs.Prelude.{◌≡◌, slice_get, option_map};
 ghost use Rattle.std.specs.Option.{option_copied};
 ghost use Rattle.toml.specs.View.{view, table_view};
 ghost use Rattle.apex_config.specs.Values.{items_at, keys_of_table};
+ghost use Rattle.apex_refusals.specs.PlaceLines.{key_there};
 ghost use Rattle.apex_refusals.specs.Places.{value_of, key_numbered, key_at, stands};
 
 use apex_config::key::Key;
@@ -76,5 +77,17 @@ pub fn stands(document: &Value, part: Part, key: Option<&str>) -> bool
         (None, _) => false,
         (Some(_), None) => true,
         (Some(value), Some(key)) => value.get(key).is_some(),
+    }
+}
+
+/// The key of a place if it is there; what is missing has the line of what it is missing in.
+pub fn key_there<'a>(document: &'a Value, place: Place) -> Option<&'a str>
+    ensures { option_copied result ≡ key_there (view document.now) place }
+{
+    let key = key_at(document, place);
+    if stands(document, place.part, key) {
+        key
+    } else {
+        None
     }
 }

@@ -1,7 +1,4 @@
 //! Texts of a configuration, printed so that a line stays one line of ASCII.
-ghost use Rattle.std.specs.Prelude.{Some};
-ghost use Rattle.std.specs.Fmt.{WritesOnOk};
-ghost use Rattle.apex_refusals.specs.Printed.{escaped, quoted, named, quoted_key};
 
 use apex_types::Name;
 use std::fmt;
@@ -15,31 +12,23 @@ const SHOWN: usize = 64;
 pub struct Quoted<'a>(pub &'a str);
 
 impl fmt::Display for Quoted<'_> {
-    ghost output = { λ text. Some (quoted text.0.now) };
-
     fn fmt<W: fmt::Write>(&self, f: &mut fmt::Formatter<W>) -> fmt::Result {
         write_quoted(f, self.0)
     }
 }
 
-fn write_quoted<W: fmt::Write>(f: &mut fmt::Formatter<W>, text: &str) -> fmt::Result
-    ensures { WritesOnOk W.write_str_gives f.old result (quoted text.now) f.new }
-{
+fn write_quoted<W: fmt::Write>(f: &mut fmt::Formatter<W>, text: &str) -> fmt::Result {
     f.write_str("\"")?;
-    let mut shown: usize = 0;
-    for character in text.chars() {
-        if shown == SHOWN {
+    for (index, character) in text.chars().enumerate() {
+        if index == SHOWN {
             return f.write_str("\"..");
         }
         write_escaped(f, character)?;
-        shown += 1;
     }
     f.write_str("\"")
 }
 
-fn write_escaped<W: fmt::Write>(f: &mut fmt::Formatter<W>, character: char) -> fmt::Result
-    ensures { WritesOnOk W.write_str_gives f.old result (escaped character) f.new }
-{
+fn write_escaped<W: fmt::Write>(f: &mut fmt::Formatter<W>, character: char) -> fmt::Result {
     match character {
         '"' => f.write_str("\\\""),
         '\\' => f.write_str("\\\\"),
@@ -53,8 +42,6 @@ fn write_escaped<W: fmt::Write>(f: &mut fmt::Formatter<W>, character: char) -> f
 pub struct Named<'a>(pub &'a str);
 
 impl fmt::Display for Named<'_> {
-    ghost output = { λ text. Some (named text.0.now) };
-
     fn fmt<W: fmt::Write>(&self, f: &mut fmt::Formatter<W>) -> fmt::Result {
         if Name::read(self.0).is_ok() {
             f.write_str(self.0)
@@ -69,8 +56,6 @@ impl fmt::Display for Named<'_> {
 pub struct QuotedKey<'a>(pub &'a str);
 
 impl fmt::Display for QuotedKey<'_> {
-    ghost output = { λ key. Some (quoted_key key.0.now) };
-
     fn fmt<W: fmt::Write>(&self, f: &mut fmt::Formatter<W>) -> fmt::Result {
         if Name::read(self.0).is_ok() {
             write!(f, "`{}`", self.0)

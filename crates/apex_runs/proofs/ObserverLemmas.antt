@@ -1,8 +1,8 @@
 -- The observers of the sampling channels, one channel after the other.
 use Rattle.std.proofs.Common.{◌≡◌, ◌≢◌, ℕ, zero, suc, ◌+◌, ◌<◌, ◌≤◌, ◌==◌, Bool, true, false, List, set, Some, slice_get, refl, ap, sym, subst, ◌∙◌, arith, ⊎_elim}
 use Rattle.std.proofs.lemmas.Bool.Decides.{nat_tests}
-use Rattle.apex_config.specs.Configuration.{Configuration, channel_of, is_queuing_channel}
-use Rattle.apex_config.specs.declared.channel.Channel.{Channel}
+use Rattle.apex_module.specs.Configuration.{Configuration, channel_of, is_queuing_channel}
+use Rattle.apex_module.specs.declared.channel.Channel.{Channel}
 use Rattle.apex_observers.specs.Published.{Published, last_of}
 use Rattle.apex_ports.specs.Channels.{last_write_on}
 use Rattle.apex_ports.specs.History.{History}

@@ -1,3 +1,3 @@
-pub mod BoardView
+pub mod RunPortsView
 pub mod Observers
 pub mod Run

@@ -1,6 +1,6 @@
 -- What the observers of a run show.
 use Rattle.std.specs.Prelude.{ℕ, zero, suc, ◌≡◌, ◌+◌, ◌<◌, ◌⊎◌, false, List, length, Some, slice_get, if◌then◌else◌}
-use Rattle.apex_config.specs.Configuration.{Configuration}
+use Rattle.apex_module.specs.Configuration.{Configuration}
 use Rattle.apex_observers.specs.Published.{Published, last_of}
 use Rattle.apex_ports.specs.Channels.{last_write_on}
 use Rattle.apex_ports.specs.History.{History}
@@ -21,6 +21,6 @@ ShowSamples config history observers =
     (c : ℕ) (known : Published) → c < length config.channels → is_queuing config c ≡ false → slice_get observers (sampling_before config c) ≡ Some known
     → last_of known.writes ≡ last_write_on config c history
 
--- an observer shows that its board has ended, or another sample than the run's
+-- an observer shows that its channel has ended, or another sample than the run's
 abbrev pub IsReadFault : Fault → Type 0
-IsReadFault fault = (fault ≡ faults.Gone) ⊎ (fault ≡ faults.Run run_faults.Stranger)
+IsReadFault fault = (fault ≡ faults.Gone) ⊎ (fault ≡ faults.Run run_faults.ResultsDiffer)

@@ -1,12 +1,12 @@
 -- What a run of scripts gives: the report of a lawful history in which each partition made the calls of its
 -- script, or why there is none.
-use Rattle.std.specs.Prelude.{◌≡◌, ◌⊎◌, ℕ, List, Result, Ok, Err, String, string_bytes, Some}
+use Rattle.std.specs.Prelude.{◌≡◌, ◌⊎◌, ℕ, List, Result, Ok, Err, String, string_bytes, Some, map}
 use Rattle.std.specs.declared.alloc.Global.{Global}
 use Rattle.apex_types.specs.declared.call.Call.{Call}
 use Rattle.apex_types.specs.declared.moment.Moment.{Moment}
 use Rattle.apex_types.specs.declared.reply.Reply.{Reply}
 use Rattle.apex_observers.specs.Published.{Published}
-use Rattle.apex_config.specs.Configuration.{Configuration, partition_name_of}
+use Rattle.apex_module.specs.Configuration.{Configuration, partition_name_of}
 use Rattle.apex_ports.specs.History.{History}
 use Rattle.apex_ports.specs.Lawful.{IsLawful}
 use Rattle.apex_threads.specs.Collected.{HasScripts, HasReplies}
@@ -22,6 +22,11 @@ use Rattle.apex_texts.specs.Report.{report_of}
 abbrev pub IsRunReport : Configuration → List (List (Moment × Call)) → List ℕ → Type 0
 IsRunReport config scripts text = (history : History) × IsLawful config history × HasScripts history scripts × (text ≡ report_of config history)
 
+-- the order names the partition of each call of a lawful history, in which each partition made the calls of its script
+abbrev pub IsRunOrder : Configuration → List (List (Moment × Call)) → List ℕ → Type 0
+IsRunOrder config scripts order =
+    (history : History) × IsLawful config history × HasScripts history scripts × (order ≡ map (λ entry. entry.partition) history)
+
 -- the text reports a lawful history in which each partition made the calls of its script and got the replies that its worker
 -- was answered, and the observers show the samples that the sampling channels have after it
 pub record IsReported (config : Configuration) (scripts : List (List (Moment × Call))) (replies : List (List Reply)) (observers : List Published) (text : List ℕ) : Type 0 where
@@ -36,9 +41,9 @@ pub record IsReported (config : Configuration) (scripts : List (List (Moment × 
 abbrev pub IsNamedHeld : (ℕ → ℕ → Type 0) → Configuration → List (List (Moment × Call)) → List ℕ → ℕ → Type 0
 IsNamedHeld may_refuse config scripts name n = (p : ℕ) × (partition_name_of config p ≡ Some name) × IsHeldCall may_refuse scripts p n
 
--- why the workers have no board
-abbrev pub IsBoardFault : RunFault → Type 0
-IsBoardFault fault = (fault ≡ run_faults.OutOfMemory) ⊎ (fault ≡ run_faults.NoObserver)
+-- why the workers have no ports
+abbrev pub IsPortsFault : RunFault → Type 0
+IsPortsFault fault = (fault ≡ run_faults.OutOfMemory) ⊎ (fault ≡ run_faults.NoObserver)
 
 -- why a finished run has no report
 abbrev pub IsReportFault : Fault → Type 0
@@ -49,7 +54,7 @@ abbrev pub IsRun : (ℕ → ℕ → Type 0) → Configuration → List (List (Mo
 IsRun may_refuse config scripts (Ok text) = IsRunReport config scripts (string_bytes text)
 IsRun may_refuse config scripts (Err (faults.Held name n)) = IsNamedHeld may_refuse config scripts name n
 IsRun may_refuse config scripts (Err (faults.Run run_faults.WorkerNotStarted)) = Unit {0}
-IsRun may_refuse config scripts (Err (faults.Run run_faults.Stranger)) = Unit {0}
+IsRun may_refuse config scripts (Err (faults.Run run_faults.ResultsDiffer)) = Unit {0}
 IsRun may_refuse config scripts (Err (faults.Run run_faults.NoObserver)) = Unit {0}
 IsRun may_refuse config scripts (Err faults.Gone) = Unit {0}
 IsRun may_refuse config scripts (Err faults.Memory) = Unit {0}

@@ -3,9 +3,9 @@
 //! its worker was answered. That second run is the report.
 #![tactic(auto)]
 
-mod board;
 mod observers;
 mod pass;
 pub mod run;
+mod run_ports;
 
-pub use crate::run::{run_packed_text, run_text};
+pub use crate::run::{run_order, run_packed_text, run_text};

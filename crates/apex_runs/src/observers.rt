@@ -25,7 +25,7 @@ pub(crate) fn compare<A: Allocator, B: Allocator>(
     for c in 0..ports.config().channels() {
         if !ports.config().channel(c).kind.is_queuing() {
             if index >= observers.len() {
-                return Err(Fault::Run(RunFault::Stranger));
+                return Err(Fault::Run(RunFault::ResultsDiffer));
             }
             compare_read(&mut observers[index], ports.last_sample(c))?;
             index += 1;
@@ -48,6 +48,6 @@ fn compare_read<A: Allocator>(
         (Sampled::Empty, None) => Ok(()),
         (Sampled::Sample { message, at, .. }, Some(sample))
             if message == sample.message && at == sample.at => { Ok(()) }
-        _ => Err(Fault::Run(RunFault::Stranger)),
+        _ => Err(Fault::Run(RunFault::ResultsDiffer)),
     }
 }

@@ -1,5 +1,5 @@
 //! The calls of a run, served once more on new ports in the order in which they were made.
-ghost use Rattle.std.specs.Prelude.{◌≡◌, ◌<◌, ◌^◌, ◌∷◌, ◌++◌, [], length, replicate, string_bytes, OnOk, IfErr};
+ghost use Rattle.std.specs.Prelude.{◌≡◌, ◌<◌, ◌^◌, ◌∷◌, ◌++◌, [], length, map, replicate, string_bytes, OnOk, IfErr};
 ghost use Rattle.apex_ports.specs.History.{entry_of};
 ghost use Rattle.apex_ports.specs.Sound.{IsSound};
 ghost use Rattle.apex_runs.specs.Run.{IsReportFault};
@@ -34,6 +34,7 @@ pub(crate) fn push_calls(
     ensures collected { OnOk result (IsCollected ports.new.history scripts.now replies.now) }
     ensures written { OnOk result (string_bytes text.new ≡
         string_bytes text.old ++ entry_lines ports.old.config 1 ports.new.history) }
+    ensures ordered { OnOk result (order.now ≡ map (λ entry. entry.partition) ports.new.history) }
     ensures short { length ports.new.history < 2 ^ 64 }
     ensures fault { IfErr result IsReportFault }
 {
@@ -43,23 +44,23 @@ pub(crate) fn push_calls(
     for byte in order {
         let partition = usize::from(*byte);
         if partition >= counts.len() {
-            return Err(Fault::Run(RunFault::Stranger));
+            return Err(Fault::Run(RunFault::ResultsDiffer));
         }
         let index = counts[partition];
         let script = &scripts[partition];
         let Some(at) = script.read(index, &mut call) else {
-            return Err(Fault::Run(RunFault::Stranger));
+            return Err(Fault::Run(RunFault::ResultsDiffer));
         };
         number += 1;
         push_call(text, ports, number, partition, at, &call, &mut reply)?;
         let worker = &replies[partition];
         if !worker.is_at(index, &reply) {
-            return Err(Fault::Run(RunFault::Stranger));
+            return Err(Fault::Run(RunFault::ResultsDiffer));
         }
         counts[partition] = index + 1;
     }
     if !are_complete(scripts, replies, counts) {
-        return Err(Fault::Run(RunFault::Stranger));
+        return Err(Fault::Run(RunFault::ResultsDiffer));
     }
     Ok(())
 }

@@ -1,12 +1,12 @@
 //! A run: one script for each partition in, a report out.
-ghost use Rattle.std.specs.Prelude.{◌≡◌, length, vec_len, IfOk, IfErr, string_bytes};
+ghost use Rattle.std.specs.Prelude.{◌≡◌, Err, length, vec_len, IfOk, IfErr, string_bytes};
 ghost use Rattle.std.specs.Thread.{IsSync, IsSend};
-ghost use Rattle.apex_runs.specs.Run.{IsRun, IsReported, IsReportFault};
+ghost use Rattle.apex_runs.specs.Run.{IsRun, IsRunOrder, IsRunReport, IsReported, IsReportFault};
 ghost use Rattle.apex_threads.specs.Held.{NamesHeldCall};
 
-use crate::board::{Board, LockedBoard};
 use crate::pass::push_calls;
-use apex_config::Config;
+use crate::run_ports::{RunPorts, SharedPorts};
+use apex_module::Config;
 use apex_ports::{Ports, RunFault, Script};
 use apex_texts::{Fault, push_totals};
 use apex_threads::{Gate, PackedReplies, PackedScript, pack_all, run_over};
@@ -36,7 +36,7 @@ pub fn run_text<R: Threads + Wait + Sync, G: Gate>(
 /// calls of its script. It waits for all workers.
 ///
 /// Before the report each observer of the run learns all that was written on its channel and is read. `Fault::Gone` says
-/// that one shows the end of its board; `RunFault::Stranger` is the answer too where one shows another sample than the report.
+/// that one shows the end of its channel; `RunFault::ResultsDiffer` is the answer too where one shows another sample than the report.
 pub fn run_packed_text<R: Threads + Wait + Sync, G: Gate>(
     rt: &R,
     alloc: Global,
@@ -47,11 +47,45 @@ pub fn run_packed_text<R: Threads + Wait + Sync, G: Gate>(
     requires { length scripts.now ≡ length config.now.partitions }
     ensures { IsRun (G.may_refuse gate.now) config.now scripts.now result }
 {
+    let (text, _) = run_reported(rt, alloc, config, scripts, gate)?;
+    Ok(text)
+}
+
+/// The order of the calls of a run that is reported: the partition of each call.
+pub fn run_order<R: Threads + Wait + Sync, G: Gate>(
+    rt: &R,
+    alloc: Global,
+    config: &Config,
+    scripts: &[PackedScript],
+    gate: &G,
+) -> Result<Vec<u8>, Fault>
+    requires { length scripts.now ≡ length config.now.partitions }
+    ensures order { IfOk result (λ order. IsRunOrder config.now scripts.now order.items) }
+{
+    let (_, order) = run_reported(rt, alloc, config, scripts, gate)?;
+    Ok(order)
+}
+
+/// The report of a run, and the order of its calls.
+fn run_reported<R: Threads + Wait + Sync, G: Gate>(
+    rt: &R,
+    alloc: Global,
+    config: &Config,
+    scripts: &[PackedScript],
+    gate: &G,
+) -> Result<(String, Vec<u8>), Fault>
+    requires { length scripts.now ≡ length config.now.partitions }
+    ensures report { IfOk result
+        (λ run. IsRunReport config.now scripts.now (string_bytes run.0)) }
+    ensures order { IfOk result (λ run. IsRunOrder config.now scripts.now run.1.items) }
+    ensures fault { IfErr result (λ fault.
+        IsRun (G.may_refuse gate.now) config.now scripts.now (Err fault)) }
+{
     match run_workers(rt, alloc, config, scripts, gate) {
-        Ok((mut board, replies)) => {
-            let text = report(alloc, config, scripts, replies.as_slice(), &mut board);
-            board.close(rt);
-            text
+        Ok((mut run_ports, replies)) => {
+            let reported = report(alloc, config, scripts, replies.as_slice(), &mut run_ports);
+            run_ports.close(rt);
+            reported
         }
         Err(RunFault::OutOfMemory) => Err(Fault::Memory),
         Err(RunFault::Held { partition, n }) => {
@@ -62,25 +96,25 @@ pub fn run_packed_text<R: Threads + Wait + Sync, G: Gate>(
     }
 }
 
-/// Runs the workers to their ends, and answers their board and what each was answered. On a fault the board is ended.
+/// Runs the workers to their ends, and answers their ports and what each was answered. On a fault the ports are closed.
 fn run_workers<R: Threads + Wait + Sync, G: Gate, A: Allocator + Copy + Send + Sync>(
     rt: &R,
     alloc: A,
     config: &Config,
     scripts: &[PackedScript<A>],
     gate: &G,
-) -> Result<(Board<A>, Vec<PackedReplies<A>, A>), RunFault>
+) -> Result<(RunPorts<A>, Vec<PackedReplies<A>, A>), RunFault>
     ensures count { IfOk result (λ ended. vec_len ended.1 ≡ length scripts.now) }
     ensures held { IfErr result (NamesHeldCall (G.may_refuse gate.now) scripts.now) }
 {
-    let board = Board::new(rt, alloc, config, calls_in(scripts))?;
-    let shared = LockedBoard::new(board);
+    let run_ports = RunPorts::new(rt, alloc, config, calls_in(scripts))?;
+    let shared = SharedPorts::new(run_ports);
     let answered = run_over(rt, alloc, &shared, gate, scripts);
-    let board = shared.into_board();
+    let run_ports = shared.into_ports();
     match answered {
-        Ok(replies) => Ok((board, replies)),
+        Ok(replies) => Ok((run_ports, replies)),
         Err(fault) => {
-            board.close(rt);
+            run_ports.close(rt);
             Err(fault)
         }
     }
@@ -95,33 +129,35 @@ fn calls_in<A: Allocator>(scripts: &[PackedScript<A>]) -> usize {
     calls
 }
 
-/// The report of a run whose workers have ended.
+/// The report of a run whose workers have ended, and the order of its calls.
 fn report(
     alloc: Global,
     config: &Config,
     scripts: &[PackedScript],
     replies: &[PackedReplies],
-    board: &mut Board<Global>,
-) -> Result<String, Fault>
+    run_ports: &mut RunPorts<Global>,
+) -> Result<(String, Vec<u8>), Fault>
     requires scripts { length scripts.now ≡ length config.now.partitions }
     requires each { length replies.now ≡ length scripts.now }
-    ensures text { IfOk result (λ text. IsReported
-        config.now scripts.now replies.now board.new.observers (string_bytes text)) }
+    ensures text { IfOk result (λ run. IsReported
+        config.now scripts.now replies.now run_ports.new.observers (string_bytes run.0)) }
+    ensures order { IfOk result (λ run. IsRunOrder config.now scripts.now run.1.items) }
     ensures fault { IfErr result IsReportFault }
 {
+    let order = run_ports.take_order(alloc);
     let mut ports = Ports::new(alloc, config.copy()?)?;
     let mut counts = vec![in alloc; 0usize; scripts.len()]?;
-    let bytes = board.order().len().saturating_mul(LINE_BYTES);
+    let bytes = order.len().saturating_mul(LINE_BYTES);
     let mut text = String::with_capacity(alloc, bytes)?;
     push_calls(
         &mut text,
         &mut ports,
         scripts,
         replies,
-        board.order(),
+        order.as_slice(),
         counts.as_mut_slice(),
     )?;
-    board.compare(&ports)?;
+    run_ports.compare(&ports)?;
     push_totals(&mut text, &ports)?;
-    Ok(text)
+    Ok((text, order))
 }

@@ -2,10 +2,10 @@
 use Rattle.std.proofs.Common.{◌≡◌, ℕ, ◌+◌, List, [], ◌∷◌, ◌++◌, Result, Ok, Err, refl, ap, ◌∙◌, String, Global, string_bytes}
 use Rattle.std.specs.Prelude.{◌≢◌}
 use Rattle.std.specs.Str.Lines.{lines}
-use Rattle.apex_config.specs.Configuration.{Configuration}
+use Rattle.apex_module.specs.Configuration.{Configuration}
 use Rattle.apex_config.specs.Meaning.{config_of}
-use Rattle.apex_config.specs.declared.fault.ConfigFault.{ConfigFault}
-use Rattle.apex_config.specs.declared.fault.ConfigFault.TheVariants as config_faults
+use Rattle.apex_module.specs.declared.fault.ConfigFault.{ConfigFault}
+use Rattle.apex_module.specs.declared.fault.ConfigFault.TheVariants as config_faults
 use Rattle.apex_ports.specs.declared.history.Entry.{Entry}
 use Rattle.apex_ports.specs.History.{History, request_of, requests_of}
 use Rattle.apex_ports.specs.PortsView.{PortsView}

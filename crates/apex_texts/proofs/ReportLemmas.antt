@@ -8,8 +8,8 @@ use Rattle.std.proofs.lemmas.List.{append-nil}
 use Rattle.std.proofs.lemmas.List.Sums.{length-filter, count_by-le-length}
 use Rattle.std.proofs.lemmas.Option.{slice_get_within, get_or_from_slice_get}
 use Rattle.apex_types.specs.Message.{hex_text_of}
-use Rattle.apex_config.specs.Configuration.{Configuration, PartitionData, partition_name_of}
-use Rattle.apex_config.specs.declared.channel.Channel.{Channel}
+use Rattle.apex_module.specs.Configuration.{Configuration, PartitionData, partition_name_of}
+use Rattle.apex_module.specs.declared.channel.Channel.{Channel}
 use Rattle.apex_ports.specs.declared.history.Entry.{Entry}
 use Rattle.apex_ports.specs.History.{History, entries_of}
 use Rattle.apex_ports.specs.Channels.{accepted_on, received_on, cleared_on, message_accepted, message_received}

@@ -1,6 +1,6 @@
 -- The line of an accepted configuration.
 use Rattle.std.specs.Prelude.{ℕ, List, ◌++◌, length, codes, decimal, sum_by}
-use Rattle.apex_config.specs.Configuration.{Configuration}
+use Rattle.apex_module.specs.Configuration.{Configuration}
 
 -- the ports of all partitions
 abbrev pub port_count : Configuration → ℕ

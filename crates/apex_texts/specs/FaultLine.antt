@@ -1,8 +1,8 @@
 -- The printed lines of refused texts.
 use Rattle.std.specs.Prelude.{ℕ, List, [], ◌++◌, codes, decimal, Option, Some, None}
-use Rattle.apex_config.specs.Fault.{pass_of}
-use Rattle.apex_config.specs.declared.fault.ConfigFault.{ConfigFault}
-use Rattle.apex_config.specs.declared.fault.ConfigFault.TheVariants as config_faults
+use Rattle.apex_module.specs.Fault.{pass_of}
+use Rattle.apex_module.specs.declared.fault.ConfigFault.{ConfigFault}
+use Rattle.apex_module.specs.declared.fault.ConfigFault.TheVariants as config_faults
 use Rattle.apex_ports.specs.declared.run_fault.RunFault.{RunFault}
 use Rattle.apex_ports.specs.declared.run_fault.RunFault.TheVariants as run_faults
 use Rattle.apex_texts.specs.declared.line_fault.LineFault.{LineFault}
@@ -62,7 +62,7 @@ abbrev pub run_line : RunFault → List ℕ
 run_line run_faults.OutOfMemory = memory_line
 run_line (run_faults.Held partition n) = held_line (decimal partition) n
 run_line run_faults.WorkerNotStarted = codes "run fault 3: worker not started"
-run_line run_faults.Stranger = codes "run fault 4: collected results do not match"
+run_line run_faults.ResultsDiffer = codes "run fault 4: collected results do not match"
 run_line run_faults.NoObserver = codes "run fault 5: no observer"
 
 -- the line of a fault of a replay or a run

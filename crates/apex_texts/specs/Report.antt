@@ -11,10 +11,10 @@ use Rattle.apex_types.specs.declared.call.Call.{Call}
 use Rattle.apex_types.specs.declared.moment.Moment.{Moment}
 use Rattle.apex_types.specs.declared.reply.Reply.{Reply}
 use Rattle.apex_types.specs.declared.reply.Reply.TheVariants.{NotMade, Code, Id, Received, Read, QueuingStatus, SamplingStatus}
-use Rattle.apex_config.specs.Configuration.{Configuration, PartitionData, partition_name_of}
-use Rattle.apex_config.specs.declared.channel.Channel.{Channel}
-use Rattle.apex_config.specs.declared.channel.ChannelKind.{ChannelKind}
-use Rattle.apex_config.specs.declared.channel.ChannelKind.TheVariants as kinds
+use Rattle.apex_module.specs.Configuration.{Configuration, PartitionData, partition_name_of}
+use Rattle.apex_module.specs.declared.channel.Channel.{Channel}
+use Rattle.apex_module.specs.declared.channel.ChannelKind.{ChannelKind}
+use Rattle.apex_module.specs.declared.channel.ChannelKind.TheVariants as kinds
 use Rattle.apex_ports.specs.declared.history.Entry.{Entry}
 use Rattle.apex_types.specs.declared.sample.Sample.{Sample}
 use Rattle.apex_ports.specs.History.{History, entries_of}

@@ -1,7 +1,7 @@
 -- What a trace stands for: the requests of its lines in order, or its first faulty line.
 use Rattle.std.specs.Prelude.{ℕ, ◌<◌, List, length, All, Result, Ok}
 use Rattle.std.specs.Global.{Vec}
-use Rattle.apex_config.specs.Configuration.{Configuration, partition_named}
+use Rattle.apex_module.specs.Configuration.{Configuration, partition_named}
 use Rattle.apex_ports.specs.declared.history.Request.{Request}
 use Rattle.apex_texts.specs.declared.line_fault.LineFault.{LineFault}
 use Rattle.apex_texts.specs.declared.line_fault.LineFault.TheVariants as faults

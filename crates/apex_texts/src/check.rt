@@ -2,7 +2,7 @@
 ghost use Rattle.std.specs.Prelude.{◌≡◌, string_bytes, IfOk};
 ghost use Rattle.apex_texts.specs.Check.{port_count, counts_line, check_line};
 
-use apex_config::Config;
+use apex_module::Config;
 use std::alloc::{AllocError, Global};
 
 /// `ok partitions P ports Q channels C` of a configuration, as a line.

@@ -7,7 +7,7 @@ ghost use Rattle.apex_texts.specs.LineFault.{number_of};
 ghost use Rattle.apex_texts.specs.FaultLine.{config_words, trace_words, fault_line};
 
 use crate::line_fault::LineFault;
-use apex_config::ConfigFault;
+use apex_module::ConfigFault;
 use apex_ports::RunFault;
 use apex_types::{Name, OutOfMemory};
 use std::alloc::{AllocError, AllocFailed};
@@ -118,7 +118,7 @@ impl fmt::Display for Fault {
                 write!(f, "run fault 2: partition {partition} held at call {n}")
             }
             Fault::Run(RunFault::WorkerNotStarted) => write!(f, "run fault 3: worker not started"),
-            Fault::Run(RunFault::Stranger) => {
+            Fault::Run(RunFault::ResultsDiffer) => {
                 write!(f, "run fault 4: collected results do not match")
             }
             Fault::Run(RunFault::NoObserver) => write!(f, "run fault 5: no observer"),

@@ -1,5 +1,5 @@
 //! The lines of a report: one for each call, each partition and each channel.
-ghost use Rattle.std.specs.Prelude.{◌≡◌, ◌<◌, ◌^◌, ◌∷◌, ◌++◌, [], length, decimal, string_bytes, OnOk};
+ghost use Rattle.std.specs.Prelude.{◌≡◌, ◌<◌, ◌≤◌, ◌^◌, ◌∷◌, ◌++◌, [], length, decimal, string_bytes, OnOk};
 ghost use Rattle.std.specs.Option.{option_copied};
 ghost use Rattle.apex_types.specs.Message.{hex_text_of};
 ghost use Rattle.apex_ports.specs.Channels.{accepted_on, received_on, cleared_on, waiting_on};
@@ -7,9 +7,11 @@ ghost use Rattle.apex_ports.specs.History.{entries_of};
 ghost use Rattle.apex_texts.specs.Report.{queuing_status_text, sampling_status_text, reply_text, entry_line, partition_line, partition_lines, cleared_text, queue_text, sample_text, channel_text, channel_lines, messages_text, totals_of};
 
 use crate::service::Service;
-use apex_config::{Channel, ChannelKind};
+use apex_module::{Channel, ChannelKind};
 use apex_ports::Ports;
-use apex_types::{Call, Direction, HEX_LIMIT, Message, Moment, Reply, Sample, Validity};
+use apex_types::{
+    Call, Direction, HEX_LIMIT, MESSAGE_LIMIT, Message, Moment, Reply, Sample, Validity,
+};
 use itoa::Buffer;
 use std::alloc::AllocError;
 
@@ -59,6 +61,16 @@ fn push_message(text: &mut String, message: &Message) -> Result<(), AllocError>
 {
     let mut digits = [0; HEX_LIMIT];
     push_word(text, message.hex_in(&mut digits))
+}
+
+/// A message by its bytes.
+fn push_bytes(text: &mut String, bytes: &[u8]) -> Result<(), AllocError>
+    requires { length bytes.now ≤ MESSAGE_LIMIT }
+    ensures { OnOk result (string_bytes text.new
+        ≡ string_bytes text.old ++ hex_text_of bytes.now) }
+{
+    let message = Message::from_bytes(bytes).unwrap();
+    push_message(text, &message)
 }
 
 /// `NUMBER MOMENT PARTITION CALLWORD REPLY`.
@@ -303,7 +315,7 @@ fn push_waiting(text: &mut String, ports: &Ports, c: usize) -> Result<(), AllocE
     for index in 0..ports.waiting_count(c) {
         let message = ports.waiting(c, index).unwrap();
         push_word(text, " ")?;
-        push_message(text, message)?;
+        push_bytes(text, message)?;
     }
     Ok(())
 }

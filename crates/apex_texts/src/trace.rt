@@ -9,7 +9,7 @@ use crate::arguments::{moment_of, read_call, service_at, word_at};
 use crate::fault::TraceFault;
 use crate::line_fault::LineFault;
 use crate::lines::{LineForm, line_words, read_lines};
-use apex_config::Config;
+use apex_module::Config;
 use apex_ports::Request;
 use apex_types::{ANY_CALL, Moment};
 use std::alloc::Global;

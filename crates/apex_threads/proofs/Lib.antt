@@ -5,3 +5,4 @@ pub mod Lists
 pub mod PackedLemmas
 pub mod PartLemmas
 pub mod Ready
+pub mod PublishSteps

@@ -9,7 +9,7 @@ use Rattle.apex_threads.specs.declared.shared.AskFault.TheVariants as ask_fault
 -- the fault of a run in which a worker was refused so
 abbrev pub fault_of : AskFault → RunFault
 fault_of ask_fault.OutOfMemory = run_fault.OutOfMemory
-fault_of ask_fault.NoPartition = run_fault.Stranger
+fault_of ask_fault.NoPartition = run_fault.ResultsDiffer
 
 -- the fault of a run whose observers couldn't be made
 abbrev pub fault_without : ObserverFault → RunFault

@@ -1,6 +1,7 @@
 pub mod Collected
 pub mod Fault
 pub mod Held
+pub mod OnChannels
 pub mod Order
 pub mod PackedCalls
 pub mod PackedReplies

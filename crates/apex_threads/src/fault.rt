@@ -13,7 +13,7 @@ impl From<AskFault> for RunFault {
     fn from(refused: AskFault) -> RunFault {
         match refused {
             AskFault::OutOfMemory => RunFault::OutOfMemory,
-            AskFault::NoPartition => RunFault::Stranger,
+            AskFault::NoPartition => RunFault::ResultsDiffer,
         }
     }
 }

@@ -1,5 +1,6 @@
 //! Workers: each partition's script is run by a thread of its own, and all ask one board that they share. What that board
-//! is, its caller says; what each worker was answered comes back packed.
+//! is, its caller says; what each worker was answered comes back packed. Beside them the publishers of a module's sampling
+//! channels, and the publication of what a call writes.
 #![tactic(auto)]
 
 pub mod comparison;
@@ -8,6 +9,7 @@ pub mod gate;
 pub mod packed;
 pub mod packed_script;
 mod parts;
+pub mod publishing;
 pub mod run;
 pub mod shared;
 mod steps;
@@ -19,6 +21,7 @@ pub use crate::fault::fault_without;
 pub use crate::gate::{Gate, Held, OpenGate};
 pub use crate::packed::PackedReplies;
 pub use crate::packed_script::{PackedScript, pack_all, unpack_all};
+pub use crate::publishing::{new_publishers, publish};
 pub use crate::run::run_over;
 pub use crate::shared::{AskFault, SharedBoard};
 pub use apex_ports::{RunFault, Script};

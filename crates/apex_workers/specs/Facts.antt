@@ -5,7 +5,7 @@ use Rattle.apex_ports.specs.Interference.{IsFreeFromInterference}
 use Rattle.apex_ports.specs.Lawful.{IsLawful}
 use Rattle.apex_ports.specs.Rules.{IsConserved}
 use Rattle.apex_board.specs.BoardView.{BoardView}
-use Rattle.apex_publishing.specs.OnChannels.{ArePublished}
+use Rattle.apex_threads.specs.OnChannels.{ArePublished}
 
 -- the log is lawful, no channel loses, doubles or reorders a message, a partition in IDLE is silent, no partition
 -- interferes with those that share no channel with it, and what the log writes into sampling channels is published there

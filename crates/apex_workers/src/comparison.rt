@@ -4,7 +4,7 @@ ghost use Rattle.std.specs.Bool.{OnTrue, OnFalse};
 ghost use Rattle.apex_threads.specs.Collected.{IsNext, AreCounted, IsCollected, IsCollectedFor};
 
 use apex_board::{Board, Entry};
-use apex_config::Config;
+use apex_module::Config;
 use apex_threads::{PackedReplies, PackedScript, are_complete};
 use apex_types::{ANY_CALL, Call, Moment};
 use std::alloc::Allocator;

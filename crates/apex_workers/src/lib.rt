@@ -1,13 +1,15 @@
 //! Workers over one board behind a lock: each partition's script is run by a thread of its own, and the board's log is
-//! compared with what was handed out.
+//! compared with what was handed out. Beside them the report of a board, from its log.
 #![tactic(auto)]
 
+pub mod board_report;
 mod comparison;
 pub mod locked;
 mod observed;
 pub mod replies;
 pub mod run;
 
+pub use crate::board_report::report;
 pub use crate::comparison::is_collected;
 pub use crate::locked::LockedBoard;
 pub use crate::replies::Replies;

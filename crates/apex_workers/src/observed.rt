@@ -5,7 +5,7 @@ ghost use Rattle.apex_workers.specs.Facts.{HasBoardFacts};
 
 use crate::locked::{ask_lent, board_facts};
 use apex_board::Board;
-use apex_config::Config;
+use apex_module::Config;
 use apex_observers::{Observer, ObserverFault};
 use apex_threads::{AskFault, SharedBoard};
 use apex_types::{Call, Moment, Reply};

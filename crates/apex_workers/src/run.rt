@@ -11,7 +11,7 @@ use crate::comparison::is_collected_for;
 use crate::observed::{LockedObservedBoard, ObservedBoard};
 use crate::replies::{Replies, unpack_all};
 use apex_board::Board;
-use apex_config::Config;
+use apex_module::Config;
 use apex_observers::Observer;
 use apex_ports::{RunFault, Script};
 use apex_threads::{Gate, PackedReplies, PackedScript, fault_without, pack_all, run_over};
@@ -123,7 +123,7 @@ fn collected<A: Allocator, R: Wait>(
         AreObservers finished.board.published finished.observers.items) }
     ensures isolated { IfOk result (λ finished. ShowsScriptsAlone
         config.now scripts.now finished.replies.items finished.board.log) }
-    ensures stranger { IfErr result (λ fault. fault ≡ RunFault.Stranger) }
+    ensures stranger { IfErr result (λ fault. fault ≡ RunFault.ResultsDiffer) }
 
     // It is refused only where something differs.
     ensures same { let board = observed.board in
@@ -133,7 +133,7 @@ fn collected<A: Allocator, R: Wait>(
     let (board, observers) = observed.into_parts();
     if !is_collected_for(config, scripts, &board, answers, counts.as_mut_slice()) {
         board.close(rt);
-        return Err(RunFault::Stranger);
+        return Err(RunFault::ResultsDiffer);
     }
     Ok(Finished {
         board,

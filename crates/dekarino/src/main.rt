@@ -1,8 +1,8 @@
-//! Tells people what a configuration, a trace and a run come to: a table of the ports, and each call beside its reply.
+//! The tool for people: what configurations, traces, logs and scripts come to.
 #![tactic(auto)]
 
-use companion_command_line::start_given;
-use companion_tasks::{ProgressLine, Shown, SystemFiles, program};
+use dekarino_command_line::start_given;
+use dekarino_tasks::{ProgressLine, Shown, SystemFiles, program};
 use std::process::ExitCode;
 
 fn main(rt: HostRuntime) -> ExitCode {

@@ -3,13 +3,13 @@ ghost use Rattle.std.specs.Prelude.{◌≡◌, [], ◌++◌, ◌<◌, ◌≤◌,
 ghost use Rattle.std.specs.Option.{option_copied};
 
 use crate::board::Board;
-use apex_config::Config;
+use apex_module::Config;
 use apex_ports::{Entry, Ports};
 use apex_types::{Message, Mode, Sample, Taken, Validity};
 use std::alloc::Allocator;
 
 impl<A: Allocator> Board<A> {
-    ghost use Rattle.apex_publishing.specs.OnChannels.{ArePublished};
+    ghost use Rattle.apex_threads.specs.OnChannels.{ArePublished};
     ghost use Rattle.apex_ports.specs.Channels.{accepted_on, messages_of, taken_on, waiting_on, last_write_on};
     ghost use Rattle.apex_ports.specs.Idle.{IdleIsSilent};
     ghost use Rattle.apex_ports.specs.Interference.{IsFreeFromInterference};
@@ -93,7 +93,10 @@ impl<A: Allocator> Board<A> {
             ≡ slice_get (waiting_on self.now.config c self.now.log) i }
         ensures sampling { is_queuing self.now.config c ≡ false → result ≡ None }
     {
-        self.ports.waiting(c, i)
+        if i >= self.waiting_count(c) {
+            return None;
+        }
+        self.accepted(c).get(self.taken(c).len() + i)
     }
 
     /// The message that channel `c` holds, with the moment of its writing; none on a queuing channel, or before the first write.

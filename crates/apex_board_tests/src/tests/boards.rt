@@ -4,7 +4,8 @@ ghost use Rattle.apex_observers.specs.Channels.{books_of};
 
 use crate::tests::texts::BASE;
 use apex_board::{Board, Entry, Request, Stopped, run_list};
-use apex_config::Config;
+use apex_config::ReadConfig;
+use apex_module::Config;
 use apex_texts::{push_entry, read_trace};
 use apex_types::{Message, OutOfMemory, Reply};
 use std::alloc::{AllocError, AllocGlobal, Allocator, Global};

@@ -69,7 +69,7 @@ fn clear_takes_whatever_waits(rt: HostRuntime) -> Result<(), Fail> {
     taken
 }
 
-// Nothing waits, so nothing is taken or told as cleared, before the first message and after it.
+// Nothing waits, so nothing counts as taken or cleared, before the first message and after it.
 fn takes_nothing<R: AllocGlobal + Abort + Wait>(rt: &R, board: &mut Board) -> Result<(), Fail> {
     answers(rt, board, OPENING, OPENING_LOG)?;
     answers(rt, board, "5 DSP clear 1\n", "1 5 DSP clear NO_ERROR\n")?;

@@ -1,6 +1,7 @@
 //! Modules at the limits: 32 partitions, 64 channels, names of 30 characters, messages of 1,024 bytes.
 use crate::tests::rounds::{PARTITIONS, channel_at};
-use apex_config::Config;
+use apex_config::ReadConfig;
+use apex_module::Config;
 use std::alloc::{AllocError, AllocGlobal, Global};
 use std::test::Fail;
 

@@ -64,7 +64,7 @@ fn shows_write<A: Allocator, R: Abort>(
     holds(rt, shown == wanted, now);
 }
 
-// The message is written, and the observers are told.
+// Writes the message, and hands the receipt to the observers.
 fn write_and_tell<A: Allocator, R: Abort + Wait>(
     rt: &R,
     board: &mut Board<A>,
@@ -81,7 +81,7 @@ fn write_and_tell<A: Allocator, R: Abort + Wait>(
     Ok(())
 }
 
-// Each write is told, and shown from then on.
+// Observers learn of each write, and show it from then on.
 fn shows_each_write<A: Allocator, R: Abort + Wait>(
     rt: &R,
     board: &mut Board<A>,
@@ -194,7 +194,7 @@ fn fill_log<A: Allocator, R: AllocGlobal + Abort + Wait>(
     Ok(())
 }
 
-// A write for which there is no memory: the observers are told, and show the write of the moment before, if there was
+// A write for which there is no memory: the observers learn of it, and show the write of the moment before, if there was
 // one. With memory it is repeated.
 fn refused_write<A: Allocator, B: Allocator, R: Abort + Wait>(
     rt: &R,

@@ -4,8 +4,10 @@ ghost use Rattle.std.specs.Option.{option_copied};
 
 use crate::ports::Ports;
 use crate::rows::Row;
-use apex_config::Config;
-use apex_types::{Call, Message, Mode, Moment, Sample, Validity};
+use crate::table::lookup::sampling_port;
+use crate::table::row;
+use apex_module::Config;
+use apex_types::{Call, MESSAGE_LIMIT, Message, Mode, Moment, Sample, Validity};
 use std::alloc::Allocator;
 
 impl<A: Allocator> Ports<A> {
@@ -50,7 +52,7 @@ impl<A: Allocator> Ports<A> {
         ensures { let here = seen self.now.config self.now.history p in
             result ≡ row_of self.now.config here p at call.now }
     {
-        self.state.row(&self.config, p, at, call)
+        row(&self.state, &self.config, p, at, call)
     }
 
     /// The sampling channel that a call of partition `p` would write into, with the message. `None` where the
@@ -81,7 +83,7 @@ impl<A: Allocator> Ports<A> {
         ensures { let here = seen self.now.config self.now.history p in
             result ≡ validity_shown here id (sampling_port self.now.config here p id) }
     {
-        match self.state.sampling_port(&self.config, p, id) {
+        match sampling_port(&self.state, &self.config, p, id) {
             Some(_) => self.state.partitions[p].last_validity(id),
             None => Validity::Invalid,
         }
@@ -128,10 +130,11 @@ impl<A: Allocator> Ports<A> {
     }
 
     /// The message at index `i` of those that wait on channel `c`; index 0 has the oldest.
-    pub fn waiting(&self, c: usize, i: usize) -> Option<&Message>
+    pub fn waiting(&self, c: usize, i: usize) -> Option<&[u8]>
         requires { c < length self.now.config.channels }
         ensures message { option_copied result
             ≡ slice_get (waiting_on self.now.config c self.now.history) i }
+        ensures short { IfSome result (λ message. length message.now ≤ MESSAGE_LIMIT) }
         ensures sampling { is_queuing self.now.config c ≡ false → result ≡ None }
     {
         self.state.channels[c].waiting(i)

@@ -8,7 +8,7 @@ use crate::partition::PartitionState;
 use crate::past::Past;
 use crate::ports::Ports;
 use crate::saved_channel::SavedChannel;
-use apex_config::Config;
+use apex_module::Config;
 use apex_types::OutOfMemory;
 use std::alloc::{AllocError, Allocator, Global};
 use std::marker::Model;

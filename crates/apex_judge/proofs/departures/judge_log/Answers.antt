@@ -1,5 +1,5 @@
 use Rattle.std.proofs.Common.{◌<◌, ◌++◌, ◌∷◌, [], length, add-one, sym, ap, subst, ◌∙◌}
-use Rattle.apex_config.specs.Configuration.{Configuration}
+use Rattle.apex_module.specs.Configuration.{Configuration}
 use Rattle.apex_ports.specs.History.{History}
 use Rattle.apex_ports.proofs.Lookups.{at_index}
 use Rattle.apex_judge.specs.Departures.{instead_of}

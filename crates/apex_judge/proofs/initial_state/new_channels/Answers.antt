@@ -12,8 +12,8 @@ loop-preserved g c =
     record {
       count = ap length push ∙ length_push c.loop.channels.items _ c.loop.counter c.loop.invariant.count;
       shown = rw push (each_at_push (IsChannelShown c.args.config.now []) c.loop.channels.items c.loop.counter _ c.loop.invariant.count c.loop.invariant.shown (record {
-        waiting = c.new.ensures.items;
-        few = none_is_few _ c.new.ensures.items;
+        waiting = c.new.ensures;
+        few = none_is_few _ c.new.ensures;
         sample = refl;
       }));
     }

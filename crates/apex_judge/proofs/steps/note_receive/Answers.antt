@@ -14,7 +14,7 @@ returns-in-Some-message_in-clause-noted g c at log each =
     let here = slice_get-get_or c.args.channels.now c.in-Some.c c.index-channels-c.result inside in
     let old = get_or c.args.channels.now c.in-Some.c c.index-channels-c.result in
     received_notes _ _ at _ _ _ c.in-Some.c old _ here log each _ c.in-Some.ensures.channel (sym c.message_in.ensures ∙ ap option_copied c.in-Some-message_in.is)
-    c.receive.ensures.waiting c.receive.ensures.few c.receive.ensures.sample
+    c.receive.ensures.waiting c.receive.ensures.sample
 
 pub returns-then-not-is_not_available-clause-noted : goal.returns-then-not-is_not_available-clause-noted
 returns-then-not-is_not_available-clause-noted g c at log each =

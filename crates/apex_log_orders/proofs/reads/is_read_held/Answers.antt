@@ -1,5 +1,5 @@
 use Rattle.std.proofs.Common.{◌≡◌, Some, sym, arith}
-use Rattle.apex_config.specs.Configuration.{port_of}
+use Rattle.apex_module.specs.Configuration.{port_of}
 use Rattle.apex_log_orders.proofs.ReadLemmas.{read_held}
 use Rattle.apex_log_orders.proofs.reads.is_read_held.Goals as goal
 

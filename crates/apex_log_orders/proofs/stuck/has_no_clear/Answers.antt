@@ -1,7 +1,7 @@
 use Rattle.std.proofs.Common.{◌≡◌, ◌+◌, ℕ, suc, take, refl, sym, ◌∙◌, subst, arith}
+use Rattle.std.proofs.lemmas.List.{take_all}
 use Rattle.apex_ports.specs.WithoutClears.{HasNoClear}
 use Rattle.apex_ports.proofs.Lookups.{at_index}
-use Rattle.apex_orders.proofs.Lists.{take_whole}
 use Rattle.apex_log_orders.proofs.OwnEntries.{no_clear_more}
 use Rattle.apex_log_orders.proofs.stuck.has_no_clear.Goals as goal
 
@@ -20,4 +20,4 @@ loop-entry-preserved c =
 pub returns : goal.returns
 returns c holds =
     let items = c.deref-entry-items.result.now in
-    subst HasNoClear (take_whole c.loop-entry.entry-index items c.loop-entry-test.false ∙ (c.deref-entry-items.ensures.value ∙ c.log.view_is)) c.loop-entry.invariant
+    subst HasNoClear (take_all c.loop-entry.entry-index items c.loop-entry-test.false ∙ (c.deref-entry-items.ensures.value ∙ c.log.view_is)) c.loop-entry.invariant

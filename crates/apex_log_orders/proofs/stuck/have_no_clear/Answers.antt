@@ -1,10 +1,10 @@
 use Rattle.std.proofs.Common.{◌≡◌, ◌<◌, ◌≤◌, ⊎_elim, ℕ, [], length, Option, refl, sym, ap, subst, arith}
 use Rattle.std.specs.Option.{unwrap_or}
 use Rattle.std.proofs.lemmas.Bool.{cases_lt}
+use Rattle.std.proofs.lemmas.Option.{slice_get_past}
 use Rattle.apex_ports.specs.History.{History}
 use Rattle.apex_ports.specs.WithoutClears.{HasNoClear}
 use Rattle.apex_ports.proofs.Lookups.{at_index}
-use Rattle.apex_orders.proofs.Lists.{none_beyond}
 use Rattle.apex_log_orders.specs.LogOrders.{log_in}
 use Rattle.apex_log_orders.proofs.stuck.have_no_clear.Goals as goal
 
@@ -29,5 +29,5 @@ returns c holds q =
     let past = c.loop-log-test.false in
     ⊎_elim
     (λ (inside : q < length logs). c.loop-log.invariant q (omega (arith, past, inside)))
-    (λ (beyond : length logs ≤ q). subst HasNoClear (sym (ap (λ (o : Option History). unwrap_or o []) (none_beyond logs q beyond))) refl)
+    (λ (beyond : length logs ≤ q). subst HasNoClear (sym (ap (λ (o : Option History). unwrap_or o []) (slice_get_past logs q beyond))) refl)
     (cases_lt q (length logs))

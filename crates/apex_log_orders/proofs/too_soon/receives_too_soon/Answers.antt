@@ -5,7 +5,7 @@ use Rattle.apex_ports.specs.History.{History, entries_of}
 use Rattle.apex_ports.specs.Channels.{accepted_on, received_on, message_received}
 use Rattle.apex_ports.specs.Ports.{is_destination_of}
 use Rattle.apex_ports.specs.ReplyTable.{depth_of, depth_in}
-use Rattle.apex_config.specs.Configuration.{port_of}
+use Rattle.apex_module.specs.Configuration.{port_of}
 use Rattle.apex_ports.proofs.Lookups.{at_index}
 use Rattle.apex_log_orders.specs.LogOrders.{log_in}
 use Rattle.apex_log_orders.specs.Stuck.{HasEnd}

@@ -4,7 +4,7 @@ use Rattle.apex_types.specs.declared.direction.Direction.TheVariants.{Destinatio
 use Rattle.apex_ports.specs.History.{History, entries_of}
 use Rattle.apex_ports.specs.Channels.{accepted_on, received_on, message_accepted}
 use Rattle.apex_ports.specs.Ports.{is_source_of}
-use Rattle.apex_config.specs.Configuration.{port_of}
+use Rattle.apex_module.specs.Configuration.{port_of}
 use Rattle.apex_ports.proofs.Lookups.{at_index}
 use Rattle.apex_log_orders.specs.LogOrders.{log_in}
 use Rattle.apex_log_orders.specs.Stuck.{HasEnd}

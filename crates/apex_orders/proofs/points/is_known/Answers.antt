@@ -2,7 +2,7 @@ use Rattle.std.proofs.Common.{◌≡◌, ⊎_elim, ◌<◌, ℕ, length, Some, s
 use Rattle.std.specs.List.{slice_get}
 use Rattle.std.proofs.lemmas.Bool.{cases_eq, false≢true}
 use Rattle.std.proofs.lemmas.Option.{slice_get_within, slice_get-get_or}
-use Rattle.apex_config.specs.Configuration.{Configuration}
+use Rattle.apex_module.specs.Configuration.{Configuration}
 use Rattle.apex_ports.specs.History.{History}
 use Rattle.apex_ports.specs.PortsView.{PortsView}
 use Rattle.apex_ports.proofs.Lookups.{at_index}
@@ -11,7 +11,7 @@ use Rattle.apex_orders.specs.Known.{IsTrialOf}
 use Rattle.apex_orders.specs.Orders.{history_of}
 use Rattle.apex_orders.specs.Points.{IsSamePoint}
 use Rattle.apex_orders.proofs.KnownLemmas.{saved_here}
-use Rattle.apex_orders.proofs.MarkLemmas.{same_mark}
+use Rattle.apex_orders.proofs.HashLemmas.{same_hash}
 use Rattle.apex_orders.proofs.points.is_known.Goals as goal
 use Rattle.apex_orders.proofs.points.is_known.Goals.{then-stands_at+in_ok-go_to+else-is_same_point, else-stands_at}
 
@@ -25,7 +25,7 @@ go_to-requires-clause-saved c =
     let indexes = c.indexes-k-items.result.now in
     let k = slice_index_or indexes c.loop-k.k-index 0 in
     let item = c.index-orders-k.result in
-    let within : k < length orders = let inside = slice_get_within c.args.points.now.marks k c.args.mark (c.stands_at.ensures.0 c.if-stands_at.true) in let count = c.requires.points.marked.count in omega (arith, inside, count) in
+    let within : k < length orders = let inside = slice_get_within c.args.points.now.hashes k c.args.hash (c.stands_at.ensures.0 c.if-stands_at.true) in let count = c.requires.points.hashed.count in omega (arith, inside, count) in
     saved_here config c.args.scripts.now orders c.args.points.now c.args.points.now c.requires.points k item c.saved_at.result
     (at_index orders k item within c.index-orders-k.is) c.saved_at.ensures.index c.saved_at.ensures.ports
 
@@ -35,7 +35,7 @@ returns-then-is_same_point-clause-known c =
     let indexes = c.indexes-k-items.result.now in
     let k = slice_index_or indexes c.loop-k.k-index 0 in
     let item = c.index-orders-k.result in
-    let within : k < length orders = let inside = slice_get_within c.args.points.now.marks k c.args.mark (c.stands_at.ensures.0 c.if-stands_at.true) in let count = c.requires.points.marked.count in omega (arith, inside, count) in
+    let within : k < length orders = let inside = slice_get_within c.args.points.now.hashes k c.args.hash (c.stands_at.ensures.0 c.if-stands_at.true) in let count = c.requires.points.hashed.count in omega (arith, inside, count) in
     let at : slice_get orders k ≡ Some item = at_index orders k item within c.index-orders-k.is in
     let ports = c.loop-k.invariant.ports in
     let configured : c.loop-k.trial.ports.config ≡ c.args.config.now = ap (λ (v : PortsView). v.config) ports ∙ c.requires.trial.ports in
@@ -69,8 +69,8 @@ loop-k-preserved c = record {
       let i = c.loop-k.k-index in
       let k = slice_index_or indexes i 0 in
       let here : slice_get indexes i ≡ Some k = slice_get-get_or indexes i 0 c.loop-k-test.true in
-      let marked : slice_get c.args.points.now.marks n ≡ Some c.args.mark =
-      c.requires.points.marked.each n order at ∙ ap Some (sym (c.requires.mark ∙ same_mark config h (history_of config scripts order) met)) in
+      let hashed : slice_get c.args.points.now.hashes n ≡ Some c.args.hash =
+      c.requires.points.hashed.each n order at ∙ ap Some (sym (c.requires.hash ∙ same_hash config h (history_of config scripts order) met)) in
       let ports = c.loop-k.invariant.ports in
       let configured : c.loop-k.trial.ports.config ≡ config = ap (λ (v : PortsView). v.config) ports ∙ c.requires.trial.ports in
       let made : c.loop-k.trial.ports.history ≡ h = ap (λ (v : PortsView). v.history) ports in
@@ -89,7 +89,7 @@ loop-k-preserved c = record {
             false≢true (sym w.if-is_same_point.false ∙ w.is_same_point.ensures.1
             (subst (λ (x : Configuration × History × History). IsSamePoint x.0 x.1 x.2) (λ m. (sym configured m, sym made m, led m)) met))
         | else-stands_at w ↦
-            false≢true (sym w.if-stands_at.false ∙ c.stands_at.ensures.1 (ap (λ (m : ℕ). slice_get c.args.points.now.marks m) is ∙ marked))
+            false≢true (sym w.if-stands_at.false ∙ c.stands_at.ensures.1 (ap (λ (m : ℕ). slice_get c.args.points.now.hashes m) is ∙ hashed))
       ])
       (λ (earlier : j ≡ i → ⊥). c.loop-k.invariant.others j n order (omega (arith, below, earlier)) listed at met)
       (cases_eq j i);
@@ -102,9 +102,9 @@ returns-clause-known c = (
       let config = c.args.config.now in
       let n = known.here.0 in
       let indexes = c.indexes-k-items.result.now in
-      let marked : slice_get c.args.points.now.marks n ≡ Some c.args.mark =
-      c.requires.points.marked.each n known.order known.here.1 ∙ ap Some (sym (c.requires.mark ∙ same_mark config c.args.trial.now.ports.history (history_of config c.args.scripts.now known.order) known.same)) in
-      let listed = c.indexes-k-items.ensures n marked in
+      let hashed : slice_get c.args.points.now.hashes n ≡ Some c.args.hash =
+      c.requires.points.hashed.each n known.order known.here.1 ∙ ap Some (sym (c.requires.hash ∙ same_hash config c.args.trial.now.ports.history (history_of config c.args.scripts.now known.order) known.same)) in
+      let listed = c.indexes-k-items.ensures n hashed in
       let within : listed.0 < length indexes = slice_get_within indexes listed.0 n listed.1 in
       c.loop-k.invariant.others listed.0 n known.order (omega (arith, within, c.loop-k-test.false)) listed.1 known.here.1 known.same
       ),

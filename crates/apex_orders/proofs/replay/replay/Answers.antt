@@ -1,10 +1,9 @@
 use Rattle.std.proofs.Common.{◌≡◌, ◌<◌, ◌++◌, ◌∷◌, [], length, take, List, ℕ, Some, slice_index_or, ap, sym, ◌∙◌, subst}
 use Rattle.std.specs.List.{slice_get}
-use Rattle.std.proofs.lemmas.List.{take_more}
+use Rattle.std.proofs.lemmas.List.{take_more, take_all}
 use Rattle.std.proofs.lemmas.Option.{slice_get-get_or}
-use Rattle.apex_config.specs.Configuration.{Configuration}
+use Rattle.apex_module.specs.Configuration.{Configuration}
 use Rattle.apex_orders.specs.Orders.{history_of, next_entries}
-use Rattle.apex_orders.proofs.Lists.{take_whole}
 use Rattle.apex_orders.proofs.Walks.{continued-append}
 use Rattle.apex_orders.proofs.replay.replay.Goals as goal
 
@@ -39,5 +38,5 @@ pub returns-clause-history : goal.returns-clause-history
 returns-clause-history c =
     let items = c.partitions-p-items.result.now in
     c.loop-p.invariant.history
-    ∙ (ap (λ (order : List ℕ). history_of c.args.config.now c.args.scripts.now order) (take_whole c.loop-p.p-index items c.loop-p-test.false)
+    ∙ (ap (λ (order : List ℕ). history_of c.args.config.now c.args.scripts.now order) (take_all c.loop-p.p-index items c.loop-p-test.false)
     ∙ ap (λ (order : List ℕ). history_of c.args.config.now c.args.scripts.now order) c.partitions-p-items.ensures)

@@ -1,7 +1,8 @@
-use Rattle.std.proofs.Common.{◌≡◌, ◌+◌, ◌++◌, ◌∷◌, [], length, set, get_or, Some, refl, sym, ap, ◌∙◌, subst, arith, string_bytes, length-append}
+use Rattle.std.proofs.Common.{◌≡◌, ◌+◌, ◌++◌, ◌∷◌, [], length, map, set, get_or, Some, refl, sym, ap, ◌∙◌, subst, arith, string_bytes, length-append}
 use Rattle.std.specs.List.{slice_get}
-use Rattle.std.proofs.lemmas.List.{length-replicate}
+use Rattle.std.proofs.lemmas.List.{length-replicate, map-append, take_more, take_all}
 use Rattle.std.proofs.lemmas.Option.{slice_get_read}
+use Rattle.apex_ports.specs.declared.history.Entry.{Entry}
 use Rattle.apex_ports.specs.History.{History, entry_of}
 use Rattle.apex_texts.specs.Report.{line_of}
 use Rattle.apex_texts.proofs.ReportLemmas.{entry_pushed, no_entry}
@@ -22,6 +23,7 @@ loop-byte-init c =
       written = no_entry config c.args.ports.now.history (string_bytes c.args.text.now) c.requires.fresh;
       number = refl;
       length = ap length c.requires.fresh;
+      ordered = ap (λ (h : History). map (λ (entry : Entry). entry.partition) h) c.requires.fresh;
     }
 
 pub loop-byte-preserved : goal.loop-byte-preserved
@@ -44,6 +46,7 @@ loop-byte-preserved c =
     let before = c.loop-byte.invariant.number in
     let longer : length c.push_call.new.ports.history ≡ length history + 1 = ap length c.push_call.ensures.history ∙ length-append history (e ∷ []) in
     let so_far = c.loop-byte.invariant.length in
+    let named : p ≡ get_or c.args.order.now c.loop-byte.byte-index 0 = c.from-partition.ensures in
     record {
       counted = subst (λ (h : History). AreCounted h scripts replies (set counts p (index + 1))) (sym c.push_call.ensures.history)
           (counted_more history e scripts replies counts script worker c.loop-byte.invariant.counted script_at own_at next);
@@ -54,7 +57,15 @@ loop-byte-preserved c =
           (c.in_ok-push_call.ensures.written ∙ (λ i. string_bytes c.loop-byte.text ++ line_of (c.loop-byte.invariant.config i) (c.loop-byte.number + 1) e));
       number = omega arith;
       length = omega arith;
+      ordered =
+          let partitions = λ (h : History). map (λ (entry : Entry). entry.partition) h in
+          ap partitions c.push_call.ensures.history ∙ map-append (λ (entry : Entry). entry.partition) history (e ∷ [])
+          ∙ (λ i. c.loop-byte.invariant.ordered i ++ named i ∷ []) ∙ sym (take_more c.args.order.now c.loop-byte.byte-index 0 c.loop-byte-test.true);
     }
+
+pub returns-clause-ordered : goal.returns-clause-ordered
+returns-clause-ordered c =
+    sym (c.loop-byte.invariant.ordered ∙ take_all c.loop-byte.byte-index c.args.order.now c.loop-byte-test.false)
 
 pub returns-clause-collected : goal.returns-clause-collected
 returns-clause-collected c =

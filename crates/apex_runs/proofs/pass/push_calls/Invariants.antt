@@ -1,4 +1,4 @@
-use Rattle.std.proofs.Common.{◌≡◌, ◌++◌, length, string_bytes}
+use Rattle.std.proofs.Common.{◌≡◌, ◌++◌, length, map, take, string_bytes}
 use Rattle.apex_ports.specs.Sound.{IsSound}
 use Rattle.apex_texts.specs.Report.{entry_lines}
 use Rattle.apex_threads.specs.Collected.{AreCounted}
@@ -12,4 +12,5 @@ invariant-loop-byte l = record {
   written : string_bytes l.text ≡ string_bytes l.fn.text ++ entry_lines l.fn.ports.config 1 l.ports.history;
   number : l.number ≡ l.byte-index;
   length : length l.ports.history ≡ l.byte-index;
+  ordered : map (λ entry. entry.partition) l.ports.history ≡ take l.byte-index l.order;
 }

@@ -1,6 +1,6 @@
 use Rattle.std.proofs.Common.{◌≡◌, ◌+◌, ◌++◌, ◌∷◌, [], length, Ok, Some, None, Err, refl, sym, ap, ◌∙◌, arith, string_bytes, length-append}
 use Rattle.std.specs.Str.Lines.{lines}
-use Rattle.apex_config.specs.Configuration.{Configuration}
+use Rattle.apex_module.specs.Configuration.{Configuration}
 use Rattle.apex_ports.specs.History.{requests_of}
 use Rattle.apex_texts.specs.Lines.{item_of_line}
 use Rattle.apex_texts.specs.Replay.{entry_after}

@@ -10,9 +10,9 @@ pub loop-index-preserved : goal.loop-index-preserved
 loop-index-preserved c =
     let messages = waiting_on c.args.ports.now.config c.args.c c.args.ports.now.history in
     let found : slice_get messages c.loop-index.index ≡ Some c.unwrap-message.result.now = sym c.waiting.ensures.message ∙ ap option_copied c.unwrap-message.ensures in
-    let grown : string_bytes c.push_message.new.text ≡ string_bytes c.loop-index.text ++ (codes " " ++ hex_text_of c.unwrap-message.result.now) =
-    rw (c.in_ok-push_message.ensures, c.in_ok-push_word.ensures) (append_assoc (string_bytes c.loop-index.text) (codes " ") (hex_text_of c.unwrap-message.result.now)) in
-    grows (string_bytes c.loop-index.text) (string_bytes c.push_message.new.text) _ _ _ _ grown (message_cut messages c.loop-index.index c.unwrap-message.result.now found) c.loop-index.invariant
+    let grown : string_bytes c.push_bytes.new.text ≡ string_bytes c.loop-index.text ++ (codes " " ++ hex_text_of c.unwrap-message.result.now) =
+    rw (c.in_ok-push_bytes.ensures, c.in_ok-push_word.ensures) (append_assoc (string_bytes c.loop-index.text) (codes " ") (hex_text_of c.unwrap-message.result.now)) in
+    grows (string_bytes c.loop-index.text) (string_bytes c.push_bytes.new.text) _ _ _ _ grown (message_cut messages c.loop-index.index c.unwrap-message.result.now found) c.loop-index.invariant
 
 pub returns : goal.returns
 returns c = complete (string_bytes c.loop-index.text) _ _ (message_end (waiting_on c.args.ports.now.config c.args.c c.args.ports.now.history) c.loop-index.index (rw c.waiting_count-index-end.ensures.count at c.loop-index-test.false)) c.loop-index.invariant

@@ -1,6 +1,6 @@
 use Rattle.std.proofs.Common.{List, refl, sym, subst}
 use Rattle.apex_types.specs.declared.reply.Reply.{Reply}
-use Rattle.apex_config.specs.Configuration.{Configuration}
+use Rattle.apex_module.specs.Configuration.{Configuration}
 use Rattle.apex_ports.specs.Interference.{IsFreeFromInterference}
 use Rattle.apex_ports.specs.Lawful.{IsLawful}
 use Rattle.apex_board.specs.BoardView.{BoardView}

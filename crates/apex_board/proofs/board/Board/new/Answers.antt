@@ -1,7 +1,7 @@
 use Rattle.std.proofs.Common.{sym, subst, ◌∙◌}
-use Rattle.apex_config.specs.Configuration.{Configuration}
+use Rattle.apex_module.specs.Configuration.{Configuration}
 use Rattle.apex_ports.specs.History.{History}
-use Rattle.apex_publishing.specs.OnChannels.{ArePublished}
+use Rattle.apex_threads.specs.OnChannels.{ArePublished}
 use Rattle.apex_board.specs.Recorded.{AreRecords}
 use Rattle.apex_board.proofs.board.Board.new.Goals as goal
 

@@ -3,7 +3,7 @@ use Rattle.apex_ports.specs.Channels.{writes_on}
 use Rattle.apex_ports.specs.History.{History}
 use Rattle.apex_ports.specs.Ports.{is_queuing}
 use Rattle.apex_board.specs.BoardView.{BoardView}
-use Rattle.apex_publishing.proofs.PublishSteps.{sampling_entry, published_writes}
+use Rattle.apex_threads.proofs.PublishSteps.{sampling_entry, published_writes}
 use Rattle.apex_board.proofs.board.Board.receipt.Goals as goal
 
 pub receipt-requires : goal.receipt-requires

@@ -1,6 +1,6 @@
 use Rattle.std.proofs.Common.{◌≡◌, ◌≤◌, ℕ, Some}
-use Rattle.apex_config.specs.Configuration.{port_of}
-use Rattle.apex_config.specs.declared.port.Port.{Port}
+use Rattle.apex_module.specs.Configuration.{port_of}
+use Rattle.apex_module.specs.declared.port.Port.{Port}
 use Rattle.apex_groups.specs.Groups.{group_of}
 use Rattle.apex_groups.proofs.groups.Groups.has_its_channels.Given as goal
 

@@ -2,7 +2,7 @@ use Rattle.std.proofs.Common.{◌≡◌, [], List, ℕ, length, refl, sym, ap, �
 use Rattle.apex_ports.specs.PortsView.{PortsView}
 use Rattle.apex_orders.specs.declared.points.Points.{Points}
 use Rattle.apex_orders.specs.Known.{IsAfter, ArePoints}
-use Rattle.apex_orders.specs.Marks.{mark_of, AreMarked}
+use Rattle.apex_orders.specs.Hashes.{hash_of, AreHashes}
 use Rattle.apex_orders.proofs.KnownLemmas.{points_push}
 use Rattle.apex_orders.proofs.points.Points.new.Goals as goal
 
@@ -10,11 +10,11 @@ pub returns-clause-points : goal.returns-clause-points
 returns-clause-points c = λ scripts.
     let config = c.args.config.now in
     let ports = c.in_ok-save.field-0 in
-    let none : Points = record { marks = c.in_ok-marks.marks; first = 0; saved = c.new-saved.result } in
-    let one : Points = record { marks = c.push.new.self; first = 0; saved = c.push_back.new.self } in
-    let unmarked : AreMarked config scripts [] [] = record { count = refl; each = λ k order at. absurd (cc) } in
+    let none : Points = record { hashes = c.in_ok-hashes.hashes; first = 0; saved = c.new-saved.result } in
+    let one : Points = record { hashes = c.push.new.self; first = 0; saved = c.push_back.new.self } in
+    let unhashed : AreHashes config scripts [] [] = record { count = refl; each = λ k order at. absurd (cc) } in
     let known : ArePoints config scripts [] none = record {
-      marked = subst (λ (ms : List ℕ). AreMarked config scripts [] ms) (sym c.in_ok-marks.ensures) unmarked;
+      hashed = subst (λ (ms : List ℕ). AreHashes config scripts [] ms) (sym c.in_ok-hashes.ensures) unhashed;
       count = let empty = ap (λ (ps : List PortsView). length ps) c.new-saved.ensures.items in omega (arith, empty);
       each = λ j view order at listed. absurd (cc);
     } in
@@ -23,5 +23,5 @@ returns-clause-points c = λ scripts.
       configured = ap (λ (v : PortsView). v.config) c.in_ok-save.ensures ∙ configured;
       history = ap (λ (v : PortsView). v.history) c.in_ok-save.ensures ∙ c.in_ok-ports.ensures.history;
     } in
-    let mark : c.mark_of.result ≡ mark_of config [] = c.mark_of.ensures ∙ (λ i. mark_of (configured i) (c.in_ok-ports.ensures.history i)) in
-    points_push config scripts [] none one known [] ports c.mark_of.result after mark refl c.in_ok-push.ensures c.in_ok-push_back.ensures.items
+    let hash : c.hash_of.result ≡ hash_of config [] = c.hash_of.ensures ∙ (λ i. hash_of (configured i) (c.in_ok-ports.ensures.history i)) in
+    points_push config scripts [] none one known [] ports c.hash_of.result after hash refl c.in_ok-push.ensures c.in_ok-push_back.ensures.items

@@ -1,5 +1,5 @@
 use Rattle.std.proofs.Common.{◌≡◌, ◌<◌, Option, length, sym, ap, subst, ◌∙◌}
-use Rattle.apex_config.specs.declared.port.Port.{Port}
+use Rattle.apex_module.specs.declared.port.Port.{Port}
 use Rattle.apex_ports.specs.PortsView.{PortsView}
 use Rattle.apex_ports.specs.Seen.{seen, sampling_port, validity_shown}
 use Rattle.apex_ports.proofs.Lookups.{partition_at}

@@ -13,7 +13,7 @@ pub returns-clause-message : goal.returns-clause-message
 returns-clause-message g c =
     let within = subst (λ (v : PortsView). c.args.c < length v.config.channels) (sym c.self.view_is) c.requires in
     let state = channel_at _ _ _ _ c.self.invariant.kept c.args.c c.index.result.now within c.index.ensures in
-    subst (λ (v : PortsView). option_copied c.waiting.result ≡ slice_get (waiting_on v.config c.args.c v.history) c.args.i) c.self.view_is (c.waiting.ensures ∙ ap (λ (xs : List (List ℕ)). slice_get xs c.args.i) state.waiting)
+    subst (λ (v : PortsView). option_copied c.waiting.result ≡ slice_get (waiting_on v.config c.args.c v.history) c.args.i) c.self.view_is (c.waiting.ensures.message ∙ ap (λ (xs : List (List ℕ)). slice_get xs c.args.i) state.waiting)
 
 pub returns-clause-sampling : goal.returns-clause-sampling
 returns-clause-sampling g c sampling =
@@ -22,4 +22,4 @@ returns-clause-sampling g c sampling =
     let state = channel_at _ _ _ _ c.self.invariant.kept c.args.c c.index.result.now within c.index.ensures in
     let none = sampling_waits_nothing _ _ c.args.c c.self.invariant.sound here in
     let waits : slice_get (waiting_in c.index.result.now) c.args.i ≡ None = ap (λ (xs : List (List ℕ)). slice_get xs c.args.i) (state.waiting ∙ none) in
-    nothing_lent c.waiting.result (c.waiting.ensures ∙ waits)
+    nothing_lent c.waiting.result (c.waiting.ensures.message ∙ waits)

@@ -1,32 +1,80 @@
-use Rattle.std.proofs.Common.{◌<◌, length, sym, ap, ◌∙◌, arith}
+use Rattle.std.proofs.Common.{◌≡◌, ◌<◌, length, List, ℕ, sym, ap, subst, ◌∙◌, arith}
+use Rattle.std.specs.Option.{option_copied}
+use Rattle.apex_types.specs.declared.call.Call.{Call}
+use Rattle.apex_ports.specs.declared.rows.Row.TheVariants as row
+use Rattle.apex_ports.specs.ReplyTable.{row_of, oldest_reply}
+use Rattle.apex_ports.specs.Seen.{seen, waiting_of}
+use Rattle.apex_ports.specs.Channels.{waiting_on}
 use Rattle.apex_ports.specs.ChannelStates.{waiting_in}
-use Rattle.apex_ports.specs.ReplyTable.{oldest_reply}
 use Rattle.apex_ports.proofs.ChannelSteps.{received_keeps, oldest_of}
 use Rattle.apex_ports.proofs.Conserved.{always_conserved}
-use Rattle.apex_ports.proofs.Lookups.{channel_at, waiting_count_is}
-use Rattle.apex_ports.proofs.Stays.{quiet_keeps, refused_is_quiet}
+use Rattle.apex_ports.proofs.Lookups.{channel_at}
+use Rattle.apex_ports.proofs.RowFacts.{received_at, received_only, destination_of}
 use Rattle.apex_ports.proofs.state.State.receive.Goals as goal
+
+pub unreachable-requires : goal.unreachable-requires
+unreachable-requires g c =
+    let config = c.args.config.now in
+    let h = c.args.self.now.history in
+    let p = c.args.partition in
+    let s = seen config h p in
+    let only = received_only config s p c.args.at c.args.call.now c.args.id c.requires.row in
+    let given = subst (λ (x : Call). row_of config s p c.args.at x ≡ row.OldestReceived c.args.id) only c.requires.row in
+    let found = received_at config s p c.args.at c.args.id c.args.id given in
+    let some = found.1.found in
+    let none = sym c.configured_port.ensures.found ∙ ap option_copied c.in_default.is in
+    absurd (cc)
 
 pub receive-requires : goal.receive-requires
 receive-requires g c =
-    let was = channel_at _ _ _ _ c.requires.kept _ _ c.in-Ok.ensures.channel c.index_mut.ensures.value in
-    omega (arith, waiting_count_is _ _ _ _ was, c.in-Ok.ensures.some)
+    let config = c.args.config.now in
+    let h = c.args.self.now.history in
+    let p = c.args.partition in
+    let s = seen config h p in
+    let only = received_only config s p c.args.at c.args.call.now c.args.id c.requires.row in
+    let given = subst (λ (x : Call). row_of config s p c.args.at x ≡ row.OldestReceived c.args.id) only c.requires.row in
+    let found = received_at config s p c.args.at c.args.id c.args.id given in
+    let q = c.in-Some.port.now in
+    let end = destination_of config p c.args.id found.0 q found.1 c.in-Some.ensures.found in
+    let was = channel_at _ _ _ _ c.requires.current.kept q.channel c.index_mut.result.now c.in-Some.ensures.linked c.index_mut.ensures.value in
+    let waits : s.waiting c.args.id ≡ waiting_on config q.channel h = ap (waiting_of config h) (sym c.in-Some.ensures.found) in
+    let count = ap (λ (xs : List (List ℕ)). length xs) (waits ∙ sym was.waiting) in
+    let some = found.2 in
+    omega (arith, count, some)
 
-pub returns-in-Ok-clause-reply : goal.returns-in-Ok-clause-reply
-returns-in-Ok-clause-reply g c =
-    let was = channel_at _ _ _ _ c.requires.kept _ _ c.in-Ok.ensures.channel c.index_mut.ensures.value in
-    rw c.in-Ok.ensures.decided (c.receive.ensures.reply ∙ ap oldest_reply (was.waiting ∙ sym c.in-Ok.ensures.waiting))
+pub returns-clause-reply : goal.returns-clause-reply
+returns-clause-reply g c =
+    let config = c.args.config.now in
+    let h = c.args.self.now.history in
+    let p = c.args.partition in
+    let s = seen config h p in
+    let only = received_only config s p c.args.at c.args.call.now c.args.id c.requires.row in
+    let given = subst (λ (x : Call). row_of config s p c.args.at x ≡ row.OldestReceived c.args.id) only c.requires.row in
+    let found = received_at config s p c.args.at c.args.id c.args.id given in
+    let q = c.in-Some.port.now in
+    let end = destination_of config p c.args.id found.0 q found.1 c.in-Some.ensures.found in
+    let was = channel_at _ _ _ _ c.requires.current.kept q.channel c.index_mut.result.now c.in-Some.ensures.linked c.index_mut.ensures.value in
+    let waits : s.waiting c.args.id ≡ waiting_on config q.channel h = ap (waiting_of config h) (sym c.in-Some.ensures.found) in
+    c.receive.ensures.reply ∙ ap oldest_reply (was.waiting ∙ sym waits)
 
-pub returns-in-Ok-clause-kept : goal.returns-in-Ok-clause-kept
-returns-in-Ok-clause-kept g c at =
-    let was = channel_at _ _ _ _ c.requires.kept _ _ c.in-Ok.ensures.channel c.index_mut.ensures.value in
-    let conserved = always_conserved _ _ c.in-Ok.channel c.requires.sound in
-    let some : 0 < length (waiting_in c.index_mut.result.now) = omega (arith, waiting_count_is _ _ _ _ was, c.in-Ok.ensures.some) in
-    let oldest = oldest_of (waiting_in c.index_mut.result.now) some in
-    rw (c.receive.ensures.reply, oldest.2)
-    (received_keeps _ _ _ _ _ at _ c.in-Ok.channel oldest.0 c.index_mut.result.now c.receive.new.self c.requires.kept conserved c.in-Ok.ensures.destination was oldest.1
-    c.receive.ensures.waiting c.receive.ensures.depth c.receive.ensures.accepted c.receive.ensures.received c.receive.ensures.cleared c.receive.ensures.sample c.receive.ensures.kind)
-
-pub returns-in-Err-clause-kept : goal.returns-in-Err-clause-kept
-returns-in-Err-clause-kept g c at =
-    rw c.put_refusal.ensures.code (quiet_keeps _ _ _ _ _ at _ _ c.requires.kept (refused_is_quiet _ _ c.put_refusal.ensures.refused))
+pub returns-clause-kept : goal.returns-clause-kept
+returns-clause-kept g c =
+    let config = c.args.config.now in
+    let h = c.args.self.now.history in
+    let p = c.args.partition in
+    let s = seen config h p in
+    let only = received_only config s p c.args.at c.args.call.now c.args.id c.requires.row in
+    let given = subst (λ (x : Call). row_of config s p c.args.at x ≡ row.OldestReceived c.args.id) only c.requires.row in
+    let found = received_at config s p c.args.at c.args.id c.args.id given in
+    let q = c.in-Some.port.now in
+    let end = destination_of config p c.args.id found.0 q found.1 c.in-Some.ensures.found in
+    let was = channel_at _ _ _ _ c.requires.current.kept q.channel c.index_mut.result.now c.in-Some.ensures.linked c.index_mut.ensures.value in
+    let waits : s.waiting c.args.id ≡ waiting_on config q.channel h = ap (waiting_of config h) (sym c.in-Some.ensures.found) in
+    let conserved = always_conserved config h q.channel c.requires.current.sound in
+    let count = ap (λ (xs : List (List ℕ)). length xs) (waits ∙ sym was.waiting) in
+    let some = found.2 in
+    let waiting : 0 < length (waiting_in c.index_mut.result.now) = omega (arith, count, some) in
+    let oldest = oldest_of (waiting_in c.index_mut.result.now) waiting in
+    rw (only, c.receive.ensures.reply, oldest.2)
+    (received_keeps _ _ _ _ p c.args.at c.args.id q.channel oldest.0 c.index_mut.result.now c.receive.new.self c.requires.current.kept conserved end was oldest.1
+    c.receive.ensures.waiting c.receive.ensures.depth c.receive.ensures.size c.receive.ensures.accepted c.receive.ensures.received c.receive.ensures.cleared c.receive.ensures.sample c.receive.ensures.kind)

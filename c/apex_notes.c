@@ -1,0 +1,134 @@
+/* What apex.c notes of each call: for a host for processes, for a record of calls and for the words of a refusal; and
+ * the lines that a bench says. */
+#undef _POSIX_C_SOURCE
+#define _POSIX_C_SOURCE 200809L
+
+#include "apex_host.h"
+
+#include <stdio.h>
+#include <string.h>
+
+const struct apex_host *apex_host;
+void (*apex_keep)(const struct apex_made *made);
+bool (*apex_fault)(struct apex_made *made);
+
+/* The last refused call of the thread, with the name that it was made with. */
+static _Thread_local struct {
+    bool is_there;
+    uint32_t partition;
+    struct apex_call call;
+    size_t length;
+    uint8_t name[MAX_NAME_LENGTH];
+} refused;
+
+static bool has_name(uint32_t service) {
+    return service == APEX_CREATE_SAMPLING_PORT || service == APEX_CREATE_QUEUING_PORT ||
+           service == APEX_GET_SAMPLING_PORT_ID || service == APEX_GET_QUEUING_PORT_ID;
+}
+
+void apex_note(const struct apex_made *made) {
+    if (made->answer > APEX_NOT_MADE) {
+        return;
+    }
+    if (made->answer != NO_ERROR) {
+        refused.is_there = true;
+        refused.partition = made->partition;
+        refused.call = made->call;
+        refused.length = made->length;
+        if (has_name(made->call.service)) {
+            memcpy(refused.name, made->bytes, made->length);
+        }
+    }
+    if (apex_keep != NULL) {
+        apex_keep(made);
+    }
+    if (apex_host != NULL) {
+        apex_host->made(made);
+    }
+}
+
+void apex_forget_words(void) { refused.is_there = false; }
+
+void apex_note_message(struct apex_made made, const void *bytes, size_t length) {
+    made.bytes = bytes;
+    made.length = length;
+    apex_note(&made);
+}
+
+void apex_note_received(struct apex_made made, const uint8_t *message, uint32_t length, uint32_t validity) {
+    made.message = message;
+    made.message_length = length;
+    made.validity = validity;
+    apex_note(&made);
+}
+
+void apex_note_queuing_status(struct apex_made made, const struct apex_queuing_port_status *status) {
+    made.queuing = status;
+    apex_note(&made);
+}
+
+void apex_note_sampling_status(struct apex_made made, const struct apex_sampling_port_status *status) {
+    made.sampling = status;
+    apex_note(&made);
+}
+
+void apex_note_named(struct apex_made made, const char *name, uint32_t id) {
+    made.bytes = name;
+    made.length = strnlen(name, MAX_NAME_LENGTH);
+    made.id = id;
+    apex_note(&made);
+}
+
+/* What the bench says. */
+
+static void (*bench_sink)(const char *line);
+
+void bench_tell_to(void (*sink)(const char *line)) { bench_sink = sink; }
+
+void apex_tell(const char *line) {
+    if (bench_sink != NULL) {
+        bench_sink(line);
+    } else {
+        fprintf(stderr, "%s\n", line);
+    }
+}
+
+/* Says each line of the refusal of a configuration. */
+void apex_tell_mistakes(const void *text, size_t length) {
+    static char lines[16384];
+    uint64_t lines_length = 0;
+    apex_configuration_mistakes(text, length, (uint8_t *)lines, sizeof lines - 1, &lines_length);
+    if (lines_length >= sizeof lines) {
+        return;
+    }
+    lines[lines_length] = '\0';
+    char *rest = lines;
+    for (char *end = strchr(rest, '\n'); end != NULL; rest = end + 1, end = strchr(rest, '\n')) {
+        *end = '\0';
+        apex_tell(rest);
+    }
+    if (*rest != '\0') {
+        apex_tell(rest);
+    }
+}
+
+const char *bench_last_words(void) {
+    static _Thread_local char words[512];
+    static const uint8_t no_message[APEX_MESSAGE_LIMIT];
+    uint64_t length = 0;
+    words[0] = '\0';
+    if (refused.is_there) {
+        apex_call_words(bench_take_handle(), refused.partition, 0, &refused.call,
+                        has_name(refused.call.service) ? refused.name : no_message, refused.length, (uint8_t *)words,
+                        sizeof words - 1, &length);
+        bench_give_handle_back();
+        words[length < sizeof words ? length : 0] = '\0';
+    }
+    return words;
+}
+
+void bench_name(NAME_TYPE name, const char *text) {
+    const size_t length = strnlen(text, MAX_NAME_LENGTH);
+    memset(name, 0, MAX_NAME_LENGTH);
+    memcpy(name, text, length);
+}

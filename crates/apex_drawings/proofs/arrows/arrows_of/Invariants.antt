@@ -1,6 +1,0 @@
-use Rattle.std.proofs.Common.{◌≡◌, ◌++◌, drop, take}
-use Rattle.apex_drawings.specs.Arrows.{arrows_after, arrows_of}
-use Rattle.apex_drawings.proofs.arrows.arrows_of.Given as goal
-
-abbrev pub invariant-loop-index : goal.invariant-loop-index
-invariant-loop-index l = l.arrows.items ++ arrows_after l.config (take l.index l.calls) (drop l.index l.calls) ≡ arrows_of l.config l.calls

@@ -1,4 +1,0 @@
-pub mod Arrows
-pub mod Chart
-pub mod Escaping
-pub mod FaultLine

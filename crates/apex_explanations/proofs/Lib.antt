@@ -1,4 +1,0 @@
-pub mod NoteLemmas
-pub mod RemarkLemmas
-pub mod TableLemmas
-pub mod TellingLemmas

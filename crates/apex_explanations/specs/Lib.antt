@@ -1,5 +1,0 @@
-pub mod Ended
-pub mod Explanation
-pub mod Notes
-pub mod PortTable
-pub mod Remarks

@@ -1,0 +1,137 @@
+-- The scripts of the partitions inside come to what all scripts come to inside.
+use Rattle.std.proofs.Common.{◌≡◌, ⊎_elim, ℕ, ◌<◌, ◌≤◌, Bool, true, false, List, [], length, map, take, Ok, Err, Result, Option, refl, sym, ap, ◌∙◌, subst, arith}
+use Rattle.std.specs.Prelude.{IfOk, IfSome, IfNone}
+use Rattle.std.specs.List.{slice_get}
+use Rattle.std.proofs.lemmas.Bool.{cases_lt}
+use Rattle.std.proofs.lemmas.List.{take_all}
+use Rattle.apex_types.specs.declared.call.Call.{Call}
+use Rattle.apex_types.specs.declared.moment.Moment.{Moment}
+use Rattle.apex_module.specs.Configuration.{Configuration, IsConfiguration}
+use Rattle.apex_ports.specs.declared.history.Entry.{Entry}
+use Rattle.apex_ports.specs.History.{History, entries_of}
+use Rattle.apex_ports.specs.Interference.{IsClosed, entries_inside}
+use Rattle.apex_ports.proofs.Interference.{independent}
+use Rattle.apex_groups.specs.Groups.{IsPart}
+use Rattle.apex_groups.proofs.Exchanged.{here_inside, no_list, none_outside}
+use Rattle.apex_groups.proofs.Inside.{all_inside, entries_go, entries_stay}
+use Rattle.apex_orders.specs.declared.asked.Asked.{Asked}
+use Rattle.apex_orders.specs.declared.orders_fault.OrdersFault.{OrdersFault}
+use Rattle.apex_orders.specs.declared.orders_fault.OrdersFault.TheVariants.{TooManyStates, OutOfMemory}
+use Rattle.apex_orders.specs.declared.replies.PossibleReply.{PossibleReply}
+use Rattle.apex_orders.specs.Orders.{Scripts, script_of, calls_of, IsBeginning, IsWay}
+use Rattle.apex_orders.specs.Outcomes.{AreEnds, AreReplies, CanBeAnswered, CanOccur, HasMorePoints, IsAnsweredBy, IsUndecided}
+use Rattle.apex_orders.specs.declared.outcomes.Outcomes.{Outcomes}
+use Rattle.apex_orders.proofs.Completing.{answered_on, begins_of, finish}
+use Rattle.apex_orders.proofs.Walks.{IsGood}
+use Rattle.apex_groups.specs.ScriptParts.{IsAnswerOf, IsFoundOf}
+use Rattle.apex_groups.proofs.Lists.{nothing_mapped}
+
+abbrev timed_of : Entry → Moment × Call
+timed_of entry = (entry.at, entry.call)
+
+-- a partition without calls has no entries, and gets no reply
+no_entries : (scripts : Scripts) (p : ℕ) (h : History) → script_of scripts p ≡ [] → calls_of p h ≡ script_of scripts p → entries_of p h ≡ []
+no_entries scripts p h none is = nothing_mapped timed_of (entries_of p h) (is ∙ none)
+
+no_reply : (config : Configuration) (scripts : Scripts) (one : PossibleReply) → script_of scripts one.partition ≡ [] → CanOccur config scripts one → ⊥
+no_reply config scripts one none can =
+    let nothing = no_entries scripts one.partition can.way none (can.is_way.calls one.partition) in
+    let at = sym (ap (λ (es : History). slice_get (map (λ (entry : Entry). entry.reply) es) one.index) nothing) ∙ can.reply in
+    absurd (cc)
+
+-- what is answered is a partition's of the configuration
+pub occurs_within : (config : Configuration) (scripts : Scripts) → length scripts ≡ length config.partitions → (one : PossibleReply) → CanOccur config scripts one → one.partition < length config.partitions
+occurs_within config scripts count one can = ⊎_elim
+    (λ (within : one.partition < length config.partitions). within)
+    (λ (beyond : length config.partitions ≤ one.partition). absurd (no_reply config scripts one (no_list scripts one.partition (omega (arith, count, beyond))) can))
+    (cases_lt one.partition (length config.partitions))
+
+module _ (config : Configuration) (inside : ℕ → Bool) (scripts part : Scripts) (is : IsPart inside scripts part) where
+  -- ---- answers
+
+  pub found_of : (result : Result Outcomes OrdersFault) → IfOk result (λ found. AreReplies config part found.replies.items) → IfOk result (λ found. AreEnds config part found.ends.items)
+      → IfOk result (IsFoundOf config inside scripts)
+  found_of (Ok found) replies ends = record { part = part; is = is; replies = replies; ends = ends }
+  found_of (Err fault) replies ends = replies
+
+  pub answer_of : (asked : Asked) (result : Result (Option (List ℕ)) OrdersFault) → IfOk result (λ answer. IfSome answer (λ order. IsAnsweredBy config part asked order))
+      → IfOk result (λ answer. IfNone answer (CanBeAnswered config part asked → ⊥)) → IfOk result (IsAnswerOf config inside scripts asked)
+  answer_of asked (Ok answer) found never = record { part = part; is = is; found = found; never = never }
+  answer_of asked (Err fault) found never = found
+
+  -- ---- beginnings
+
+  pub part_begins : (h : History) → IsBeginning config part h → IsBeginning config scripts h
+  part_begins h begins = record { lawful = begins.lawful; calls = λ p. by_test p (inside p) refl }
+    where
+      by_test : (p : ℕ) (b : Bool) → inside p ≡ b → calls_of p h ≡ take (length (calls_of p h)) (script_of scripts p)
+      by_test p true here = begins.calls p ∙ ap (take (length (calls_of p h))) (here_inside inside scripts part is p here)
+      by_test p false out =
+          let none : calls_of p h ≡ [] = begins.calls p ∙ (ap (take (length (calls_of p h))) (none_outside inside scripts part is p out) ∙ take_all (length (calls_of p h)) [] (omega arith)) in
+          subst (λ (calls : List (Moment × Call)). calls ≡ take (length calls) (script_of scripts p)) (sym none) refl
+
+  -- a way of the part has entries of the partitions inside alone
+  pub part_inside : (way : History) → IsWay config part way → entries_inside inside way ≡ way
+  part_inside way is_way = all_inside inside way (λ p out. no_entries part p way (none_outside inside scripts part is p out) (is_way.calls p))
+
+  pub good_part : IsConfiguration config → (way : History) → IsWay config part way → IsGood config scripts way
+  good_part valid way is_way = record {
+    sound = record { valid = valid; lawful = is_way.lawful };
+    calls = (part_begins way (begins_of config part valid way is_way)).calls;
+  }
+
+  -- more points than a bound are points of all scripts, too
+  more_points : (bound : ℕ) → HasMorePoints config part bound → HasMorePoints config scripts bound
+  more_points bound more = record {
+    histories = more.histories;
+    many = more.many;
+    beginnings = λ h has. part_begins h (more.beginnings h has);
+    apart = more.apart;
+  }
+
+  pub undecided_part : {X : Type 0} (bound : ℕ) (result : Result X OrdersFault) → IsUndecided config part bound result → IsUndecided config scripts bound result
+  undecided_part bound (Ok found) undecided = tt
+  undecided_part bound (Err TooManyStates) undecided = more_points bound undecided
+  undecided_part bound (Err OutOfMemory) undecided = tt
+
+  -- ---- ways and replies
+
+  pub way_inside : IsClosed config inside → (way : History) → IsWay config scripts way → IsWay config part (entries_inside inside way)
+  way_inside closed way is_way = record {
+    lawful = (independent config inside closed way is_way.lawful).alone;
+    calls = λ p. by_test p (inside p) refl;
+  }
+    where
+      by_test : (p : ℕ) (b : Bool) → inside p ≡ b → calls_of p (entries_inside inside way) ≡ script_of part p
+      by_test p true here = ap (map timed_of) (entries_stay inside p here way) ∙ (is_way.calls p ∙ sym (here_inside inside scripts part is p here))
+      by_test p false out = ap (map timed_of) (entries_go inside p out way) ∙ sym (none_outside inside scripts part is p out)
+
+  pub occurs_in_part : IsClosed config inside → (one : PossibleReply) → inside one.partition ≡ true → CanOccur config scripts one → CanOccur config part one
+  occurs_in_part closed one here can = record {
+    way = entries_inside inside can.way;
+    is_way = way_inside closed can.way can.is_way;
+    reply = ap (λ (es : History). slice_get (map (λ (entry : Entry). entry.reply) es) one.index) (entries_stay inside one.partition here can.way) ∙ can.reply;
+  }
+
+  pub answered_in_part : IsClosed config inside → (asked : Asked) → inside asked.partition ≡ true → CanBeAnswered config scripts asked → CanBeAnswered config part asked
+  answered_in_part closed asked here can = record {
+    one = can.one;
+    answers = can.answers;
+    occurs = occurs_in_part closed can.one (ap inside can.answers.partition ∙ here) can.occurs;
+  }
+
+  pub occurs_in_all : IsConfiguration config → length scripts ≡ length config.partitions → (one : PossibleReply) → CanOccur config part one → CanOccur config scripts one
+  occurs_in_all valid count one can =
+      let ended = finish config scripts valid count can.way (good_part valid can.way can.is_way) in
+      record {
+        way = _;
+        is_way = ended.finished;
+        reply = answered_on config scripts valid can.way ended.order one can.reply;
+      }
+
+  pub occurs_inside : (one : PossibleReply) → CanOccur config part one → inside one.partition ≡ true
+  occurs_inside one can = by_test (inside one.partition) refl
+    where
+      by_test : (b : Bool) → inside one.partition ≡ b → b ≡ true
+      by_test true here = refl
+      by_test false out = absurd (no_reply config part one (none_outside inside scripts part is one.partition out) can)

@@ -1,0 +1,6 @@
+use Rattle.std.proofs.Common.{◌≡◌, ◌++◌}
+use Rattle.std.specs.Prelude.{replicate}
+use Rattle.apex_groups.proofs.ends.push_times.Given as goal
+
+abbrev pub invariant-loop : goal.invariant-loop
+invariant-loop l = l.partitions.items ≡ l.fn.partitions.items ++ replicate l.counter l.p

@@ -1,0 +1,36 @@
+use Rattle.std.proofs.Common.{◌≡◌, ℕ, Bool, [], length, ◌∙◌, subst}
+use Rattle.std.specs.Prelude.{replicate}
+use Rattle.apex_orders.specs.Orders.{Scripts}
+use Rattle.apex_groups.specs.Groups.{AreExchanged, in_group}
+use Rattle.apex_groups.proofs.Exchanged.{exchanged_back, put_in}
+use Rattle.apex_groups.proofs.PartLemmas.{found_of, undecided_part}
+use Rattle.apex_groups.proofs.script_parts.outcomes_of.Goals as goal
+
+pub returns-clause-scripts : goal.returns-clause-scripts
+returns-clause-scripts g c =
+    exchanged_back (in_group c.args.groups.now.of_partitions.items c.args.group) c.args.scripts.now c.as_mut_slice-part.result.now c.exchange.new.one c.exchange.new.other c.exchange-2.new.one
+    c.exchange.ensures.one c.exchange.ensures.other c.exchange-2.ensures.one
+
+pub returns-clause-found : goal.returns-clause-found
+returns-clause-found g c =
+    let config = c.args.config.now in
+    let scripts = c.args.scripts.now in
+    let part = c.exchange.new.other in
+    let inside : ℕ → Bool = in_group c.args.groups.now.of_partitions.items c.args.group in
+    let none : c.as_mut_slice-part.result.now ≡ replicate (length config.partitions) [] =
+    c.as_mut_slice-part.ensures.value ∙ (c.in_ok-part.ensures ∙ (λ i. replicate (c.partitions.ensures.count i) [])) in
+    let put : AreExchanged inside (replicate (length config.partitions) []) scripts part = subst (λ (own : Scripts). AreExchanged inside own scripts part) none c.exchange.ensures.other in
+    found_of config inside scripts part (put_in inside scripts (length config.partitions) part put) c.all_outcomes_with_progress-found.result
+    c.all_outcomes_with_progress-found.ensures.replies c.all_outcomes_with_progress-found.ensures.ends
+
+pub returns-clause-undecided : goal.returns-clause-undecided
+returns-clause-undecided g c =
+    let config = c.args.config.now in
+    let scripts = c.args.scripts.now in
+    let part = c.exchange.new.other in
+    let inside : ℕ → Bool = in_group c.args.groups.now.of_partitions.items c.args.group in
+    let none : c.as_mut_slice-part.result.now ≡ replicate (length config.partitions) [] =
+    c.as_mut_slice-part.ensures.value ∙ (c.in_ok-part.ensures ∙ (λ i. replicate (c.partitions.ensures.count i) [])) in
+    let put : AreExchanged inside (replicate (length config.partitions) []) scripts part = subst (λ (own : Scripts). AreExchanged inside own scripts part) none c.exchange.ensures.other in
+    undecided_part config inside scripts part (put_in inside scripts (length config.partitions) part put) c.args.bound c.all_outcomes_with_progress-found.result
+    c.all_outcomes_with_progress-found.ensures.undecided

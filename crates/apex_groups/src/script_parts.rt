@@ -1,0 +1,77 @@
+//! The scripts of one group.
+ghost use Rattle.std.specs.Prelude.{◌≡◌, [], length, replicate, IfOk};
+ghost use Rattle.apex_groups.specs.Groups.{in_group};
+ghost use Rattle.apex_orders.specs.Outcomes.{IsUndecided};
+ghost use Rattle.apex_groups.specs.ScriptParts.{IsAnswerOf, IsFoundOf};
+
+use crate::exchanging::exchange;
+use crate::groups::Groups;
+use apex_module::Config;
+use apex_orders::{
+    Asked, Order, OrdersFault, Outcomes, Progress, all_outcomes_with_progress,
+    order_giving_with_progress,
+};
+use apex_ports::Script;
+use std::alloc::{AllocError, Global};
+
+/// `count` empty scripts.
+fn no_scripts(alloc: Global, count: usize) -> Result<Vec<Script>, AllocError>
+    ensures { IfOk result (λ scripts. scripts.items ≡ replicate count []) }
+{
+    let mut scripts = Vec::with_capacity(alloc, count)?;
+    for _ in 0..count {
+        scripts.push(Script {
+            calls: Vec::new(alloc),
+        })?;
+    }
+    Ok(scripts)
+}
+
+/// All that can happen to the scripts of one group's partitions. The scripts stay as they were.
+pub(crate) fn outcomes_of<P: Progress>(
+    alloc: Global,
+    config: &Config,
+    groups: &Groups,
+    group: usize,
+    scripts: &mut [Script],
+    bound: usize,
+    progress: &mut P,
+) -> Result<Outcomes, OrdersFault>
+    requires { length scripts.old ≡ length config.now.partitions }
+    ensures scripts { scripts.new ≡ scripts.old }
+    ensures found { IfOk result
+        (IsFoundOf config.now (in_group groups.now.of_partitions.items group) scripts.old) }
+    ensures undecided { IsUndecided config.now scripts.old bound result }
+{
+    let mut part = no_scripts(alloc, config.partitions())?;
+    let part = part.as_mut_slice();
+    exchange(groups, group, scripts, part);
+    let found = all_outcomes_with_progress(alloc, config, part, bound, progress);
+    exchange(groups, group, scripts, part);
+    found
+}
+
+/// An order of the calls of one group that answers the question. The scripts stay as they were.
+pub(crate) fn order_of<P: Progress>(
+    alloc: Global,
+    config: &Config,
+    groups: &Groups,
+    group: usize,
+    scripts: &mut [Script],
+    asked: &Asked,
+    bound: usize,
+    progress: &mut P,
+) -> Result<Option<Order>, OrdersFault>
+    requires { length scripts.old ≡ length config.now.partitions }
+    ensures scripts { scripts.new ≡ scripts.old }
+    ensures found { let inside = in_group groups.now.of_partitions.items group in
+        IfOk result (IsAnswerOf config.now inside scripts.old asked.now) }
+    ensures undecided { IsUndecided config.now scripts.old bound result }
+{
+    let mut part = no_scripts(alloc, config.partitions())?;
+    let part = part.as_mut_slice();
+    exchange(groups, group, scripts, part);
+    let found = order_giving_with_progress(alloc, config, part, asked, bound, progress);
+    exchange(groups, group, scripts, part);
+    found
+}

@@ -1,0 +1,69 @@
+//! An order in which a call gets a reply, looked for in the group of its partition.
+ghost use Rattle.std.specs.Prelude.{◌≡◌, length, IfOk, IfSome, IfNone};
+ghost use Rattle.apex_groups.specs.Groups.{AreApart};
+ghost use Rattle.apex_orders.specs.Outcomes.{CanBeAnswered, IsAnsweredBy, IsUndecided};
+
+use crate::ends::calls_inside;
+use crate::groups::Groups;
+use crate::script_parts::order_of;
+use apex_module::Config;
+use apex_orders::{Asked, Order, OrdersFault, Progress, order_giving_with_progress};
+use apex_ports::Script;
+use std::alloc::Global;
+
+/// An order in which the asked call gets an admitted reply, as `order_giving` of `apex_orders` answers it, but only the calls
+/// of the group of the call's partition are searched. The scripts change only during the search.
+pub fn order_giving_apart<P: Progress>(
+    alloc: Global,
+    config: &Config,
+    scripts: &mut [Script],
+    asked: &Asked,
+    bound: usize,
+    progress: &mut P,
+) -> Result<Option<Order>, OrdersFault>
+    requires { length scripts.old ≡ length config.now.partitions }
+    ensures same { scripts.new ≡ scripts.old }
+    ensures found { IfOk result
+        (λ answer. IfSome answer (λ order. IsAnsweredBy config.now scripts.old asked.now order)) }
+    ensures never { IfOk result
+        (λ answer. IfNone answer (¬ CanBeAnswered config.now scripts.old asked.now)) }
+    ensures undecided { IsUndecided config.now scripts.old bound result }
+{
+    let groups = Groups::new(alloc, config)?;
+    if !groups.are_one() && groups.are_apart(config) {
+        return order_in_group(alloc, config, &groups, scripts, asked, bound, progress);
+    }
+    order_giving_with_progress(alloc, config, scripts, asked, bound, progress)
+}
+
+/// Searches the calls of the group of the call's partition.
+fn order_in_group<P: Progress>(
+    alloc: Global,
+    config: &Config,
+    groups: &Groups,
+    scripts: &mut [Script],
+    asked: &Asked,
+    bound: usize,
+    progress: &mut P,
+) -> Result<Option<Order>, OrdersFault>
+    requires count { length scripts.old ≡ length config.now.partitions }
+    requires apart { AreApart config.now groups.now.of_partitions.items }
+    ensures same { scripts.new ≡ scripts.old }
+    ensures found { IfOk result
+        (λ answer. IfSome answer (λ order. IsAnsweredBy config.now scripts.old asked.now order)) }
+    ensures never { IfOk result
+        (λ answer. IfNone answer (¬ CanBeAnswered config.now scripts.old asked.now)) }
+    ensures undecided { IsUndecided config.now scripts.old bound result }
+{
+    let group = groups.of_partition(asked.partition);
+    match order_of(
+        alloc, config, groups, group, scripts, asked, bound, progress,
+    ) {
+        Err(fault) => Err(fault),
+        Ok(None) => Ok(None),
+        Ok(Some(order)) => {
+            let own = calls_inside(alloc, groups, group, &order)?;
+            Ok(Some(Order::new(own)))
+        }
+    }
+}

@@ -1,0 +1,7 @@
+use Rattle.std.proofs.Common.{drop, ap, ◌∙◌}
+use Rattle.std.proofs.lemmas.List.{drop-drop}
+use Rattle.apex_judge.proofs.queue.Queue.discard.Goals as goal
+
+pub loop-preserved : goal.loop-preserved
+loop-preserved g c =
+    c.discard_oldest.ensures ∙ (ap (drop 1) c.loop.invariant ∙ drop-drop 1 c.loop.counter c.args.self.now)

@@ -1,0 +1,45 @@
+//! What the log shows to each partition.
+ghost use Rattle.std.proofs.Common.{ap};
+ghost use Rattle.apex_ports.specs.Seen.{sample_of};
+ghost use Rattle.apex_judge.specs.Kept.{IsShown};
+ghost use Rattle.apex_judge.specs.Shown.{shown, waiting_shown_at};
+
+use crate::state::State;
+use apex_module::{Config, Port};
+use apex_ports::view::View;
+use apex_types::{Mode, Sample, Validity};
+use std::alloc::Allocator;
+
+impl<A: Allocator> View for State<A> {
+    ghost is_kept = { λ config state. IsShown config state.log state };
+
+    ghost seen = { λ config state partition. shown config state.log partition };
+
+    ghost nothing_waits = { λ config state p id none. ap (waiting_shown_at config state.log) none };
+
+    ghost nothing_written = { λ config state p id none. ap (sample_of config state.log) none };
+
+    fn mode(&self, config: &Config, partition: usize) -> Mode {
+        self.partitions[partition].mode
+    }
+
+    fn is_created(&self, config: &Config, partition: usize, id: u32) -> bool {
+        self.partitions[partition].is_created(id)
+    }
+
+    fn last_validity(&self, config: &Config, partition: usize, id: u32) -> Validity {
+        self.partitions[partition].last_validity(id)
+    }
+
+    fn waiting_count(&self, config: &Config, partition: usize, id: u32, port: &Port) -> usize {
+        self.channels[port.channel].waiting_count()
+    }
+
+    fn oldest(&self, config: &Config, partition: usize, id: u32, port: &Port) -> Option<&[u8]> {
+        self.channels[port.channel].oldest()
+    }
+
+    fn sample(&self, config: &Config, partition: usize, id: u32, port: &Port) -> Option<&Sample> {
+        self.channels[port.channel].sample.as_ref()
+    }
+}

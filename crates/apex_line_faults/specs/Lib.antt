@@ -1,2 +1,0 @@
-pub mod FaultyLines
-pub mod LinePlace

@@ -1,2 +1,0 @@
-pub mod GroupLemmas
-pub mod Joined

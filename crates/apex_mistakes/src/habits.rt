@@ -1,0 +1,83 @@
+//! What is written elsewhere and isn't part of a trace or a script.
+use crate::known::FaultyLine;
+use apex_texts::{Expected, LineFault, Service};
+
+/// What begins a comment elsewhere.
+const COMMENTS: [&str; 5] = ["//", "/*", "--", ";", "%"];
+
+/// The advice for a faulty line that is written as elsewhere, if it is.
+pub(crate) fn advice_of(faulty: &FaultyLine<'_>) -> Option<&'static str> {
+    if let LineFault::NotAscii = faulty.place.fault {
+        return advice_on_bytes(faulty);
+    }
+    if begins_comment(faulty.first_word()?) {
+        return Some("a comment begins with `#`");
+    }
+    let word = faulty.faulty_word()?;
+    if has_arrow(word) {
+        return Some("replies stand in logs, which `dekarino judge` reads");
+    }
+    match faulty.place.expected {
+        Expected::EndOfLine => advice_at_end(faulty, word),
+        Expected::Partition if is_of_report(faulty, word) => {
+            Some("this looks like a report; a line begins with the moment of its call")
+        }
+        _ => None,
+    }
+}
+
+/// The advice for a line with a byte that isn't ASCII.
+fn advice_on_bytes(faulty: &FaultyLine<'_>) -> Option<&'static str> {
+    let rest = faulty.line.get(faulty.place.column.saturating_sub(1)..)?;
+    if faulty.line.starts_with(b"\xEF\xBB\xBF") {
+        Some("the line begins with a byte order mark: save the file without it")
+    } else if faulty.line.starts_with(b"\xFF\xFE") || faulty.line.starts_with(b"\xFE\xFF") {
+        Some("this looks like UTF-16; save the file as ASCII")
+    } else if rest.starts_with(b"\xC2\xA0") {
+        Some("it begins a no-break space: write a space")
+    } else if faulty.first_word()?.starts_with(b"#") {
+        Some("comments are ASCII too")
+    } else {
+        None
+    }
+}
+
+/// The advice for a word after a call: a comment, or a time-out.
+fn advice_at_end(faulty: &FaultyLine<'_>, word: &[u8]) -> Option<&'static str> {
+    if word.starts_with(b"#") {
+        return Some("a comment has a line of its own");
+    }
+    if begins_comment(word) {
+        return Some("a comment has a line of its own, which begins with `#`");
+    }
+    match faulty.service() {
+        Some(Service::SendQueuing | Service::ReceiveQueuing) if is_number(word) => {
+            Some("no time-out is written: a call never waits")
+        }
+        _ => None,
+    }
+}
+
+fn begins_comment(word: &[u8]) -> bool {
+    COMMENTS
+        .iter()
+        .any(|mark| word.starts_with(mark.as_bytes()))
+}
+
+/// Whether a word has the arrow before a logged reply.
+fn has_arrow(word: &[u8]) -> bool {
+    word.windows(2).any(|pair| pair == b"->".as_slice())
+}
+
+/// Whether a line begins as one of a report does: with the number of a call, its moment, and its partition.
+fn is_of_report(faulty: &FaultyLine<'_>, word: &[u8]) -> bool {
+    match faulty.next_word() {
+        Some(next) => is_number(word) && faulty.config.partition_called(next).is_some(),
+        None => false,
+    }
+}
+
+/// Whether a word has decimal digits alone.
+pub(crate) fn is_number(word: &[u8]) -> bool {
+    word.iter().all(|byte| byte.is_ascii_digit())
+}

@@ -1,0 +1,5 @@
+pub mod Configuration
+pub mod Equality
+pub mod EqualityLaws
+pub mod Fault
+pub mod Limits

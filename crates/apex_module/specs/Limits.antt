@@ -1,0 +1,25 @@
+-- The limits of a configuration, as numbers.
+use Rattle.std.proofs.Common.{◌≡◌, refl}
+use Rattle.apex_module.specs.declared.limits.TheConstants.{PARTITION_LIMIT, PORT_LIMIT, CHANNEL_LIMIT, SIZE_LIMIT, DEPTH_LIMIT, REFRESH_LIMIT}
+
+pub PARTITION_LIMIT-is : PARTITION_LIMIT ≡ 32
+PARTITION_LIMIT-is = refl
+
+-- ports of one partition
+pub PORT_LIMIT-is : PORT_LIMIT ≡ 32
+PORT_LIMIT-is = refl
+
+pub CHANNEL_LIMIT-is : CHANNEL_LIMIT ≡ 64
+CHANNEL_LIMIT-is = refl
+
+-- bytes of a channel's messages
+pub SIZE_LIMIT-is : SIZE_LIMIT ≡ 1024
+SIZE_LIMIT-is = refl
+
+-- messages in a queue
+pub DEPTH_LIMIT-is : DEPTH_LIMIT ≡ 512
+DEPTH_LIMIT-is = refl
+
+-- nanoseconds of a refresh period
+pub REFRESH_LIMIT-is : REFRESH_LIMIT ≡ 9223372036854775807
+REFRESH_LIMIT-is = refl

@@ -1,6 +1,0 @@
-use Rattle.std.proofs.Common.{◌≡◌, []}
-use Rattle.std.specs.Prelude.{replicate}
-use Rattle.apex_order_groups.proofs.parts.no_scripts.Given as goal
-
-abbrev pub invariant-loop : goal.invariant-loop
-invariant-loop l = l.scripts.items ≡ replicate l.counter []

@@ -1,0 +1,90 @@
+-- Partitions whose next calls are enough to try.
+use Rattle.std.proofs.Common.{◌≡◌, ◌≢◌, ◌⊎◌, inl, inr, ⊎_elim, ℕ, ◌+◌, ◌-◌, ◌^◌, ◌<◌, Bool, true, false, List, [], length, Option, Some, None, refl, sym, ap, ◌∙◌, subst, arith}
+use Rattle.std.specs.List.{slice_get}
+use Rattle.std.specs.Option.{unwrap_or}
+use Rattle.std.proofs.lemmas.Bool.{cases_eq}
+use Rattle.std.proofs.lemmas.Option.{slice_get_within}
+use Rattle.apex_types.specs.declared.call.Call.{Call}
+use Rattle.apex_types.specs.declared.moment.Moment.{Moment}
+use Rattle.apex_module.specs.Configuration.{Configuration}
+use Rattle.apex_ports.specs.Counts.{count_of}
+use Rattle.apex_ports.specs.History.{History, entries_of}
+use Rattle.apex_orders.specs.Choices.{HasNoChannel, IsNextCall, IsOnChannel, IsQuietOutside, IsSafeToTry}
+use Rattle.apex_orders.specs.Enough.{HasNext, IsApartFromRest, IsEnough, IsRefusedEarly}
+use Rattle.apex_orders.specs.Commuting.{names}
+use Rattle.apex_orders.specs.Orders.{Scripts, script_of}
+use Rattle.apex_orders.proofs.UseLemmas.{apart_quiet, apart_unnamed}
+
+pub has_script : (scripts : Scripts) (q k : ℕ) (timed : Moment × Call) → slice_get (script_of scripts q) k ≡ Some timed → q < length scripts
+has_script scripts q k timed at = of_script (slice_get scripts q) refl
+  where
+    of_script : (o : Option (List (Moment × Call))) → slice_get scripts q ≡ o → q < length scripts
+    of_script None none = let empty : slice_get {X = Moment × Call} [] k ≡ Some timed = ap (λ (o : Option (List (Moment × Call))). slice_get (unwrap_or o []) k) (sym none) ∙ at in absurd (cc)
+    of_script (Some script) here = slice_get_within scripts q script here
+
+pub script_here : (scripts : Scripts) (p : ℕ) (script : List (Moment × Call)) → slice_get scripts p ≡ Some script → script_of scripts p ≡ script
+script_here scripts p script here = ap (λ (o : Option (List (Moment × Call))). unwrap_or o []) here
+
+-- the next call, from how many are made
+pub next_at : (scripts : Scripts) (h : History) (p : ℕ) (script : List (Moment × Call)) (index : ℕ) (timed : Moment × Call) → slice_get scripts p ≡ Some script
+    → index ≡ count_of (entries_of p h) → index < 2 ^ 64 - 1 → slice_get script index ≡ Some timed → slice_get (script_of scripts p) (length (entries_of p h)) ≡ Some timed
+next_at scripts h p script index timed here is few at =
+    let whole : index ≡ length (entries_of p h) = omega (arith, is, few) in
+    (λ i. slice_get (script_here scripts p script here i) (sym whole i)) ∙ at
+
+module _ (config : Configuration) (scripts : Scripts) (h : History) where
+  -- ---- one partition
+
+  module _ (tried : ℕ → Bool) (p : ℕ) where
+    safe_of : (IsOne : Moment × Call → Type 0) → IsNextCall scripts h p IsOne → ((timed : Moment × Call) → IsOne timed → IsRefusedEarly config h p timed ⊎ IsApartFromRest config scripts h tried p timed.1)
+        → IsSafeToTry config scripts h tried p
+    safe_of IsOne next safe = record {
+      some = slice_get_within (script_of scripts p) (length (entries_of p h)) next.timed next.at;
+      local = λ timed at.
+          let both : Some next.timed ≡ Some timed = sym next.at ∙ at in
+          let same : next.timed ≡ timed = cc in
+          safe timed (subst IsOne same next.is);
+    }
+
+    pub safe_alone : IsNextCall scripts h p (HasNoChannel config h p) → IsSafeToTry config scripts h tried p
+    safe_alone next = safe_of (HasNoChannel config h p) next (λ timed.
+        ⊎_elim
+        (λ (early : IsRefusedEarly config h p timed). inl early)
+        (λ (off : (c : ℕ) → names config c p timed.1 ≡ false). inr (λ q k other outside past at. apart_unnamed config p timed.1 q other.1 off)))
+
+    pub safe_on : (channel : ℕ) (change : Bool) → IsNextCall scripts h p (IsOnChannel config p channel change) → IsQuietOutside config scripts h tried channel change → IsSafeToTry config scripts h tried p
+    safe_on channel change next quiet = safe_of (IsOnChannel config p channel change) next (λ timed is.
+        inr (λ q k other outside past at. apart_quiet config p timed.1 q other.1 channel change is.0 is.1 (quiet q outside k other past at)))
+
+  -- ---- the set
+
+  module _ (tried : ℕ → Bool) where
+    pub enough_of : (one : (p : ℕ) × (tried p ≡ true) × HasNext scripts h p)
+        → ((p : ℕ) → p < length scripts → tried p ≡ true → IsSafeToTry config scripts h tried p) → IsEnough config scripts h tried
+    enough_of one safe = record {
+      some = λ q has. one;
+      local = λ p timed own at. (safe p (has_script scripts p (length (entries_of p h)) timed at) own).local timed at;
+    }
+
+    pub all_enough : ((p : ℕ) → p < length scripts → tried p ≡ true) → IsEnough config scripts h tried
+    all_enough all = record {
+      some = λ q has. (q, all q (has_calls q has), has);
+      local = λ p timed own at. inr (λ q k other outside past here. absurd (let inside = all q (has_script scripts q k other here) in cc));
+    }
+      where
+        has_calls : (q : ℕ) → HasNext scripts h q → q < length scripts
+        has_calls q has = of_script (slice_get scripts q) refl
+          where
+            of_script : (o : Option (List (Moment × Call))) → slice_get scripts q ≡ o → q < length scripts
+            of_script None none =
+                let empty = ap (λ (o : Option (List (Moment × Call))). length (unwrap_or o [])) none in
+                absurd (omega (arith, empty, has))
+            of_script (Some script) here = slice_get_within scripts q script here
+
+-- one index more
+pub one_more : (P : ℕ → Type 0) (n : ℕ) → ((k : ℕ) → k < n → P k) → P n → (k : ℕ) → k < n + 1 → P k
+one_more P n before here k below =
+    ⊎_elim
+    (λ (same : k ≡ n). subst P (sym same) here)
+    (λ (other : k ≢ n). before k (omega (arith, below, other)))
+    (cases_eq k n)

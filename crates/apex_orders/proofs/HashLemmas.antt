@@ -1,0 +1,54 @@
+-- Equal points have one hash.
+use Rattle.std.proofs.Common.{◌≡◌, ⊎_elim, ℕ, zero, suc, ◌+◌, ◌≤◌, List, [], ◌∷◌, ◌++◌, length, Some, refl, sym, ap, ◌∙◌, arith, length-append}
+use Rattle.std.specs.List.{slice_get}
+use Rattle.apex_types.specs.Validity.{number_of}
+use Rattle.apex_module.specs.Configuration.{Configuration, ports_of}
+use Rattle.apex_ports.specs.History.{History}
+use Rattle.apex_ports.specs.Ports.{IsIdentifier}
+use Rattle.apex_orders.specs.States.{IsSamePorts}
+use Rattle.apex_orders.specs.Hashes.{mix, calls_below, shown_below, all_shown_below, shown_hash, messages_hash, channels_below, hash_of, AreHashes}
+use Rattle.apex_orders.specs.Orders.{Scripts, history_of}
+use Rattle.apex_orders.specs.Points.{IsSamePoint, IsSameCalls}
+use Rattle.apex_orders.proofs.Lists.{at_seam, stays_before, before_or_last}
+
+module _ (config : Configuration) (h other : History) where
+  same_calls_below : (n : ℕ) → n ≤ length config.partitions → IsSameCalls config h other → calls_below n h ≡ calls_below n other
+  same_calls_below zero within same = refl
+  same_calls_below (suc p) within same = λ i. mix (same_calls_below p (omega arith) same i) (same p (omega arith) i)
+
+  same_shown : (p hash hash_too n : ℕ) → hash ≡ hash_too → n ≤ length (ports_of config p) → IsSamePorts config h other p
+      → shown_below config h p hash n ≡ shown_below config other p hash_too n
+  same_shown p hash hash_too zero is within same = is
+  same_shown p hash hash_too (suc i) is within same =
+      let known : IsIdentifier (ports_of config p) (i + 1) = record { first = omega arith; last = omega arith } in
+      λ j. mix (same_shown p hash hash_too i is (omega arith) same j) (number_of (same.last (i + 1) known j))
+
+  same_all_shown : (n : ℕ) → n ≤ length config.partitions → IsSamePoint config h other → all_shown_below config h n ≡ all_shown_below config other n
+  same_all_shown zero within same = same_calls_below (length config.partitions) (omega arith) same.calls
+  same_all_shown (suc p) within same =
+      same_shown p (all_shown_below config h p) (all_shown_below config other p) (length (ports_of config p)) (same_all_shown p (omega arith) same) (omega arith)
+      (same.state.partitions p (omega arith)).ports
+
+  same_channels_below : (n : ℕ) → n ≤ length config.channels → IsSamePoint config h other
+      → channels_below config (shown_hash config h) n h ≡ channels_below config (shown_hash config other) n other
+  same_channels_below zero within same = same_all_shown (length config.partitions) (omega arith) same
+  same_channels_below (suc c) within same =
+      let counts = same.counts c (omega arith) in
+      let messages = (same.state.channels c (omega arith)).waiting in
+      λ i. messages_hash (mix (mix (same_channels_below c (omega arith) same i) (counts.accepted i)) (counts.received i)) (messages i)
+
+  pub same_hash : IsSamePoint config h other → hash_of config h ≡ hash_of config other
+  same_hash same = same_channels_below (length config.channels) (omega arith) same
+
+pub hashed_push : (config : Configuration) (scripts : Scripts) (orders : List (List ℕ)) (hashes : List ℕ) (order : List ℕ) (hash : ℕ) → AreHashes config scripts orders hashes
+    → hash ≡ hash_of config (history_of config scripts order) → AreHashes config scripts (orders ++ order ∷ []) (hashes ++ hash ∷ [])
+hashed_push config scripts orders hashes order hash hashed is = record {
+  count = let count = hashed.count in omega (arith, count, length-append hashes (hash ∷ []), length-append orders (order ∷ []));
+  each = λ k other at.
+      ⊎_elim
+      (λ (before : slice_get orders k ≡ Some other). stays_before hashes (hash ∷ []) k (hash_of config (history_of config scripts other)) (hashed.each k other before))
+      (λ (last : (k ≡ length orders) × (order ≡ other)).
+      ap (λ (n : ℕ). slice_get (hashes ++ hash ∷ []) n) (last.0 ∙ sym hashed.count)
+      ∙ (at_seam hashes hash [] ∙ ap Some (is ∙ ap (λ (o : List ℕ). hash_of config (history_of config scripts o)) last.1)))
+      (before_or_last orders order k other at);
+}

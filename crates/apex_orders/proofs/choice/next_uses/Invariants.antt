@@ -1,0 +1,11 @@
+use Rattle.std.proofs.Common.{◌≡◌, ℕ, length, Some}
+use Rattle.std.specs.List.{slice_get}
+use Rattle.apex_orders.specs.declared.choice.NextUse.{NextUse}
+use Rattle.apex_orders.specs.Choices.{IsNextUse}
+use Rattle.apex_orders.proofs.choice.next_uses.Given as goal
+
+abbrev pub invariant-loop-p : goal.invariant-loop-p
+invariant-loop-p l = record {
+  count : length l.nexts.items ≡ l.p;
+  each : (p : ℕ) (next : NextUse) → slice_get l.nexts.items p ≡ Some next → IsNextUse l.ports.config l.scripts l.ports.history p next;
+}

@@ -1,0 +1,6 @@
+use Rattle.std.proofs.Common.{◌≡◌}
+use Rattle.apex_orders.specs.Hashes.{calls_below}
+use Rattle.apex_orders.proofs.hash.hash_of_calls.Given as goal
+
+abbrev pub invariant-loop-p : goal.invariant-loop-p
+invariant-loop-p l = l.hash ≡ calls_below l.p l.ports.history

@@ -1,0 +1,6 @@
+use Rattle.std.proofs.Common.{◌≡◌}
+use Rattle.apex_orders.specs.Hashes.{all_shown_below}
+use Rattle.apex_orders.proofs.hash.hash_of_shown.Given as goal
+
+abbrev pub invariant-loop-p : goal.invariant-loop-p
+invariant-loop-p l = l.hash ≡ all_shown_below l.ports.config l.ports.history l.p

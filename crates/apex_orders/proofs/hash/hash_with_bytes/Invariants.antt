@@ -1,0 +1,6 @@
+use Rattle.std.proofs.Common.{◌≡◌, length}
+use Rattle.apex_orders.specs.Hashes.{mix, bytes_below}
+use Rattle.apex_orders.proofs.hash.hash_with_bytes.Given as goal
+
+abbrev pub invariant-loop-i : goal.invariant-loop-i
+invariant-loop-i l = l.hash ≡ bytes_below l.bytes (mix l.before (length l.bytes)) l.i

@@ -1,6 +1,0 @@
-use Rattle.std.proofs.Common.{◌≡◌}
-use Rattle.apex_orders.specs.Marks.{all_shown_below}
-use Rattle.apex_orders.proofs.mark.mark_of_shown.Given as goal
-
-abbrev pub invariant-loop-p : goal.invariant-loop-p
-invariant-loop-p l = l.mark ≡ all_shown_below l.ports.config l.ports.history l.p

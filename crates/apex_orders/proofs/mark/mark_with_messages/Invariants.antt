@@ -1,7 +1,0 @@
-use Rattle.std.proofs.Common.{◌≡◌}
-use Rattle.apex_ports.specs.Channels.{waiting_on}
-use Rattle.apex_orders.specs.Marks.{messages_below}
-use Rattle.apex_orders.proofs.mark.mark_with_messages.Given as goal
-
-abbrev pub invariant-loop-i : goal.invariant-loop-i
-invariant-loop-i l = l.mark ≡ messages_below (waiting_on l.ports.config l.c l.ports.history) l.before l.i

@@ -1,0 +1,10 @@
+use Rattle.std.proofs.Common.{◌≡◌, ℕ, ◌+◌, ◌<◌}
+use Rattle.apex_ports.specs.Ports.{is_created}
+use Rattle.apex_orders.specs.States.{last_shown}
+use Rattle.apex_orders.proofs.same_state.has_same_ports.Given as goal
+
+abbrev pub invariant-loop-i : goal.invariant-loop-i
+invariant-loop-i g l = record {
+  created : (k : ℕ) → k < l.i → is_created l.p (k + 1) l.a.history ≡ is_created l.p (k + 1) l.b.history;
+  last : (k : ℕ) → k < l.i → last_shown l.a.config l.a.history l.p (k + 1) ≡ last_shown l.a.config l.b.history l.p (k + 1);
+}

@@ -1,0 +1,61 @@
+use Rattle.std.proofs.Common.{◌≡◌, ◌++◌, ◌∷◌, [], List, ℕ, ap, sym, ◌∙◌, subst}
+use Rattle.std.proofs.lemmas.Bool.{false≢true}
+use Rattle.apex_ports.specs.PortsView.{PortsView}
+use Rattle.apex_orders.specs.Known.{IsAfter, ArePoints}
+use Rattle.apex_orders.specs.Hashes.{hash_of}
+use Rattle.apex_orders.specs.Orders.{IsOrder, history_of}
+use Rattle.apex_orders.specs.Searching.{Knows, AreOrders, AreApart, Keeps}
+use Rattle.apex_orders.proofs.KnownLemmas.{points_push}
+use Rattle.apex_orders.proofs.SearchLemmas.{apart_push, keeps_push, knows_push, longer_is_order, orders_push}
+use Rattle.apex_orders.proofs.search.Search.learn.Goals as goal
+
+pub returns-then-branch-clause-valid : goal.returns-then-branch-clause-valid
+returns-then-branch-clause-valid c =
+    let was = c.requires.valid in
+    record { all = was.all; orders = was.orders; apart = was.apart; points = was.points; found = was.found; trial = c.is_known.ensures.trial; uses = was.uses }
+
+pub returns-then-branch-clause-later : goal.returns-then-branch-clause-later
+returns-then-branch-clause-later c = record { orders = λ k x at. at; replies = λ x has. has }
+
+pub returns-clause-valid : goal.returns-clause-valid
+returns-clause-valid c =
+    let config = c.args.config.now in
+    let scripts = c.args.scripts.now in
+    let was = c.requires.valid in
+    let orders = c.args.self.now.orders.items in
+    let longer = c.in_ok-longer.longer in
+    let ports = c.args.self.now.trial.ports in
+    let h = ports.history in
+    let leads : h ≡ history_of config scripts longer = c.requires.history ∙ ap (λ (order : List ℕ). history_of config scripts order) (sym c.in_ok-longer.ensures) in
+    let pushed = sym c.in_ok-push-2.ensures.items in
+    let is_order : IsOrder config longer = subst (IsOrder config) (sym c.in_ok-longer.ensures) (longer_is_order config scripts c.args.order.now c.args.p c.requires.order c.requires.partition) in
+    let hash : c.hash_of-hash.result ≡ hash_of config (history_of config scripts longer) = c.hash_of-hash.ensures ∙ (λ i. hash_of (was.trial.ports i) (leads i)) in
+    let after : IsAfter config scripts longer ports = record { configured = was.trial.ports; history = leads } in
+    let unknown : Knows config scripts orders h → ⊥ =
+    λ known. false≢true (sym c.if-branch.false ∙ c.in_ok-is_known.ensures.known.1 (subst (λ (all : List (List ℕ)). Knows config scripts all h) (sym c.as_slice-known.ensures.value) known)) in
+    record {
+      all = was.all;
+      orders = subst (AreOrders config) pushed (orders_push config scripts orders longer was.orders is_order);
+      apart = subst (AreApart config scripts) pushed (apart_push config scripts orders longer h leads was.apart unknown);
+      points = subst (λ (all : List (List ℕ)). ArePoints config scripts all c.push.new.self) pushed
+          (points_push config scripts orders c.args.self.now.points c.push.new.self was.points longer ports c.hash_of-hash.result after hash
+          c.push.ensures.first c.in_ok-push.ensures.hashes (c.in_ok-push.ensures.saved ∙ ap (λ (one : PortsView). c.args.self.now.points.saved.items ++ one ∷ []) c.is_known.ensures.ports));
+      found = was.found;
+      trial = c.is_known.ensures.trial;
+      uses = was.uses;
+    }
+
+pub returns-clause-later : goal.returns-clause-later
+returns-clause-later c = record {
+  orders = subst (Keeps c.args.self.now.orders.items) (sym c.in_ok-push-2.ensures.items) (keeps_push c.args.config.now c.args.scripts.now c.args.self.now.orders.items c.in_ok-longer.longer);
+  replies = λ x has. has;
+}
+
+pub returns-clause-known : goal.returns-clause-known
+returns-clause-known c =
+    let config = c.args.config.now in
+    let scripts = c.args.scripts.now in
+    let h = c.args.self.now.trial.ports.history in
+    let longer = c.in_ok-longer.longer in
+    let leads : h ≡ history_of config scripts longer = c.requires.history ∙ ap (λ (order : List ℕ). history_of config scripts order) (sym c.in_ok-longer.ensures) in
+    subst (λ (orders : List (List ℕ)). Knows config scripts orders h) (sym c.in_ok-push-2.ensures.items) (knows_push config scripts c.args.self.now.orders.items longer h leads)

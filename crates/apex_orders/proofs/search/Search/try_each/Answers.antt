@@ -1,0 +1,40 @@
+use Rattle.std.proofs.Common.{◌≡◌, true, Bool, List, length, sym, subst}
+use Rattle.apex_module.specs.Configuration.{Configuration}
+use Rattle.apex_ports.specs.History.{History}
+use Rattle.apex_orders.specs.declared.last_uses.LastUses.{LastUses}
+use Rattle.apex_orders.specs.Choices.{is_tried}
+use Rattle.apex_orders.specs.Enough.{IsEnough}
+use Rattle.apex_orders.specs.LastUses.{AreOfScripts}
+use Rattle.apex_orders.proofs.search.Search.try_each.Goals as goal
+
+pub choose-requires-clause-scripts : goal.choose-requires-clause-scripts
+choose-requires-clause-scripts c = subst (λ (config : Configuration). length c.args.scripts.now ≡ length config.partitions) (sym c.in_ok-go_to.ensures.after.configured) c.requires.valid.all
+
+pub choose-requires-clause-uses : goal.choose-requires-clause-uses
+choose-requires-clause-uses c =
+    subst (λ (x : Configuration × List LastUses). AreOfScripts x.0 c.args.scripts.now x.1) (λ i. (sym c.in_ok-go_to.ensures.after.configured i, sym c.deref.ensures.value i)) c.requires.valid.uses
+
+pub try_those-requires-clause-valid : goal.try_those-requires-clause-valid
+try_those-requires-clause-valid c =
+    let was = c.requires.valid in
+    record {
+      all = was.all;
+      orders = was.orders;
+      apart = was.apart;
+      points = was.points;
+      found = was.found;
+      trial = record { ports = c.in_ok-go_to.ensures.after.configured; other = was.trial.other };
+      uses = was.uses;
+    }
+
+pub returns-clause-later : goal.returns-clause-later
+returns-clause-later c = let later = c.in_ok-try_those.ensures.later in record { orders = later.orders; replies = later.replies }
+
+pub returns-clause-tried : goal.returns-clause-tried
+returns-clause-tried c =
+    let after = c.in_ok-go_to.ensures.after in
+    record {
+      tried = is_tried c.in_ok-tried.tried.items;
+      enough = subst (λ (x : Configuration × History). IsEnough x.0 c.args.scripts.now x.1 (is_tried c.in_ok-tried.tried.items)) (λ i. (after.configured i, after.history i)) c.in_ok-tried.ensures;
+      each = λ p within own. c.in_ok-try_those.ensures.tried p within (subst (λ (items : List Bool). is_tried items p ≡ true) (sym c.deref-2.ensures.value) own);
+    }

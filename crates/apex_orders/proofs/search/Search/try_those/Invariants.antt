@@ -1,0 +1,11 @@
+use Rattle.std.proofs.Common.{◌≡◌, ℕ, ◌<◌, true}
+use Rattle.apex_orders.specs.Choices.{is_tried}
+use Rattle.apex_orders.specs.Searching.{IsSearch, IsLater, IsTried}
+use Rattle.apex_orders.proofs.search.Search.try_those.Given as goal
+
+abbrev pub invariant-loop-p : goal.invariant-loop-p
+invariant-loop-p l = record {
+  valid : IsSearch l.config l.scripts l.self;
+  later : IsLater l.initial.self l.self;
+  tried : (p : ℕ) → p < l.p → is_tried l.tried p ≡ true → IsTried l.config l.scripts l.self.orders.items l.self.replies l.order p;
+}

@@ -1,0 +1,17 @@
+use Rattle.std.proofs.Common.{ℕ, ◌<◌, ◌≤◌, ◌+◌, ◌-◌, []}
+use Rattle.std.specs.Option.{option_copied}
+use Rattle.apex_orders.specs.Lists.{Has}
+use Rattle.apex_orders.specs.Searching.{IsSearch, HasTried, IsUnansweredAt}
+use Rattle.apex_orders.proofs.search.search_points.Given as goal
+
+abbrev pub invariant-loop-i : goal.invariant-loop-i
+invariant-loop-i g l = record {
+  within : l.i ≤ l.bound;
+  first : Has l.current.orders.items [];
+  valid : IsSearch l.config l.scripts l.current;
+  unanswered : (k : ℕ) → k < l.i → IsUnansweredAt l.config l.scripts (option_copied l.asked) l.current.orders.items k;
+  tried : (k : ℕ) → k < l.i → HasTried l.config l.scripts l.current.orders.items l.current.replies k;
+}
+
+abbrev pub decreases-loop-i : goal.decreases-loop-i
+decreases-loop-i g l = l.bound + 1 - l.i

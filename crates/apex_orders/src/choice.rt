@@ -1,0 +1,297 @@
+//! The partitions whose next calls are enough to try.
+ghost use Rattle.std.specs.Prelude.{◌≡◌, ◌<◌, length, slice_get, Some, IfOk, IfSome, IsTrue};
+ghost use Rattle.apex_ports.specs.History.{entries_of};
+ghost use Rattle.apex_orders.specs.Choices.{AreNextUses, IsNextUse, IsQuietOutside, IsSafeToTry, is_tried};
+ghost use Rattle.apex_orders.specs.Enough.{IsEnough, is_early};
+ghost use Rattle.apex_orders.specs.LastUses.{AreOfScripts};
+ghost use Rattle.apex_orders.specs.Orders.{script_of};
+
+use crate::commuting::{channel_named, is_change};
+use crate::last_uses::LastUses;
+use apex_ports::{Ports, Refusal, Row, Script};
+use apex_types::{Call, Moment, OutOfMemory};
+use std::alloc::Global;
+
+/// What a partition's next call has to do with other partitions.
+#[derive(Clone, Copy)]
+enum NextUse {
+    /// There is no next call.
+    NoCall,
+    /// Nothing: it names no channel, or is refused before the channel is looked at.
+    NoChannel,
+    /// It asks the channel, or changes it.
+    Channel { channel: usize, is_change: bool },
+}
+
+/// Whether the row is that of a call that is refused, or not made, before the channel is looked at.
+fn is_early(row: Row) -> bool
+    ensures { result ≡ is_early row }
+{
+    match row {
+        Row::Idle => true,
+        Row::Refused(Refusal::QueueFull) => false,
+        Row::Refused(Refusal::QueueEmpty) => false,
+        Row::Refused(Refusal::NeverWritten) => false,
+        Row::Refused(_) => true,
+        _ => false,
+    }
+}
+
+/// The partition's next call, if it has one.
+fn next_call<'a>(ports: &Ports, scripts: &'a [Script], p: usize) -> Option<&'a (Moment, Call)>
+    requires partition { p < length ports.now.config.partitions }
+    requires scripts { length scripts.now ≡ length ports.now.config.partitions }
+    ensures { IfSome result (λ timed.
+        slice_get (script_of scripts.now p) (length (entries_of p ports.now.history)) ≡ Some timed.now) }
+{
+    let script = &scripts[p];
+    let index = ports.calls(p) as usize;
+    if index >= script.calls.len() {
+        return None;
+    }
+    Some(&script.calls[index])
+}
+
+/// The use by the partition's next call.
+fn next_use(ports: &Ports, scripts: &[Script], p: usize) -> NextUse
+    requires partition { p < length ports.now.config.partitions }
+    requires scripts { length scripts.now ≡ length ports.now.config.partitions }
+    ensures { IsNextUse ports.now.config scripts.now ports.now.history p result }
+{
+    let Some(timed) = next_call(ports, scripts, p) else {
+        return NextUse::NoCall;
+    };
+    let (at, call) = timed;
+    let Some(channel) = channel_named(ports.config(), p, call) else {
+        return NextUse::NoChannel;
+    };
+    let row = ports.row(p, *at, call);
+    if is_early(row) {
+        return NextUse::NoChannel;
+    }
+    NextUse::Channel {
+        channel,
+        is_change: is_change(call),
+    }
+}
+
+/// The uses by all next calls.
+fn next_uses(alloc: Global, ports: &Ports, scripts: &[Script]) -> Result<Vec<NextUse>, OutOfMemory>
+    requires { length scripts.now ≡ length ports.now.config.partitions }
+    ensures { IfOk result (λ nexts.
+        AreNextUses ports.now.config scripts.now ports.now.history nexts.items) }
+{
+    let mut nexts = Vec::with_capacity(alloc, scripts.len())?;
+    for p in 0..scripts.len() {
+        let next = next_use(ports, scripts, p);
+        nexts.push(next)?;
+    }
+    Ok(nexts)
+}
+
+/// Whether the partition is in the set.
+pub(crate) fn is_tried(tried: &[bool], p: usize) -> bool
+    ensures { result ≡ is_tried tried.now p }
+{
+    tried.get(p).copied().unwrap_or(false)
+}
+
+/// Partitions whose next calls are enough to try: the set that grows from this partition's next call, else the smallest
+/// that grows from one, else all.
+pub(crate) fn choose(
+    alloc: Global,
+    ports: &Ports,
+    scripts: &[Script],
+    uses: &[LastUses],
+    from: Option<usize>,
+) -> Result<Vec<bool>, OutOfMemory>
+    requires scripts { length scripts.now ≡ length ports.now.config.partitions }
+    requires uses { AreOfScripts ports.now.config scripts.now uses.now }
+    ensures { IfOk result (λ tried.
+        IsEnough ports.now.config scripts.now ports.now.history (is_tried tried.items)) }
+{
+    let nexts = next_uses(alloc, ports, scripts)?;
+    let members = members(alloc, ports, uses, &nexts, from)?;
+    let tried = set_of(alloc, &members, scripts.len())?;
+    if are_enough(ports, scripts, uses, &nexts, &tried) {
+        return Ok(tried);
+    }
+    let all = vec![in alloc; true; scripts.len()]?;
+    Ok(all)
+}
+
+/// Whether the set is enough to try.
+fn are_enough(
+    ports: &Ports,
+    scripts: &[Script],
+    uses: &[LastUses],
+    nexts: &[NextUse],
+    tried: &[bool],
+) -> bool
+    requires scripts { length scripts.now ≡ length ports.now.config.partitions }
+    requires uses { AreOfScripts ports.now.config scripts.now uses.now }
+    requires nexts { AreNextUses ports.now.config scripts.now ports.now.history nexts.now }
+    ensures { IsTrue result
+        → IsEnough ports.now.config scripts.now ports.now.history (is_tried tried.now) }
+{
+    let mut some = false;
+    for p in 0..nexts.len() {
+        if is_tried(tried, p) {
+            if !is_safe(ports, scripts, uses, nexts[p], tried, p) {
+                return false;
+            }
+            some = true;
+        }
+    }
+    some
+}
+
+/// Whether the partition has a next call, which no call that partitions outside of the set still have to make disturbs.
+fn is_safe(
+    ports: &Ports,
+    scripts: &[Script],
+    uses: &[LastUses],
+    next: NextUse,
+    tried: &[bool],
+    p: usize,
+) -> bool
+    requires scripts { length scripts.now ≡ length ports.now.config.partitions }
+    requires uses { AreOfScripts ports.now.config scripts.now uses.now }
+    requires next { IsNextUse ports.now.config scripts.now ports.now.history p next }
+    ensures { IsTrue result → IsSafeToTry ports.now.config scripts.now ports.now.history
+        (is_tried tried.now) p }
+{
+    match next {
+        NextUse::NoCall => false,
+        NextUse::NoChannel => true,
+        NextUse::Channel { channel, is_change } => {
+            is_quiet_outside(ports, scripts, uses, tried, channel, is_change)
+        }
+    }
+}
+
+/// Whether no partition outside of the set has still to make a call that can change the channel or, where that is asked,
+/// names it.
+fn is_quiet_outside(
+    ports: &Ports,
+    scripts: &[Script],
+    uses: &[LastUses],
+    tried: &[bool],
+    channel: usize,
+    named: bool,
+) -> bool
+    requires scripts { length scripts.now ≡ length ports.now.config.partitions }
+    requires uses { AreOfScripts ports.now.config scripts.now uses.now }
+    ensures { IsTrue result → IsQuietOutside ports.now.config scripts.now ports.now.history
+        (is_tried tried.now) channel named }
+{
+    for q in 0..uses.len() {
+        let made = ports.calls(q) as usize;
+        if !is_tried(tried, q) && !uses[q].are_over(channel, named, made) {
+            return false;
+        }
+    }
+    true
+}
+
+/// The set that grows from this partition's next call, or else the smallest that grows from one. No clause says so: `choose`
+/// asks whether it is enough.
+fn members(
+    alloc: Global,
+    ports: &Ports,
+    uses: &[LastUses],
+    nexts: &[NextUse],
+    from: Option<usize>,
+) -> Result<Vec<usize>, OutOfMemory>
+    requires { length uses.now ≡ length ports.now.config.partitions }
+{
+    if let Some(p) = from {
+        if has_call(nexts, p) {
+            return grown(alloc, ports, uses, nexts, p);
+        }
+    }
+    smallest(alloc, ports, uses, nexts)
+}
+
+/// The smallest set that grows from one partition's next call.
+fn smallest(
+    alloc: Global,
+    ports: &Ports,
+    uses: &[LastUses],
+    nexts: &[NextUse],
+) -> Result<Vec<usize>, OutOfMemory>
+    requires { length uses.now ≡ length ports.now.config.partitions }
+{
+    let mut smallest = Vec::new(alloc);
+    for p in 0..nexts.len() {
+        if has_call(nexts, p) && smallest.len() != 1 {
+            let members = grown(alloc, ports, uses, nexts, p)?;
+            if smallest.is_empty() || members.len() < smallest.len() {
+                smallest = members;
+            }
+        }
+    }
+    Ok(smallest)
+}
+
+fn has_call(nexts: &[NextUse], p: usize) -> bool {
+    match nexts.get(p) {
+        None => false,
+        Some(NextUse::NoCall) => false,
+        Some(_) => true,
+    }
+}
+
+/// The partition, with those that disturb the next call of one that is in.
+fn grown(
+    alloc: Global,
+    ports: &Ports,
+    uses: &[LastUses],
+    nexts: &[NextUse],
+    first: usize,
+) -> Result<Vec<usize>, OutOfMemory>
+    requires { length uses.now ≡ length ports.now.config.partitions }
+{
+    let mut members = Vec::new(alloc);
+    members.push(first)?;
+    for i in 0..uses.len() {
+        if let Some(next) = next_of(&members, i, nexts) {
+            for q in 0..uses.len() {
+                if !members.contains(&q) && disturbs(ports, uses, q, next) {
+                    members.push(q)?;
+                }
+            }
+        }
+    }
+    Ok(members)
+}
+
+/// The use by the next call of a member.
+fn next_of(members: &[usize], i: usize, nexts: &[NextUse]) -> Option<NextUse> {
+    let p = members.get(i)?;
+    nexts.get(*p).copied()
+}
+
+/// Whether the partition has still to make a call that can't change places with the next one of another.
+fn disturbs(ports: &Ports, uses: &[LastUses], q: usize, next: NextUse) -> bool
+    requires partitions { length uses.now ≡ length ports.now.config.partitions }
+    requires partition { q < length uses.now }
+{
+    match next {
+        NextUse::Channel { channel, is_change } => {
+            let made = ports.calls(q) as usize;
+            !uses[q].are_over(channel, is_change, made)
+        }
+        _ => false,
+    }
+}
+
+fn set_of(alloc: Global, members: &[usize], partitions: usize) -> Result<Vec<bool>, OutOfMemory> {
+    let mut set = vec![in alloc; false; partitions]?;
+    for p in members {
+        if let Some(it) = set.get_mut(*p) {
+            *it = true;
+        }
+    }
+    Ok(set)
+}

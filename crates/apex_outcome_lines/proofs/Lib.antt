@@ -1,3 +1,0 @@
-mod CallLemmas
-mod OrderLemmas
-mod ScriptLineLemmas

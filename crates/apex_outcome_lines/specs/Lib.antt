@@ -1,4 +1,0 @@
-pub mod Calls
-pub mod Counts
-pub mod ScriptLines
-pub mod Told

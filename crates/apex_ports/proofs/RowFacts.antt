@@ -1,0 +1,478 @@
+-- What the row of a call says of the call and of what its partition sees.
+use Rattle.std.proofs.Common.{◌≡◌, ◌≢◌, ℕ, ◌<◌, ◌≤◌, ◌==◌, Bool, true, false, nat_lt, ◌&&◌, not, if◌then◌else◌, List, [], ◌∷◌, length, Option, Some, None, refl, sym, ap, ◌∙◌, subst, arith}
+use Rattle.std.proofs.lemmas.Bool.Decides.{nat_tests}
+use Rattle.apex_types.specs.Direction.{number_of}
+use Rattle.apex_types.specs.Mode.{mode_numbered}
+use Rattle.apex_types.specs.declared.call.Call.{Call}
+use Rattle.apex_types.specs.declared.call.Call.TheVariants as call
+use Rattle.apex_types.specs.declared.mode.Mode.{Mode}
+use Rattle.apex_types.specs.declared.mode.Mode.TheVariants.{Idle, ColdStart, WarmStart, Normal}
+use Rattle.apex_types.specs.declared.moment.Moment.{Moment}
+use Rattle.apex_types.specs.declared.reply.Reply.TheVariants as reply
+use Rattle.apex_types.specs.declared.return_code.ReturnCode.TheVariants.{NoError}
+use Rattle.apex_types.specs.declared.sample.Sample.{Sample}
+use Rattle.apex_types.specs.declared.validity.Validity.{Validity}
+use Rattle.apex_module.specs.Configuration.{Configuration, port_of, ports_of, id_named, refresh_of_kind, is_queuing_port}
+use Rattle.apex_module.specs.declared.port.Port.{Port}
+use Rattle.apex_ports.specs.declared.rows.Refusal.{Refusal}
+use Rattle.apex_ports.specs.declared.rows.Refusal.TheVariants as refusal
+use Rattle.apex_ports.specs.declared.rows.Row.{Row}
+use Rattle.apex_ports.specs.declared.rows.Row.TheVariants as row
+use Rattle.apex_ports.specs.declared.rows.Row.TheVariants.{Refused}
+use Rattle.apex_ports.specs.History.{History}
+use Rattle.apex_ports.specs.Modes.{is_code_no_error, is_idle, is_normal, is_cold_start, mode_asked}
+use Rattle.apex_ports.specs.Ports.{IsIdentifier, NamedPort, is_create, is_source, is_source_of, is_destination_of, queuing_only, sampling_only, with_id, queuing_named, sampling_named, queuing_of_id, sampling_of_id}
+use Rattle.apex_ports.specs.Channels.{is_read, sample_at}
+use Rattle.apex_ports.specs.ReplyTable.{size_of, depth_of, create_queuing_row, create_sampling_row, id_row, send_row, oldest_row, receive_row, clear_row, write_row, last_row, read_row, status_row, set_mode_row, service_row, row_of, reply_of, reply_to}
+use Rattle.apex_ports.specs.Seen.{Seen, seen, queuing_port, sampling_port}
+use Rattle.apex_ports.specs.Writes.{Writes}
+use Rattle.apex_ports.proofs.Conserved.{queuing_configured, sampling_configured}
+use Rattle.apex_ports.proofs.Lookups.{is_identifier}
+use Rattle.apex_ports.proofs.Stays.{IsElsewhere, and_false}
+
+-- ---- which rows a call can get
+
+abbrev fits : Call → Row → Bool
+fits call row.Idle = true
+fits call (Refused refusal) = true
+fits call (row.Created id) = is_create call
+fits (call.SamplingId name) (row.Identified id) = true
+fits (call.QueuingId name) (row.Identified id) = true
+fits (call.SendQueuing id message) row.Sent = true
+fits (call.ReceiveQueuing id) (row.OldestReceived n) = n == id
+fits (call.ClearQueuing id) row.Cleared = true
+fits (call.QueuingStatus id) (row.QueuingStatus n) = true
+fits (call.WriteSampling id message) row.Written = true
+fits (call.ReadSampling id) (row.LastRead n validity) = n == id
+fits (call.SamplingStatus id) (row.SamplingStatus n) = true
+fits (call.SetMode number) row.ModeSet = true
+fits _ _ = false
+
+same_number : (n : ℕ) → (n == n) ≡ true
+same_number n = grind (arith, nat_tests)
+
+is_number : (m n : ℕ) → (m == n) ≡ true → m ≡ n
+is_number m n same = grind (arith, nat_tests)
+
+module _ (config : Configuration) (s : Seen) (p : ℕ) (now : Moment) where
+  queuing_fits : (of : Call) (named : Option NamedPort) (size depth direction discipline : ℕ) → is_create of ≡ true → fits of (create_queuing_row config s named size depth direction discipline) ≡ true
+  queuing_fits of None size depth direction discipline is = refl
+  queuing_fits of (Some named) size depth direction discipline is =
+      by_tests (s.created named.id) (not (size == size_of config named.port)) (not (depth == depth_of config named.port.channel)) (not (direction == number_of named.port.direction)) (nat_lt 1 discipline) (is_normal s.mode)
+    where
+      by_tests : (a b c d e f : Bool) → fits of (if a then Refused refusal.AlreadyCreated else if b then Refused refusal.SizeDiffers else if c then Refused refusal.DepthDiffers else if d then Refused refusal.DirectionDiffers else if e then Refused refusal.UnknownDiscipline else if f then Refused refusal.InNormal else row.Created named.id) ≡ true
+      by_tests true b c d e f = refl
+      by_tests false true c d e f = refl
+      by_tests false false true d e f = refl
+      by_tests false false false true e f = refl
+      by_tests false false false false true f = refl
+      by_tests false false false false false true = refl
+      by_tests false false false false false false = is
+
+  sampling_fits : (of : Call) (named : Option NamedPort) (size direction refresh : ℕ) → is_create of ≡ true → fits of (create_sampling_row config s named size direction refresh) ≡ true
+  sampling_fits of None size direction refresh is = refl
+  sampling_fits of (Some named) size direction refresh is =
+      by_tests (s.created named.id) (not (size == size_of config named.port)) (not (direction == number_of named.port.direction)) (not (refresh == refresh_of_kind named.port.kind)) (is_normal s.mode)
+    where
+      by_tests : (a b c d e : Bool) → fits of (if a then Refused refusal.AlreadyCreated else if b then Refused refusal.SizeDiffers else if c then Refused refusal.DirectionDiffers else if d then Refused refusal.RefreshDiffers else if e then Refused refusal.InNormal else row.Created named.id) ≡ true
+      by_tests true b c d e = refl
+      by_tests false true c d e = refl
+      by_tests false false true d e = refl
+      by_tests false false false true e = refl
+      by_tests false false false false true = refl
+      by_tests false false false false false = is
+
+  id_fits : (of : Call) (named : Option NamedPort) → ((id : ℕ) → fits of (row.Identified id) ≡ true) → fits of (id_row s named) ≡ true
+  id_fits of None is = refl
+  id_fits of (Some named) is = by_test (s.created named.id)
+    where
+      by_test : (b : Bool) → fits of (if b then row.Identified named.id else Refused refusal.NotCreated) ≡ true
+      by_test true = is named.id
+      by_test false = refl
+
+  send_fits : (id : ℕ) (port : Option Port) (message : List ℕ) → fits (call.SendQueuing id message) (send_row config s id port message) ≡ true
+  send_fits id None message = refl
+  send_fits id (Some port) message =
+      by_tests (length message == 0) (nat_lt (size_of config port) (length message)) (not (is_source port.direction)) (length (s.waiting id) == depth_of config port.channel)
+    where
+      by_tests : (a b c d : Bool) → fits (call.SendQueuing id message) (if a then Refused refusal.EmptyMessage else if b then Refused refusal.MessageTooLong else if c then Refused refusal.NotSource else if d then Refused refusal.QueueFull else row.Sent) ≡ true
+      by_tests true b c d = refl
+      by_tests false true c d = refl
+      by_tests false false true d = refl
+      by_tests false false false true = refl
+      by_tests false false false false = refl
+
+  oldest_fits : (id : ℕ) (waiting : List (List ℕ)) → fits (call.ReceiveQueuing id) (oldest_row id waiting) ≡ true
+  oldest_fits id [] = refl
+  oldest_fits id (message ∷ rest) = same_number id
+
+  receive_fits : (id : ℕ) (port : Option Port) → fits (call.ReceiveQueuing id) (receive_row s id port) ≡ true
+  receive_fits id None = refl
+  receive_fits id (Some port) = by_test (is_source port.direction)
+    where
+      by_test : (b : Bool) → fits (call.ReceiveQueuing id) (if b then Refused refusal.NotDestination else oldest_row id (s.waiting id)) ≡ true
+      by_test true = refl
+      by_test false = oldest_fits id (s.waiting id)
+
+  clear_fits : (id : ℕ) (port : Option Port) → fits (call.ClearQueuing id) (clear_row port) ≡ true
+  clear_fits id None = refl
+  clear_fits id (Some port) = by_test (is_source port.direction)
+    where
+      by_test : (b : Bool) → fits (call.ClearQueuing id) (if b then Refused refusal.NotDestination else row.Cleared) ≡ true
+      by_test true = refl
+      by_test false = refl
+
+  write_fits : (id : ℕ) (port : Option Port) (message : List ℕ) → fits (call.WriteSampling id message) (write_row config port message) ≡ true
+  write_fits id None message = refl
+  write_fits id (Some port) message =
+      by_tests (length message == 0) (nat_lt (size_of config port) (length message)) (not (is_source port.direction))
+    where
+      by_tests : (a b c : Bool) → fits (call.WriteSampling id message) (if a then Refused refusal.EmptyMessage else if b then Refused refusal.MessageTooLong else if c then Refused refusal.NotSource else row.Written) ≡ true
+      by_tests true b c = refl
+      by_tests false true c = refl
+      by_tests false false true = refl
+      by_tests false false false = refl
+
+  last_fits : (id refresh : ℕ) (sample : Option Sample) → fits (call.ReadSampling id) (last_row now id refresh sample) ≡ true
+  last_fits id refresh None = refl
+  last_fits id refresh (Some sample) = same_number id
+
+  read_fits : (id : ℕ) (port : Option Port) → fits (call.ReadSampling id) (read_row s now id port) ≡ true
+  read_fits id None = refl
+  read_fits id (Some port) = by_test (is_source port.direction)
+    where
+      by_test : (b : Bool) → fits (call.ReadSampling id) (if b then Refused refusal.NotDestination else last_row now id (refresh_of_kind port.kind) (s.sample id)) ≡ true
+      by_test true = refl
+      by_test false = last_fits id (refresh_of_kind port.kind) (s.sample id)
+
+  status_fits : (of : Call) (status : Row) (port : Option Port) → fits of status ≡ true → fits of (status_row status port) ≡ true
+  status_fits of status None is = refl
+  status_fits of status (Some port) is = is
+
+  mode_test : (number : ℕ) (b : Bool) (refusal : Refusal) → fits (call.SetMode number) (if b then Refused refusal else row.ModeSet) ≡ true
+  mode_test number true refusal = refl
+  mode_test number false refusal = refl
+
+  mode_fits : (number : ℕ) (mode : Option Mode) → fits (call.SetMode number) (set_mode_row s.mode mode) ≡ true
+  mode_fits number None = refl
+  mode_fits number (Some Normal) = mode_test number (is_normal s.mode) refusal.AlreadyNormal
+  mode_fits number (Some WarmStart) = mode_test number (is_cold_start s.mode) refusal.WarmStartInColdStart
+  mode_fits number (Some Idle) = refl
+  mode_fits number (Some ColdStart) = refl
+
+  service_fits : (of : Call) → fits of (service_row config s p now of) ≡ true
+  service_fits (call.CreateSampling name size direction refresh) = sampling_fits (call.CreateSampling name size direction refresh) (sampling_named config p name) size direction refresh refl
+  service_fits (call.WriteSampling id message) = write_fits id (sampling_port config s p id) message
+  service_fits (call.ReadSampling id) = read_fits id (sampling_port config s p id)
+  service_fits (call.SamplingId name) = id_fits (call.SamplingId name) (sampling_named config p name) (λ id. refl)
+  service_fits (call.SamplingStatus id) = status_fits (call.SamplingStatus id) _ (sampling_port config s p id) refl
+  service_fits (call.CreateQueuing name size depth direction discipline) = queuing_fits (call.CreateQueuing name size depth direction discipline) (queuing_named config p name) size depth direction discipline refl
+  service_fits (call.SendQueuing id message) = send_fits id (queuing_port config s p id) message
+  service_fits (call.ReceiveQueuing id) = receive_fits id (queuing_port config s p id)
+  service_fits (call.QueuingId name) = id_fits (call.QueuingId name) (queuing_named config p name) (λ id. refl)
+  service_fits (call.QueuingStatus id) = status_fits (call.QueuingStatus id) _ (queuing_port config s p id) refl
+  service_fits (call.ClearQueuing id) = clear_fits id (queuing_port config s p id)
+  service_fits (call.SetMode number) = mode_fits number (mode_numbered number)
+
+  row_fits : (of : Call) (given : Row) → row_of config s p now of ≡ given → fits of given ≡ true
+  row_fits of given is = subst (λ (x : Row). fits of x ≡ true) is (by_idle (is_idle s.mode))
+    where
+      by_idle : (b : Bool) → fits of (if b then row.Idle else service_row config s p now of) ≡ true
+      by_idle true = refl
+      by_idle false = service_fits of
+
+  -- ---- the call of a row
+
+  pub creates_only : (of : Call) (id : ℕ) → row_of config s p now of ≡ row.Created id → is_create of ≡ true
+  creates_only of id is = row_fits of (row.Created id) is
+
+  not_creating : (of : Call) (id : ℕ) → fits of (row.Identified id) ≡ true → is_create of ≡ false
+  not_creating (call.SamplingId name) id is = refl
+  not_creating (call.QueuingId name) id is = refl
+  not_creating _ id is = absurd (cc)
+
+  pub identified_only : (of : Call) (id : ℕ) → row_of config s p now of ≡ row.Identified id → is_create of ≡ false
+  identified_only of id is = not_creating of id (row_fits of (row.Identified id) is)
+
+  sending : (of : Call) → fits of row.Sent ≡ true → (id : ℕ) × (message : List ℕ) × (of ≡ call.SendQueuing id message)
+  sending (call.SendQueuing id message) is = (id, message, refl)
+  sending _ is = absurd (cc)
+
+  pub sent_only : (of : Call) → row_of config s p now of ≡ row.Sent → (id : ℕ) × (message : List ℕ) × (of ≡ call.SendQueuing id message)
+  sent_only of is = sending of (row_fits of row.Sent is)
+
+  receiving : (of : Call) (id : ℕ) → fits of (row.OldestReceived id) ≡ true → of ≡ call.ReceiveQueuing id
+  receiving (call.ReceiveQueuing n) id is = ap call.ReceiveQueuing (sym (is_number id n is))
+  receiving _ id is = absurd (cc)
+
+  pub received_only : (of : Call) (id : ℕ) → row_of config s p now of ≡ row.OldestReceived id → of ≡ call.ReceiveQueuing id
+  received_only of id is = receiving of id (row_fits of (row.OldestReceived id) is)
+
+  clearing : (of : Call) → fits of row.Cleared ≡ true → (id : ℕ) × (of ≡ call.ClearQueuing id)
+  clearing (call.ClearQueuing id) is = (id, refl)
+  clearing _ is = absurd (cc)
+
+  pub cleared_only : (of : Call) → row_of config s p now of ≡ row.Cleared → (id : ℕ) × (of ≡ call.ClearQueuing id)
+  cleared_only of is = clearing of (row_fits of row.Cleared is)
+
+  writing : (of : Call) → fits of row.Written ≡ true → (id : ℕ) × (message : List ℕ) × (of ≡ call.WriteSampling id message)
+  writing (call.WriteSampling id message) is = (id, message, refl)
+  writing _ is = absurd (cc)
+
+  pub written_only : (of : Call) → row_of config s p now of ≡ row.Written → (id : ℕ) × (message : List ℕ) × (of ≡ call.WriteSampling id message)
+  written_only of is = writing of (row_fits of row.Written is)
+
+  reading : (of : Call) (id : ℕ) (validity : Validity) → fits of (row.LastRead id validity) ≡ true → of ≡ call.ReadSampling id
+  reading (call.ReadSampling n) id validity is = ap call.ReadSampling (sym (is_number id n is))
+  reading _ id validity is = absurd (cc)
+
+  pub read_only : (of : Call) (id : ℕ) (validity : Validity) → row_of config s p now of ≡ row.LastRead id validity → of ≡ call.ReadSampling id
+  read_only of id validity is = reading of id validity (row_fits of (row.LastRead id validity) is)
+
+  changing : (of : Call) → fits of row.ModeSet ≡ true → (number : ℕ) × (of ≡ call.SetMode number)
+  changing (call.SetMode number) is = (number, refl)
+  changing _ is = absurd (cc)
+
+  pub mode_only : (of : Call) → row_of config s p now of ≡ row.ModeSet → (number : ℕ) × (of ≡ call.SetMode number)
+  mode_only of is = changing of (row_fits of row.ModeSet is)
+
+-- ---- the port of a row
+
+abbrev accepted : Row → Bool
+accepted row.Idle = false
+accepted (Refused refusal) = false
+accepted _ = true
+
+served : (b : Bool) (x given : Row) → accepted given ≡ true → (if b then row.Idle else x) ≡ given → x ≡ given
+served true x given ok is = let no : accepted row.Idle ≡ true = ap accepted is ∙ ok in absurd (cc)
+served false x given ok is = is
+
+passed : (b : Bool) (refusal : Refusal) (x given : Row) → accepted given ≡ true → (if b then Refused refusal else x) ≡ given → (b ≡ false) × (x ≡ given)
+passed true refusal x given ok is = let no : accepted (Refused refusal) ≡ true = ap accepted is ∙ ok in absurd (cc)
+passed false refusal x given ok is = (refl, is)
+
+not_false : (b : Bool) → not b ≡ false → b ≡ true
+not_false true is = refl
+not_false false is = absurd (cc)
+
+some_wait : (id n : ℕ) (waiting : List (List ℕ)) → oldest_row id waiting ≡ row.OldestReceived n → 0 < length waiting
+some_wait id n [] is = absurd (cc)
+some_wait id n (message ∷ rest) is = omega arith
+
+some_written : (now : Moment) (id n refresh : ℕ) (validity : Validity) (sample : Option Sample) → last_row now id refresh sample ≡ row.LastRead n validity → (one : Sample) × (sample ≡ Some one)
+some_written now id n refresh validity None is = absurd (cc)
+some_written now id n refresh validity (Some sample) is = (sample, refl)
+
+-- the end of a channel
+pub record IsSourceAt (config : Configuration) (p id : ℕ) (port : Port) : Type 0 where
+  pub found : port_of config p id ≡ Some port
+  pub source : is_source port.direction ≡ true
+
+pub record IsDestinationAt (config : Configuration) (p id : ℕ) (port : Port) : Type 0 where
+  pub found : port_of config p id ≡ Some port
+  pub destination : is_source port.direction ≡ false
+
+pub source_of : (config : Configuration) (p id : ℕ) (port q : Port) → IsSourceAt config p id port → Some q ≡ port_of config p id → is_source_of q.channel (port_of config p id) ≡ true
+source_of config p id port q at given =
+    let same : port ≡ q = let both : Some port ≡ Some q = sym at.found ∙ sym given in cc in
+    let source = subst (λ (x : Port). is_source x.direction ≡ true) same at.source in
+    subst (λ (o : Option Port). is_source_of q.channel o ≡ true) given (λ i. source i && same_number q.channel i)
+
+pub destination_of : (config : Configuration) (p id : ℕ) (port q : Port) → IsDestinationAt config p id port → Some q ≡ port_of config p id → is_destination_of q.channel (port_of config p id) ≡ true
+destination_of config p id port q at given =
+    let same : port ≡ q = let both : Some port ≡ Some q = sym at.found ∙ sym given in cc in
+    let destination = subst (λ (x : Port). is_source x.direction ≡ false) same at.destination in
+    subst (λ (o : Option Port). is_destination_of q.channel o ≡ true) given (λ i. not (destination i) && same_number q.channel i)
+
+module _ (config : Configuration) (s : Seen) (p : ℕ) (now : Moment) where
+  pub sent_at : (id : ℕ) (message : List ℕ) → row_of config s p now (call.SendQueuing id message) ≡ row.Sent → (port : Port) × IsSourceAt config p id port × (length message ≤ size_of config port)
+  sent_at id message is = by_port (queuing_port config s p id) refl (served (is_idle s.mode) (service_row config s p now (call.SendQueuing id message)) row.Sent refl is)
+    where
+      by_port : (port : Option Port) → queuing_port config s p id ≡ port → send_row config s id port message ≡ row.Sent → (q : Port) × IsSourceAt config p id q × (length message ≤ size_of config q)
+      by_port None found given = absurd (cc)
+      by_port (Some q) found given =
+          let tests = by_tests _ (nat_lt (size_of config q) (length message)) _ _ given in
+          let short = tests.0 in
+          (q, record { found = queuing_configured (s.created id) (port_of config p id) q found; source = not_false (is_source q.direction) tests.1 }, grind (arith, nat_tests))
+        where
+          by_tests : (a b c d : Bool) → ◌≡◌ {A = Row} (if a then Refused refusal.EmptyMessage else if b then Refused refusal.MessageTooLong else if c then Refused refusal.NotSource else if d then Refused refusal.QueueFull else row.Sent) row.Sent → (b ≡ false) × (c ≡ false)
+          by_tests true b c d h = absurd (cc)
+          by_tests false true c d h = absurd (cc)
+          by_tests false false true d h = absurd (cc)
+          by_tests false false false true h = absurd (cc)
+          by_tests false false false false h = (refl, refl)
+
+  pub written_at : (id : ℕ) (message : List ℕ) → row_of config s p now (call.WriteSampling id message) ≡ row.Written → (port : Port) × IsSourceAt config p id port
+  written_at id message is = by_port (sampling_port config s p id) refl (served (is_idle s.mode) (service_row config s p now (call.WriteSampling id message)) row.Written refl is)
+    where
+      by_port : (port : Option Port) → sampling_port config s p id ≡ port → write_row config port message ≡ row.Written → (q : Port) × IsSourceAt config p id q
+      by_port None found given = absurd (cc)
+      by_port (Some q) found given = (q, record { found = (sampling_configured (s.created id) (port_of config p id) q found).0; source = not_false (is_source q.direction) (by_tests _ _ _ given) })
+        where
+          by_tests : (a b c : Bool) → ◌≡◌ {A = Row} (if a then Refused refusal.EmptyMessage else if b then Refused refusal.MessageTooLong else if c then Refused refusal.NotSource else row.Written) row.Written → c ≡ false
+          by_tests true b c h = absurd (cc)
+          by_tests false true c h = absurd (cc)
+          by_tests false false true h = absurd (cc)
+          by_tests false false false h = refl
+
+  pub received_at : (id n : ℕ) → row_of config s p now (call.ReceiveQueuing id) ≡ row.OldestReceived n → (port : Port) × IsDestinationAt config p id port × (0 < length (s.waiting id))
+  received_at id n is = by_port (queuing_port config s p id) refl (served (is_idle s.mode) (service_row config s p now (call.ReceiveQueuing id)) (row.OldestReceived n) refl is)
+    where
+      by_port : (port : Option Port) → queuing_port config s p id ≡ port → receive_row s id port ≡ row.OldestReceived n → (q : Port) × IsDestinationAt config p id q × (0 < length (s.waiting id))
+      by_port None found given = absurd (cc)
+      by_port (Some q) found given =
+          let one = passed (is_source q.direction) refusal.NotDestination (oldest_row id (s.waiting id)) (row.OldestReceived n) refl given in
+          (q, record { found = queuing_configured (s.created id) (port_of config p id) q found; destination = one.0 }, some_wait id n (s.waiting id) one.1)
+
+  pub cleared_at : (id : ℕ) → row_of config s p now (call.ClearQueuing id) ≡ row.Cleared → (port : Port) × IsDestinationAt config p id port
+  cleared_at id is = by_port (queuing_port config s p id) refl (served (is_idle s.mode) (service_row config s p now (call.ClearQueuing id)) row.Cleared refl is)
+    where
+      by_port : (port : Option Port) → queuing_port config s p id ≡ port → clear_row port ≡ row.Cleared → (q : Port) × IsDestinationAt config p id q
+      by_port None found given = absurd (cc)
+      by_port (Some q) found given =
+          let one = passed (is_source q.direction) refusal.NotDestination row.Cleared row.Cleared refl given in
+          (q, record { found = queuing_configured (s.created id) (port_of config p id) q found; destination = one.0 })
+
+  -- what a read finds
+  pub record IsReadAt (id : ℕ) (port : Port) (sample : Sample) : Type 0 where
+    pub created : s.created id ≡ true
+    pub found : port_of config p id ≡ Some port
+    pub shown : s.sample id ≡ Some sample
+
+  is_created_port : (b : Bool) (port : Option Port) (q : Port) → sampling_only (if b then port else None) ≡ Some q → b ≡ true
+  is_created_port true port q is = refl
+  is_created_port false port q is = absurd (cc)
+
+  pub read_at : (id n : ℕ) (validity : Validity) → row_of config s p now (call.ReadSampling id) ≡ row.LastRead n validity → (port : Port) × (sample : Sample) × IsReadAt id port sample
+  read_at id n validity is = by_port (sampling_port config s p id) refl (served (is_idle s.mode) (service_row config s p now (call.ReadSampling id)) (row.LastRead n validity) refl is)
+    where
+      by_port : (port : Option Port) → sampling_port config s p id ≡ port → read_row s now id port ≡ row.LastRead n validity → (q : Port) × (sample : Sample) × IsReadAt id q sample
+      by_port None found given = absurd (cc)
+      by_port (Some q) found given =
+          let one = passed (is_source q.direction) refusal.NotDestination (last_row now id (refresh_of_kind q.kind) (s.sample id)) (row.LastRead n validity) refl given in
+          let written = some_written now id n (refresh_of_kind q.kind) validity (s.sample id) one.1 in (
+            q,
+            written.0,
+            record {
+              created = is_created_port (s.created id) (port_of config p id) q found;
+              found = (sampling_configured (s.created id) (port_of config p id) q found).0;
+              shown = written.1;
+            },
+          )
+
+  -- the mode that is set
+  pub mode_at : (number : ℕ) → row_of config s p now (call.SetMode number) ≡ row.ModeSet → (mode : Mode) × (mode_numbered number ≡ Some mode)
+  mode_at number is = by_mode (mode_numbered number) (served (is_idle s.mode) (service_row config s p now (call.SetMode number)) row.ModeSet refl is)
+    where
+      by_mode : (mode : Option Mode) → set_mode_row s.mode mode ≡ row.ModeSet → (one : Mode) × (mode ≡ Some one)
+      by_mode None given = absurd (cc)
+      by_mode (Some mode) given = (mode, refl)
+
+  -- ---- creation
+
+  named_queuing : (id : Option ℕ) (named : NamedPort) → queuing_of_id config p id ≡ Some named → IsIdentifier (ports_of config p) named.id
+  named_queuing None named is = absurd (cc)
+  named_queuing (Some id) named is = by_port (port_of config p id) refl is
+    where
+      by_port : (port : Option Port) → port_of config p id ≡ port → with_id id (queuing_only port) ≡ Some named → IsIdentifier (ports_of config p) named.id
+      by_port None found given = absurd (cc)
+      by_port (Some q) found given = by_kind (is_queuing_port q.kind) given
+        where
+          by_kind : (b : Bool) → with_id id (if b then Some q else None) ≡ Some named → IsIdentifier (ports_of config p) named.id
+          by_kind true h = let same : id ≡ named.id = cc in subst (IsIdentifier (ports_of config p)) same (is_identifier config p id q found)
+          by_kind false h = absurd (cc)
+
+  named_sampling : (id : Option ℕ) (named : NamedPort) → sampling_of_id config p id ≡ Some named → IsIdentifier (ports_of config p) named.id
+  named_sampling None named is = absurd (cc)
+  named_sampling (Some id) named is = by_port (port_of config p id) refl is
+    where
+      by_port : (port : Option Port) → port_of config p id ≡ port → with_id id (sampling_only port) ≡ Some named → IsIdentifier (ports_of config p) named.id
+      by_port None found given = absurd (cc)
+      by_port (Some q) found given = by_kind (is_queuing_port q.kind) given
+        where
+          by_kind : (b : Bool) → with_id id (if b then None else Some q) ≡ Some named → IsIdentifier (ports_of config p) named.id
+          by_kind true h = absurd (cc)
+          by_kind false h = let same : id ≡ named.id = cc in subst (IsIdentifier (ports_of config p)) same (is_identifier config p id q found)
+
+  created_queuing : (id : ℕ) (named : Option NamedPort) (size depth direction discipline : ℕ) → create_queuing_row config s named size depth direction discipline ≡ row.Created id → (one : NamedPort) × (named ≡ Some one) × (one.id ≡ id)
+  created_queuing id None size depth direction discipline given = absurd (cc)
+  created_queuing id (Some named) size depth direction discipline given = (named, refl, by_tests _ _ _ _ _ _ given)
+    where
+      by_tests : (a b c d e f : Bool) → ◌≡◌ {A = Row} (if a then Refused refusal.AlreadyCreated else if b then Refused refusal.SizeDiffers else if c then Refused refusal.DepthDiffers else if d then Refused refusal.DirectionDiffers else if e then Refused refusal.UnknownDiscipline else if f then Refused refusal.InNormal else row.Created named.id) (row.Created id) → named.id ≡ id
+      by_tests true b c d e f h = absurd (cc)
+      by_tests false true c d e f h = absurd (cc)
+      by_tests false false true d e f h = absurd (cc)
+      by_tests false false false true e f h = absurd (cc)
+      by_tests false false false false true f h = absurd (cc)
+      by_tests false false false false false true h = absurd (cc)
+      by_tests false false false false false false h = cc
+
+  created_sampling : (id : ℕ) (named : Option NamedPort) (size direction refresh : ℕ) → create_sampling_row config s named size direction refresh ≡ row.Created id → (one : NamedPort) × (named ≡ Some one) × (one.id ≡ id)
+  created_sampling id None size direction refresh given = absurd (cc)
+  created_sampling id (Some named) size direction refresh given = (named, refl, by_tests _ _ _ _ _ given)
+    where
+      by_tests : (a b c d e : Bool) → ◌≡◌ {A = Row} (if a then Refused refusal.AlreadyCreated else if b then Refused refusal.SizeDiffers else if c then Refused refusal.DirectionDiffers else if d then Refused refusal.RefreshDiffers else if e then Refused refusal.InNormal else row.Created named.id) (row.Created id) → named.id ≡ id
+      by_tests true b c d e h = absurd (cc)
+      by_tests false true c d e h = absurd (cc)
+      by_tests false false true d e h = absurd (cc)
+      by_tests false false false true e h = absurd (cc)
+      by_tests false false false false true h = absurd (cc)
+      by_tests false false false false false h = cc
+
+  -- what holds of a call that creates a port
+  pub record IsCreation (of : Call) (id : ℕ) : Type 0 where
+    pub creates : is_create of ≡ true
+    pub no_mode : mode_asked of ≡ None
+    pub no_read : (n : ℕ) → is_read n of ≡ false
+    pub elsewhere : (c : ℕ) → IsElsewhere config c p of
+    pub identifier : IsIdentifier (ports_of config p) id
+
+  pub created_at : (of : Call) (id : ℕ) → row_of config s p now of ≡ row.Created id → IsCreation of id
+  created_at of id is = by_call of (creates_only config s p now of id is) (served (is_idle s.mode) (service_row config s p now of) (row.Created id) refl is)
+    where
+      by_call : (of : Call) → is_create of ≡ true → service_row config s p now of ≡ row.Created id → IsCreation of id
+      by_call (call.CreateQueuing name size depth direction discipline) creates given =
+          let made = created_queuing id (queuing_named config p name) size depth direction discipline given in
+          record {
+            creates = refl;
+            no_mode = refl;
+            no_read = λ n. refl;
+            elsewhere = λ c. record { sends = refl; receives = refl; clears = refl; writes = refl };
+            identifier = subst (IsIdentifier (ports_of config p)) made.2 (named_queuing (id_named config p name) made.0 made.1);
+          }
+      by_call (call.CreateSampling name size direction refresh) creates given =
+          let made = created_sampling id (sampling_named config p name) size direction refresh given in
+          record {
+            creates = refl;
+            no_mode = refl;
+            no_read = λ n. refl;
+            elsewhere = λ c. record { sends = refl; receives = refl; clears = refl; writes = refl };
+            identifier = subst (IsIdentifier (ports_of config p)) made.2 (named_sampling (id_named config p name) made.0 made.1);
+          }
+      by_call _ creates given = absurd (cc)
+
+-- an accepted write writes into the channel of its port, and into no other
+pub writes_there : (config : Configuration) (h : History) (p id : ℕ) (m : List ℕ) (q : Port) → port_of config p id ≡ Some q → is_idle (seen config h p).mode ≡ false
+    → write_row config (sampling_port config (seen config h p) p id) m ≡ row.Written → Writes config h p (call.WriteSampling id m) q.channel m
+writes_there config h p id m q found active decided = record {
+  there = λ at i. if is_code_no_error (replied at i) then sample_at at (if source i then Some m else None) else None;
+  elsewhere = λ at other apart i. if is_code_no_error (replied at i) then sample_at at (if off other apart i then Some m else None) else None;
+}
+  where
+    s : Seen
+    s = seen config h p
+
+    given : (at : Moment) → row_of config s p at (call.WriteSampling id m) ≡ row.Written
+    given at = rw active decided
+
+    replied : (at : Moment) → reply_to config h p at (call.WriteSampling id m) ≡ reply.Code NoError
+    replied at = ap (reply_of config s p) (given at)
+
+    source : is_source_of q.channel (port_of config p id) ≡ true
+    source = let at : Moment = record { 0 = 0 } in source_of config p id (written_at config s p at id m (given at)).0 q (written_at config s p at id m (given at)).1 (sym found)
+
+    other_channel : (other : ℕ) → other ≢ q.channel → (q.channel == other) ≡ false
+    other_channel other apart = grind (arith, nat_tests)
+
+    off : (other : ℕ) → other ≢ q.channel → is_source_of other (port_of config p id) ≡ false
+    off other apart = ap (is_source_of other) found ∙ ((λ i. is_source q.direction && other_channel other apart i) ∙ and_false (is_source q.direction))

@@ -1,0 +1,88 @@
+//! The reply table: the row that a call gets, by what its partition sees. A partition in IDLE gets no service.
+ghost use Rattle.std.specs.Prelude.{◌≡◌, ◌<◌, length};
+ghost use Rattle.apex_ports.specs.Decisions.{IsRowOfDecision};
+ghost use Rattle.apex_ports.specs.ReplyTable.{row_of, service_row};
+
+use crate::modes::is_idle;
+use crate::rows::{Refusal, Row};
+use crate::table::creation::{
+    create_queuing_row, create_sampling_row, queuing_id_row, sampling_id_row,
+};
+use crate::table::modes::set_mode_row;
+use crate::table::queuing::{clear_row, queuing_status_row, receive_row, send_row};
+use crate::table::sampling::{read_row, sampling_status_row, write_row};
+use crate::view::View;
+use apex_module::Config;
+use apex_types::{Call, Moment};
+
+mod creation;
+pub mod lookup;
+mod modes;
+mod queuing;
+pub mod replies;
+pub(crate) mod sampling;
+
+/// The row that a call of the partition gets.
+pub fn row<V: View>(view: &V, config: &Config, partition: usize, at: Moment, call: &Call) -> Row
+    requires partition { partition < length config.now.partitions }
+    requires kept { V.is_kept config.now view.now }
+    ensures { let here = V.seen config.now view.now partition in
+        result ≡ row_of config.now here partition at call.now }
+{
+    if is_idle(view.mode(config, partition)) {
+        return Row::Idle;
+    }
+    match accepted_row(view, config, partition, at, call) {
+        Ok(row) => row,
+        Err(refusal) => Row::Refused(refusal),
+    }
+}
+
+// The row of a call that its service accepts, or why it is refused.
+fn accepted_row<V: View>(
+    view: &V,
+    config: &Config,
+    partition: usize,
+    at: Moment,
+    call: &Call,
+) -> Result<Row, Refusal>
+    requires partition { partition < length config.now.partitions }
+    requires kept { V.is_kept config.now view.now }
+    ensures { let here = V.seen config.now view.now partition in
+        IsRowOfDecision (service_row config.now here partition at call.now) result }
+{
+    match call {
+        Call::CreateSampling {
+            name,
+            size,
+            direction,
+            refresh,
+        } => create_sampling_row(view, config, partition, name, *size, *direction, *refresh),
+        Call::WriteSampling { id, message } => write_row(view, config, partition, *id, message),
+        Call::ReadSampling { id } => read_row(view, config, partition, at, *id),
+        Call::SamplingId { name } => sampling_id_row(view, config, partition, name),
+        Call::SamplingStatus { id } => sampling_status_row(view, config, partition, *id),
+        Call::CreateQueuing {
+            name,
+            size,
+            depth,
+            direction,
+            discipline,
+        } => create_queuing_row(
+            view,
+            config,
+            partition,
+            name,
+            *size,
+            *depth,
+            *direction,
+            *discipline,
+        ),
+        Call::SendQueuing { id, message } => send_row(view, config, partition, *id, message),
+        Call::ReceiveQueuing { id } => receive_row(view, config, partition, *id),
+        Call::QueuingId { name } => queuing_id_row(view, config, partition, name),
+        Call::QueuingStatus { id } => queuing_status_row(view, config, partition, *id),
+        Call::ClearQueuing { id } => clear_row(view, config, partition, *id),
+        Call::SetMode { mode } => set_mode_row(view.mode(config, partition), *mode),
+    }
+}

@@ -1,0 +1,112 @@
+//! The rows of SEND_QUEUING_MESSAGE, RECEIVE_QUEUING_MESSAGE, CLEAR_QUEUING_PORT and GET_QUEUING_PORT_STATUS.
+ghost use Rattle.std.specs.Prelude.{◌≡◌, ◌<◌, length};
+ghost use Rattle.apex_ports.specs.declared.rows.Row.TheVariants as row;
+ghost use Rattle.apex_ports.specs.Decisions.{IsRowOfDecision};
+ghost use Rattle.apex_ports.specs.ReplyTable.{send_row, receive_row, clear_row, status_row};
+ghost use Rattle.apex_ports.specs.Seen.{queuing_port};
+
+use crate::rows::{Refusal, Row};
+use crate::table::lookup::queuing_port;
+use crate::view::View;
+use apex_module::Config;
+use apex_types::{Direction, Message};
+
+/// The row of SEND_QUEUING_MESSAGE, or why it is refused.
+pub(crate) fn send_row<V: View>(
+    view: &V,
+    config: &Config,
+    partition: usize,
+    id: u32,
+    message: &Message,
+) -> Result<Row, Refusal>
+    requires partition { partition < length config.now.partitions }
+    requires kept { V.is_kept config.now view.now }
+    ensures { let here = V.seen config.now view.now partition in
+        let port = queuing_port config.now here partition id in
+        IsRowOfDecision (send_row config.now here id port message.now) result }
+{
+    let Some(port) = queuing_port(view, config, partition, id) else {
+        return Err(Refusal::NoSuchPort);
+    };
+    let channel = config.channel(port.channel);
+    let length = message.bytes().len();
+    if length == 0 {
+        return Err(Refusal::EmptyMessage);
+    }
+    if length > channel.size as usize {
+        return Err(Refusal::MessageTooLong);
+    }
+    if let Direction::Destination = port.direction {
+        return Err(Refusal::NotSource);
+    }
+    if view.waiting_count(config, partition, id, port) == channel.kind.depth() as usize {
+        return Err(Refusal::QueueFull);
+    }
+    Ok(Row::Sent)
+}
+
+/// The row of RECEIVE_QUEUING_MESSAGE, or why it is refused.
+pub(crate) fn receive_row<V: View>(
+    view: &V,
+    config: &Config,
+    partition: usize,
+    id: u32,
+) -> Result<Row, Refusal>
+    requires partition { partition < length config.now.partitions }
+    requires kept { V.is_kept config.now view.now }
+    ensures { let here = V.seen config.now view.now partition in
+        let port = queuing_port config.now here partition id in
+        IsRowOfDecision (receive_row here id port) result }
+{
+    let Some(port) = queuing_port(view, config, partition, id) else {
+        return Err(Refusal::NoSuchPort);
+    };
+    if let Direction::Source = port.direction {
+        return Err(Refusal::NotDestination);
+    }
+    match view.oldest(config, partition, id, port) {
+        Some(_) => Ok(Row::OldestReceived { id }),
+        None => Err(Refusal::QueueEmpty),
+    }
+}
+
+/// The row of CLEAR_QUEUING_PORT, or why it is refused.
+pub(crate) fn clear_row<V: View>(
+    view: &V,
+    config: &Config,
+    partition: usize,
+    id: u32,
+) -> Result<Row, Refusal>
+    requires partition { partition < length config.now.partitions }
+    requires kept { V.is_kept config.now view.now }
+    ensures { let here = V.seen config.now view.now partition in
+        let port = queuing_port config.now here partition id in
+        IsRowOfDecision (clear_row port) result }
+{
+    let Some(port) = queuing_port(view, config, partition, id) else {
+        return Err(Refusal::NoSuchPort);
+    };
+    match port.direction {
+        Direction::Source => Err(Refusal::NotDestination),
+        Direction::Destination => Ok(Row::Cleared),
+    }
+}
+
+/// The row of GET_QUEUING_PORT_STATUS, or why it is refused.
+pub(crate) fn queuing_status_row<V: View>(
+    view: &V,
+    config: &Config,
+    partition: usize,
+    id: u32,
+) -> Result<Row, Refusal>
+    requires partition { partition < length config.now.partitions }
+    requires kept { V.is_kept config.now view.now }
+    ensures { let here = V.seen config.now view.now partition in
+        let port = queuing_port config.now here partition id in
+        IsRowOfDecision (status_row (row.QueuingStatus id) port) result }
+{
+    match queuing_port(view, config, partition, id) {
+        Some(_) => Ok(Row::QueuingStatus { id }),
+        None => Err(Refusal::NoSuchPort),
+    }
+}

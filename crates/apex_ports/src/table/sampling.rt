@@ -1,0 +1,90 @@
+//! The rows of WRITE_SAMPLING_MESSAGE, READ_SAMPLING_MESSAGE and GET_SAMPLING_PORT_STATUS.
+ghost use Rattle.std.specs.Prelude.{◌≡◌, ◌<◌, length, IfOk};
+ghost use Rattle.apex_ports.specs.declared.rows.Row.TheVariants as row;
+ghost use Rattle.apex_ports.specs.Decisions.{IsRowOfDecision};
+ghost use Rattle.apex_ports.specs.ReplyTable.{write_row, read_row, status_row};
+ghost use Rattle.apex_ports.specs.Seen.{sampling_port};
+
+use crate::rows::{Refusal, Row};
+use crate::table::lookup::sampling_port;
+use crate::view::View;
+use apex_module::Config;
+use apex_types::{Direction, Message, Moment};
+
+/// The row of WRITE_SAMPLING_MESSAGE, or why it is refused.
+pub(crate) fn write_row<V: View>(
+    view: &V,
+    config: &Config,
+    partition: usize,
+    id: u32,
+    message: &Message,
+) -> Result<Row, Refusal>
+    requires partition { partition < length config.now.partitions }
+    requires kept { V.is_kept config.now view.now }
+    ensures decided { let here = V.seen config.now view.now partition in
+        let port = sampling_port config.now here partition id in
+        IsRowOfDecision (write_row config.now port message.now) result }
+    ensures accepted { IfOk result (λ accepted. accepted ≡ row.Written) }
+{
+    let Some(port) = sampling_port(view, config, partition, id) else {
+        return Err(Refusal::NoSuchPort);
+    };
+    let size = config.channel(port.channel).size as usize;
+    let length = message.bytes().len();
+    if length == 0 {
+        return Err(Refusal::EmptyMessage);
+    }
+    if length > size {
+        return Err(Refusal::MessageTooLong);
+    }
+    match port.direction {
+        Direction::Destination => Err(Refusal::NotSource),
+        Direction::Source => Ok(Row::Written),
+    }
+}
+
+/// The row of READ_SAMPLING_MESSAGE, or why it is refused.
+pub(crate) fn read_row<V: View>(
+    view: &V,
+    config: &Config,
+    partition: usize,
+    now: Moment,
+    id: u32,
+) -> Result<Row, Refusal>
+    requires partition { partition < length config.now.partitions }
+    requires kept { V.is_kept config.now view.now }
+    ensures { let here = V.seen config.now view.now partition in
+        let port = sampling_port config.now here partition id in
+        IsRowOfDecision (read_row here now id port) result }
+{
+    let Some(port) = sampling_port(view, config, partition, id) else {
+        return Err(Refusal::NoSuchPort);
+    };
+    if let Direction::Source = port.direction {
+        return Err(Refusal::NotDestination);
+    }
+    let Some(sample) = view.sample(config, partition, id, port) else {
+        return Err(Refusal::NeverWritten);
+    };
+    let validity = sample.validity(now, port.kind.refresh());
+    Ok(Row::LastRead { id, validity })
+}
+
+/// The row of GET_SAMPLING_PORT_STATUS, or why it is refused.
+pub(crate) fn sampling_status_row<V: View>(
+    view: &V,
+    config: &Config,
+    partition: usize,
+    id: u32,
+) -> Result<Row, Refusal>
+    requires partition { partition < length config.now.partitions }
+    requires kept { V.is_kept config.now view.now }
+    ensures { let here = V.seen config.now view.now partition in
+        let port = sampling_port config.now here partition id in
+        IsRowOfDecision (status_row (row.SamplingStatus id) port) result }
+{
+    match sampling_port(view, config, partition, id) {
+        Some(_) => Ok(Row::SamplingStatus { id }),
+        None => Err(Refusal::NoSuchPort),
+    }
+}

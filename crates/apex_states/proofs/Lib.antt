@@ -1,4 +1,0 @@
-pub mod Comparing
-pub mod GoingOn
-pub mod SeenAlike
-pub mod StateSteps

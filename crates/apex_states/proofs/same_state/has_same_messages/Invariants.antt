@@ -1,8 +1,0 @@
-use Rattle.std.proofs.Common.{◌≡◌, ℕ, ◌<◌}
-use Rattle.std.specs.List.{slice_get}
-use Rattle.apex_ports.specs.Channels.{waiting_on}
-use Rattle.apex_states.proofs.same_state.has_same_messages.Given as goal
-
-abbrev pub invariant-loop-i : goal.invariant-loop-i
-invariant-loop-i g l =
-    (k : ℕ) → k < l.i → slice_get (waiting_on l.a.config l.c l.a.history) k ≡ slice_get (waiting_on l.a.config l.c l.b.history) k

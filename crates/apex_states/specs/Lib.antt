@@ -1,2 +1,0 @@
-pub mod StateLaw
-pub mod States

@@ -1,0 +1,13 @@
+//! The laws of the table as text: how it agrees with the reply table.
+ghost use Rattle.apex_words.specs.Law.{RefusalsAreListed};
+ghost use Rattle.apex_words.specs.Replies.{RepliesAreGiven};
+
+/// Outside of IDLE, a call is refused only by a check that its service lists. There is nothing to run.
+pub fn refusals_are_listed()
+    ensures { RefusalsAreListed }
+{}
+
+/// `can_give` and `can_give_code` hold of each reply to a call of the service. There is nothing to run.
+pub fn replies_are_given()
+    ensures { RepliesAreGiven }
+{}

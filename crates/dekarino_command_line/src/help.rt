@@ -1,0 +1,118 @@
+//! The help of each command beside its usage, with a worked example.
+
+pub(crate) const PROGRAM: &str = "\
+Example:
+  $ ./dekarino table examples/readme/config.toml
+  partition FMS
+    1 NAV_OUT queuing source NAV size 4 depth 2 to DSP.NAV_IN
+  partition DSP
+    1 NAV_IN queuing destination NAV size 4 depth 2 from FMS.NAV_OUT
+
+The status is 0 if all was done, 1 if a text was refused, 2 if the words are not those of a command, 3 if memory ran
+out or a file or the output could not be read or written, 4 if the answer is no, as when a judged log departs from the
+standard, and 5 if no answer was found.";
+
+pub(crate) const TABLE: &str = "\
+Prints a line for each partition, and below it a line for each of its ports, by identifier: name, kind, direction,
+channel, the channel's sizes, and the ports at the channel's other end. If the configuration is refused, it prints the
+places of the fault.
+
+Example:
+  $ ./dekarino table examples/readme/config.toml
+  partition FMS
+    1 NAV_OUT queuing source NAV size 4 depth 2 to DSP.NAV_IN
+  partition DSP
+    1 NAV_IN queuing destination NAV size 4 depth 2 from FMS.NAV_OUT";
+
+pub(crate) const EXPLAIN: &str = "\
+Prints the trace with the reply behind each call and, if the reply is not NO_ERROR, the row of the reply table that gave
+it. Remarks follow. A word NAME=SCRIPT gives partition NAME a script: each such partition runs in a thread, and the calls
+are printed in the order in which they happened. A trace is a single word without such a beginning, so write ./A=B for a
+trace called A=B.
+
+Example:
+  $ ./dekarino explain examples/readme/config.toml examples/readme/trace.txt
+  10 FMS create-queuing NAV_OUT 4 2 0 0 -> NO_ERROR id 1
+  20 DSP create-queuing NAV_IN 4 2 1 0 -> NO_ERROR id 1
+  30 FMS send 1 0a0b -> NO_ERROR
+  40 DSP receive 1 -> NO_ERROR message 0a0b
+  50 DSP receive 1 -> NOT_AVAILABLE (no message waits on NAV)
+  60 FMS send 1 0102030405 -> INVALID_CONFIG (message of 5 bytes, channel NAV takes 4)
+
+  after 6 calls";
+
+pub(crate) const DRAW: &str = "\
+Prints an SVG. A configuration becomes boxes with ports, and arrows for channels. A trace becomes a chart: a lifeline for
+each partition, the calls from top to bottom, an arrow from each send or write to the call that got its message, crosses
+at refused calls, and rings at messages that wait in the end. It draws at most 2,000 calls.
+
+Example:
+  $ ./dekarino draw examples/readme/config.toml examples/readme/trace.txt > chart.svg";
+
+pub(crate) const JUDGE: &str = "\
+A log is a trace with `-> REPLY` after each call, as `explain` prints it. Each reply that differs from the standard's
+departs, and gets a line: the call, what was logged, what the standard has, and the row of the reply table that gives it.
+A call is judged after what the log itself shows before it. So after a lost, doubled or altered message the log is in step
+again after a call or two, but after a wrong creation, identifier or mode the later calls of that partition that rest on
+it depart too. The last line counts the departures. The status is 4 if there is one.
+
+A word NAME=LOG gives the log that partition NAME kept for itself: its lines lack the partition, and nothing says which
+call of another partition came before. If some order of all calls gives each of them its logged reply, the status is 0,
+and --order writes that order as a log. If there is no such order, the status is 4. If neither is found, it is 5.
+
+Example:
+  $ ./dekarino judge examples/recorded/config.toml examples/recorded/log.txt
+  examples/recorded/log.txt:6: 50 DSP receive 1: logged NO_ERROR message 0c0d, the standard has NO_ERROR message 0a0b
+  examples/recorded/log.txt:8: 70 FMS send 1 0102030405: logged NO_ERROR, the standard has INVALID_CONFIG (message of 5 bytes, channel NAV takes 4)
+  8 calls, 2 departures
+  $ ./dekarino judge examples/recorded/config.toml FMS=examples/recorded/fms.log DSP=examples/recorded/dsp.log
+  9 calls, as the standard says in some order";
+
+pub(crate) const FIRST: &str = "Prints the first departure only, and the count of all";
+
+pub(crate) const ORDER: &str = "Writes the order found for logs NAME=LOG to FILE, as a log";
+
+pub(crate) const STEPS: &str = "Gives up the search after this many steps [default: 1000000000]";
+
+pub(crate) const ORDERS: &str = "\
+Each partition makes the calls of its script in order. Nothing else says which call comes first; moments order nothing
+between partitions. For each call, by the line of its script, it prints all replies that some order gives, and no others;
+for each queuing channel the least and the greatest of its counts in the end. The last line has the number of states
+tried and of different ends. If partitions fall into groups that share no channel, each group has such a line. Above the
+bound on states it prints nothing, and the status is 5.
+
+A question NAME:LINE = REPLY is about the call on that line of the partition's script. A return code alone stands for
+every reply with that code. The first order that gives such a reply ends the search.
+
+Example:
+  $ ./dekarino orders examples/orders/config.toml FMS=examples/orders/fms.script DSP=examples/orders/dsp.script
+  FMS:2 10 create-queuing NAV_OUT 4 1 0 0 -> NO_ERROR id 1
+  FMS:3 30 send 1 0a0b -> NO_ERROR
+  FMS:4 50 send 1 0c0d -> NOT_AVAILABLE | NO_ERROR
+  DSP:2 20 create-queuing NAV_IN 4 1 1 0 -> NO_ERROR id 1
+  DSP:3 40 receive 1 -> NOT_AVAILABLE | NO_ERROR message 0a0b
+  queuing NAV accepted 1..2 received 0..1 waiting 0..1
+  11 states, 3 ends";
+
+pub(crate) const STATES: &str = "Gives up above this many states [default: 100000]";
+
+pub(crate) const WHEN: &str =
+    "Prints an order in which the call NAME:LINE gets the reply, as a log; status 4 if there is none";
+
+pub(crate) const NEVER: &str =
+    "Status 0 if the call NAME:LINE gets the reply in no order; otherwise 4, with such an order";
+
+pub(crate) const ROWS: &str = "\
+Prints the rows of each service in order. The first row whose condition holds gives the reply, and `explain` prints its
+words behind the reply. NAME is a service's call word or the standard's name; without it all services are printed.
+
+Example:
+  $ ./dekarino rows receive
+  RECEIVE_QUEUING_MESSAGE (receive)
+    the partition is in IDLE -> not made (partition is in IDLE)
+    no such queuing port -> INVALID_PARAM (no queuing port of identifier ID is created)
+    the port is no destination -> INVALID_MODE (port PORT is a source)
+    no message waits -> NOT_AVAILABLE (no message waits on CHANNEL)
+    otherwise -> NO_ERROR with the oldest waiting message, which waits no longer";
+
+pub(crate) const JSON: &str = "Prints the same as JSON lines, one object a line (docs/FORMATS.md)";

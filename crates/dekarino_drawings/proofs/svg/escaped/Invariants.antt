@@ -1,0 +1,7 @@
+use Rattle.std.proofs.Common.{◌≡◌, string_bytes}
+use Rattle.std.specs.List.{flat_map}
+use Rattle.dekarino_drawings.specs.Escaping.{escaped_char}
+use Rattle.dekarino_drawings.proofs.svg.escaped.Given as goal
+
+abbrev pub invariant-loop-character : goal.invariant-loop-character
+invariant-loop-character l = string_bytes l.made ≡ flat_map escaped_char l.yielded

@@ -1,0 +1,40 @@
+-- What is read of a trace to be drawn, and when it isn't drawn.
+use Rattle.std.specs.Prelude.{◌≡◌, ℕ, ◌≤◌, ◌<◌, List, length, Ok}
+use Rattle.apex_module.specs.Configuration.{Configuration}
+use Rattle.apex_ports.specs.declared.history.Request.{Request}
+use Rattle.apex_texts.specs.Replay.{IsServed, IsRefused}
+use Rattle.apex_texts.specs.declared.fault.Fault.TheVariants as faults
+use Rattle.apex_texts.specs.Trace.{trace_of}
+use Rattle.dekarino_drawings.specs.declared.chart.TheConstants.{CALL_LIMIT}
+use Rattle.dekarino_drawings.specs.declared.chart.Chart.{Chart}
+use Rattle.dekarino_drawings.specs.declared.fault.DrawingFault.{DrawingFault}
+use Rattle.dekarino_drawings.specs.declared.fault.DrawingFault.TheVariants as drawing
+use Rattle.dekarino_drawings.specs.Arrows.{arrows_of, waiting_of}
+
+-- the chart is that of these requests
+pub record IsChart (config : Configuration) (trace : List ℕ) (chart : Chart) : Type 0 where
+  -- its calls are the lawful history of the trace's requests
+  pub served : IsServed config trace chart.calls.items
+  pub few : length chart.calls.items ≤ CALL_LIMIT
+  pub arrows : chart.arrows.items ≡ arrows_of config chart.calls.items
+  pub waiting : chart.waiting.items ≡ waiting_of config chart.calls.items
+
+-- the trace can be drawn
+pub record IsDrawn (config : Configuration) (trace : List ℕ) : Type 0 where
+  pub requests : List Request
+  pub read : trace_of config trace ≡ Ok requests
+  pub few : length requests ≤ CALL_LIMIT
+
+-- the trace has so many calls, more than are drawn
+pub record HasTooMany (config : Configuration) (trace : List ℕ) (calls : ℕ) : Type 0 where
+  pub requests : List Request
+  pub read : trace_of config trace ≡ Ok requests
+  pub count : calls ≡ length requests
+  pub many : CALL_LIMIT < calls
+
+-- why a trace is not drawn: its first faulty line, or else too many calls; want of memory says nothing of it
+abbrev pub IsNotDrawn : Configuration → List ℕ → DrawingFault → Type 0
+IsNotDrawn config trace (drawing.Text (faults.Trace fault)) = IsRefused (trace_of config trace) fault
+IsNotDrawn config trace (drawing.Text faults.Memory) = Unit {0}
+IsNotDrawn config trace (drawing.Text fault) = ⊥
+IsNotDrawn config trace (drawing.TooManyCalls calls) = HasTooMany config trace calls

@@ -1,0 +1,3 @@
+pub mod OrderAnswer
+pub mod OwnLogs
+pub mod Unfinished

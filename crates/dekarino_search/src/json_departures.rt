@@ -1,0 +1,97 @@
+//! The departures of a log as JSON lines.
+use crate::json::push_object;
+use apex_judge::Expected;
+use apex_module::Config;
+use apex_ports::Entry;
+use apex_texts::{Service, push_reply};
+use apex_types::{Moment, Reply};
+use apex_words::{push_words, row_name};
+use dekarino_texts::{DepartureCounts, DepartureSink};
+use serde::Serialize;
+use std::alloc::{AllocError, Global};
+
+/// A departure: its line in the log, from 1, the call, the two replies, and the row that gives the standard's.
+#[derive(Drop, Serialize)]
+struct DepartureLine<'a> {
+    line: usize,
+    at: u64,
+    partition: &'a str,
+    service: &'static str,
+    logged: String,
+    standard: String,
+    row: &'static str,
+    words: String,
+}
+
+/// How many calls and departures there are.
+#[derive(Drop, Serialize)]
+struct CountLine {
+    calls: usize,
+    departures: usize,
+}
+
+/// The departures of logs as JSON lines.
+#[derive(Debug, Drop)]
+pub(crate) struct DepartureObjects {
+    text: String,
+}
+
+impl DepartureObjects {
+    /// No lines.
+    pub(crate) fn new(alloc: Global) -> DepartureObjects {
+        DepartureObjects {
+            text: String::new(alloc),
+        }
+    }
+
+    /// The lines.
+    pub(crate) fn into_text(self) -> String {
+        self.text
+    }
+}
+
+impl DepartureSink for DepartureObjects {
+    ghost takes = { λ _ _ _. Unit {0} };
+
+    /// Writes the object of a departure.
+    fn departure(
+        &mut self,
+        config: &Config,
+        _file: &str,
+        line: usize,
+        entry: &Entry,
+        expected: &Expected,
+    ) -> Result<(), AllocError> {
+        let alloc = *self.text.allocator();
+        let (p, Moment(at)) = (entry.partition, entry.at);
+        let mut words = String::new(alloc);
+        push_words(&mut words, config, p, &entry.call, expected.row)?;
+        let object = DepartureLine {
+            line,
+            at,
+            partition: config.partition_name(p).text(),
+            service: Service::of(&entry.call).word(),
+            logged: reply_text(alloc, &entry.reply)?,
+            standard: reply_text(alloc, &expected.reply)?,
+            row: row_name(expected.row),
+            words,
+        };
+        push_object(alloc, &mut self.text, &object)
+    }
+
+    /// Writes the object with the counts.
+    fn end(&mut self, counts: DepartureCounts) -> Result<(), AllocError> {
+        let object = CountLine {
+            calls: counts.calls,
+            departures: counts.departures,
+        };
+        push_object(*self.text.allocator(), &mut self.text, &object)
+    }
+}
+
+/// A reply in the words of a report.
+pub(crate) fn reply_text(alloc: Global, reply: &Reply) -> Result<String, AllocError> {
+    let mut text = String::new(alloc);
+    push_reply(&mut text, reply)?;
+    Ok(text)
+}

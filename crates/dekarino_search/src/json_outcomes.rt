@@ -1,0 +1,116 @@
+//! What scripts can come to, as JSON lines.
+use crate::json::push_object;
+use crate::json_departures::reply_text;
+use apex_groups::GroupCounts;
+use apex_module::Config;
+use apex_texts::Service;
+use apex_types::{Moment, Name, Reply};
+use dekarino_texts::outcomes::ScriptCall;
+use dekarino_texts::{OutcomeSink, Ranges};
+use serde::Serialize;
+use std::alloc::{AllocError, Global};
+
+/// A call: the line of its script, from 1, and the replies that it can get.
+#[derive(Drop, Serialize)]
+struct CallLine<'a> {
+    partition: &'a str,
+    line: usize,
+    at: u64,
+    service: &'static str,
+    replies: Vec<String>,
+}
+
+/// A queuing channel: the lowest and the highest of each count in the end.
+#[derive(Drop, Serialize)]
+struct ChannelLine<'a> {
+    channel: &'a str,
+    accepted: (u64, u64),
+    received: (u64, u64),
+    cleared: (u64, u64),
+    waiting: (u64, u64),
+}
+
+/// How many states and ends a group of partitions has.
+#[derive(Drop, Serialize)]
+struct CountLine<'a> {
+    states: usize,
+    ends: usize,
+    partitions: Vec<&'a str>,
+}
+
+/// What scripts can come to, as JSON lines.
+#[derive(Debug, Drop)]
+pub(crate) struct OutcomeObjects {
+    text: String,
+}
+
+impl OutcomeObjects {
+    /// No lines.
+    pub(crate) fn new(alloc: Global) -> OutcomeObjects {
+        OutcomeObjects {
+            text: String::new(alloc),
+        }
+    }
+
+    /// The lines.
+    pub(crate) fn into_text(self) -> String {
+        self.text
+    }
+}
+
+impl OutcomeSink for OutcomeObjects {
+    /// Writes the object of a call.
+    fn call(&mut self, call: &ScriptCall<'_>, replies: &[&Reply]) -> Result<(), AllocError> {
+        let alloc = *self.text.allocator();
+        let Moment(at) = call.at;
+        let mut texts = Vec::with_capacity(alloc, replies.len())?;
+        for reply in replies {
+            texts.push(reply_text(alloc, reply)?)?;
+        }
+        let object = CallLine {
+            partition: call.partition.text(),
+            line: call.line,
+            at,
+            service: Service::of(call.call).word(),
+            replies: texts,
+        };
+        push_object(alloc, &mut self.text, &object)
+    }
+
+    /// Writes the object of a queuing channel.
+    fn channel(&mut self, name: &Name, ranges: &Ranges) -> Result<(), AllocError> {
+        let (low, high) = (ranges.lowest, ranges.highest);
+        let object = ChannelLine {
+            channel: name.text(),
+            accepted: (low.accepted, high.accepted),
+            received: (low.received, high.received),
+            cleared: (low.cleared, high.cleared),
+            waiting: (low.waiting, high.waiting),
+        };
+        push_object(*self.text.allocator(), &mut self.text, &object)
+    }
+
+    /// Writes an object for each group.
+    fn groups(&mut self, config: &Config, groups: &[GroupCounts]) -> Result<(), AllocError> {
+        for group in groups {
+            push_group(&mut self.text, config, group)?;
+        }
+        Ok(())
+    }
+}
+
+fn push_group(text: &mut String, config: &Config, group: &GroupCounts) -> Result<(), AllocError> {
+    let alloc = *text.allocator();
+    let mut partitions = Vec::new(alloc);
+    for p in group.partitions.iter() {
+        if *p < config.partitions() {
+            partitions.push(config.partition_name(*p).text())?;
+        }
+    }
+    let object = CountLine {
+        states: group.states,
+        ends: group.ends,
+        partitions,
+    };
+    push_object(alloc, text, &object)
+}

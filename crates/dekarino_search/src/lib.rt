@@ -1,0 +1,41 @@
+//! The questions that `dekarino` searches for answers to, `judge` and `orders`, and what all its tasks share: reading a
+//! configuration and scripts with the mistakes of refused texts, JSON lines, showing how far a search is, what a task
+//! answers, and why it can't.
+#![tactic(auto)]
+
+mod configuration;
+mod file_writer;
+mod json;
+mod json_departures;
+mod json_outcomes;
+mod log_orders;
+mod mistakes;
+mod next_calls;
+mod occurrences;
+mod one_log;
+mod order_answer;
+mod order_log;
+pub mod outcome;
+mod own_logs;
+mod places;
+mod progress;
+mod question_faults;
+mod questions;
+mod script_outcomes;
+mod scripts;
+mod search_progress;
+pub mod unfinished;
+mod unreadable;
+
+pub use crate::configuration::read_config;
+pub use crate::file_writer::FileWriter;
+pub use crate::json::push_object;
+pub use crate::log_orders::order_of_logs;
+pub use crate::mistakes::mistakes_of_trace;
+pub use crate::one_log::departures_of_log;
+pub use crate::outcome::Outcome;
+pub use crate::progress::{Progress, ProgressLine, Reached};
+pub use crate::script_outcomes::outcomes_of_scripts;
+pub use crate::scripts::{Scripts, read_scripts};
+pub use crate::unfinished::Unfinished;
+pub use crate::unreadable::UnreadableFile;

@@ -1,0 +1,54 @@
+//! The mistakes of traces and scripts, beside their refusal.
+use crate::places::push_place;
+use apex_mistakes::{LinePlace, script_faults, script_mistakes, trace_faults, trace_mistakes};
+use apex_module::Config;
+use apex_refusals::MISTAKE_LIMIT;
+use dekarino_command_line::Form;
+use std::alloc::{AllocError, Global};
+
+/// The mistakes of a trace in a file; empty if the trace can be read.
+pub fn mistakes_of_trace(
+    alloc: Global,
+    path: &str,
+    config: &Config,
+    trace: &[u8],
+    form: Form,
+) -> Result<String, AllocError> {
+    let lines = trace_mistakes(alloc, path, config, trace)?;
+    match form {
+        Form::Json if !lines.is_empty() => {
+            let faults = trace_faults(alloc, config, trace, MISTAKE_LIMIT)?;
+            mistake_objects(alloc, lines.as_str(), faults.first.as_slice())
+        }
+        _ => Ok(lines),
+    }
+}
+
+/// The mistakes of a partition's script in a file; empty if the script can be read.
+pub(crate) fn mistakes_of_script(
+    alloc: Global,
+    path: &str,
+    config: &Config,
+    partition: usize,
+    script: &[u8],
+    form: Form,
+) -> Result<String, AllocError> {
+    let lines = script_mistakes(alloc, path, config, partition, script)?;
+    match form {
+        Form::Json if !lines.is_empty() => {
+            let faults = script_faults(alloc, script, MISTAKE_LIMIT)?;
+            mistake_objects(alloc, lines.as_str(), faults.first.as_slice())
+        }
+        _ => Ok(lines),
+    }
+}
+
+/// An object for each line, with the fault of its place; the line that says how many more there are has none.
+fn mistake_objects(alloc: Global, lines: &str, places: &[LinePlace]) -> Result<String, AllocError> {
+    let mut text = String::new(alloc);
+    for (index, line) in lines.lines().enumerate() {
+        let fault = places.get(index).map(|place| place.fault.number());
+        push_place(alloc, &mut text, fault, line)?;
+    }
+    Ok(text)
+}

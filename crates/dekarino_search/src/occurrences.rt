@@ -1,0 +1,117 @@
+//! Whether a call of scripts gets a reply that a question admits in some order.
+ghost use Rattle.std.specs.Prelude.{◌≡◌, length};
+ghost use Rattle.apex_ports.specs.Sound.{IsSound};
+
+use crate::outcome::Outcome;
+use crate::progress::Progress;
+use crate::questions::question_in;
+use crate::script_outcomes::unfinished_by;
+use crate::search_progress::SearchProgress;
+use crate::unfinished::Unfinished;
+use apex_groups::order_giving_apart;
+use apex_module::Config;
+use apex_orders::Order;
+use apex_orders::step::step;
+use apex_ports::{Ports, Script};
+use apex_types::OutOfMemory;
+use apex_words::push_logged;
+use dekarino_command_line::Question;
+use dekarino_texts::LineNumbers;
+use std::alloc::{AllocError, Global};
+
+/// The text if no order gives such a reply.
+const NEVER: &[u8] = b"never\n";
+
+/// The answer to a question: an order in which the call gets an admitted reply, as a log, or that there is none.
+pub(crate) fn find_occurrence<'a, P: Progress>(
+    alloc: Global,
+    config: &Config,
+    scripts: &mut [Script],
+    lines: &[LineNumbers],
+    states: usize,
+    question: Question<'a>,
+    progress: &mut P,
+) -> Result<Outcome, Unfinished<'a>>
+    requires { length scripts.old ≡ length config.now.partitions }
+{
+    let (words, wanted) = match question {
+        Question::When(words) => (words, true),
+        Question::Never(words) => (words, false),
+    };
+    let asked = match question_in(alloc, config, scripts, lines, words) {
+        Ok(asked) => asked,
+        Err(unfinished) => return Err(unfinished),
+    };
+    let mut progress = SearchProgress { progress };
+    let order = match order_giving_apart(alloc, config, scripts, &asked, states, &mut progress) {
+        Ok(order) => order,
+        Err(fault) => return Err(unfinished_by(fault, states)),
+    };
+    let occurs = order.is_some();
+    let Ok(text) = answer_text(alloc, config, scripts, order) else {
+        return Err(Unfinished::from(AllocError));
+    };
+    Ok(if occurs == wanted {
+        Outcome::Done(text)
+    } else {
+        Outcome::Negative(text)
+    })
+}
+
+fn answer_text(
+    alloc: Global,
+    config: &Config,
+    scripts: &[Script],
+    order: Option<Order>,
+) -> Result<Vec<u8>, OutOfMemory>
+    requires { length scripts.now ≡ length config.now.partitions }
+{
+    match order {
+        Some(order) => Ok(order_text(alloc, config, scripts, &order)?.into_bytes()),
+        None => Ok(Vec::from_slice(alloc, NEVER)?),
+    }
+}
+
+/// The calls in an order as a log: each with its reply.
+fn order_text(
+    alloc: Global,
+    config: &Config,
+    scripts: &[Script],
+    order: &Order,
+) -> Result<String, OutOfMemory>
+    requires { length scripts.now ≡ length config.now.partitions }
+{
+    let mut text = String::new(alloc);
+    let mut ports = Ports::new(alloc, config.copy()?)?;
+    for p in order.partitions() {
+        push_next(&mut text, config, &mut ports, scripts, *p)?;
+    }
+    Ok(text)
+}
+
+/// Makes the next call of a partition's script, and writes it with its reply.
+fn push_next(
+    text: &mut String,
+    config: &Config,
+    ports: &mut Ports,
+    scripts: &[Script],
+    p: usize,
+) -> Result<(), AllocError>
+    requires scripts { length scripts.now ≡ length config.now.partitions }
+    requires same { ports.old.config ≡ config.now }
+    requires sound { IsSound ports.old.config ports.old.history }
+    ensures config { ports.new.config ≡ ports.old.config }
+    ensures sound { IsSound ports.new.config ports.new.history }
+{
+    if p >= scripts.len() {
+        return Ok(());
+    }
+    let script = &scripts[p];
+    match step(ports, scripts, p) {
+        None => Ok(()),
+        Some(one) => match script.calls.get(one.index) {
+            None => Ok(()),
+            Some((at, call)) => push_logged(text, config, p, *at, call, &one.reply),
+        },
+    }
+}

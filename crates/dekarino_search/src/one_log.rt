@@ -1,0 +1,56 @@
+//! Where the replies of a recorded log depart from the standard.
+use crate::configuration::read_config;
+use crate::json_departures::DepartureObjects;
+use crate::outcome::Outcome;
+use crate::unfinished::Unfinished;
+use apex_files::{Opener, read_file};
+use apex_module::Config;
+use dekarino_command_line::Form;
+use dekarino_texts::{DepartureSink, DepartureText, judge_log};
+use std::alloc::Global;
+
+/// The departures of the log in a file, on the configuration in a file, or the first of them alone.
+pub fn departures_of_log<'a, O: Opener>(
+    alloc: Global,
+    opener: &O,
+    config: &'a str,
+    log: &'a str,
+    first: bool,
+    form: Form,
+) -> Result<Outcome, Unfinished<'a>> {
+    let config = read_config(alloc, opener, config, form)?;
+    let bytes = read_file(alloc, opener, log)?;
+    let most = if first { 1 } else { usize::MAX };
+    let (departures, text) = match form {
+        Form::Text => {
+            let mut sink = DepartureText::new(alloc);
+            let departures = judge_into(alloc, config, log, bytes.as_slice(), most, &mut sink)?;
+            (departures, sink.into_text())
+        }
+        Form::Json => {
+            let mut sink = DepartureObjects::new(alloc);
+            let departures = judge_into(alloc, config, log, bytes.as_slice(), most, &mut sink)?;
+            (departures, sink.into_text())
+        }
+    };
+    let text = text.into_bytes();
+    Ok(if departures == 0 {
+        Outcome::Done(text)
+    } else {
+        Outcome::Negative(text)
+    })
+}
+
+/// Hands the departures and the counts of a log to a sink, and answers how many departures there are.
+fn judge_into<'a, S: DepartureSink>(
+    alloc: Global,
+    config: Config,
+    file: &str,
+    log: &[u8],
+    most: usize,
+    sink: &mut S,
+) -> Result<usize, Unfinished<'a>> {
+    let counts = judge_log(alloc, config, file, log, most, sink)?;
+    sink.end(counts)?;
+    Ok(counts.departures)
+}

@@ -1,0 +1,112 @@
+//! The answer to whether logs that partitions kept apart have an order.
+use crate::json::push_object;
+use crate::json_departures::DepartureObjects;
+use crate::next_calls::hand_next_calls;
+use crate::own_logs::OwnLogs;
+use apex_log_orders::CallPlace;
+use apex_module::Config;
+use apex_types::OutOfMemory;
+use dekarino_command_line::Form;
+use dekarino_texts::{Counted, DepartureText};
+use serde::Serialize;
+use std::alloc::{AllocError, Global};
+
+/// Whether there is an order in which each reply is the standard's.
+#[derive(Clone, Copy, Debug)]
+pub(crate) enum OrderAnswer {
+    /// There is one.
+    Exists,
+    /// There is none.
+    Impossible,
+    /// Neither was found within this number of steps.
+    Undecided { steps: u64 },
+}
+
+/// The answer, the number of all calls, and how many are in the longest order.
+#[derive(Drop, Serialize)]
+struct AnswerLine {
+    order: &'static str,
+    calls: usize,
+    longest: usize,
+}
+
+/// The text of an answer; if there is no order of all calls, with the calls that are next after the longest.
+pub(crate) fn answer_text(
+    alloc: Global,
+    config: &Config,
+    all: &OwnLogs<'_>,
+    answer: OrderAnswer,
+    longest: &[CallPlace],
+    form: Form,
+) -> Result<String, OutOfMemory> {
+    let calls = count_calls(all);
+    match form {
+        Form::Text => {
+            let mut sink = DepartureText::new(alloc);
+            hand_next_calls(alloc, config, all, longest, &mut sink)?;
+            let mut text = String::new(alloc);
+            if let OrderAnswer::Impossible | OrderAnswer::Undecided { .. } = answer {
+                push_longest(&mut text, longest.len(), calls)?;
+            }
+            text.push_str(sink.into_text().as_str())?;
+            push_answer(&mut text, calls, answer)?;
+            Ok(text)
+        }
+        Form::Json => {
+            let mut sink = DepartureObjects::new(alloc);
+            hand_next_calls(alloc, config, all, longest, &mut sink)?;
+            let mut text = sink.into_text();
+            let object = AnswerLine {
+                order: word_of(answer),
+                calls,
+                longest: longest.len(),
+            };
+            push_object(alloc, &mut text, &object)?;
+            Ok(text)
+        }
+    }
+}
+
+fn count_calls(all: &OwnLogs<'_>) -> usize {
+    let mut calls: usize = 0;
+    for log in all.logs.iter() {
+        calls = calls.saturating_add(log.entries.len());
+    }
+    calls
+}
+
+fn word_of(answer: OrderAnswer) -> &'static str {
+    match answer {
+        OrderAnswer::Exists => "found",
+        OrderAnswer::Impossible => "none",
+        OrderAnswer::Undecided { .. } => "undecided",
+    }
+}
+
+/// Writes the line in front of the calls that are next.
+fn push_longest(text: &mut String, longest: usize, calls: usize) -> Result<(), AllocError> {
+    let calls = counted(calls);
+    writeln!(
+        text,
+        "the longest order found has {longest} of {calls}; it proves none of these to be at fault, which are next:"
+    )
+}
+
+/// Writes the last line.
+fn push_answer(text: &mut String, calls: usize, answer: OrderAnswer) -> Result<(), AllocError> {
+    let calls = counted(calls);
+    match answer {
+        OrderAnswer::Exists => writeln!(text, "{calls}, as the standard says in some order"),
+        OrderAnswer::Impossible => writeln!(text, "{calls}, as the standard says in no order"),
+        OrderAnswer::Undecided { steps } => {
+            writeln!(text, "{calls}, undecided after {steps} steps")
+        }
+    }
+}
+
+fn counted(count: usize) -> Counted {
+    Counted {
+        count,
+        noun: "call",
+    }
+}

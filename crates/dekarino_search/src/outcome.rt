@@ -1,0 +1,13 @@
+//! What a finished task answers.
+
+/// What a finished task answers, with the text to print.
+#[derive(Debug, Drop, PartialEq, Eq)]
+pub enum Outcome {
+    /// The task is done; if it was a question, the answer is yes.
+    Done(Vec<u8>),
+    /// The answer is no: replies of a log depart from the standard, no order has the replies of logs, or a call gets no
+    /// reply that it was to get, or one that it was never to get.
+    Negative(Vec<u8>),
+    /// A search ended at its bound without an answer.
+    Undecided(Vec<u8>),
+}

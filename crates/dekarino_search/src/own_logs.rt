@@ -1,0 +1,109 @@
+//! The logs that partitions kept apart, as files give them.
+ghost use Rattle.std.specs.Prelude.{◌≡◌, ◌<◌, [], length, replicate, IfOk, IfSome};
+ghost use Rattle.dekarino_search.specs.OwnLogs.{AreOwnLogs, SaysOwnLog};
+
+use crate::unfinished::Unfinished;
+use apex_files::{Opener, Refusal, partition_and_path, read_file};
+use apex_log_orders::OwnLog;
+use apex_logs::{ANY_ENTRY, LogError, PartitionLog, next_entry};
+use apex_module::Config;
+use std::alloc::{AllocError, Global};
+
+/// A log for each partition of a configuration, and the lines of its entries.
+#[derive(Drop)]
+pub(crate) struct OwnLogs<'a> {
+    pub(crate) logs: Vec<OwnLog>,
+    pub(crate) files: Vec<LogFile<'a>>,
+}
+
+/// The file of a partition's log, and the line of each of its entries, from 1.
+#[derive(Drop)]
+pub(crate) struct LogFile<'a> {
+    pub(crate) path: &'a str,
+    pub(crate) lines: Vec<usize>,
+}
+
+/// The log of each partition, in the file that the argument `NAME=LOG` with its name names, or the empty one.
+pub(crate) fn read_own_logs<'a, O: Opener>(
+    alloc: Global,
+    opener: &O,
+    config: &Config,
+    arguments: &[&'a str],
+) -> Result<OwnLogs<'a>, Unfinished<'a>>
+    ensures { IfOk result (λ all.
+        AreOwnLogs (O.bytes_at opener.now) config.now arguments.now all.logs.items) }
+{
+    let mut all = no_logs(alloc, config.partitions())?;
+    let mut named = vec![in alloc; false; config.partitions()]?;
+    for argument in arguments {
+        let (p, path) = match partition_and_path(config, argument) {
+            Some((p, path)) if !named[p] => (p, path),
+            _ => return Err(Unfinished::Refused(Refusal::Argument(argument))),
+        };
+        let (log, file) = read_own_log(alloc, opener, p, path)?;
+        all.logs[p] = log;
+        all.files[p] = file;
+        named[p] = true;
+    }
+    Ok(all)
+}
+
+/// `count` empty logs.
+fn no_logs<'a>(alloc: Global, count: usize) -> Result<OwnLogs<'a>, AllocError>
+    ensures logs { IfOk result (λ all. all.logs.items ≡ replicate count []) }
+    ensures files { IfOk result (λ all. length all.files.items ≡ count) }
+{
+    let mut logs = Vec::with_capacity(alloc, count)?;
+    let mut files = Vec::with_capacity(alloc, count)?;
+    for _ in 0..count {
+        logs.push_reserved(OwnLog {
+            entries: Vec::new(alloc),
+        });
+        files.push_reserved(LogFile {
+            path: "",
+            lines: Vec::new(alloc),
+        });
+    }
+    Ok(OwnLogs { logs, files })
+}
+
+/// The log of partition `p` in a file.
+fn read_own_log<'a, O: Opener>(
+    alloc: Global,
+    opener: &O,
+    p: usize,
+    path: &'a str,
+) -> Result<(OwnLog, LogFile<'a>), Unfinished<'a>>
+    ensures { IfOk result
+        (λ read. IfSome (O.bytes_at opener.now path.now) (λ bytes. SaysOwnLog p bytes read.0)) }
+{
+    let text = read_file(alloc, opener, path)?;
+    match entries_in(alloc, p, text.as_slice()) {
+        Ok((log, lines)) => Ok((log, LogFile { path, lines })),
+        Err(LogError::Line(faulty)) => Err(Unfinished::FaultyOwnLog { file: path, faulty }),
+        Err(LogError::OutOfMemory) => Err(Unfinished::from(AllocError)),
+    }
+}
+
+/// The entries of partition `p` that a text has, and their lines, from 1.
+fn entries_in(alloc: Global, p: usize, text: &[u8]) -> Result<(OwnLog, Vec<usize>), LogError>
+    ensures { IfOk result (λ read. SaysOwnLog p text.now read.0) }
+{
+    let form = PartitionLog { partition: p };
+    let mut entries = Vec::new(alloc);
+    let mut lines = Vec::new(alloc);
+    let mut rest = text;
+    let mut number = 0;
+    loop {
+        let mut entry = ANY_ENTRY;
+        match next_entry(&form, number, rest, &mut entry)? {
+            Some((line, after)) => {
+                entries.push(entry)?;
+                lines.push(line)?;
+                number = line;
+                rest = after;
+            }
+            None => return Ok((OwnLog { entries }, lines)),
+        }
+    }
+}

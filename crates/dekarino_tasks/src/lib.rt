@@ -1,0 +1,16 @@
+//! The tasks of the program `dekarino`: what its words ask for is printed on standard output, as a text or as JSON lines.
+#![tactic(auto)]
+
+mod drawings;
+mod explanations;
+mod json_explanation;
+mod json_remarks;
+mod json_rows;
+mod json_table;
+mod rows;
+mod tables;
+pub mod tasks;
+
+pub use crate::tasks::program;
+pub use apex_files::{Opener, Shown, SystemFiles};
+pub use dekarino_search::{FileWriter, Progress, ProgressLine, Reached};

@@ -1,0 +1,11 @@
+use Rattle.std.proofs.Common.{◌≡◌, take}
+use Rattle.apex_ports.specs.Sound.{IsSound}
+use Rattle.apex_orders.specs.Orders.{history_of}
+use Rattle.dekarino_texts.proofs.counts.ports_after.Given as goal
+
+abbrev pub invariant-loop-p : goal.invariant-loop-p
+invariant-loop-p l = record {
+  config : l.ports.config ≡ l.config;
+  sound : IsSound l.ports.config l.ports.history;
+  history : l.ports.history ≡ history_of l.config l.scripts (take l.p-index l.p-items);
+}

@@ -1,0 +1,18 @@
+use Rattle.std.proofs.Common.{◌≡◌, ◌≤◌, ◌+◌, length}
+use Rattle.std.specs.Str.Lines.{lines}
+use Rattle.apex_texts.specs.Trace.{request_at}
+use Rattle.apex_logs.specs.Log.{entries_from, log_of}
+use Rattle.dekarino_texts.proofs.DepartureLemmas.{IsUnderWay}
+use Rattle.dekarino_texts.proofs.departures.judge_entries.Given as goal
+
+abbrev pub invariant-loop-line : goal.invariant-loop-line
+invariant-loop-line g l = record {
+  judged : IsUnderWay g.S.DepartureSink.takes l.fn.judge.config l.most l.judge.log l.counts (entries_from (request_at l.fn.judge.config) (l.number + 1) (lines l.rest)) (log_of l.fn.judge.config l.log) l.fn.sink l.sink;
+  config : l.judge.config ≡ l.fn.judge.config;
+  bound : l.number + length l.rest ≤ length l.log;
+  calls : l.counts.calls ≤ l.number;
+  fewer : l.counts.departures ≤ l.counts.calls;
+}
+
+abbrev pub decreases-loop-line : goal.decreases-loop-line
+decreases-loop-line g l = length l.rest

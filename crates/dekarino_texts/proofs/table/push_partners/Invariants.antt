@@ -1,0 +1,8 @@
+use Rattle.std.proofs.Common.{◌≡◌, ◌+◌, ◌++◌, drop}
+use Rattle.apex_module.specs.Configuration.{ports_of}
+use Rattle.dekarino_texts.specs.PortTable.{places_in}
+use Rattle.dekarino_texts.proofs.table.push_partners.Given as goal
+
+abbrev pub invariant-loop-index : goal.invariant-loop-index
+invariant-loop-index l =
+    l.places.items ++ places_in l.port l.p (l.index + 1) (drop l.index (ports_of l.config l.p)) ≡ l.fn.places.items ++ places_in l.port l.p 1 (ports_of l.config l.p)

@@ -1,0 +1,10 @@
+pub mod Counts
+pub mod Departures
+pub mod Explained
+pub mod Explanation
+pub mod Handed
+pub mod Notes
+pub mod Outcomes
+pub mod PortTable
+pub mod Remarks
+pub mod ScriptLines

@@ -1,0 +1,38 @@
+//! What `dekarino` says about configurations, traces, logs and scripts. A walk decides what there is to say and hands it to a
+//! sink, and a sink puts it in words: those of a text are here. The data is proved, and the words are tested.
+#![tactic(auto)]
+
+pub mod counted;
+pub mod counts;
+pub mod departure_text;
+pub mod departures;
+pub mod explanation;
+pub mod explanation_text;
+mod notes;
+pub mod outcome_text;
+pub mod outcomes;
+mod port_notes;
+pub mod remark;
+pub mod remark_words;
+mod remarks;
+pub mod run_explanation;
+pub mod script_lines;
+pub mod table;
+pub mod table_words;
+
+pub use crate::counted::Counted;
+pub use crate::counts::{Counts, Ranges, ranges_of};
+pub use crate::departure_text::DepartureText;
+pub use crate::departures::{DepartureCounts, DepartureSink, judge_log};
+pub use crate::explanation::{
+    AnsweredCall, Explained, Explanation, ExplanationSink, explain_trace,
+};
+pub use crate::explanation_text::ExplanationText;
+pub use crate::outcome_text::OutcomeText;
+pub use crate::outcomes::{OutcomeSink, walk_outcomes};
+pub use crate::remark::Remark;
+pub use crate::remark_words::{Hex, MESSAGES_SHOWN, RemarkWords, channel_called, destination_of};
+pub use crate::run_explanation::explain_run;
+pub use crate::script_lines::{LineNumbers, call_lines};
+pub use crate::table::{PortPlace, TableRow, port_table};
+pub use crate::table_words::{direction_word, kind_word, table_text};

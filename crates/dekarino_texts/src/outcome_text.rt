@@ -1,0 +1,120 @@
+//! The text of what scripts can come to.
+use crate::counted::Counted;
+use crate::counts::Ranges;
+use crate::outcomes::{OutcomeSink, ScriptCall};
+use crate::table_words::partition_name;
+use apex_groups::GroupCounts;
+use apex_module::Config;
+use apex_texts::push_reply;
+use apex_types::{Moment, Name, Reply};
+use apex_words::push_call;
+use std::alloc::{AllocError, Global};
+use std::fmt;
+use std::fmt::{Display, Formatter};
+
+/// The outcomes of scripts as a text.
+#[derive(Debug, Drop)]
+pub struct OutcomeText {
+    text: String,
+}
+
+impl OutcomeText {
+    /// An empty text.
+    pub fn new(alloc: Global) -> OutcomeText {
+        OutcomeText {
+            text: String::new(alloc),
+        }
+    }
+
+    /// The text.
+    pub fn into_text(self) -> String {
+        self.text
+    }
+}
+
+impl OutcomeSink for OutcomeText {
+    /// Writes `NAME:LINE MOMENT CALL ARGUMENTS -> REPLY | REPLY`.
+    fn call(&mut self, call: &ScriptCall<'_>, replies: &[&Reply]) -> Result<(), AllocError> {
+        let text = &mut self.text;
+        let Moment(at) = call.at;
+        write!(text, "{}:{} {at} ", call.partition.text(), call.line)?;
+        push_call(text, call.call)?;
+        let mut separator = " -> ";
+        for reply in replies {
+            text.push_str(separator)?;
+            push_reply(text, reply)?;
+            separator = " | ";
+        }
+        text.push('\n')
+    }
+
+    /// Writes `queuing NAME accepted A received B cleared C waiting W`, with a count or a range for each.
+    fn channel(&mut self, name: &Name, ranges: &Ranges) -> Result<(), AllocError> {
+        let Ranges { lowest, highest } = *ranges;
+        let accepted = Range(lowest.accepted, highest.accepted);
+        let received = Range(lowest.received, highest.received);
+        let waiting = Range(lowest.waiting, highest.waiting);
+        let text = &mut self.text;
+        write!(
+            text,
+            "queuing {} accepted {accepted} received {received}",
+            name.text()
+        )?;
+        if highest.cleared != 0 {
+            write!(text, " cleared {}", Range(lowest.cleared, highest.cleared))?;
+        }
+        writeln!(text, " waiting {waiting}")
+    }
+
+    /// Writes the counts of one group alone, or a line for each of several.
+    fn groups(&mut self, config: &Config, groups: &[GroupCounts]) -> Result<(), AllocError> {
+        if let [group] = groups {
+            return push_counts(&mut self.text, group);
+        }
+        for group in groups {
+            push_names(&mut self.text, config, group.partitions.as_slice())?;
+            self.text.push_str(": ")?;
+            push_counts(&mut self.text, group)?;
+        }
+        Ok(())
+    }
+}
+
+/// Writes the names of partitions, separated by commas.
+fn push_names(text: &mut String, config: &Config, partitions: &[usize]) -> Result<(), AllocError> {
+    let mut separator = "";
+    for p in partitions {
+        text.push_str(separator)?;
+        text.push_str(partition_name(config, *p))?;
+        separator = ", ";
+    }
+    Ok(())
+}
+
+/// Writes `N states, M ends`.
+fn push_counts(text: &mut String, group: &GroupCounts) -> Result<(), AllocError> {
+    let states = Counted {
+        count: group.states,
+        noun: "state",
+    };
+    let ends = Counted {
+        count: group.ends,
+        noun: "end",
+    };
+    writeln!(text, "{states}, {ends}")
+}
+
+/// From the lowest count to the highest, as one number if they are equal.
+#[derive(Clone, Copy)]
+struct Range(u64, u64);
+
+impl Display for Range {
+    fn fmt<W: fmt::Write>(&self, f: &mut Formatter<W>) -> fmt::Result {
+        let Range(low, high) = *self;
+        if low == high {
+            write!(f, "{low}")
+        } else {
+            write!(f, "{low}..{high}")
+        }
+    }
+}

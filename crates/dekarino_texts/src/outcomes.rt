@@ -1,0 +1,152 @@
+//! What scripts can come to: each call with the replies that it can get, and each queuing channel with the ranges of its
+//! counts.
+ghost use Rattle.std.specs.Prelude.{◌≡◌, ◌<◌, length, map, IfOk};
+ghost use Rattle.dekarino_texts.specs.Outcomes.{is_to, line_at, numbers_of, replies_to};
+
+use crate::counts::{Ranges, ranges_of};
+use crate::script_lines::LineNumbers;
+use apex_groups::{GroupCounts, OutcomesApart};
+use apex_module::{ChannelKind, Config};
+use apex_orders::{Order, PossibleReply};
+use apex_ports::Script;
+use apex_types::{Call, Moment, Name, OutOfMemory, Reply};
+use std::alloc::{AllocError, Global};
+
+/// A call of a script, on its line of the script's text.
+#[derive(Debug, Drop)]
+pub struct ScriptCall<'a> {
+    /// The number of the line, from 1.
+    pub line: usize,
+    /// The name of the script's partition.
+    pub partition: &'a Name,
+    pub at: Moment,
+    pub call: &'a Call,
+}
+
+/// Takes what scripts can come to: the calls, then the queuing channels, then the groups.
+pub trait OutcomeSink {
+    /// Takes a call with the replies that it can get.
+    fn call(&mut self, call: &ScriptCall<'_>, replies: &[&Reply]) -> Result<(), AllocError>;
+
+    /// Takes a queuing channel with the ranges of its counts in the end.
+    fn channel(&mut self, name: &Name, ranges: &Ranges) -> Result<(), AllocError>;
+
+    /// Takes how many states and ends each group of partitions has.
+    fn groups(&mut self, config: &Config, groups: &[GroupCounts]) -> Result<(), AllocError>;
+}
+
+/// Hands all outcomes to the sink. `lines` has the numbers of the lines of each partition's calls.
+pub fn walk_outcomes<S: OutcomeSink>(
+    alloc: Global,
+    config: &Config,
+    scripts: &[Script],
+    lines: &[LineNumbers],
+    outcomes: &OutcomesApart,
+    sink: &mut S,
+) -> Result<(), OutOfMemory>
+    requires { length scripts.now ≡ length config.now.partitions }
+{
+    let replies = outcomes.replies.as_slice();
+    for (p, script) in scripts.iter().enumerate() {
+        walk_script(
+            alloc,
+            config,
+            p,
+            script,
+            numbers_of(lines, p),
+            replies,
+            sink,
+        )?;
+    }
+    walk_channels(alloc, config, scripts, outcomes.ends.as_slice(), sink)?;
+    sink.groups(config, outcomes.groups.as_slice())?;
+    Ok(())
+}
+
+/// The numbers of the lines of a partition's calls; none if there are none for it.
+pub fn numbers_of(lines: &[LineNumbers], p: usize) -> &[usize]
+    ensures { result.now ≡ numbers_of lines.now p }
+{
+    match lines.get(p) {
+        Some(of) => of.numbers.as_slice(),
+        None => &[],
+    }
+}
+
+/// Hands the calls of a partition's script to the sink.
+fn walk_script<S: OutcomeSink>(
+    alloc: Global,
+    config: &Config,
+    p: usize,
+    script: &Script,
+    numbers: &[usize],
+    replies: &[PossibleReply],
+    sink: &mut S,
+) -> Result<(), AllocError>
+    requires { p < length config.now.partitions }
+{
+    for (index, (at, call)) in script.calls.iter().enumerate() {
+        let call = ScriptCall {
+            line: line_at(numbers, index),
+            partition: config.partition_name(p),
+            at: *at,
+            call,
+        };
+        let replies = replies_to(alloc, p, index, replies)?;
+        sink.call(&call, replies.as_slice())?;
+    }
+    Ok(())
+}
+
+/// The number at an index; 0 if there is none.
+fn line_at(numbers: &[usize], index: usize) -> usize
+    ensures { result ≡ line_at numbers.now index }
+{
+    numbers.get(index).copied().unwrap_or(0)
+}
+
+/// The replies to the call at an index of the partition's script.
+fn replies_to<'a>(
+    alloc: Global,
+    p: usize,
+    index: usize,
+    replies: &'a [PossibleReply],
+) -> Result<Vec<&'a Reply>, AllocError>
+    ensures { IfOk result (λ found.
+        map (λ reply. reply.now) found.items ≡ replies_to p index replies.now) }
+{
+    let mut found = Vec::new(alloc);
+    for one in replies {
+        if is_to(one, p, index) {
+            found.push(&one.reply)?;
+        }
+    }
+    Ok(found)
+}
+
+/// Whether it is a reply to the call at an index of the partition's script.
+fn is_to(one: &PossibleReply, p: usize, index: usize) -> bool
+    ensures { result ≡ is_to p index one.now }
+{
+    one.partition == p && one.index == index
+}
+
+/// Hands the queuing channels to the sink.
+fn walk_channels<S: OutcomeSink>(
+    alloc: Global,
+    config: &Config,
+    scripts: &[Script],
+    ends: &[Order],
+    sink: &mut S,
+) -> Result<(), OutOfMemory>
+    requires { length scripts.now ≡ length config.now.partitions }
+{
+    for c in 0..config.channels() {
+        let channel = config.channel(c);
+        if let ChannelKind::Queuing { .. } = channel.kind {
+            let ranges = ranges_of(alloc, config, scripts, ends, c)?;
+            sink.channel(&channel.name, &ranges)?;
+        }
+    }
+    Ok(())
+}

@@ -1,0 +1,206 @@
+// The list of calls: which are listed, which are drawn, and which one is chosen.
+
+// What is shown: the run, the places of the listed calls, the row of each place or -1, the chosen place, and the mark.
+const shown = {run: null, rows: [], rowOf: [], selected: null, mark: null, high: 40, column: 20, drawn: ""};
+// Browsers have no higher elements than some 17 million units.
+const HIGHEST = 12e6;
+const FILTERS = {"by-partition": "partition", "by-channel": "channel", "by-service": "service", "by-code": "code"};
+
+// Whether something belongs to what is marked. it: a port, or a part of one.
+function belongs(mark, it) {
+  if (!mark || !it) return false;
+  if (mark.kind === "partition") return it.partition === mark.partition;
+  if (mark.kind === "channel") return it.channel === mark.channel;
+  return it.partition === mark.partition && it.port === mark.port;
+}
+
+const callBelongs = (mark, call) => Boolean(mark) && (mark.kind === "partition" ? call.partition === mark.partition
+  : belongs(mark, call.port));
+
+function valueOf(call, name) {
+  return name === "channel" ? call.port && call.port.channel : call[name];
+}
+
+// Lists the calls that the filters and the search leave.
+function filter() {
+  const wanted = Object.entries(FILTERS).map(([id, name]) => [name, find(id).value]).filter(([, value]) => value !== "");
+  const words = find("by-words").value.toLowerCase().split(/\s+/).filter(word => word !== "");
+  const {run} = shown;
+  if (!run) return;
+  shown.rows = [];
+  shown.rowOf = new Int32Array(run.calls.length).fill(-1);
+  for (const call of run.calls) {
+    if (!wanted.every(([name, value]) => valueOf(call, name) === value)) continue;
+    if (words.length && !words.every(word => run.haystack(call).includes(word))) continue;
+    shown.rowOf[call.place] = shown.rows.length;
+    shown.rows.push(call.place);
+  }
+  find("count").textContent = `${shown.rows.length} of ${plural(run.calls.length, "call")}`;
+  draw(true);
+}
+
+// Fills the choices of a filter, and keeps what is chosen where it is still there.
+function fillFilter(id, values) {
+  const chosen = find(id).value;
+  find(id).replaceChildren(make("option", {value: "", text: "all"}), ...values.map(it => make("option", {value: it, text: it})));
+  find(id).value = values.includes(chosen) ? chosen : "";
+}
+
+function fillFilters() {
+  const {module, calls} = shown.run;
+  const inOrder = values => [...new Set(values)].sort();
+  fillFilter("by-partition", module.partitions);
+  fillFilter("by-channel", [...module.channels.keys()]);
+  fillFilter("by-service", Object.keys(SERVICES).filter(it => calls.some(call => call.service === it)));
+  fillFilter("by-code", inOrder(calls.map(call => call.code)));
+}
+
+// ---- what is drawn
+
+function measure() {
+  // (a long reply takes two lines)
+  const isTall = find("list").clientWidth < 700 || shown.run.told.departures.length > 0;
+  shown.high = isTall ? 58 : 40;
+  document.body.classList.toggle("is-tall", isTall);
+  shown.column = columnWidth(find("list").clientWidth, shown.run.module.partitions.length);
+  const width = shown.column * shown.run.module.partitions.length;
+  document.documentElement.style.setProperty("--chart", `${width}px`);
+  document.documentElement.style.setProperty("--row", `${shown.high}px`);
+  keepFocus(find("heads"), () => find("heads").replaceChildren(
+    make("span", {class: "head-number", text: "Call, moment"}),
+    make("span", {class: "head-names"}, ...drawHeads(shown.run.module, shown.mark, shown.column, toggleMark)),
+    make("span", {class: "head-text", text: "What was called, and the reply"})));
+}
+
+// The row at the top of the list, as a fraction: of a list that is too high, by how far it is scrolled.
+function topRow(list, height) {
+  const count = shown.rows.length, room = list.clientHeight;
+  if (height === count * shown.high) return list.scrollTop / shown.high;
+  return list.scrollTop / Math.max(1, height - room) * Math.max(0, count - room / shown.high);
+}
+
+// Draws the rows that are seen, and some above and below. isAnew: also where they are those that are drawn.
+function draw(isAnew) {
+  const list = find("list"), count = shown.rows.length;
+  const height = Math.min(count * shown.high, HIGHEST);
+  find("space").style.height = `${height}px`;
+  const top = topRow(list, height);
+  const first = Math.max(0, Math.floor(top) - 6);
+  const last = Math.min(count, Math.ceil(top + list.clientHeight / shown.high) + 6);
+  find("rows").style.transform = `translateY(${list.scrollTop - (top - first) * shown.high}px)`;
+  if (!isAnew && shown.drawn === `${first} ${last}`) return;
+  shown.drawn = `${first} ${last}`;
+  find("rows").replaceChildren(drawChart(shown, first, last, shown.column, shown.high),
+    ...Array.from({length: last - first}, (_, at) => drawRow(first + at)));
+}
+
+// The other ends of a call's arrows, in words.
+function endsOf(run, call) {
+  const ends = (run.outgoing.get(call.place) || []).map(arrow => arrow.to + 1);
+  const from = run.incoming.get(call.place);
+  const first = ends.slice(0, 3).join(", ") + (ends.length > 3 ? ".." : "");
+  return (from ? ` \u2190 ${from.from + 1}` : "") + (first ? ` \u2192 ${first}` : "");
+}
+
+// One call: its number and moment, room for the chart, what was called, and the reply.
+function drawRow(row) {
+  const call = shown.run.calls[shown.rows[row]];
+  const inBrackets = words => words ? ` (${words})` : "";
+  const why = inBrackets(call.words), {departure} = call;
+  const reply = make("span", {class: `reply${call.isRefused ? " is-refused" : ""}`});
+  reply.append(`${call.isRefused ? "\u2717 " : ""}${call.answer}${why}`);
+  if (departure) {
+    reply.append(make("strong", {text: ` \u25c6 standard: ${departure.standard}${inBrackets(departure.words)}`}));
+  }
+  if (call.replies && call.replies.length > 1) {
+    reply.append(make("em", {text: ` \u21c4 ${call.replies.length} replies by order`}));
+  }
+  const asked = make("span", {class: "asked"}, make("b", {text: call.partition}), ` ${call.asked}${endsOf(shown.run, call)}`);
+  const classes = ["row", callBelongs(shown.mark, call) && "marked", call.place === shown.selected && "selected",
+    departure && "departing"].filter(Boolean).join(" ");
+  return make("div", {
+    class: classes, role: "option", id: `call-${call.place + 1}`, "aria-selected": String(call.place === shown.selected),
+    "aria-setsize": shown.rows.length, "aria-posinset": row + 1, title: `${call.text.trim()} -> ${call.answer}${why}`,
+    onclick: () => select(call.place)},
+    make("span", {class: "number"}, make("b", {text: call.place + 1}), make("i", {text: call.at})),
+    make("span", {class: "room"}),
+    make("span", {class: "text"}, asked, reply));
+}
+
+// ---- which one is chosen
+
+function select(place) {
+  shown.selected = place;
+  find("list").setAttribute("aria-activedescendant", place === null ? "" : `call-${place + 1}`);
+  if (place !== null) reveal(shown.rowOf[place]);
+  draw(true);
+  showDetail();
+  movePlots();
+}
+
+// Scrolls to a row where it isn't seen.
+function reveal(row) {
+  const list = find("list");
+  if (row < 0) return;
+  const height = Math.min(shown.rows.length * shown.high, HIGHEST), seen = list.clientHeight / shown.high;
+  const top = topRow(list, height);
+  if (row >= top && row + 1 <= top + seen) return;
+  const wanted = Math.max(0, row < top ? row - 1 : row + 2 - seen);
+  const scale = height === shown.rows.length * shown.high ? shown.high
+    : (height - list.clientHeight) / Math.max(1, shown.rows.length - seen);
+  list.scrollTop = wanted * scale;
+}
+
+// Moves by rows among the listed calls.
+function step(by) {
+  const now = shown.selected === null ? -1 : shown.rowOf[shown.selected];
+  if (!shown.rows.length) return;
+  // (where none is chosen, down begins at the first and up at the last)
+  const from = now < 0 && by < 0 ? shown.rows.length : now;
+  select(shown.rows[Math.max(0, Math.min(shown.rows.length - 1, from + by))]);
+}
+
+// What a key goes to the next call of.
+const SOUGHT = {r: call => call.isRefused, d: call => call.departure, m: call => callBelongs(shown.mark, call)};
+
+// Goes to the next listed call, or the one before, of which this holds.
+function seek(holds, isBack) {
+  const count = shown.rows.length, way = isBack ? -1 : 1;
+  const now = shown.selected === null ? (isBack ? count : -1) : shown.rowOf[shown.selected];
+  for (let far = 1; far <= count; far += 1) {
+    const place = shown.rows[((now + way * far) % count + count) % count];
+    if (holds(shown.run.calls[place])) {
+      select(place);
+      return;
+    }
+  }
+}
+
+// Goes to the other end of the chosen call's arrow; from a write to each read in turn.
+function follow() {
+  const run = shown.run, place = shown.selected;
+  if (place === null) return;
+  const out = run.outgoing.get(place), into = run.incoming.get(place);
+  const next = out ? out[0].to : into ? into.from : null;
+  if (next === null) return;
+  if (shown.rowOf[next] < 0) clearFilters();
+  select(next);
+}
+
+function clearFilters() {
+  for (const id of [...Object.keys(FILTERS), "by-words"]) find(id).value = "";
+  filter();
+}
+
+function onListKey(event) {
+  const page = Math.max(1, Math.floor(find("list").clientHeight / shown.high) - 1);
+  const all = shown.rows.length;
+  const moves = {ArrowDown: 1, ArrowUp: -1, PageDown: page, PageUp: -page, Home: -all, End: all};
+  if (event.ctrlKey || event.altKey || event.metaKey) return;
+  if (event.key in moves) step(moves[event.key]);
+  else if (event.key === "Enter") follow();
+  else if (event.key.toLowerCase() in SOUGHT) seek(SOUGHT[event.key.toLowerCase()], event.shiftKey);
+  else if (event.key === "Escape") toggleMark(null);
+  else return;
+  event.preventDefault();
+}

@@ -1,0 +1,125 @@
+// Starts the page, and prints it.
+
+// The most calls that are printed, and the rows of a block that stays on one page.
+const MOST_PRINTED = 4000, BLOCK = 19, PRINTED_ROW = 50;
+const BUTTONS = {"next-refused": "r", "next-departure": "d", "next-marked": "m"};
+const FOLDS = ["legend-fold", "config-fold", "sources-fold"];
+
+let data = null;
+let place = 0;
+
+function titleOf(told) {
+  return `${told.name}, ${plural(told.calls.rows.length, "call")}`;
+}
+
+function runButton(run, at) {
+  return make("button", {
+    type: "button", text: run.name, "aria-pressed": String(at === place), onclick: () => {
+      place = at;
+      shown.selected = null;
+      show(data);
+    }});
+}
+
+// Shows the data, and of its runs the one that is chosen.
+function show(told) {
+  data = told;
+  const kept = shown.selected;
+  const module = new Module(told.table);
+  shown.run = new Run(module, told.runs[place]);
+  shown.selected = kept !== null && kept < shown.run.calls.length ? kept : null;
+  const parts = [...module.ports, ...module.partitions.map(partition => ({partition}))];
+  if (!parts.some(part => belongs(shown.mark, part))) shown.mark = null;
+  find("title").textContent = titleOf(told.runs[place]);
+  keepFocus(find("runs"), () => find("runs").replaceChildren(...told.runs.length < 2 ? [] : told.runs.map(runButton)));
+  showSources(told);
+  showModule();
+  fillFilters();
+  showPlots();
+  showRemarks();
+  measure();
+  filter();
+  showDetail();
+  movePlots();
+}
+
+function start() {
+  const told = JSON.parse(find("data").textContent);
+  document.body.prepend(arrowHeads());
+  find("legend").replaceChildren(...legend());
+  listen();
+  if (!told.live) return show(told);
+  data = told;
+  const live = new Live(told);
+  return live.show(told);
+}
+
+function listen() {
+  for (const id of Object.keys(FILTERS)) find(id).addEventListener("change", filter);
+  find("by-words").addEventListener("input", filter);
+  find("filters").addEventListener("submit", event => event.preventDefault());
+  find("all-calls").addEventListener("click", clearFilters);
+  for (const [id, key] of Object.entries(BUTTONS)) find(id).addEventListener("click", () => seek(SOUGHT[key]));
+  let isAwaited = false;
+  find("list").addEventListener("scroll", () => {
+    if (isAwaited) return;
+    isAwaited = true;
+    requestAnimationFrame(() => {
+      isAwaited = false;
+      draw(false);
+    });
+  });
+  find("list").addEventListener("keydown", onListKey);
+  new ResizeObserver(() => {
+    if (!shown.run) return;
+    measure();
+    draw(true);
+  }).observe(find("list"));
+  document.addEventListener("keydown", onKey);
+  addEventListener("beforeprint", printPaper);
+  addEventListener("afterprint", () => {
+    find("paper").replaceChildren();
+    if (shown.run) measure();
+    FOLDS.forEach(id => find(id).removeAttribute("open"));
+  });
+}
+
+// Keys that go to a place from everywhere but a field.
+function onKey(event) {
+  if (/^(INPUT|TEXTAREA|SELECT)$/.test(event.target.tagName) || event.ctrlKey || event.altKey || event.metaKey) return;
+  const goal = {"/": "by-words", "l": "list"}[event.key];
+  if (!goal) return;
+  find(goal).focus();
+  event.preventDefault();
+}
+
+// Lays out all listed calls, in blocks that stay whole on a page.
+function printPaper() {
+  if (!shown.run) return;
+  const count = Math.min(shown.rows.length, MOST_PRINTED);
+  const column = columnWidth(680, shown.run.module.partitions.length);
+  const blocks = [];
+  for (let first = 0; first < count; first += BLOCK) {
+    const last = Math.min(count, first + BLOCK);
+    blocks.push(make("div", {class: "block"}, make("div", {class: "paper-heads"}, make("span", {class: "head-number"}),
+      ...drawHeads(shown.run.module, shown.mark, column, () => {})),
+      make("div", {class: "paper-rows"}, drawChart(shown, first, last, column, PRINTED_ROW),
+        ...Array.from({length: last - first}, (_, at) => printedRow(first + at)))));
+  }
+  FOLDS.forEach(id => find(id).setAttribute("open", ""));
+  document.body.classList.add("is-tall");
+  const paper = find("paper");
+  paper.style.setProperty("--row", `${PRINTED_ROW}px`);
+  paper.style.setProperty("--chart", `${column * shown.run.module.partitions.length}px`);
+  const left = shown.rows.length - count;
+  paper.replaceChildren(make("h2", {text: `Calls (${find("count").textContent})`}), ...blocks,
+    ...(left > 0 ? [make("p", {text: `${plural(left, "more call")}, not printed: filter the list to print a part.`})] : []));
+}
+
+function printedRow(row) {
+  const drawn = drawRow(row);
+  for (const name of ["id", "role", "aria-selected", "aria-setsize", "aria-posinset"]) drawn.removeAttribute(name);
+  return drawn;
+}
+
+start();
