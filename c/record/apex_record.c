@@ -133,12 +133,6 @@ static void put_integer(struct text *text, int64_t number) {
     }
 }
 
-static void put_refresh(struct text *text, int64_t refresh) {
-    put(text, ' ');
-    put_signed(text, refresh);
-    text->is_unsaid |= refresh < 0;
-}
-
 static void put_hex(struct text *text, unsigned byte) {
     static const char digits[] = "0123456789abcdef";
     put(text, digits[byte >> 4 & 15]);
@@ -210,14 +204,13 @@ static const char *code_word(RETURN_CODE_TYPE code) {
 }
 
 static const char *direction_word(PORT_DIRECTION_TYPE direction) {
-    return direction == SOURCE ? "SOURCE" : direction == DESTINATION ? "DESTINATION" : NULL;
+    return direction == SOURCE ? " SOURCE" : direction == DESTINATION ? " DESTINATION" : NULL;
 }
 
 static const char *validity_word(VALIDITY_TYPE validity) {
-    return validity == VALID ? "VALID" : validity == INVALID ? "INVALID" : NULL;
+    return validity == VALID ? " VALID" : validity == INVALID ? " INVALID" : NULL;
 }
 
-/* A value, with the word before it. */
 static void put_value(struct text *text, const char *word, int64_t number) {
     put_text(text, word);
     put_integer(text, number);
@@ -248,8 +241,8 @@ static int put_code(struct text *text, const RETURN_CODE_TYPE *code) {
     return *code == NO_ERROR;
 }
 
-/* Values that no log can have are left out, and then NO_ERROR stands alone, which departs. */
-static void put_left_out(struct text *text) { put_text(text, " (its values fit no log)"); }
+/* In the place of values that no log can have. Then NO_ERROR stands alone, which departs. */
+#define LEFT_OUT " (its values fit no log)"
 
 static void put_code_and_id(struct text *text, const RETURN_CODE_TYPE *code, int is_there, int64_t id) {
     if (!put_code(text, code)) {
@@ -258,13 +251,13 @@ static void put_code_and_id(struct text *text, const RETURN_CODE_TYPE *code, int
     if (is_there && is_said(id)) {
         put_value(text, " id", id);
     } else {
-        put_left_out(text);
+        put_text(text, LEFT_OUT);
     }
 }
 
 static void put_received(struct text *text, const void *bytes, const MESSAGE_SIZE_TYPE *length, const char *validity) {
     if (length == NULL || *length < 0 || !is_message(bytes, *length) || validity == NULL) {
-        put_left_out(text);
+        put_text(text, LEFT_OUT);
         return;
     }
     put_text(text, " message");
@@ -355,7 +348,9 @@ void RECORDED(CREATE_SAMPLING_PORT)(SAMPLING_PORT_NAME_TYPE name, MESSAGE_SIZE_T
     put_name(&line, name);
     put_integer(&line, size);
     put_integer(&line, (int64_t)direction);
-    put_refresh(&line, refresh);
+    put(&line, ' ');
+    put_signed(&line, refresh);
+    line.is_unsaid |= refresh < 0;
     PASSED_ON(CREATE_SAMPLING_PORT)(name, size, direction, refresh, id, code);
     put_code_and_id(&line, code, id != NULL, id == NULL ? 0 : *id);
     end(&line);
@@ -379,8 +374,7 @@ void RECORDED(READ_SAMPLING_MESSAGE)(SAMPLING_PORT_ID_TYPE id, MESSAGE_ADDR_TYPE
     put_integer(&line, id);
     PASSED_ON(READ_SAMPLING_MESSAGE)(id, message, length, validity, code);
     if (put_code(&line, code)) {
-        const char *word = validity == NULL ? NULL : validity_word(*validity);
-        put_received(&line, message, length, word == NULL ? NULL : *validity == VALID ? " VALID" : " INVALID");
+        put_received(&line, message, length, validity == NULL ? NULL : validity_word(*validity));
     }
     end(&line);
 }
@@ -398,15 +392,14 @@ static void put_sampling_status(struct text *line, const SAMPLING_PORT_STATUS_TY
     const char *direction = status == NULL ? NULL : direction_word(status->PORT_DIRECTION);
     const char *validity = status == NULL ? NULL : validity_word(status->LAST_MSG_VALIDITY);
     if (direction == NULL || validity == NULL || !is_said(status->MAX_MESSAGE_SIZE)) {
-        put_left_out(line);
+        put_text(line, LEFT_OUT);
         return;
     }
     put_text(line, " refresh ");
     put_number(line, (uint64_t)status->REFRESH_PERIOD);
     put_value(line, " size", status->MAX_MESSAGE_SIZE);
-    put(line, ' ');
     put_text(line, direction);
-    put_text(line, " last ");
+    put_text(line, " last");
     put_text(line, validity);
 }
 
@@ -476,13 +469,12 @@ static void put_queuing_status(struct text *line, const QUEUING_PORT_STATUS_TYPE
     const char *direction = status == NULL ? NULL : direction_word(status->PORT_DIRECTION);
     if (direction == NULL || !is_said(status->NB_MESSAGE) || !is_said(status->MAX_NB_MESSAGE) ||
         !is_said(status->MAX_MESSAGE_SIZE)) {
-        put_left_out(line);
+        put_text(line, LEFT_OUT);
         return;
     }
     put_value(line, " waiting", status->NB_MESSAGE);
     put_value(line, " depth", status->MAX_NB_MESSAGE);
     put_value(line, " size", status->MAX_MESSAGE_SIZE);
-    put(line, ' ');
     put_text(line, direction);
     put_text(line, " processes 0");
     if (status->WAITING_PROCESSES != 0) {

@@ -6,13 +6,10 @@
  * and calls the recorder in their place; or it is linked with the options of wrap.txt, and isn't compiled again:
  * apex_record.c is compiled with APEX_RECORD_WRAP then.
  *
- * Macros for apex_record.c:
- *   APEX_RECORD_HEADERS  the header that has the standard's types and services, in quotes; those of c/arinc653 where
- *                        there is none
- *   APEX_RECORD_CLOCK    the name of a function `SYSTEM_TIME_TYPE name(void)` that answers the moment in nanoseconds;
- *                        GET_TIME where there is none. A negative moment is written as 0
- *   APEX_RECORD_WRAP     records by the linker's --wrap
- * and for any file:
+ * Macros for apex_record.c, and the last for any file:
+ *   APEX_RECORD_HEADERS    the header with the standard's types and services, in quotes: else those of c/arinc653
+ *   APEX_RECORD_CLOCK      a function `SYSTEM_TIME_TYPE name(void)` that answers the moment in nanoseconds: else GET_TIME
+ *   APEX_RECORD_WRAP       records by the linker's --wrap
  *   APEX_RECORD_NO_MACROS  declares the functions, and leaves the services' names to the system */
 #ifndef APEX_RECORD_H
 #define APEX_RECORD_H
