@@ -9,6 +9,10 @@
 #include "arinc653/time.h"
 #endif
 
+#if defined APEX_RECORD_H && !defined APEX_RECORD_NO_MACROS
+#error "apex_record.c calls the services by their own names: compile it without apex_record.h in front of it"
+#endif
+#undef APEX_RECORD_NO_MACROS
 #define APEX_RECORD_NO_MACROS
 #include "apex_record.h"
 
@@ -22,8 +26,8 @@ APEX_RECORD_SERVICES(PASSED_ON);
 #define PASSED_ON(service) service
 #endif
 
-/* What two processes may change at once is an uint32_t, which these change in one step. An integrator whose compiler has
- * no such functions gives both, or does without: then a count of lost lines may be wrong where two are lost at once. */
+/* What two processes may change at once is an uint32_t, which these change in one step. An integrator whose compiler
+ * lacks such functions gives both, or does without: then a count of lost lines may be wrong if two are lost at once. */
 #ifndef APEX_RECORD_EXCHANGE
 #if defined __GCC_ATOMIC_INT_LOCK_FREE && __GCC_ATOMIC_INT_LOCK_FREE == 2
 #define APEX_RECORD_EXCHANGE(place, value) __atomic_exchange_n(place, value, __ATOMIC_ACQ_REL)
@@ -65,8 +69,8 @@ struct text {
     char bytes[FRONT + LINE];
 };
 
-/* The recorder of this partition: its sink, how many lines were not taken, and a SET_PARTITION_MODE that hasn't returned,
- * with its mode and moment. */
+/* The recorder of this partition: its sink, how many lines were not taken, and a SET_PARTITION_MODE that hasn't
+ * returned, with its mode and moment. */
 static apex_record_sink sink;
 static void *sink_context;
 static uint32_t lost;
@@ -125,12 +129,8 @@ static int is_said(int64_t number) { return number >= INT32_MIN && number <= (in
 
 static void put_integer(struct text *text, int64_t number) {
     put(text, ' ');
-    if (is_said(number)) {
-        put_number(text, (uint32_t)number);
-    } else {
-        text->is_unsaid = 1;
-        put_signed(text, number);
-    }
+    put_signed(text, is_said(number) ? (int64_t)(uint32_t)number : number);
+    text->is_unsaid |= !is_said(number);
 }
 
 static void put_hex(struct text *text, unsigned byte) {
@@ -323,8 +323,8 @@ void apex_record_to(apex_record_sink to, void *context) {
 
 uint32_t apex_record_lost(void) { return APEX_RECORD_ADD(&lost, 0); }
 
-/* A restart has the effect of an accepted SET_PARTITION_MODE, and is told as one. WARM_START isn't accepted in COLD_START,
- * where the log may have the partition. */
+/* A restart has the effect of an accepted SET_PARTITION_MODE, and is told as one. WARM_START isn't accepted in
+ * COLD_START, where the log may have the partition. */
 void apex_record_restarted(OPERATING_MODE_TYPE mode) {
     const OPERATING_MODE_TYPE steps[] = {COLD_START, NORMAL, WARM_START};
     if (unreturned_mode == (uint32_t)mode) {

@@ -8,7 +8,7 @@
  *
  * Macros for apex_record.c, and the last for any file:
  *   APEX_RECORD_HEADERS    the header with the standard's types and services, in quotes: else those of c/arinc653
- *   APEX_RECORD_CLOCK      a function `SYSTEM_TIME_TYPE name(void)` that answers the moment in nanoseconds: else GET_TIME
+ *   APEX_RECORD_CLOCK      a function `SYSTEM_TIME_TYPE name(void)` that answers the moment in ns: else GET_TIME
  *   APEX_RECORD_WRAP       records by the linker's --wrap
  *   APEX_RECORD_NO_MACROS  declares the functions, and leaves the services' names to the system */
 #ifndef APEX_RECORD_H
@@ -21,8 +21,8 @@
 extern "C" {
 #endif
 
-/* Takes a text of whole lines, and answers whether it has: other than 0 if so. It is called by each process that calls a
- * service, so that two may be in it at once. It calls none of the twelve services by a name that is recorded. */
+/* Takes a text of whole lines, and answers whether it has: other than 0 if so. It is called by each process that calls
+ * a service, so that two may be in it at once. It calls none of the twelve services by a name that is recorded. */
 typedef int (*apex_record_sink)(void *context, const char *text, size_t length);
 
 /* Names the sink of this partition, before its first call of a service and again after each restart that loads its data
