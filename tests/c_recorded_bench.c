@@ -18,8 +18,11 @@ int take(void *name, const char *text, size_t length) {
     return 1;
 }
 
+static void say_nothing(const char *line) { (void)line; }
+
 int main(int count, char **words) {
     static char text[4096];
+    bench_tell_to(say_nothing);
     const struct bench_partition a = {.period = 100, .offset = 0, .duration = 20};
     const struct bench_partition b = {.period = 100, .offset = 50, .duration = 20};
     FILE *file = count == 5 ? fopen(words[1], "rb") : NULL;
@@ -32,8 +35,9 @@ int main(int count, char **words) {
         !bench_load_partition(words[4], "b_main", 1, &b)) {
         return 1;
     }
+    bench_on_error(0, BENCH_WARM_START);
     /* faults */
-    for (int frame = 0; frame < 6; frame++) {
+    for (int frame = 0; frame < 7; frame++) {
         if (!bench_run_frame(100)) {
             return 1;
         }

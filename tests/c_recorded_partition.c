@@ -1,5 +1,7 @@
 /* The partitions A and B of c_recorded.toml, in a file each with a recorder, whose processes wait for messages and for
- * room: a_main is compiled with A, b_main without. The bench has the sink. */
+ * room, and then restart: A by an error, for which the bench has named a warm start, and B by a call. a_main is compiled
+ * with A, b_main without. The bench has the sink. */
+#include "arinc653/error.h"
 #include "arinc653/partition.h"
 #include "arinc653/process.h"
 #include "arinc653/queuing.h"
@@ -10,6 +12,7 @@
 int take(void *name, const char *text, size_t length);
 
 static RETURN_CODE_TYPE code;
+static PARTITION_STATUS_TYPE status_at_start;
 static QUEUING_PORT_ID_TYPE queue;
 static SAMPLING_PORT_ID_TYPE sample;
 
@@ -20,6 +23,10 @@ static void starts(char *name, void (*entry)(void), QUEUING_PORT_NAME_TYPE queue
                                          .DEADLINE = SOFT, .NAME = "PROCESS"};
     PROCESS_ID_TYPE process;
     apex_record_to(take, name);
+    GET_PARTITION_STATUS(&status_at_start, &code);
+    if (status_at_start.START_CONDITION != NORMAL_START) {
+        apex_record_restarted(status_at_start.OPERATING_MODE);
+    }
     CREATE_QUEUING_PORT(queue_name, 4, 2, direction, FIFO, &queue, &code);
     CREATE_SAMPLING_PORT(sample_name, 4, direction, refresh, &sample, &code);
     CREATE_PROCESS(&attributes, &process, &code);
@@ -40,6 +47,11 @@ static void writes(APEX_BYTE byte) {
 
 /* The send at 200 waits for room until B receives at 350, and returns with the next window, at 400. */
 static void process(void) {
+    APEX_BYTE text[] = "restart";
+    if (status_at_start.START_CONDITION != NORMAL_START) {
+        sends(5, 0);
+        STOP_SELF();
+    }
     TIMED_WAIT(100, &code);
     writes(0xaa);
     sends(1, 0);
@@ -48,7 +60,7 @@ static void process(void) {
     sends(3, 0);
     sends(4, 1000);
     writes(0xbb);
-    STOP_SELF();
+    RAISE_APPLICATION_ERROR(APPLICATION_ERROR, text, 7, &code);
 }
 
 void a_main(void) {
@@ -74,6 +86,10 @@ static void reads(void) {
 static void process(void) {
     QUEUING_PORT_STATUS_TYPE status;
     SAMPLING_PORT_STATUS_TYPE last;
+    if (status_at_start.START_CONDITION != NORMAL_START) {
+        receives(0);
+        STOP_SELF();
+    }
     receives(1000);
     reads();
     TIMED_WAIT(200, &code);
@@ -87,7 +103,7 @@ static void process(void) {
     GET_SAMPLING_PORT_STATUS(sample, &last, &code);
     TIMED_WAIT(1, &code);
     reads();
-    STOP_SELF();
+    SET_PARTITION_MODE(COLD_START, &code);
 }
 
 void b_main(void) {
