@@ -10,7 +10,8 @@ import usage
 # libraries for C waits for these if they are built.
 WITH_LIBRARIES = "c_interface"
 TESTS = {
-    "sweep_memory": (), "c_interface": (), "apexports_script": (), "wrong_hosts": ("c_interface",), "orders": (),
+    "sweep_memory": (), "c_interface": (), "apexports_script": (), "wrong_hosts": ("c_interface",),
+    "recorder": ("c_interface",), "orders": (),
     "gate": (), "judge_apart": (), "hostile_sizes": (), "sizes": (), "largest_configurations": (), "prebuilt": (),
     "python": ("c_interface",), "page": ("python",), "python_installed": ("page",), "package": ("python_installed",),
     "c_builds": ("package",), "serve": ("c_builds",), "runs": (), "judge": (), "run_cases": (), "examples": (),
