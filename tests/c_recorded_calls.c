@@ -1,7 +1,6 @@
 /* c_recorded_calls CONFIG LOG [PART]: calls of all services by two partitions, each at a moment of its own. The log has
- * the partitions' names, so that the moment of a departure names its call. With PART the sink takes only that part of
- * the lines, 1 of so many. The answers go to standard output. Compiled with UNRECORDED the calls are the same, and there
- * is no log. */
+ * the partitions' names, so that the moment of a departure names its call. With PART the sink takes 1 line of so many.
+ * The answers go to standard output. Compiled with UNRECORDED the calls are the same, and there is no log. */
 #include "apex.h"
 #ifndef UNRECORDED
 #include "record/apex_record.h"
@@ -62,10 +61,10 @@ static void at(SYSTEM_TIME_TYPE moment, uint32_t by) {
 static void done(void) {
     printf("%d: code %d id %d length %d validity %d bytes %02x%02x%02x%02x\n", (int)now, (int)code, (int)id,
            (int)length, (int)validity, bytes[0], bytes[1], bytes[2], bytes[3]);
-    printf("sampling %d %d %d %d queuing %d %d %d %d %d\n", (int)sampling.REFRESH_PERIOD, (int)sampling.MAX_MESSAGE_SIZE,
-           (int)sampling.PORT_DIRECTION, (int)sampling.LAST_MSG_VALIDITY, (int)queuing.NB_MESSAGE,
-           (int)queuing.MAX_NB_MESSAGE, (int)queuing.MAX_MESSAGE_SIZE, (int)queuing.PORT_DIRECTION,
-           (int)queuing.WAITING_PROCESSES);
+    printf("sampling %d %d %d %d queuing %d %d %d %d %d\n", (int)sampling.REFRESH_PERIOD,
+           (int)sampling.MAX_MESSAGE_SIZE, (int)sampling.PORT_DIRECTION, (int)sampling.LAST_MSG_VALIDITY,
+           (int)queuing.NB_MESSAGE, (int)queuing.MAX_NB_MESSAGE, (int)queuing.MAX_MESSAGE_SIZE,
+           (int)queuing.PORT_DIRECTION, (int)queuing.WAITING_PROCESSES);
 }
 
 static NAME_TYPE name;

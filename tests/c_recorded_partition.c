@@ -1,6 +1,6 @@
 /* The partitions A and B of c_recorded.toml, in a file each with a recorder, whose processes wait for messages and for
- * room, and then restart: A by an error, for which the bench has named a warm start, and B by a call. a_main is compiled
- * with A, b_main without. The bench has the sink. */
+ * room, and then restart: A by an error, for which the bench has named a warm start, and B by a call. a_main is
+ * compiled with A, b_main without. The bench has the sink. */
 #include "arinc653/error.h"
 #include "arinc653/partition.h"
 #include "arinc653/process.h"

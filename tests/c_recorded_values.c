@@ -1,5 +1,5 @@
-/* Calls of the recorded services over c_stand_in.c, with what a log can have and what it can't, and the longest of each:
- * each is passed on unchanged and answered unchanged, and the lines go to standard output. For `longjmp` see unreturned. */
+/* Calls of the recorded services over c_stand_in.c, with what a log can have and what it can't, and the longest of
+ * each: each is passed on unchanged and answered unchanged, and the lines go to standard output. */
 #include "c_stand_in.h"
 
 #include "record/apex_record.h"

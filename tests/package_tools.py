@@ -71,6 +71,7 @@ def faults(package, version, compiler, bare):
         found += by_the_page(package, "cmake", way(page, "cmake", compiler), environment)
         found += finds_versions(package, version, config, environment)
     if has["make"]:
-        done = run(["make", "-s", "check", f"CC={compiler}"], package / "c/examples/two_processes", bare)
-        found += fault("the Makefile of the two processes", done, done.returncode == 0 and not done.stderr)
+        for name in ["two_processes", "recorder"]:
+            done = run(["make", "-s", "check", f"CC={compiler}"], package / "c/examples" / name, bare)
+            found += fault(f"the Makefile of {name}", done, done.returncode == 0 and not done.stderr)
     return found

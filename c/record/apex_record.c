@@ -47,26 +47,25 @@ static uint32_t exchange(uint32_t *place, uint32_t value) {
 /* What a log can have. */
 enum { NAME_BYTES = 30, MESSAGE_BYTES = 1024 };
 
-/* A line in its place, and in front of it room for what is known only when the call has returned. LINE is enough for
- * the longest line of each form, which stands below without its message. */
+/* A line in its place, and in front of it room for what is known only when the call has returned. LINE_BYTES is enough
+ * for the longest lines, which stand below without their messages. */
 #define LONGEST_LOST "# 4294967295 lines before this one were not taken\n"
 #define LONGEST_MOMENT "# 9223372036854775807"
-enum { FRONT = sizeof LONGEST_LOST - 1 + sizeof LONGEST_MOMENT - 1, LINE = 2160 };
+enum { FRONT_BYTES = sizeof LONGEST_LOST - 1 + sizeof LONGEST_MOMENT - 1, LINE_BYTES = 2160 };
 
-#define INTEGER " -9223372036854775808"
-#define CODE " -> not made (return code" INTEGER ")"
-#define HAS_ROOM(name, form, message) typedef char name[sizeof(form) - 1 + 2 * (message) <= LINE ? 1 : -1]
-HAS_ROOM(room_to_send, " write" INTEGER " " CODE " (time-out" INTEGER ")\n", MESSAGE_BYTES);
-HAS_ROOM(room_to_receive, " receive" INTEGER " -> NO_ERROR message  (time-out" INTEGER ")\n", MESSAGE_BYTES);
-HAS_ROOM(room_to_read, " read" INTEGER " -> NO_ERROR message  INVALID\n", MESSAGE_BYTES);
-HAS_ROOM(room_to_create, " create-sampling " INTEGER INTEGER INTEGER INTEGER CODE "\n", 2 * NAME_BYTES);
-HAS_ROOM(room_for_status, " sampling-status" INTEGER " -> NO_ERROR waiting" INTEGER " depth" INTEGER " size" INTEGER
-         " DESTINATION processes 0 (WAITING_PROCESSES" INTEGER ")\n", 0);
+#define AN_INTEGER " -9223372036854775808"
+#define A_CODE " -> not made (return code" AN_INTEGER ")"
+#define HAS_ROOM(name, form, message) typedef char name[sizeof(form) - 1 + 2 * (message) <= LINE_BYTES ? 1 : -1]
+HAS_ROOM(room_to_send, " write" AN_INTEGER " " A_CODE " (time-out" AN_INTEGER ")\n", MESSAGE_BYTES);
+HAS_ROOM(room_to_receive, " receive" AN_INTEGER " -> NO_ERROR message  (time-out" AN_INTEGER ")\n", MESSAGE_BYTES);
+HAS_ROOM(room_to_create, " create-queuing " AN_INTEGER AN_INTEGER AN_INTEGER AN_INTEGER A_CODE "\n", 2 * NAME_BYTES);
+HAS_ROOM(room_for_status, " sampling-status" AN_INTEGER " -> NO_ERROR waiting" AN_INTEGER " depth" AN_INTEGER " size"
+         AN_INTEGER " DESTINATION processes 0 (WAITING_PROCESSES" AN_INTEGER ")\n", 0);
 
 struct text {
     size_t at;
     int is_unsaid; /* whether the call has what no log can have, so that its line is a comment */
-    char bytes[FRONT + LINE];
+    char bytes[FRONT_BYTES + LINE_BYTES];
 };
 
 /* The recorder of this partition: its sink, how many lines were not taken, and a SET_PARTITION_MODE that hasn't
@@ -77,9 +76,12 @@ static uint32_t lost;
 static uint32_t is_unreturned, unreturned_mode;
 static uint64_t unreturned_at;
 
+#ifdef APEX_RECORD_CLOCK
+SYSTEM_TIME_TYPE APEX_RECORD_CLOCK(void);
+#endif
+
 static uint64_t moment(void) {
 #ifdef APEX_RECORD_CLOCK
-    extern SYSTEM_TIME_TYPE APEX_RECORD_CLOCK(void);
     const SYSTEM_TIME_TYPE time = APEX_RECORD_CLOCK();
 #else
     SYSTEM_TIME_TYPE time = 0;
@@ -124,7 +126,7 @@ static void put_signed(struct text *text, int64_t number) {
     put_number(text, number < 0 ? 0 - (uint64_t)number : (uint64_t)number);
 }
 
-/* Whether a log has the number of an integer, which is the one of the same 32 bits where it is negative. */
+/* Whether a log has the number of an integer: a negative one is told as that of the same 32 bits. */
 static int is_said(int64_t number) { return number >= INT32_MIN && number <= (int64_t)UINT32_MAX; }
 
 static void put_integer(struct text *text, int64_t number) {
@@ -183,8 +185,7 @@ static void put_message(struct text *text, const void *bytes, int64_t length) {
         put_bytes(text, bytes, length);
     } else {
         text->is_unsaid = 1;
-        put_text(text, bytes == NULL ? " no address," : "");
-        put_text(text, " length ");
+        put_text(text, bytes == NULL ? " no address, length " : " length ");
         put_signed(text, length);
     }
 }
@@ -274,7 +275,7 @@ static void put_time_out(struct text *text, int64_t time_out) {
 /* Lines. */
 
 static void start(struct text *line, const char *call) {
-    line->at = FRONT;
+    line->at = FRONT_BYTES;
     line->is_unsaid = 0;
     put(line, ' ');
     put_text(line, call);
@@ -294,7 +295,7 @@ static void hand_on(struct text *line, uint64_t at) {
     }
     put_text(line, line->is_unsaid ? "# " : "");
     put_number(line, at);
-    const size_t from = FRONT - line->at;
+    const size_t from = FRONT_BYTES - line->at;
     for (size_t i = line->at; i > 0; i--) {
         line->bytes[from + i - 1] = line->bytes[i - 1];
     }

@@ -25,13 +25,12 @@ extern "C" {
  * a service, so that two may be in it at once. It calls none of the twelve services by a name that is recorded. */
 typedef int (*apex_record_sink)(void *context, const char *text, size_t length);
 
-/* Names the sink of this partition, before its first call of a service and again after each restart that loads its data
- * anew. Lines before that, and those that the sink doesn't take, are counted; the next text that it takes begins with
- * a comment that tells how many there were. */
+/* Names the partition's sink: before its first call, and again after a restart that loads its data anew. Lines that no
+ * sink takes are counted; the next text that one takes begins with a comment that tells how many there were. */
 void apex_record_to(apex_record_sink sink, void *context);
 
-/* Says in the log that the partition was restarted in this mode, COLD_START or WARM_START. For a partition that begins
- * with another START_CONDITION than NORMAL_START: behind apex_record_to, before all other calls. */
+/* Says in the log that the partition was restarted in this mode, COLD_START or WARM_START: where its START_CONDITION is
+ * another than NORMAL_START, behind apex_record_to and before all other calls. */
 void apex_record_restarted(OPERATING_MODE_TYPE mode);
 
 /* How many lines no sink has taken, and no comment has told. */
