@@ -40,7 +40,7 @@ static int take(void *log, const char *text, size_t length) {
 static int32_t id, length;
 static RETURN_CODE_TYPE code;
 static VALIDITY_TYPE validity;
-static APEX_BYTE bytes[1024];
+static APEX_BYTE bytes[1100];
 static SAMPLING_PORT_STATUS_TYPE sampling;
 static QUEUING_PORT_STATUS_TYPE queuing;
 
@@ -174,6 +174,7 @@ static void queues(void) {
     send(240, A, 1, "");
     hand_over(250, A, 1, 1, "\x0a", -1);
     send(260, A, 1, "\1\2\3\4\5");
+    hand_over(265, A, 1, 1, "", 1100); /* which no log can have */
     send(270, A, 257, "\x0a");
     receive(280, A, 1);
     send(290, B, 1, "\x0a");
