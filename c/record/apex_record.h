@@ -21,19 +21,19 @@
 extern "C" {
 #endif
 
-/* Takes a text of whole lines, and answers whether it has: other than 0 if so. It is called by each process that calls
- * a service, so that two may be in it at once. It calls none of the twelve services by a name that is recorded. */
+/* Takes a text of whole lines, and answers other than 0 if it has. Each process that calls a service calls it, so that
+ * several may be in it at once. It calls none of the twelve services by a name that is recorded. */
 typedef int (*apex_record_sink)(void *context, const char *text, size_t length);
 
 /* Names the partition's sink: before its first call, and again after a restart that loads its data anew. Lines that no
- * sink takes are counted; the next text that one takes begins with a comment that tells how many there were. */
+ * sink takes are counted; the next text that one takes begins with a comment that says how many there were. */
 void apex_record_to(apex_record_sink sink, void *context);
 
 /* Says in the log that the partition was restarted in this mode, COLD_START or WARM_START: where its START_CONDITION is
  * another than NORMAL_START, behind apex_record_to and before all other calls. */
 void apex_record_restarted(OPERATING_MODE_TYPE mode);
 
-/* How many lines no sink has taken, and no comment has told. */
+/* How many lines no sink has taken, and no comment has reported yet. */
 uint32_t apex_record_lost(void);
 
 /* The twelve services, each by the name that a macro makes of it. */
