@@ -217,12 +217,15 @@ static void put_value(struct text *text, const char *word, int64_t number) {
     put_integer(text, number);
 }
 
+/* A note of a number, if that isn't 0. */
 static void put_note(struct text *text, const char *words, int64_t number) {
-    put_text(text, " (");
-    put_text(text, words);
-    put(text, ' ');
-    put_signed(text, number);
-    put(text, ')');
+    if (number != 0) {
+        put_text(text, " (");
+        put_text(text, words);
+        put(text, ' ');
+        put_signed(text, number);
+        put(text, ')');
+    }
 }
 
 /* Puts the return code, and answers whether it is NO_ERROR. One that the standard doesn't have is told by a reply that
@@ -245,6 +248,9 @@ static int put_code(struct text *text, const RETURN_CODE_TYPE *code) {
 /* In the place of values that no log can have. Then NO_ERROR stands alone, which departs. */
 #define LEFT_OUT " (its values fit no log)"
 
+/* The value of a place, which the system has filled if it answered NO_ERROR. */
+#define FILLED(code, place) ((code) != NULL && *(code) == NO_ERROR && (place) != NULL ? *(place) : 0)
+
 static void put_code_and_id(struct text *text, const RETURN_CODE_TYPE *code, int is_there, int64_t id) {
     if (!put_code(text, code)) {
         return;
@@ -264,12 +270,6 @@ static void put_received(struct text *text, const void *bytes, const MESSAGE_SIZ
     put_text(text, " message");
     put_bytes(text, bytes, *length);
     put_text(text, validity);
-}
-
-static void put_time_out(struct text *text, int64_t time_out) {
-    if (time_out != 0) {
-        put_note(text, "time-out", time_out);
-    }
 }
 
 /* Lines. */
@@ -353,7 +353,7 @@ void RECORDED(CREATE_SAMPLING_PORT)(SAMPLING_PORT_NAME_TYPE name, MESSAGE_SIZE_T
     put_signed(&line, refresh);
     line.is_unsaid |= refresh < 0;
     PASSED_ON(CREATE_SAMPLING_PORT)(name, size, direction, refresh, id, code);
-    put_code_and_id(&line, code, id != NULL, id == NULL ? 0 : *id);
+    put_code_and_id(&line, code, id != NULL, FILLED(code, id));
     end(&line);
 }
 
@@ -385,7 +385,7 @@ void RECORDED(GET_SAMPLING_PORT_ID)(SAMPLING_PORT_NAME_TYPE name, SAMPLING_PORT_
     begin(&line, "sampling-id");
     put_name(&line, name);
     PASSED_ON(GET_SAMPLING_PORT_ID)(name, id, code);
-    put_code_and_id(&line, code, id != NULL, id == NULL ? 0 : *id);
+    put_code_and_id(&line, code, id != NULL, FILLED(code, id));
     end(&line);
 }
 
@@ -427,7 +427,7 @@ void RECORDED(CREATE_QUEUING_PORT)(QUEUING_PORT_NAME_TYPE name, MESSAGE_SIZE_TYP
     put_integer(&line, (int64_t)direction);
     put_integer(&line, (int64_t)discipline);
     PASSED_ON(CREATE_QUEUING_PORT)(name, size, depth, direction, discipline, id, code);
-    put_code_and_id(&line, code, id != NULL, id == NULL ? 0 : *id);
+    put_code_and_id(&line, code, id != NULL, FILLED(code, id));
     end(&line);
 }
 
@@ -439,7 +439,7 @@ void RECORDED(SEND_QUEUING_MESSAGE)(QUEUING_PORT_ID_TYPE id, MESSAGE_ADDR_TYPE m
     put_message(&line, message, length);
     PASSED_ON(SEND_QUEUING_MESSAGE)(id, message, length, time_out, code);
     put_code(&line, code);
-    put_time_out(&line, time_out);
+    put_note(&line, "time-out", time_out);
     end(&line);
 }
 
@@ -452,7 +452,7 @@ void RECORDED(RECEIVE_QUEUING_MESSAGE)(QUEUING_PORT_ID_TYPE id, SYSTEM_TIME_TYPE
     if (put_code(&line, code)) {
         put_received(&line, message, length, "");
     }
-    put_time_out(&line, time_out);
+    put_note(&line, "time-out", time_out);
     end(&line);
 }
 
@@ -461,7 +461,7 @@ void RECORDED(GET_QUEUING_PORT_ID)(QUEUING_PORT_NAME_TYPE name, QUEUING_PORT_ID_
     begin(&line, "queuing-id");
     put_name(&line, name);
     PASSED_ON(GET_QUEUING_PORT_ID)(name, id, code);
-    put_code_and_id(&line, code, id != NULL, id == NULL ? 0 : *id);
+    put_code_and_id(&line, code, id != NULL, FILLED(code, id));
     end(&line);
 }
 
@@ -478,9 +478,7 @@ static void put_queuing_status(struct text *line, const QUEUING_PORT_STATUS_TYPE
     put_value(line, " size", status->MAX_MESSAGE_SIZE);
     put_text(line, direction);
     put_text(line, " processes 0");
-    if (status->WAITING_PROCESSES != 0) {
-        put_note(line, "WAITING_PROCESSES", status->WAITING_PROCESSES);
-    }
+    put_note(line, "WAITING_PROCESSES", status->WAITING_PROCESSES);
 }
 
 void RECORDED(GET_QUEUING_PORT_STATUS)(QUEUING_PORT_ID_TYPE id, QUEUING_PORT_STATUS_TYPE *status,
