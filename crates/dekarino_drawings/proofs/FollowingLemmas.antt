@@ -1,5 +1,5 @@
 -- What is kept of each channel, before and after one more entry.
-use Rattle.std.proofs.Common.{◌≡◌, ◌≢◌, ℕ, zero, suc, ◌+◌, ◌-◌, ◌^◌, ◌<◌, ◌≤◌, ◌==◌, min, max, Bool, true, false, if◌then◌else◌, List, [], ◌∷◌, ◌++◌, length, length-append, length-set, set, drop, arith, Option, Some, None, is_some, refl, sym, ap, ◌∙◌, subst, append_assoc, append-nil}
+use Rattle.std.proofs.Common.{◌≡◌, ◌≢◌, ℕ, suc, ◌+◌, ◌-◌, ◌^◌, ◌<◌, ◌≤◌, min, max, Bool, true, false, if◌then◌else◌, List, [], ◌∷◌, ◌++◌, length, length-append, length-set, set, drop, arith, Option, Some, None, is_some, refl, sym, ap, ◌∙◌, subst, append_assoc, append-nil}
 use Rattle.std.specs.Prelude.{slice_get, option_map}
 use Rattle.std.specs.List.{cons_option, filter_map, flat_map}
 use Rattle.std.proofs.lemmas.Bool.Decides.{nat_tests}
@@ -17,7 +17,6 @@ use Rattle.apex_module.specs.declared.port.Port.{Port}
 use Rattle.apex_ports.specs.declared.history.Entry.{Entry}
 use Rattle.apex_ports.specs.History.{History}
 use Rattle.apex_ports.specs.Channels.{message_accepted, accepted_on, taken_on, taken_by, waiting_on, sample_written}
-use Rattle.apex_ports.specs.Kept.{EachAt}
 use Rattle.apex_ports.proofs.Appends.{taken_on-append}
 use Rattle.apex_ports.proofs.OneChannel.{LiesElsewhere, off_channel, sends_elsewhere, receives_elsewhere, clears_elsewhere, writes_elsewhere}
 use Rattle.apex_ports.proofs.Stays.{IsElsewhere, LeavesChannel, leaves_channel, taken_stays, each_at_set}

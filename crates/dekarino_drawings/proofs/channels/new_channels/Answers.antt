@@ -1,4 +1,4 @@
-use Rattle.std.proofs.Common.{◌≡◌, ◌+◌, [], List, length, refl, sym, ap, ◌∙◌, subst}
+use Rattle.std.proofs.Common.{[], List, length, sym, ap, ◌∙◌, subst}
 use Rattle.apex_ports.specs.Kept.{EachAt}
 use Rattle.apex_ports.proofs.Stays.{length_push, each_at_push}
 use Rattle.dekarino_drawings.specs.declared.channel_calls.ChannelCalls.{ChannelCalls}
