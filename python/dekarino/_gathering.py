@@ -14,14 +14,10 @@ from ._library import ROOT
 from ._program import find_program
 
 Told = Dict[str, Any]
-# `draw` draws no more calls.
-MOST_DRAWN = 2_000
 # The orders of longer traces are not asked for.
 MOST_ORDERED = 500
 # The greatest whole number that JavaScript has exactly.
 MOST_EXACT = 2**53 - 1
-ARROW = re.compile(r'<path class="(message|sample)" data-from="(\d+)" data-to="(\d+)"')
-WAITS = re.compile(r'<circle class="waits" data-call="(\d+)"')
 
 
 class Undecided(Exception):
@@ -222,18 +218,15 @@ def _judged(programs: Programs, config: bytes, log: bytes) -> Told:
 
 
 def _arrows(programs: Programs, config: bytes, lines: List[bytes], calls: List[Told], known: int, is_whole: bool) -> Told:
-    """The arrows as the drawing has them, of the first calls of which `known` at most are drawn. What waits in the end is
-    said by a drawing of the whole."""
-    drawn = min(known, MOST_DRAWN)
-    if drawn == 0:
-        return {"drawn": 0, "arrows": [], "waits": []}
-    ran = programs.run("draw", config, b"\n".join(lines[: calls[drawn - 1]["line"]]) + b"\n")
+    """The arrows between the first `known` calls. What waits in the end is said of the whole."""
+    if known == 0:
+        return {"arrows": [], "waits": []}
+    ran = programs.run("draw", "--json", config, b"\n".join(lines[: calls[known - 1]["line"]]))
     if ran.status != 0:
-        return {"drawn": 0, "arrows": [], "waits": []}
-    picture = "\n".join(ran.lines)
-    waits = [int(number) for number in WAITS.findall(picture)] if is_whole and drawn == len(calls) else None
-    arrows = [[int(sent), int(taken), int(kind == "sample")] for kind, sent, taken in ARROW.findall(picture)]
-    return {"drawn": drawn, "arrows": arrows, "waits": waits}
+        raise Undecided(ran.said)
+    told, = ran.told()
+    arrows = [[it["from"], it["to"], int(it["kind"] == "sample")] for it in told["arrows"]]
+    return {"arrows": arrows, "waits": told["waiting"] if is_whole and known == len(calls) else None}
 
 
 def _orders(programs: Programs, config: bytes, lines: List[bytes], calls: List[Told], states: int) -> Told:

@@ -104,12 +104,18 @@ fn explain<'a>(alloc: Global) -> Result<Command<'a>, AllocError> {
         .arg(json(alloc))
 }
 
+/// The command `draw`, with the name that its usage has.
+pub(crate) fn draw_alone<'a>(alloc: Global) -> Result<Command<'a>, AllocError> {
+    draw(alloc)?.bin_name("dekarino draw")
+}
+
 fn draw<'a>(alloc: Global) -> Result<Command<'a>, AllocError> {
     Command::new(alloc, "draw")
         .about("Draws a configuration, or the calls of a trace")
         .after_help(help::DRAW)
         .arg(config(alloc))?
-        .arg(Arg::new(alloc, TRACE).help("The file of a trace"))
+        .arg(Arg::new(alloc, TRACE).help("The file of a trace"))?
+        .arg(flag(alloc, JSON, help::ARROWS))
 }
 
 /// The command `judge`, with the name that its usage has.

@@ -46,8 +46,13 @@ Prints an SVG. A configuration becomes boxes with ports, and arrows for channels
 each partition, the calls from top to bottom, an arrow from each send or write to the call that got its message, crosses
 at refused calls, and rings at messages that wait in the end. It draws at most 2,000 calls.
 
+With --json it draws nothing: it prints a JSON object with the arrows between the calls of a trace of any length, and the
+calls that sent what waits in the end. Calls are numbered from 1.
+
 Example:
-  $ ./dekarino draw examples/readme/config.toml examples/readme/trace.txt > chart.svg";
+  $ ./dekarino draw examples/readme/config.toml examples/readme/trace.txt > chart.svg
+  $ ./dekarino draw --json examples/readme/config.toml examples/readme/trace.txt
+  {\"calls\":6,\"arrows\":[{\"from\":3,\"to\":4,\"kind\":\"message\"}],\"waiting\":[]}";
 
 pub(crate) const JUDGE: &str = "\
 A log is a trace with `-> REPLY` after each call, as `explain` prints it. Each reply that differs from the standard's
@@ -114,5 +119,7 @@ Example:
     the port is no destination -> INVALID_MODE (port PORT is a source)
     no message waits -> NOT_AVAILABLE (no message waits on CHANNEL)
     otherwise -> NO_ERROR with the oldest waiting message, which waits no longer";
+
+pub(crate) const ARROWS: &str = "Prints the arrows of a trace as JSON (docs/FORMATS.md)";
 
 pub(crate) const JSON: &str = "Prints the same as JSON lines, one object a line (docs/FORMATS.md)";

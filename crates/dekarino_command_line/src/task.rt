@@ -26,6 +26,11 @@ pub enum Task<'a> {
         config: &'a str,
         trace: Option<&'a str>,
     },
+    /// Prints as JSON from which call to which a trace's messages went.
+    ReadArrows {
+        config: &'a str,
+        trace: &'a str,
+    },
     /// Prints where the replies of a recorded log depart from the standard, or the first of them alone.
     Judge {
         config: &'a str,
@@ -167,10 +172,7 @@ fn task_in<'a>(alloc: Global, matches: &ArgMatches<'a>) -> Result<Task<'a>, Word
             form: form_in(given),
         }),
         Some(("explain", given)) => explain_in(alloc, given),
-        Some(("draw", given)) => Ok(Task::Draw {
-            config: config_in(alloc, given)?,
-            trace: given.get_str(commands::TRACE),
-        }),
+        Some(("draw", given)) => draw_in(alloc, given),
         Some(("judge", given)) => judge_in(alloc, given),
         Some(("orders", given)) => orders_in(alloc, given),
         Some(("rows", given)) => Ok(Task::Rows {
@@ -201,6 +203,19 @@ fn explain_in<'a>(alloc: Global, given: &ArgMatches<'a>) -> Result<Task<'a>, Wor
         calls,
         form: form_in(given),
     })
+}
+
+fn draw_in<'a>(alloc: Global, given: &ArgMatches<'a>) -> Result<Task<'a>, WordsFault> {
+    let config = config_in(alloc, given)?;
+    match (form_in(given), given.get_str(commands::TRACE)) {
+        (Form::Text, trace) => Ok(Task::Draw { config, trace }),
+        (Form::Json, Some(trace)) => Ok(Task::ReadArrows { config, trace }),
+        (Form::Json, None) => Err(fault_of(
+            alloc,
+            commands::draw_alone(alloc),
+            "--json goes with a trace",
+        )),
+    }
 }
 
 /// The steps above which `judge` gives up, where no number is given.

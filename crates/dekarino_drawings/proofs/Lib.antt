@@ -1,1 +1,2 @@
 pub mod ArrowLemmas
+pub mod FollowingLemmas

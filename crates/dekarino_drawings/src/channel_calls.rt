@@ -1,79 +1,109 @@
 //! What calls did to a channel.
-ghost use Rattle.std.specs.Prelude.{◌≡◌, ℕ, ◌≤◌, ◌++◌, List, length, max, is_some, OnOk};
-ghost use Rattle.apex_module.specs.Configuration.{port_of};
-ghost use Rattle.apex_ports.specs.Channels.{message_accepted, message_received, clears, taken_by, taken_on, sample_written};
+ghost use Rattle.std.specs.Prelude.{◌≡◌, ℕ, ◌<◌, ◌≤◌, ◌-◌, ◌^◌, ◌++◌, ◌∷◌, [], if◌then◌else◌, List, length, max, slice_get, Some, is_some, OnOk};
+ghost use Rattle.apex_module.specs.Configuration.{Configuration, port_of};
+ghost use Rattle.apex_ports.specs.Channels.{message_accepted, message_received, clears, taken_by, sample_written};
+ghost use Rattle.apex_ports.specs.History.{History};
 ghost use Rattle.apex_ports.specs.Modes.{is_code_no_error};
 ghost use Rattle.apex_ports.specs.Ports.{is_source_of, is_destination_of};
-ghost use Rattle.dekarino_drawings.specs.Arrows.{next_send, last_write, waiting_sends};
+ghost use Rattle.dekarino_drawings.specs.Arrows.{index_if};
+ghost use Rattle.dekarino_drawings.specs.Following.{IsFollowed, waits_in};
 
 use apex_module::Config;
 use apex_ports::Entry;
 use apex_types::{Call, Direction, Reply, ReturnCode};
-use std::alloc::AllocError;
+use std::alloc::{AllocError, Global};
 
-/// The call that sent the message which is received next from channel `c`, after these calls.
-pub(crate) fn next_send(config: &Config, c: usize, calls: &[Entry]) -> Option<usize>
-    ensures { result ≡ next_send config.now calls.now c }
-{
-    let mut earlier = taken_on(config, c, calls);
-    for (index, call) in calls.iter().enumerate() {
-        if is_send(config, c, call) {
-            if earlier == 0 {
-                return Some(index);
-            }
-            earlier -= 1;
-        }
-    }
-    None
+/// What calls did to a channel. Calls are told by their indexes, from 0.
+#[derive(Debug, Drop)]
+pub(crate) struct ChannelCalls {
+    /// The calls that sent a message into it, oldest first.
+    pub sends: Vec<usize>,
+    /// How many messages were taken out of it, received or cleared.
+    pub taken: usize,
+    /// The call that wrote the last sample into it.
+    pub last_write: Option<usize>,
 }
 
-/// The call that wrote the sample which a read of channel `c` shows, after these calls.
-pub(crate) fn last_write(config: &Config, c: usize, calls: &[Entry]) -> Option<usize>
-    ensures { result ≡ last_write config.now calls.now c }
-{
-    let mut last = None;
-    for (index, call) in calls.iter().enumerate() {
-        if is_write(config, c, call) {
-            last = Some(index);
+impl ChannelCalls {
+    /// A channel without calls.
+    pub(crate) fn new(alloc: Global) -> ChannelCalls
+        ensures { (config : Configuration) (c : ℕ) → IsFollowed config [] c result }
+    {
+        ChannelCalls {
+            sends: Vec::new(alloc),
+            taken: 0,
+            last_write: None,
         }
     }
-    last
+
+    /// The call that sent the message which is received next.
+    pub(crate) fn next_send(&self) -> Option<usize>
+        ensures { result ≡ slice_get self.now.sends.items self.now.taken }
+    {
+        self.sends.get(self.taken).copied()
+    }
+
+    /// Adds the calls that sent what waits, oldest first.
+    pub(crate) fn push_waiting(&self, waiting: &mut Vec<usize>) -> Result<(), AllocError>
+        ensures { OnOk result (waiting.new.items ≡ waiting.old.items ++ waits_in self.now) }
+    {
+        let first = self.taken.min(self.sends.len());
+        waiting.extend_from_slice(&self.sends[first..])
+    }
+
+    /// Adds a call on channel `c`, of this index.
+    pub(crate) fn follow(
+        &mut self,
+        config: &Config,
+        c: usize,
+        index: usize,
+        entry: &Entry,
+    ) -> Result<(), AllocError>
+        ensures { (before : History) → length before ≡ index → index < 2 ^ 64 - 1
+            → IsFollowed config.now before c self.old
+            → OnOk result (IsFollowed config.now (before ++ entry.now ∷ []) c self.new) }
+    {
+        let waiting = self.sends.len().saturating_sub(self.taken);
+        let more = taken_by(config, c, waiting, entry);
+        self.taken = self.taken.saturating_add(more);
+        self.last_write = last_write_after(self.last_write, config, c, index, entry);
+        push_send(&mut self.sends, config, c, index, entry)
+    }
 }
 
-/// Adds the calls that sent what waits on channel `c` after these calls, oldest first.
-pub(crate) fn push_waiting(
-    waiting: &mut Vec<usize>,
+/// Adds a call of this index, if it sent a message into channel `c`.
+fn push_send(
+    sends: &mut Vec<usize>,
     config: &Config,
     c: usize,
-    calls: &[Entry],
+    index: usize,
+    entry: &Entry,
 ) -> Result<(), AllocError>
-    ensures { OnOk result (waiting.new.items
-        ≡ waiting.old.items ++ waiting_sends config.now calls.now c) }
+    ensures { OnOk result (sends.new.items ≡ sends.old.items
+        ++ index_if (is_some (message_accepted config.now c entry.now)) index) }
 {
-    let mut earlier = taken_on(config, c, calls);
-    for (index, call) in calls.iter().enumerate() {
-        if is_send(config, c, call) {
-            if earlier == 0 {
-                waiting.push(index)?;
-            } else {
-                earlier -= 1;
-            }
-        }
+    if is_send(config, c, entry) {
+        sends.push(index)?;
     }
     Ok(())
 }
 
-/// How many messages were taken out of channel `c`, received or cleared.
-fn taken_on(config: &Config, c: usize, calls: &[Entry]) -> usize
-    ensures { result ≡ length (taken_on config.now c calls.now) }
+/// The last write into channel `c` after a call of this index.
+fn last_write_after(
+    last: Option<usize>,
+    config: &Config,
+    c: usize,
+    index: usize,
+    entry: &Entry,
+) -> Option<usize>
+    ensures { result
+        ≡ (if is_some (sample_written config.now c entry.now) then Some index else last) }
 {
-    let mut sent: usize = 0;
-    let mut taken: usize = 0;
-    for call in calls {
-        taken += taken_by(config, c, sent.saturating_sub(taken), call);
-        sent += usize::from(is_send(config, c, call));
+    if is_write(config, c, entry) {
+        Some(index)
+    } else {
+        last
     }
-    taken
 }
 
 /// How many messages a call takes out of channel `c`, where so many wait.

@@ -9,7 +9,7 @@ use crate::chart::Chart;
 use crate::fault::DrawingFault;
 use crate::frame::{BOW, Frame, HEADINGS, ROW, end_of, frame_of, height_of, line_of};
 use crate::legend::push_legend;
-use crate::reading::read_chart;
+use crate::reading::read_drawn_chart;
 use crate::svg::{
     escaped, offset, push_cross, push_end, push_ring, push_square, push_start, push_text,
 };
@@ -25,7 +25,7 @@ pub fn draw_chart(alloc: Global, config: Config, trace: &[u8]) -> Result<String,
         (λ _. IsDrawn config trace.now) (IsNotDrawn config trace.now) }
 {
     let names = config.copy()?;
-    let chart = read_chart(alloc, config, trace)?;
+    let chart = read_drawn_chart(alloc, config, trace)?;
     Ok(chart_text(alloc, &names, &chart)?)
 }
 

@@ -6,6 +6,7 @@ pub mod arrow;
 mod arrows;
 mod call_text;
 mod channel_calls;
+mod channels;
 pub mod chart;
 pub mod chart_drawing;
 pub mod fault;

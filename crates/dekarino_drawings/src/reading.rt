@@ -4,21 +4,37 @@ ghost use Rattle.apex_ports.specs.History.{request_of};
 ghost use Rattle.apex_ports.specs.Lawful.{Answers};
 ghost use Rattle.apex_ports.specs.Sound.{IsSound};
 ghost use Rattle.apex_texts.specs.Trace.{HavePartitions};
-ghost use Rattle.dekarino_drawings.specs.Chart.{IsChart, IsNotDrawn};
+ghost use Rattle.dekarino_drawings.specs.Chart.{IsChart, IsChartOf, IsDrawn, IsNotDrawn, IsNotRead};
 
-use crate::arrows::{arrows_of, waiting_of};
+use crate::arrows::arrows_and_waiting;
 use crate::chart::{CALL_LIMIT, Chart};
 use crate::fault::DrawingFault;
 use apex_module::Config;
 use apex_ports::{Entry, Ports, Request, Row};
+use apex_texts::Fault;
 use apex_texts::trace::read_trace;
+use apex_types::OutOfMemory;
 use std::alloc::{AllocError, Global};
 
 /// What a trace's chart shows: its calls on new ports of the configuration with their replies, and
 /// what became of their messages.
-pub fn read_chart(alloc: Global, config: Config, trace: &[u8]) -> Result<Chart, DrawingFault>
+pub fn read_chart(alloc: Global, config: Config, trace: &[u8]) -> Result<Chart, Fault>
     ensures { MatchResult result
-        (IsChart config trace.now) (IsNotDrawn config trace.now) }
+        (IsChart config trace.now) (IsNotRead config trace.now) }
+{
+    let requests = read_trace(alloc, &config, trace)?;
+    Ok(chart_of(alloc, config, requests.as_slice())?)
+}
+
+/// The same, of a trace with no more calls than are drawn.
+pub(crate) fn read_drawn_chart(
+    alloc: Global,
+    config: Config,
+    trace: &[u8],
+) -> Result<Chart, DrawingFault>
+    ensures drawn { MatchResult result
+        (λ _. IsDrawn config trace.now) (IsNotDrawn config trace.now) }
+    ensures chart { IfOk result (IsChart config trace.now) }
 {
     let requests = read_trace(alloc, &config, trace)?;
     if requests.len() > CALL_LIMIT {
@@ -26,11 +42,18 @@ pub fn read_chart(alloc: Global, config: Config, trace: &[u8]) -> Result<Chart, 
             calls: requests.len(),
         });
     }
+    Ok(chart_of(alloc, config, requests.as_slice())?)
+}
+
+/// What the chart of these requests shows.
+fn chart_of(alloc: Global, config: Config, requests: &[Request]) -> Result<Chart, OutOfMemory>
+    requires { HavePartitions config requests.now }
+    ensures { IfOk result (IsChartOf config requests.now) }
+{
     let mut ports = Ports::new(alloc, config)?;
     let mut rows = Vec::new(alloc);
-    let calls = serve(alloc, &mut ports, requests.as_slice(), &mut rows)?;
-    let arrows = arrows_of(alloc, ports.config(), calls.as_slice())?;
-    let waiting = waiting_of(alloc, ports.config(), calls.as_slice())?;
+    let calls = serve(alloc, &mut ports, requests, &mut rows)?;
+    let (arrows, waiting) = arrows_and_waiting(alloc, ports.config(), calls.as_slice())?;
     Ok(Chart {
         calls,
         rows,

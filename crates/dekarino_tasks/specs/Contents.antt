@@ -3,6 +3,8 @@ use Rattle.std.specs.Prelude.{◌≡◌, ℕ, List, Ok, map}
 use Rattle.apex_module.specs.Configuration.{Configuration}
 use Rattle.apex_config.specs.Meaning.{config_of}
 use Rattle.apex_texts.specs.Trace.{trace_of}
+use Rattle.dekarino_drawings.specs.declared.chart.Chart.{Chart}
+use Rattle.dekarino_drawings.specs.Chart.{IsChart}
 use Rattle.dekarino_texts.specs.declared.explanation.Explanation.{Explanation}
 use Rattle.dekarino_texts.specs.declared.table.TableRow.{TableRow}
 use Rattle.dekarino_texts.specs.Explained.{IsExplained}
@@ -20,3 +22,7 @@ abbrev pub IsExplanationOf : {S : Type 0} → (S → ExplainedLine → S → Typ
 IsExplanationOf takes before after ended bytes trace =
     (config : Configuration) × (config_of bytes ≡ Ok config) × IsHanded takes before (explanation_of config trace) after
     × IsExplained config (explanation_of config trace) ended × IsFaultOf (trace_of config trace) ended.fault
+
+-- the chart is that of the trace on the configuration that the bytes are
+abbrev pub IsChartOf : Chart → List ℕ → List ℕ → Type 0
+IsChartOf chart bytes trace = (config : Configuration) × (config_of bytes ≡ Ok config) × IsChart config trace chart

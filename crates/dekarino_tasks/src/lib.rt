@@ -3,6 +3,7 @@
 
 mod drawings;
 mod explanations;
+mod json_arrows;
 mod json_explanation;
 mod json_remarks;
 mod json_rows;

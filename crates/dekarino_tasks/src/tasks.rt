@@ -1,5 +1,5 @@
 //! From the words of the command line to a status.
-use crate::drawings::draw;
+use crate::drawings::{arrows_of_trace, draw};
 use crate::explanations::{explain_scripts, explain_trace_file};
 use crate::rows::reply_table;
 use crate::tables::table;
@@ -200,6 +200,7 @@ fn perform<'a, R: Threads + Wait + Sync, O: Opener + FileWriter, P: Progress>(
             }
         },
         Task::Draw { config, trace } => draw(alloc, opener, config, trace),
+        Task::ReadArrows { config, trace } => arrows_of_trace(alloc, opener, config, trace),
         Task::Judge {
             config,
             log,

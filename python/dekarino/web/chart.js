@@ -42,6 +42,9 @@ function courseOf(x1, y1, x2, y2, column) {
   return `M${x1} ${y1}C${aside} ${y1} ${aside} ${y2} ${x2} ${y2}`;
 }
 
+// The most arrows that are drawn to ends below the rows in sight.
+const MOST_BELOW = 400;
+
 // Draws rows first up to before last of the list, as one picture of their height.
 function drawChart(shown, first, last, column, high) {
   const {run, rows, rowOf} = shown;
@@ -52,7 +55,10 @@ function drawChart(shown, first, last, column, high) {
   const lines = run.module.partitions.map(name => make("svg:path", {
     class: `life${belongs(shown.mark, {partition: name}) ? " marked" : ""}`, d: `M${across(name)} 0V${height}`}));
   const arrows = [], marks = [];
+  // (they are in the order of their ends, so those that end in sight come first)
+  const most = last - first + MOST_BELOW;
   for (const arrow of run.arrows) {
+    if (arrows.length === most) break;
     const from = rowOf[arrow.from], to = rowOf[arrow.to];
     if (from < 0 || to < 0 || from >= last || to < first) continue;
     const kind = kindOfArrow(arrow), chosen = arrow.from === shown.selected || arrow.to === shown.selected;

@@ -19,17 +19,15 @@ function fateOf(run, call) {
   if (call.service !== "send") return null;
   if (out.length) return ["received by ", callButton(run, out[0].to), `, ${between(run, call.place, out[0].to)} ns later`];
   if (run.waits.has(call.place)) return "waits in the end";
-  if (call.place >= run.told.drawn) return `not shown: arrows are drawn for the first ${run.told.drawn} calls`;
-  if (run.told.waits === null) return `not received in the first ${run.told.drawn} calls`;
+  if (run.told.waits === null) return `not received in the first ${plural(run.told.known, "call")}`;
   const clear = run.calls.slice(call.place).find(it => it.service === "clear" && !it.isRefused && it.port
     && it.port.channel === call.port.channel);
   return ["cleared", ...(clear ? [" by ", callButton(run, clear.place)] : [])];
 }
 
 function fateOfSample(run, call, out) {
-  if (call.place >= run.told.drawn) return `not shown: arrows are drawn for the first ${run.told.drawn} calls`;
-  if (!out.length) return run.told.drawn < run.calls.length ? `shown by none of the first ${run.told.drawn} calls`
-    : "shown by no read";
+  if (!out.length) return run.told.known < run.calls.length
+    ? `shown by none of the first ${plural(run.told.known, "call")}` : "shown by no read";
   const most = 20, more = out.length > most ? [` and ${out.length - most} more`] : [];
   return ["shown by ", ...out.slice(0, most).flatMap((arrow, at) => [
     at ? ", " : "", callButton(run, arrow.to), arrow.isStale ? " (INVALID)" : ""]), ...more];
@@ -80,9 +78,8 @@ function wordsOfOrders(orders) {
 }
 
 function wordsOfArrows(told, count) {
-  if (told.drawn >= count) return [];
-  const why = told.drawn < told.known ? "the program draws no more" : "the first departure comes behind them";
-  return [`Arrows: those of the first ${plural(told.drawn, "call")}, since ${why}`];
+  if (told.known >= count) return [];
+  return [`Arrows: those of the first ${plural(told.known, "call")}, since the first departure comes behind them`];
 }
 
 function showRemarks() {
