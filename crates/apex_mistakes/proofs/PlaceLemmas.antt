@@ -23,7 +23,7 @@ left_of_word line word None begins missed =
     let whole = sym begins.same ∙ words_last word begins.some begins.word missed in
     ap words_of (drop_of_length-le word (position_missed is_blank word missed)) ∙ sym (ap (drop 1) whole)
 
-behind_first : (line : List ℕ) (start : Option ℕ) → position (λ byte. not (is_blank byte)) line ≡ start → words_of (behind_first_word line) ≡ drop 1 (words_of line)
+pub behind_first : (line : List ℕ) (start : Option ℕ) → position (λ byte. not (is_blank byte)) line ≡ start → words_of (behind_first_word line) ≡ drop 1 (words_of line)
 behind_first line (Some start) found =
     let place = position_found (λ byte. not (is_blank byte)) line start found in
     let begins = from_word line (from_first_word line) start found (ap (λ (n : ℕ). drop n line) (sym place.1)) in

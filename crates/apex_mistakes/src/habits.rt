@@ -58,7 +58,7 @@ fn advice_at_end(faulty: &FaultyLine<'_>, word: &[u8]) -> Option<&'static str> {
     }
 }
 
-fn begins_comment(word: &[u8]) -> bool {
+pub(crate) fn begins_comment(word: &[u8]) -> bool {
     COMMENTS
         .iter()
         .any(|mark| word.starts_with(mark.as_bytes()))

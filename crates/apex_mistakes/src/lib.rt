@@ -1,18 +1,30 @@
-//! The mistakes of traces and scripts: where each faulty line is wrong and what was expected there, as data and in words.
+//! The mistakes of traces, scripts and logs: where each faulty line is wrong and what was expected there, as data and in words.
 #![tactic(auto)]
 
 mod expected;
+mod faulty_log_line;
 pub mod faulty_lines;
 mod habits;
 mod hint;
 mod known;
 pub mod line_place;
+pub mod log_faults;
+mod log_hint;
+mod log_mistakes;
+pub mod log_place;
 mod mistakes;
 mod quoted;
+mod reply_hint;
+mod reply_word;
 mod standard;
 
 pub use crate::faulty_lines::{
     FaultyLines, find_script_fault, find_trace_fault, script_faults, trace_faults,
 };
 pub use crate::line_place::LinePlace;
+pub use crate::log_faults::{
+    LogFaults, first_place_is_of_the_refusal, log_faults, own_log_faults,
+};
+pub use crate::log_mistakes::{log_mistakes, own_log_mistakes};
+pub use crate::log_place::{LogPart, LogPlace};
 pub use crate::mistakes::{script_mistakes, trace_mistakes};

@@ -24,8 +24,15 @@ pub enum Unfinished<'a> {
     TooManyCalls { calls: usize },
     /// The log has a faulty line.
     FaultyLog(FaultyLine),
-    /// The log that a partition kept, in this file, has a faulty line.
-    FaultyOwnLog { file: &'a str, faulty: FaultyLine },
+    /// The same, with a text to print before: the mistakes of the log.
+    FaultyLogWithText { text: Vec<u8>, faulty: FaultyLine },
+    /// The log that a partition kept, in this file, has a faulty line. The text is to be printed before: the mistakes of
+    /// this log and of those that were to be read after it.
+    FaultyOwnLog {
+        text: Vec<u8>,
+        file: &'a str,
+        faulty: FaultyLine,
+    },
     /// The file at this path can't be written.
     UnwritableFile(&'a str),
     /// The words of `--when` or `--never` are no question, for this reason.
