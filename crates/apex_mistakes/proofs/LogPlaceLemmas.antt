@@ -1,16 +1,17 @@
 -- The words in front of a text that is cut behind one of its words, and the first word that no reply has there.
-use Rattle.std.proofs.Common.{◌≡◌, ℕ, zero, suc, ◌+◌, ◌-◌, ◌<◌, ◌≤◌, Bool, true, false, not, eqb, List, [], ◌∷◌, ◌++◌, length, take, drop, get_or, refl, sym, ap, ◌∙◌, arith, subst, length-append, append-nil, zero-add}
+use Rattle.std.proofs.Common.{◌≡◌, ℕ, zero, suc, ◌+◌, ◌-◌, ◌<◌, ◌≤◌, Bool, true, false, not, eqb, List, [], ◌∷◌, ◌++◌, length, take, drop, get_or, refl, sym, ap, ◌∙◌, arith, subst, inl, inr, length-append, append-nil, zero-add, eq-or-lt_of_le}
 use Rattle.std.proofs.Math.Seq.{take-append-add, take-nil}
 use Rattle.std.proofs.lemmas.List.{take-append-drop, length-drop, drop-drop}
 use Rattle.std.proofs.lemmas.List.Elements.{filter-append}
 use Rattle.std.proofs.lemmas.List.FromFn.{length-range_with_len, get_or-range_with_len}
 use Rattle.std.proofs.lemmas.List.Splits.{slice_split-cons_yes, length-slice_split}
 use Rattle.std.proofs.lemmas.List.Sums.{position_or_len_is, prefix_len-le-length}
-use Rattle.std.specs.Prelude.{filter, position}
+use Rattle.std.specs.Prelude.{◌==◌, filter, position}
 use Rattle.std.specs.List.{slice_split, onto_first, position_or_len, range_with_len}
+use Rattle.apex_texts.specs.declared.expected.Expected.{Expected}
 use Rattle.apex_texts.specs.Text.{is_blank, words_of}
 use Rattle.apex_mistakes.specs.LinePlace.{from_first_word, behind_first_word}
-use Rattle.apex_mistakes.specs.LogPlace.{begins_reply, fitting}
+use Rattle.apex_mistakes.specs.LogPlace.{before_arrow_of, begins_reply, fitting}
 use Rattle.apex_mistakes.proofs.PlaceLemmas.{behind_first}
 
 -- ---- a text that is cut in front of a blank
@@ -50,12 +51,11 @@ at_blank-take (suc n) (byte ∷ rest) blank = blank
 
 -- ---- a text behind its first words
 
-pub behind_words : ℕ → List ℕ → List ℕ
+abbrev pub behind_words : ℕ → List ℕ → List ℕ
 behind_words zero text = text
 behind_words (suc before) text = behind_words before (behind_first_word text)
 
 pub behind-step : (before : ℕ) (text : List ℕ) → behind_first_word (behind_words before text) ≡ behind_words (suc before) text
-unfolding behind_words
 behind-step zero text = refl
 behind-step (suc before) text = behind-step before (behind_first_word text)
 
@@ -92,7 +92,6 @@ behind-ends text =
     subst (λ rest. Ends text rest) (sym (drop-drop end start text)) (ends-drop (start + end) text (omega (arith, starts, ends, length-drop start text)))
 
 behind_words-short : (before : ℕ) (text : List ℕ) → length (behind_words before text) ≤ length text
-unfolding behind_words
 behind_words-short zero text = omega arith
 behind_words-short (suc before) text = omega (arith, behind_words-short before (behind_first_word text), (behind-ends text).short)
 
@@ -105,7 +104,6 @@ one-before n (x ∷ y ∷ front) rest all is behind = absurd (omega (arith, ap l
 
 -- the text in front of what follows its first words has these words
 pub words-front : (before : ℕ) (text : List ℕ) → words_of (front_of text (behind_words before text)) ≡ take before (words_of text)
-unfolding behind_words
 words-front zero text =
     let none : length text - length text ≡ 0 = omega arith in
     ap (λ (n : ℕ). words_of (take n text)) none
@@ -123,6 +121,22 @@ words-front (suc before) text =
     ∙ ap (λ words. words_of front ++ words) (words-front before rest)
     ∙ one-before before (words_of front) (words_of rest) (words_of text) whole (behind_first text (position (λ byte. not (is_blank byte)) text) refl)
 
+-- ---- the place of an arrow
+
+pub is-zero : (n : ℕ) → (n == 0) ≡ true → n ≡ 0
+is-zero n is = grind (arith, is)
+
+pub not-zero : (n : ℕ) → (n == 0) ≡ false → 0 < n
+not-zero n is = grind (arith, is)
+
+pub arrow-empty : (front : List Expected) (words : List (List ℕ)) (found parameters : List Expected) → found ≡ parameters → length found ≡ 0 → length words ≡ before_arrow_of front words parameters
+arrow-empty front words found [] is none = refl
+arrow-empty front words found (parameter ∷ parameters) is none = absurd (omega (arith, none, ap length is))
+
+pub arrow-some : (front : List Expected) (words : List (List ℕ)) (found parameters : List Expected) → found ≡ parameters → 0 < length found → length front + 1 + length found ≡ before_arrow_of front words parameters
+arrow-some front words found [] is some = absurd (omega (arith, some, ap length is))
+arrow-some front words found (parameter ∷ parameters) is some = ap (λ (xs : List Expected). length front + 1 + length xs) is
+
 -- ---- the first word that no reply has there
 
 pub fits-until : (words : List (List ℕ)) (i : ℕ) → i ≤ length words → ((k : ℕ) → k < i → begins_reply (take (k + 1) words) ≡ true) → (i < length words → begins_reply (take (i + 1) words) ≡ false) → i ≡ fitting words
@@ -134,3 +148,16 @@ fits-until words i within fit misfit =
       (omega (arith, within, length-range_with_len 0 count))
       (λ k lt. ap misfits (at k (omega (arith, lt, within))) ∙ ap not (fit k lt))
       (λ lt. let few : i < count = omega (arith, lt, length-range_with_len 0 count) in ap misfits (at i few) ∙ ap not (misfit few)))
+
+-- with what is in front of the rest
+pub begun : (result : Bool) (cut before : ℕ) (text rest : List ℕ) → result ≡ begins_reply (words_of (take cut text)) → cut ≡ length text - length rest → rest ≡ behind_words (before + 1) text → result ≡ begins_reply (take (before + 1) (words_of text))
+begun result cut before text rest is at behind =
+    is ∙ ap (λ (n : ℕ). begins_reply (words_of (take n text))) (at ∙ ap (λ (xs : List ℕ). length text - length xs) behind) ∙ ap begins_reply (words-front (before + 1) text)
+
+pub fits-more : (words : List (List ℕ)) (n : ℕ) → ((k : ℕ) → k < n → begins_reply (take (k + 1) words) ≡ true) → begins_reply (take (n + 1) words) ≡ true → (k : ℕ) → k < n + 1 → begins_reply (take (k + 1) words) ≡ true
+fits-more words n before here k lt =
+    let most : k ≤ n = omega (arith, lt) in
+    elim (eq-or-lt_of_le most) [
+      | inl same ↦ ap (λ (m : ℕ). begins_reply (take (m + 1) words)) same ∙ here
+      | inr less ↦ before k less
+    ]

@@ -10,6 +10,7 @@ use Rattle.apex_texts.specs.declared.line_fault.LineFault.{LineFault}
 use Rattle.apex_texts.specs.declared.line_fault.LineFault.TheVariants as faults
 use Rattle.apex_texts.specs.LineFault.{number_of}
 use Rattle.apex_mistakes.specs.LinePlace.{from_first_word, behind_first_word, from_word_at, parameters_at, misfit, words_before, place_in}
+use Rattle.apex_texts.specs.Lines.{FaultyLine}
 use Rattle.apex_mistakes.specs.FaultyLines.{faulty_line}
 use Rattle.apex_texts.proofs.TextLemmas.{position_found, position_missed, FromWord, from_word, words_skip, words_none, words_at, words_last}
 
@@ -81,3 +82,6 @@ place-faulty front number faults.UnknownCall line = refl
 place-faulty front number faults.Number line = refl
 place-faulty front number faults.Name line = refl
 place-faulty front number faults.Message line = refl
+
+pub place-line : (front : List Expected) (number : ℕ) (fault : LineFault) (line : List ℕ) → (place_in front number fault line).line ≡ number
+place-line front number fault line = ap (λ (faulty : FaultyLine). faulty.line) (place-faulty front number fault line)

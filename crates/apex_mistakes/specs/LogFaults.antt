@@ -10,7 +10,7 @@ use Rattle.apex_texts.specs.declared.line_fault.LineFault.{LineFault}
 use Rattle.apex_texts.specs.Trace.{request_at}
 use Rattle.apex_logs.specs.declared.log.FaultyLine.{FaultyLine}
 use Rattle.apex_logs.specs.LogLine.{entry_of_line, own_request_at, ends_calls}
-use Rattle.apex_mistakes.specs.declared.log_faults.LogFaults.{LogFaults}
+use Rattle.apex_mistakes.specs.declared.faulty_log.LogFaults.{LogFaults}
 use Rattle.apex_mistakes.specs.declared.log_place.LogPlace.{LogPlace}
 use Rattle.apex_mistakes.specs.LogPlace.{log_place_in}
 

@@ -1,5 +1,5 @@
 -- Where the fault of a log's line stands: its part, the number of its word there, and its column.
-use Rattle.std.specs.Prelude.{ℕ, ◌+◌, ◌-◌, Bool, true, false, not, if◌then◌else◌, List, [], ◌∷◌, ◌++◌, codes, length, take, drop, is_err, Result, Ok, Err}
+use Rattle.std.specs.Prelude.{ℕ, ◌+◌, ◌-◌, Bool, true, false, not, if◌then◌else◌, List, [], ◌∷◌, ◌++◌, codes, length, take, drop, position, unwrap_or, is_err, Result, Ok, Err}
 use Rattle.std.specs.List.{position_or_len, range_with_len}
 use Rattle.apex_types.specs.declared.reply.Reply.{Reply}
 use Rattle.apex_ports.specs.declared.history.Request.{Request}
@@ -78,7 +78,7 @@ bytes_before part line = length line - length part
 
 -- the column of the bracket of a note
 abbrev pub bracket_column : List ℕ → ℕ
-bracket_column line = bytes_before (reply_side line) line + position_or_len is_bracket (reply_side line) + 1
+bracket_column line = bytes_before (reply_side line) line + unwrap_or (position is_bracket (reply_side line)) (length (reply_side line)) + 1
 
 -- the column of the word of a reply that so many others precede
 abbrev pub reply_column : ℕ → List ℕ → ℕ

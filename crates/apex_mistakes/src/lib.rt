@@ -8,9 +8,9 @@ mod habits;
 mod hint;
 mod known;
 pub mod line_place;
-pub mod log_faults;
+pub mod faulty_log;
 mod log_hint;
-mod log_mistakes;
+mod mistakes_of_logs;
 pub mod log_place;
 mod mistakes;
 mod quoted;
@@ -22,9 +22,9 @@ pub use crate::faulty_lines::{
     FaultyLines, find_script_fault, find_trace_fault, script_faults, trace_faults,
 };
 pub use crate::line_place::LinePlace;
-pub use crate::log_faults::{
+pub use crate::faulty_log::{
     LogFaults, first_place_is_of_the_refusal, log_faults, own_log_faults,
 };
-pub use crate::log_mistakes::{log_mistakes, own_log_mistakes};
+pub use crate::mistakes_of_logs::{log_mistakes, own_log_mistakes};
 pub use crate::log_place::{LogPart, LogPlace};
 pub use crate::mistakes::{script_mistakes, trace_mistakes};

@@ -1,8 +1,8 @@
 //! The place of the fault of a log's line.
-ghost use Rattle.std.specs.Prelude.{◌≡◌, ◌+◌, ◌≤◌, ◌++◌, codes, length, take, is_ok, is_err, IfOk};
+ghost use Rattle.std.specs.Prelude.{◌≡◌, ◌+◌, ◌<◌, ◌≤◌, ◌^◌, length, position, IfOk};
 ghost use Rattle.apex_texts.specs.Text.{words_of};
-ghost use Rattle.apex_logs.specs.LogLine.{entry_of_line};
-ghost use Rattle.apex_mistakes.specs.LogPlace.{call_side, reply_side, reply_text, call_alone, is_in_call, before_arrow, begins_reply, fitting, log_place_in, bracket_column};
+ghost use Rattle.apex_logs.specs.LogLine.{is_bracket};
+ghost use Rattle.apex_mistakes.specs.LogPlace.{call_side, reply_side, reply_text, call_alone, is_in_call, before_arrow, begins_reply, fitting, bracket_column, reply_column, log_place_in};
 
 use crate::line_place::{behind_first_word, column_of, count_words, from_word_at, parameters_at, place_in};
 use apex_logs::{ANY_ENTRY, LogFault, LogForm, before_note, read_reply, sides_of};
@@ -127,11 +127,14 @@ fn bracket_column(line: &[u8]) -> usize
     ensures { result ≡ bracket_column line.now }
 {
     let reply = reply_side(line);
-    let before = reply
-        .iter()
-        .position(|byte| *byte == b'(')
-        .unwrap_or(reply.len());
+    let before = bracket_in(reply).unwrap_or(reply.len());
     line.len().saturating_sub(reply.len()) + before + 1
+}
+
+fn bracket_in(text: &[u8]) -> Option<usize>
+    ensures { result ≡ position is_bracket text.now }
+{
+    text.iter().position(|byte| *byte == b'(')
 }
 
 fn reply_column(line: &[u8], before: usize) -> usize

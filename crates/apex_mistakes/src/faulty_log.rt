@@ -1,5 +1,5 @@
 //! The faulty lines of a log, with the places of their faults.
-ghost use Rattle.std.specs.Prelude.{◌≡◌, ◌≤◌, length, slice_get, option_map, IfOk};
+ghost use Rattle.std.specs.Prelude.{◌≡◌, ◌≤◌, ℕ, List, length, slice_get, option_map, IfOk};
 ghost use Rattle.std.specs.Result.{result_err};
 ghost use Rattle.std.specs.Str.Lines.{lines};
 ghost use Rattle.apex_module.specs.Configuration.{Configuration};

@@ -1,7 +1,7 @@
 //! The mistakes of a log in words, a line for each.
 use crate::faulty_log_line::FaultyLogLine;
 use crate::known::Caller;
-use crate::log_faults::{LogFaults, log_faults, own_log_faults};
+use crate::faulty_log::{LogFaults, log_faults, own_log_faults};
 use crate::log_hint::log_hint_of;
 use crate::log_place::LogPart;
 use crate::expected::push_expected;
