@@ -14,7 +14,6 @@ use Rattle.apex_logs.specs.declared.log_fault.LogFault.{LogFault}
 use Rattle.apex_logs.specs.declared.log_fault.LogFault.TheVariants.{Line, NoReply, OpenNote, UnknownReply}
 use Rattle.apex_logs.specs.LogLine.{entry_of_line, ends_calls}
 use Rattle.apex_logs.specs.Log.{before, entries_from}
-use Rattle.apex_mistakes.specs.declared.line_place.LinePlace.{LinePlace}
 use Rattle.apex_mistakes.specs.declared.log_place.LogPart.TheVariants as parts
 use Rattle.apex_mistakes.specs.declared.log_place.LogPlace.{LogPlace}
 use Rattle.apex_mistakes.specs.LinePlace.{place_in}

@@ -1,5 +1,5 @@
 -- Where the fault of a log's line stands: its part, the number of its word there, and its column.
-use Rattle.std.specs.Prelude.{ℕ, ◌+◌, ◌-◌, Bool, true, false, not, if◌then◌else◌, List, [], ◌∷◌, ◌++◌, codes, length, take, drop, position, unwrap_or, is_err, Result, Ok, Err}
+use Rattle.std.specs.Prelude.{ℕ, ◌+◌, ◌-◌, Bool, true, false, not, if◌then◌else◌, List, [], ◌++◌, codes, length, take, drop, position, unwrap_or, is_err, Result, Ok, Err}
 use Rattle.std.specs.List.{position_or_len, range_with_len}
 use Rattle.apex_types.specs.declared.reply.Reply.{Reply}
 use Rattle.apex_ports.specs.declared.history.Request.{Request}

@@ -146,7 +146,7 @@ fn other_log_hint<'a>(faulty: &FaultyLogLine<'a>, word: &[u8]) -> Option<Hint<'a
 
 /// The partition by whose name, in letters of either case, a file is called.
 fn partition_in<'a>(config: &'a Config, file: &str) -> Option<&'a str> {
-    let stem = stem_of(file.as_bytes());
+    let stem = stem_of(file).as_bytes();
     for p in 0..config.partitions() {
         let name = config.partition_name(p).text();
         if name.as_bytes().eq_ignore_ascii_case(stem) {
@@ -157,15 +157,13 @@ fn partition_in<'a>(config: &'a Config, file: &str) -> Option<&'a str> {
 }
 
 /// The name of a file without its folders, up to its first dot.
-fn stem_of(file: &[u8]) -> &[u8] {
-    let mut name = file;
-    let mut rest = file;
-    while let Some(at) = rest.iter().position(|byte| *byte == b'/') {
-        rest = rest.get(at + 1..).unwrap_or(&[]);
-        name = rest;
-    }
-    match name.iter().position(|byte| *byte == b'.') {
-        Some(dot) => name.get(..dot).unwrap_or(name),
+fn stem_of(file: &str) -> &str {
+    let name = match file.rsplit_once('/') {
+        Some((_, name)) => name,
+        None => file,
+    };
+    match name.split_once('.') {
+        Some((stem, _)) => stem,
         None => name,
     }
 }

@@ -2,7 +2,7 @@
 use crate::faulty_log_line::FaultyLogLine;
 use crate::habits::{begins_comment, is_number};
 use crate::hint::{Hint, message_hint, nearest_hint};
-use crate::reply_word::{DATA_WORDS, ReplyWord};
+use crate::reply_word::{ReplyWord, data_words};
 use crate::standard::{CODES, DIRECTIONS, Numbered, VALIDITIES};
 use apex_logs::reply_words::REFRESH_LIMIT;
 use apex_texts::Expected;
@@ -10,22 +10,14 @@ use apex_texts::arguments::NUMBER_LIMIT;
 use apex_texts::text::number_up_to;
 use std::alloc::{AllocError, Global};
 
-/// What a log has for words of others.
-const OTHER_REPLIES: [(&str, &str); 13] = [
-    ("timeout", "TIMED_OUT"),
-    ("time_out", "TIMED_OUT"),
-    ("time-out", "TIMED_OUT"),
-    ("timedout", "TIMED_OUT"),
-    ("ok", "NO_ERROR"),
-    ("success", "NO_ERROR"),
-    ("noerror", "NO_ERROR"),
-    ("made", "not made"),
-    ("not_made", "not made"),
-    ("not-made", "not made"),
-    ("notmade", "not made"),
-    ("not", "not made"),
-    ("none", "not made"),
-];
+/// Words of others for TIMED_OUT, in letters of either case.
+const TIME_OUTS: [&str; 4] = ["timeout", "time_out", "time-out", "timedout"];
+
+/// Words of others for NO_ERROR, in letters of either case.
+const SUCCESSES: [&str; 3] = ["ok", "success", "noerror"];
+
+/// Words of others for `not made`, in letters of either case.
+const NOT_MADE: [&str; 5] = ["not", "made", "not_made", "not-made", "notmade"];
 
 /// What was most likely meant, if the reply gives a hint.
 pub(crate) fn reply_hint<'a>(
@@ -52,14 +44,30 @@ pub(crate) fn reply_hint<'a>(
 
 /// The reply that the first word was meant to be.
 fn first_hint<'a>(alloc: Global, word: &[u8]) -> Result<Option<Hint<'a>>, AllocError> {
-    let other = OTHER_REPLIES
-        .iter()
-        .copied()
-        .find(|entry| entry.0.as_bytes().eq_ignore_ascii_case(word));
-    if let Some((_, known)) = other {
+    if let Some(known) = other_reply(word) {
         return Ok(Some(Hint::Word(known)));
     }
     named_hint(alloc, &CODES, word)
+}
+
+/// What a log has for a word of others.
+fn other_reply(word: &[u8]) -> Option<&'static str> {
+    if is_one_of(&TIME_OUTS, word) {
+        Some("TIMED_OUT")
+    } else if is_one_of(&SUCCESSES, word) {
+        Some("NO_ERROR")
+    } else if is_one_of(&NOT_MADE, word) {
+        Some("not made")
+    } else {
+        None
+    }
+}
+
+/// Whether a word is one of these, in letters of either case.
+fn is_one_of(words: &[&str], word: &[u8]) -> bool {
+    words
+        .iter()
+        .any(|known| known.as_bytes().eq_ignore_ascii_case(word))
 }
 
 /// The word for the number, or the nearest of these words.
@@ -86,7 +94,8 @@ fn data_hint<'a>(alloc: Global, word: &[u8]) -> Result<Option<Hint<'a>>, AllocEr
     if begins_comment(word) {
         return Ok(Some(end_hint(word)));
     }
-    nearest_hint(alloc, word, &DATA_WORDS)
+    let words = data_words(alloc)?;
+    nearest_hint(alloc, word, words.as_slice())
 }
 
 /// The greatest number, for a word that is a number.

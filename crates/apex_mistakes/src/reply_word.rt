@@ -2,7 +2,7 @@
 use crate::expected::expected_words;
 use crate::known::word_at;
 use apex_texts::{Expected, Service};
-use std::alloc::AllocError;
+use std::alloc::{AllocError, Global};
 
 /// What a reply has at a word.
 #[derive(Clone, Copy)]
@@ -54,8 +54,16 @@ const SAMPLING_STATUS: [ReplyWord; 6] = [
     ReplyWord::LastValidity,
 ];
 
+const DATA_WORDS: [&str; 4] = ["id", "message", "waiting", "refresh"];
+
 /// The words that say what the data of a reply are.
-pub(crate) const DATA_WORDS: [&str; 4] = ["id", "message", "waiting", "refresh"];
+pub(crate) fn data_words<'a>(alloc: Global) -> Result<Vec<&'a str>, AllocError> {
+    let mut words = Vec::new(alloc);
+    for word in &DATA_WORDS {
+        words.push(*word)?;
+    }
+    Ok(words)
+}
 
 /// What a reply has at the word with this number, from 1, after those before it.
 pub(crate) fn reply_word_at(reply: &[u8], number: usize) -> ReplyWord {

@@ -1,4 +1,4 @@
-use Rattle.std.proofs.Common.{◌≡◌, ◌<◌, ◌+◌, length, drop, sym, ap, ◌∙◌, arith}
+use Rattle.std.proofs.Common.{◌≡◌, ◌<◌, length, drop, sym, ap, ◌∙◌}
 use Rattle.apex_texts.specs.Text.{words_of}
 use Rattle.apex_mistakes.specs.LinePlace.{parameters_at}
 use Rattle.apex_mistakes.proofs.PlaceLemmas.{words_from}
