@@ -145,9 +145,9 @@ fits-until words i within fit misfit =
     let misfits : ℕ → Bool = λ before. not (begins_reply (take (before + 1) words)) in
     let at : (k : ℕ) → k < count → get_or (range_with_len 0 count) k 0 ≡ k = λ k lt. get_or-range_with_len 0 count k 0 lt ∙ zero-add k in
     sym (position_or_len_is misfits (range_with_len 0 count) i 0
-      (omega (arith, within, length-range_with_len 0 count))
-      (λ k lt. ap misfits (at k (omega (arith, lt, within))) ∙ ap not (fit k lt))
-      (λ lt. let few : i < count = omega (arith, lt, length-range_with_len 0 count) in ap misfits (at i few) ∙ ap not (misfit few)))
+    (omega (arith, within, length-range_with_len 0 count))
+    (λ k lt. ap misfits (at k (omega (arith, lt, within))) ∙ ap not (fit k lt))
+    (λ lt. let few : i < count = omega (arith, lt, length-range_with_len 0 count) in ap misfits (at i few) ∙ ap not (misfit few)))
 
 -- with what is in front of the rest
 pub begun : (result : Bool) (cut before : ℕ) (text rest : List ℕ) → result ≡ begins_reply (words_of (take cut text)) → cut ≡ length text - length rest → rest ≡ behind_words (before + 1) text → result ≡ begins_reply (take (before + 1) (words_of text))

@@ -45,7 +45,13 @@ pub fn own_log_faults(
 ) -> Result<LogFaults, AllocError>
     ensures { IfOk result (AreFirstOfLog most (own_log_places partition text.now)) }
 {
-    find_log_faults(alloc, &PartitionLog { partition }, &SCRIPT_FRONT, text, most)
+    find_log_faults(
+        alloc,
+        &PartitionLog { partition },
+        &SCRIPT_FRONT,
+        text,
+        most,
+    )
 }
 
 /// The law that the first of these places has the line and the fault for which a log isn't read. Nothing is to be run.

@@ -44,9 +44,10 @@ impl<'a> FaultyLogLine<'a> {
         matches!(self.place.fault, LogFault::NoReply)
     }
 
-    /// What the faulty word of a reply should be.
+    /// What the faulty word of a reply should be, by the service that is called.
     pub(crate) fn reply_word(&self) -> ReplyWord {
-        reply_word_at(reply_text(self.line), self.place.word)
+        let word = reply_word_at(reply_text(self.line), self.place.word);
+        word.of_service(self.service())
     }
 
     /// The service that the line calls.

@@ -2,17 +2,17 @@
 #![tactic(auto)]
 
 mod expected;
-mod faulty_log_line;
 pub mod faulty_lines;
+pub mod faulty_log;
+mod faulty_log_line;
 mod habits;
 mod hint;
 mod known;
 pub mod line_place;
-pub mod faulty_log;
 mod log_hint;
-mod mistakes_of_logs;
 pub mod log_place;
 mod mistakes;
+mod mistakes_of_logs;
 mod quoted;
 mod reply_hint;
 mod reply_word;
@@ -21,10 +21,8 @@ mod standard;
 pub use crate::faulty_lines::{
     FaultyLines, find_script_fault, find_trace_fault, script_faults, trace_faults,
 };
+pub use crate::faulty_log::{LogFaults, first_place_is_of_the_refusal, log_faults, own_log_faults};
 pub use crate::line_place::LinePlace;
-pub use crate::faulty_log::{
-    LogFaults, first_place_is_of_the_refusal, log_faults, own_log_faults,
-};
-pub use crate::mistakes_of_logs::{log_mistakes, own_log_mistakes};
 pub use crate::log_place::{LogPart, LogPlace};
 pub use crate::mistakes::{script_mistakes, trace_mistakes};
+pub use crate::mistakes_of_logs::{log_mistakes, own_log_mistakes};

@@ -11,9 +11,7 @@ use apex_texts::LineFault;
 use std::alloc::{AllocError, Global};
 
 /// Words that stand elsewhere where a log has its arrow.
-const OTHER_ARROWS: [&str; 10] = [
-    "=>", "==>", ">", ">>", "-", "--", "=", ":", ":=", "|",
-];
+const OTHER_ARROWS: [&str; 11] = ["=>", "==>", "<-", ">", ">>", "-", "--", "=", ":", ":=", "|"];
 
 /// What was most likely meant, if the line gives a hint.
 pub(crate) fn log_hint_of<'a>(
@@ -34,10 +32,7 @@ fn byte_hint<'a>(
     alloc: Global,
     faulty: &FaultyLogLine<'a>,
 ) -> Result<Option<Hint<'a>>, AllocError> {
-    match faulty
-        .line
-        .get(faulty.place.column.saturating_sub(1)..)
-    {
+    match faulty.line.get(faulty.place.column.saturating_sub(1)..) {
         Some(rest) if rest.starts_with("\u{2192}".as_bytes()) => Ok(Some(Hint::Word("->"))),
         _ => hint_of(alloc, &faulty.as_line()),
     }
@@ -109,22 +104,20 @@ fn call_hint<'a>(
     alloc: Global,
     faulty: &FaultyLogLine<'a>,
 ) -> Result<Option<Hint<'a>>, AllocError> {
-    if let Some(word) = faulty.faulty_word() {
-        if let Some(hint) = other_log_hint(faulty, word) {
-            return Ok(Some(hint));
-        }
-        if let (LogFault::Line(LineFault::TooManyWords), Some(hint)) =
-            (faulty.place.fault, other_arrow_hint(word))
-        {
-            return Ok(Some(hint));
-        }
-        if let (LogFault::Line(LineFault::Moment), Some(hint)) =
-            (faulty.place.fault, moment_hint(word))
-        {
-            return Ok(Some(hint));
-        }
+    match word_hint(faulty) {
+        Some(hint) => Ok(Some(hint)),
+        None => hint_of(alloc, &faulty.as_line()),
     }
-    hint_of(alloc, &faulty.as_line())
+}
+
+/// What was most likely meant by a faulty word of a call, where a trace would mean something else.
+fn word_hint<'a>(faulty: &FaultyLogLine<'a>) -> Option<Hint<'a>> {
+    let word = faulty.faulty_word()?;
+    match faulty.place.fault {
+        LogFault::Line(LineFault::TooManyWords) => other_arrow_hint(word),
+        LogFault::Line(LineFault::Moment) => moment_hint(word),
+        _ => other_log_hint(faulty, word),
+    }
 }
 
 /// How the log should be given, if the faulty word shows whose it is.
@@ -136,10 +129,7 @@ fn other_log_hint<'a>(faulty: &FaultyLogLine<'a>, word: &[u8]) -> Option<Hint<'a
             Some(Hint::OwnLog { partition, file })
         }
         (Caller::Script(_), LogFault::Line(LineFault::UnknownCall))
-            if faulty.config.partition_called(word).is_some() =>
-        {
-            Some(Hint::ModuleLog { file })
-        }
+            if faulty.config.partition_called(word).is_some() => { Some(Hint::ModuleLog { file }) }
         _ => None,
     }
 }
@@ -170,6 +160,9 @@ fn stem_of(file: &str) -> &str {
 
 /// What was most likely meant by a word in place of a moment.
 fn moment_hint<'a>(word: &[u8]) -> Option<Hint<'a>> {
+    if begins_comment(word) {
+        return None;
+    }
     if word.starts_with(b"0x") || word.starts_with(b"0X") {
         return Some(Hint::Advice("moments have decimal digits"));
     }

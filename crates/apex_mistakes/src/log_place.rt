@@ -4,7 +4,9 @@ ghost use Rattle.apex_texts.specs.Text.{words_of};
 ghost use Rattle.apex_logs.specs.LogLine.{is_bracket};
 ghost use Rattle.apex_mistakes.specs.LogPlace.{call_side, reply_side, reply_text, call_alone, is_in_call, before_arrow, begins_reply, fitting, bracket_column, reply_column, log_place_in};
 
-use crate::line_place::{behind_first_word, column_of, count_words, from_word_at, parameters_at, place_in};
+use crate::line_place::{
+    behind_first_word, column_of, count_words, from_word_at, parameters_at, place_in,
+};
 use apex_logs::{ANY_ENTRY, LogFault, LogForm, before_note, read_reply, sides_of};
 use apex_texts::{Expected, LineFault};
 use apex_types::Reply;

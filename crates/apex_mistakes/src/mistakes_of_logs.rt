@@ -1,10 +1,10 @@
 //! The mistakes of a log in words, a line for each.
+use crate::expected::push_expected;
+use crate::faulty_log::{LogFaults, log_faults, own_log_faults};
 use crate::faulty_log_line::FaultyLogLine;
 use crate::known::Caller;
-use crate::faulty_log::{LogFaults, log_faults, own_log_faults};
 use crate::log_hint::log_hint_of;
 use crate::log_place::LogPart;
-use crate::expected::push_expected;
 use crate::mistakes::{line_ahead, push_found};
 use crate::quoted::push_quoted;
 use crate::reply_word::push_reply_word;

@@ -30,7 +30,8 @@ pub(crate) fn reply_hint<'a>(
     match faulty.reply_word() {
         ReplyWord::Reply => first_hint(alloc, word),
         ReplyWord::Data => data_hint(alloc, word),
-        ReplyWord::Word(known) => nearest_hint(alloc, word, &[known]),
+        ReplyWord::Word(known) if known.len() > 1 => nearest_hint(alloc, word, &[known]),
+        ReplyWord::Word(_) => Ok(None),
         ReplyWord::Argument(Expected::Message) => Ok(Some(message_hint(word))),
         ReplyWord::Argument(Expected::Refresh) => Ok(limit_hint(word, REFRESH_LIMIT)),
         ReplyWord::Argument(_) | ReplyWord::Waiting => Ok(limit_hint(word, NUMBER_LIMIT)),
@@ -77,10 +78,16 @@ fn named_hint<'a>(
     word: &[u8],
 ) -> Result<Option<Hint<'a>>, AllocError> {
     if let Some(number) = number_up_to(NUMBER_LIMIT, word) {
-        return Ok(match words.iter().copied().find(|entry| u64::from(entry.1) == number) {
-            Some((word, number)) => Some(Hint::Named { number, word }),
-            None => None,
-        });
+        return Ok(
+            match words
+                .iter()
+                .copied()
+                .find(|entry| u64::from(entry.1) == number)
+            {
+                Some((word, number)) => Some(Hint::Named { number, word }),
+                None => None,
+            },
+        );
     }
     let mut known = Vec::new(alloc);
     for entry in words {

@@ -101,6 +101,25 @@ fn is_word(reply: &[u8], number: usize, known: &str) -> bool {
     }
 }
 
+impl ReplyWord {
+    /// The same in a reply to a call of the service, if that is known: no more words where such a reply has none.
+    pub(crate) fn of_service(self, service: Option<Service>) -> ReplyWord {
+        match (self, service) {
+            (
+                ReplyWord::Data,
+                Some(
+                    Service::WriteSampling
+                    | Service::SendQueuing
+                    | Service::ClearQueuing
+                    | Service::SetMode,
+                ),
+            ) => ReplyWord::End,
+            (ReplyWord::SampleValidity, Some(Service::ReceiveQueuing)) => ReplyWord::End,
+            _ => self,
+        }
+    }
+}
+
 /// Writes what was expected of the reply to a call of the service.
 pub(crate) fn push_reply_word(
     text: &mut String,
@@ -108,32 +127,30 @@ pub(crate) fn push_reply_word(
     service: Option<Service>,
 ) -> Result<(), AllocError> {
     match word {
-        ReplyWord::Reply => text.push_str(
-            "a reply: not made, NO_ERROR, NO_ACTION, NOT_AVAILABLE, INVALID_PARAM, INVALID_CONFIG, INVALID_MODE, TIMED_OUT",
-        ),
         ReplyWord::Data => {
             text.push_str(data_words_of(service))?;
             text.push_str(expected_words(Expected::EndOfLine))
         }
+        ReplyWord::SampleValidity => {
+            text.push_str("VALID or INVALID, or ")?;
+            text.push_str(expected_words(Expected::EndOfLine))
+        }
+        ReplyWord::Reply => text.push_str(REPLIES),
         ReplyWord::Word(word) => text.push_str(word),
         ReplyWord::Argument(expected) => text.push_str(expected_words(expected)),
         ReplyWord::Waiting => text.push_str("how many messages wait, a whole number"),
         ReplyWord::Direction => text.push_str("SOURCE or DESTINATION"),
-        ReplyWord::SampleValidity => {
-            if let Some(Service::ReadSampling) = service {
-                text.push_str("VALID or INVALID, or ")?;
-            }
-            text.push_str(expected_words(Expected::EndOfLine))
-        }
         ReplyWord::LastValidity => text.push_str("VALID or INVALID"),
         ReplyWord::End => text.push_str(expected_words(Expected::EndOfLine)),
     }
 }
 
+const REPLIES: &str =
+    "a reply: not made, NO_ERROR, NO_ACTION, NOT_AVAILABLE, INVALID_PARAM, INVALID_CONFIG, INVALID_MODE, TIMED_OUT";
+
 /// The words that can follow `NO_ERROR` in a reply to a call of the service, in front of the end of the line.
 fn data_words_of(service: Option<Service>) -> &'static str {
     match service {
-        None => "id, message, waiting, refresh, or ",
         Some(
             Service::CreateSampling
             | Service::CreateQueuing
@@ -143,6 +160,6 @@ fn data_words_of(service: Option<Service>) -> &'static str {
         Some(Service::ReadSampling | Service::ReceiveQueuing) => "message, or ",
         Some(Service::QueuingStatus) => "waiting, or ",
         Some(Service::SamplingStatus) => "refresh, or ",
-        Some(_) => "",
+        _ => "id, message, waiting, refresh, or ",
     }
 }

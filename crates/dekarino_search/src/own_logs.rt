@@ -88,8 +88,7 @@ fn read_own_log<'a, O: Opener>(
     match entries_in(alloc, p, text.as_slice()) {
         Ok((log, lines)) => Ok((log, LogFile { path, lines })),
         Err(LogError::Line(faulty)) => {
-            let mut mistakes =
-                mistakes_of_own_log(alloc, path, config, p, text.as_slice(), form)?;
+            let mut mistakes = mistakes_of_own_log(alloc, path, config, p, text.as_slice(), form)?;
             push_later(alloc, opener, config, later, form, &mut mistakes)?;
             Err(Unfinished::FaultyOwnLog {
                 text: mistakes.into_bytes(),
