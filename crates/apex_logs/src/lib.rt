@@ -12,6 +12,8 @@ pub use crate::log::{
     FaultyLine, LogError, LogForm, LoggedEntry, ModuleLog, PartitionLog, next_entry, read_log,
 };
 pub use crate::log_fault::LogFault;
-pub use crate::log_line::{ANY_ENTRY, ends_calls, read_log_line, read_partition_log_line};
+pub use crate::log_line::{
+    ANY_ENTRY, before_note, ends_calls, read_log_line, read_partition_log_line, sides_of,
+};
 pub use crate::reply_words::read_reply;
 pub use crate::round_trip::reads_back;

@@ -107,7 +107,8 @@ fn parts_of(line: &[u8]) -> Result<Option<LineParts<'_>>, LogFault>
     }
 }
 
-fn sides_of(line: &[u8]) -> Result<(&[u8], &[u8]), LogFault>
+/// What stands before the first arrow of a line, and what stands behind it.
+pub fn sides_of(line: &[u8]) -> Result<(&[u8], &[u8]), LogFault>
     ensures { Gives (λ x. (x.0.now, x.1.now)) result (sides_of line.now) }
 {
     match arrow_in(line) {
@@ -173,7 +174,8 @@ fn read_reply_behind(text: &[u8], reply: &mut Reply) -> Result<(), LogFault>
     read_reply(before_note(text)?, reply)
 }
 
-fn before_note(text: &[u8]) -> Result<&[u8], LogFault>
+/// What stands before the note of what is behind an arrow, all of it if there is no note.
+pub fn before_note(text: &[u8]) -> Result<&[u8], LogFault>
     ensures { Gives (λ x. x.now) result (before_note text.now) }
 {
     match bracket_in(text) {

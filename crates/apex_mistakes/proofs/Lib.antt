@@ -1,2 +1,4 @@
 pub mod PlaceLemmas
 pub mod FaultyLinesLemmas
+pub mod LogPlaceLemmas
+pub mod LogFaultsLemmas

@@ -10,6 +10,7 @@ use Rattle.apex_texts.specs.declared.line_fault.LineFault.{LineFault}
 use Rattle.apex_texts.specs.declared.line_fault.LineFault.TheVariants as faults
 use Rattle.apex_texts.specs.LineFault.{number_of}
 use Rattle.apex_mistakes.specs.LinePlace.{from_first_word, behind_first_word, from_word_at, parameters_at, misfit, words_before, place_in}
+use Rattle.apex_texts.specs.Lines.{FaultyLine}
 use Rattle.apex_mistakes.specs.FaultyLines.{faulty_line}
 use Rattle.apex_texts.proofs.TextLemmas.{position_found, position_missed, FromWord, from_word, words_skip, words_none, words_at, words_last}
 
@@ -23,7 +24,7 @@ left_of_word line word None begins missed =
     let whole = sym begins.same ∙ words_last word begins.some begins.word missed in
     ap words_of (drop_of_length-le word (position_missed is_blank word missed)) ∙ sym (ap (drop 1) whole)
 
-behind_first : (line : List ℕ) (start : Option ℕ) → position (λ byte. not (is_blank byte)) line ≡ start → words_of (behind_first_word line) ≡ drop 1 (words_of line)
+pub behind_first : (line : List ℕ) (start : Option ℕ) → position (λ byte. not (is_blank byte)) line ≡ start → words_of (behind_first_word line) ≡ drop 1 (words_of line)
 behind_first line (Some start) found =
     let place = position_found (λ byte. not (is_blank byte)) line start found in
     let begins = from_word line (from_first_word line) start found (ap (λ (n : ℕ). drop n line) (sym place.1)) in
@@ -81,3 +82,6 @@ place-faulty front number faults.UnknownCall line = refl
 place-faulty front number faults.Number line = refl
 place-faulty front number faults.Name line = refl
 place-faulty front number faults.Message line = refl
+
+pub place-line : (front : List Expected) (number : ℕ) (fault : LineFault) (line : List ℕ) → (place_in front number fault line).line ≡ number
+place-line front number fault line = ap (λ (faulty : FaultyLine). faulty.line) (place-faulty front number fault line)

@@ -1,2 +1,4 @@
 pub mod FaultyLines
 pub mod LinePlace
+pub mod LogFaults
+pub mod LogPlace

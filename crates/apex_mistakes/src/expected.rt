@@ -21,7 +21,7 @@ pub(crate) fn push_expected(
     }
 }
 
-fn expected_words(expected: Expected) -> &'static str {
+pub(crate) fn expected_words(expected: Expected) -> &'static str {
     match expected {
         Expected::Ascii => "ASCII",
         Expected::Moment => "a moment: nanoseconds, a whole number without sign and unit",

@@ -60,10 +60,10 @@ pub fn script_faults(alloc: Global, text: &[u8], most: usize) -> Result<FaultyLi
 }
 
 // The words before the call word in a trace's line.
-const TRACE_FRONT: [Expected; 2] = [Expected::Moment, Expected::Partition];
+pub(crate) const TRACE_FRONT: [Expected; 2] = [Expected::Moment, Expected::Partition];
 
 // The words before the call word in a script's line.
-const SCRIPT_FRONT: [Expected; 1] = [Expected::Moment];
+pub(crate) const SCRIPT_FRONT: [Expected; 1] = [Expected::Moment];
 
 fn find_fault<F: LineForm>(form: &F, front: &[Expected], text: &[u8]) -> Option<LinePlace>
     requires { length front.now ≤ 2 }

@@ -5,6 +5,12 @@ use apex_texts::{Expected, LineFault, Service};
 /// What begins a comment elsewhere.
 const COMMENTS: [&str; 5] = ["//", "/*", "--", ";", "%"];
 
+/// The advice for a reply.
+const OF_LOG: &str = "replies stand in logs, which `dekarino judge` reads";
+
+/// The advice for the line that ends the calls of a log.
+const AFTER_LOG: &str = "`after` ends the calls of a log, which `dekarino judge` reads";
+
 /// The advice for a faulty line that is written as elsewhere, if it is.
 pub(crate) fn advice_of(faulty: &FaultyLine<'_>) -> Option<&'static str> {
     if let LineFault::NotAscii = faulty.place.fault {
@@ -15,9 +21,11 @@ pub(crate) fn advice_of(faulty: &FaultyLine<'_>) -> Option<&'static str> {
     }
     let word = faulty.faulty_word()?;
     if has_arrow(word) {
-        return Some("replies stand in logs, which `dekarino judge` reads");
+        return Some(OF_LOG);
     }
     match faulty.place.expected {
+        Expected::EndOfLine if has_arrow(faulty.line) => Some(OF_LOG),
+        Expected::Moment if word == b"after".as_slice() => Some(AFTER_LOG),
         Expected::EndOfLine => advice_at_end(faulty, word),
         Expected::Partition if is_of_report(faulty, word) => {
             Some("this looks like a report; a line begins with the moment of its call")
@@ -58,7 +66,7 @@ fn advice_at_end(faulty: &FaultyLine<'_>, word: &[u8]) -> Option<&'static str> {
     }
 }
 
-fn begins_comment(word: &[u8]) -> bool {
+pub(crate) fn begins_comment(word: &[u8]) -> bool {
     COMMENTS
         .iter()
         .any(|mark| word.starts_with(mark.as_bytes()))

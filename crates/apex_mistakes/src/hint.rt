@@ -22,8 +22,14 @@ pub(crate) enum Hint<'a> {
     Either(Service, Service),
     /// The number of the standard's word, or the identifier of the port.
     Number { word: &'a str, number: u32 },
+    /// The word of the standard's number.
+    Named { number: u32, word: &'a str },
     /// The greatest number.
     AtMost(u64),
+    /// The file's log is this partition's own.
+    OwnLog { partition: &'a str, file: &'a str },
+    /// The file's log is the module's.
+    ModuleLog { file: &'a str },
     /// What to do.
     Advice(&'static str),
 }
@@ -36,7 +42,15 @@ impl fmt::Display for Hint<'_> {
                 write!(f, "did you mean `{}` or `{}`?", one.word(), other.word())
             }
             Hint::Number { word, number } => write!(f, "{word} is {number}"),
+            Hint::Named { number, word } => write!(f, "{number} is {word}"),
             Hint::AtMost(limit) => write!(f, "the number is too great: at most {limit}"),
+            Hint::OwnLog { partition, file } => write!(
+                f,
+                "this looks like a partition's own log: did you mean `{partition}={file}`?"
+            ),
+            Hint::ModuleLog { file } => {
+                write!(f, "this looks like a module's log: did you mean `{file}`?")
+            }
             Hint::Advice(words) => f.write_str(words),
         }
     }
@@ -96,7 +110,7 @@ fn limit_hint<'a>(expected: Expected, word: &[u8]) -> Option<Hint<'a>> {
 }
 
 /// Whether a word is a call word, or the name of a service in the standard.
-fn names_service(word: &[u8]) -> bool {
+pub(crate) fn names_service(word: &[u8]) -> bool {
     Service::named(word).is_some() || service_of_standard(word).is_some()
 }
 
@@ -136,7 +150,7 @@ fn service_hint<'a>(alloc: Global, word: &[u8]) -> Result<Option<Hint<'a>>, Allo
 }
 
 /// The nearest of the known words.
-fn nearest_hint<'a>(
+pub(crate) fn nearest_hint<'a>(
     alloc: Global,
     word: &[u8],
     known: &[&'a str],
@@ -179,7 +193,7 @@ fn are_digits(word: &[u8]) -> bool {
     word.iter().all(|byte| byte.is_ascii_hexdigit())
 }
 
-fn message_hint<'a>(word: &[u8]) -> Hint<'a> {
+pub(crate) fn message_hint<'a>(word: &[u8]) -> Hint<'a> {
     if has_prefix(word) {
         Hint::Advice("write the digits without `0x`")
     } else if !are_digits(word) {

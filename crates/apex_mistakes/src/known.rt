@@ -68,7 +68,7 @@ impl<'a> FaultyLine<'a> {
 }
 
 /// The word with this number, from 1.
-fn word_at(line: &[u8], number: usize) -> Option<&[u8]> {
+pub(crate) fn word_at(line: &[u8], number: usize) -> Option<&[u8]> {
     let mut rest = line;
     for before in 1..number {
         let (_, after) = next_word(rest)?;

@@ -85,7 +85,7 @@ fn is_ascii(byte: u8) -> bool
     byte < 128
 }
 
-fn count_words(line: &[u8]) -> usize
+pub(crate) fn count_words(line: &[u8]) -> usize
     ensures exact { result ≡ length (words_of line.now) }
     ensures bound { result ≤ length line.now }
 {
@@ -109,7 +109,7 @@ fn from_first_word(line: &[u8]) -> &[u8]
 }
 
 // A line after its first word.
-fn behind_first_word(line: &[u8]) -> &[u8]
+pub(crate) fn behind_first_word(line: &[u8]) -> &[u8]
     ensures { result.now ≡ behind_first_word line.now }
 {
     let word = from_first_word(line);
@@ -120,7 +120,7 @@ fn behind_first_word(line: &[u8]) -> &[u8]
 }
 
 // A line from the word that `before` others precede.
-fn from_word_at(line: &[u8], before: usize) -> &[u8]
+pub(crate) fn from_word_at(line: &[u8], before: usize) -> &[u8]
     ensures { result.now ≡ from_word_at before line.now }
 {
     let mut rest = line;
@@ -130,14 +130,14 @@ fn from_word_at(line: &[u8], before: usize) -> &[u8]
     from_first_word(rest)
 }
 
-fn column_of(line: &[u8], before: usize) -> usize
+pub(crate) fn column_of(line: &[u8], before: usize) -> usize
     ensures { result ≡ column_of before line.now }
 {
     line.len().saturating_sub(from_word_at(line, before).len()) + 1
 }
 
 // What the arguments after a call word must be.
-fn parameters_at(words: &[u8]) -> &'static [Expected]
+pub(crate) fn parameters_at(words: &[u8]) -> &'static [Expected]
     ensures exact { result.now ≡ parameters_at (words_of words.now) }
     ensures few { length result.now ≤ 5 }
 {

@@ -78,7 +78,7 @@ impl Source<'_> {
 }
 
 /// The line with this number in a text, from 1, and the text after it.
-fn line_ahead(text: &[u8], number: usize) -> (&[u8], &[u8]) {
+pub(crate) fn line_ahead(text: &[u8], number: usize) -> (&[u8], &[u8]) {
     let mut line: &[u8] = &[];
     let mut rest = text;
     for before in 0..number {
@@ -110,7 +110,7 @@ fn push_mistake(
 }
 
 /// Writes what was found at the fault.
-fn push_found(text: &mut String, faulty: &FaultyLine<'_>) -> Result<(), AllocError> {
+pub(crate) fn push_found(text: &mut String, faulty: &FaultyLine<'_>) -> Result<(), AllocError> {
     if let LineFault::NotAscii = faulty.place.fault {
         let byte = faulty.faulty_byte();
         return write!(text, "the byte 0x{byte:02x}");

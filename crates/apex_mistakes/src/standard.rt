@@ -19,6 +19,20 @@ pub(crate) const MODES: [Numbered; 4] = [
     ("NORMAL", 3),
 ];
 
+/// RETURN_CODE_TYPE.
+pub(crate) const CODES: [Numbered; 7] = [
+    ("NO_ERROR", 0),
+    ("NO_ACTION", 1),
+    ("NOT_AVAILABLE", 2),
+    ("INVALID_PARAM", 3),
+    ("INVALID_CONFIG", 4),
+    ("INVALID_MODE", 5),
+    ("TIMED_OUT", 6),
+];
+
+/// VALIDITY_TYPE.
+pub(crate) const VALIDITIES: [Numbered; 2] = [("INVALID", 0), ("VALID", 1)];
+
 /// The service, or the two, that a word other than a call word names.
 #[derive(Clone, Copy)]
 pub(crate) enum OtherWord {

@@ -56,7 +56,7 @@ fn search<'a, O: Opener + FileWriter, P: Progress>(
         (IsOrderAnswer (O.bytes_at files.now) arguments.now found.0)) }
 {
     let config = read_config(alloc, files, config, form)?;
-    let mut all = read_own_logs(alloc, files, &config, arguments)?;
+    let mut all = read_own_logs(alloc, files, &config, arguments, form)?;
     let mut progress = SearchProgress { progress };
     let logs = all.logs.as_mut_slice();
     let (answer, longest) = match find_order_apart(alloc, &config, logs, steps, &mut progress)? {

@@ -1,6 +1,9 @@
-//! The mistakes of traces and scripts, beside their refusal.
+//! The mistakes of traces, scripts and logs, beside their refusal.
 use crate::places::push_place;
-use apex_mistakes::{LinePlace, script_faults, script_mistakes, trace_faults, trace_mistakes};
+use apex_mistakes::{
+    LinePlace, LogPlace, log_faults, log_mistakes, own_log_faults, own_log_mistakes, script_faults,
+    script_mistakes, trace_faults, trace_mistakes,
+};
 use apex_module::Config;
 use apex_refusals::MISTAKE_LIMIT;
 use dekarino_command_line::Form;
@@ -43,8 +46,59 @@ pub(crate) fn mistakes_of_script(
     }
 }
 
+/// The mistakes of a module's log in a file; empty if the log can be read.
+pub(crate) fn mistakes_of_log(
+    alloc: Global,
+    path: &str,
+    config: &Config,
+    log: &[u8],
+    form: Form,
+) -> Result<String, AllocError> {
+    let lines = log_mistakes(alloc, path, config, log)?;
+    match form {
+        Form::Json if !lines.is_empty() => {
+            let faults = log_faults(alloc, config, log, MISTAKE_LIMIT)?;
+            log_mistake_objects(alloc, lines.as_str(), faults.first.as_slice())
+        }
+        _ => Ok(lines),
+    }
+}
+
+/// The mistakes of a partition's own log in a file; empty if the log can be read.
+pub(crate) fn mistakes_of_own_log(
+    alloc: Global,
+    path: &str,
+    config: &Config,
+    partition: usize,
+    log: &[u8],
+    form: Form,
+) -> Result<String, AllocError> {
+    let lines = own_log_mistakes(alloc, path, config, partition, log)?;
+    match form {
+        Form::Json if !lines.is_empty() => {
+            let faults = own_log_faults(alloc, partition, log, MISTAKE_LIMIT)?;
+            log_mistake_objects(alloc, lines.as_str(), faults.first.as_slice())
+        }
+        _ => Ok(lines),
+    }
+}
+
 /// An object for each line, with the fault of its place; the line that says how many more there are has none.
 fn mistake_objects(alloc: Global, lines: &str, places: &[LinePlace]) -> Result<String, AllocError> {
+    let mut text = String::new(alloc);
+    for (index, line) in lines.lines().enumerate() {
+        let fault = places.get(index).map(|place| place.fault.number());
+        push_place(alloc, &mut text, fault, line)?;
+    }
+    Ok(text)
+}
+
+/// The same for the lines of a log's mistakes.
+fn log_mistake_objects(
+    alloc: Global,
+    lines: &str,
+    places: &[LogPlace],
+) -> Result<String, AllocError> {
     let mut text = String::new(alloc);
     for (index, line) in lines.lines().enumerate() {
         let fault = places.get(index).map(|place| place.fault.number());

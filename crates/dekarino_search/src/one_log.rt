@@ -1,6 +1,7 @@
 //! Where the replies of a recorded log depart from the standard.
 use crate::configuration::read_config;
 use crate::json_departures::DepartureObjects;
+use crate::mistakes::mistakes_of_log;
 use crate::outcome::Outcome;
 use crate::unfinished::Unfinished;
 use apex_files::{Opener, read_file};
@@ -9,7 +10,8 @@ use dekarino_command_line::Form;
 use dekarino_texts::{DepartureSink, DepartureText, judge_log};
 use std::alloc::Global;
 
-/// The departures of the log in a file, on the configuration in a file, or the first of them alone.
+/// The departures of the log in a file, on the configuration in a file, or the first of them alone. If the log has a faulty
+/// line, the error has its mistakes.
 pub fn departures_of_log<'a, O: Opener>(
     alloc: Global,
     opener: &O,
@@ -20,16 +22,38 @@ pub fn departures_of_log<'a, O: Opener>(
 ) -> Result<Outcome, Unfinished<'a>> {
     let config = read_config(alloc, opener, config, form)?;
     let bytes = read_file(alloc, opener, log)?;
+    let text = bytes.as_slice();
+    match departures_of_text(alloc, config.copy()?, log, text, first, form) {
+        Err(Unfinished::FaultyLog(faulty)) => {
+            let mistakes = mistakes_of_log(alloc, log, &config, text, form)?;
+            Err(Unfinished::FaultyLogWithText {
+                text: mistakes.into_bytes(),
+                faulty,
+            })
+        }
+        outcome => outcome,
+    }
+}
+
+/// The departures of the text of a log, whose file has this name.
+fn departures_of_text<'a>(
+    alloc: Global,
+    config: Config,
+    file: &str,
+    log: &[u8],
+    first: bool,
+    form: Form,
+) -> Result<Outcome, Unfinished<'a>> {
     let most = if first { 1 } else { usize::MAX };
     let (departures, text) = match form {
         Form::Text => {
             let mut sink = DepartureText::new(alloc);
-            let departures = judge_into(alloc, config, log, bytes.as_slice(), most, &mut sink)?;
+            let departures = judge_into(alloc, config, file, log, most, &mut sink)?;
             (departures, sink.into_text())
         }
         Form::Json => {
             let mut sink = DepartureObjects::new(alloc);
-            let departures = judge_into(alloc, config, log, bytes.as_slice(), most, &mut sink)?;
+            let departures = judge_into(alloc, config, file, log, most, &mut sink)?;
             (departures, sink.into_text())
         }
     };

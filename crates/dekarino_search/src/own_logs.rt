@@ -2,11 +2,13 @@
 ghost use Rattle.std.specs.Prelude.{◌≡◌, ◌<◌, [], length, replicate, IfOk, IfSome};
 ghost use Rattle.dekarino_search.specs.OwnLogs.{AreOwnLogs, SaysOwnLog};
 
+use crate::mistakes::mistakes_of_own_log;
 use crate::unfinished::Unfinished;
 use apex_files::{Opener, Refusal, partition_and_path, read_file};
 use apex_log_orders::OwnLog;
 use apex_logs::{ANY_ENTRY, LogError, PartitionLog, next_entry};
 use apex_module::Config;
+use dekarino_command_line::Form;
 use std::alloc::{AllocError, Global};
 
 /// A log for each partition of a configuration, and the lines of its entries.
@@ -29,18 +31,20 @@ pub(crate) fn read_own_logs<'a, O: Opener>(
     opener: &O,
     config: &Config,
     arguments: &[&'a str],
+    form: Form,
 ) -> Result<OwnLogs<'a>, Unfinished<'a>>
     ensures { IfOk result (λ all.
         AreOwnLogs (O.bytes_at opener.now) config.now arguments.now all.logs.items) }
 {
     let mut all = no_logs(alloc, config.partitions())?;
     let mut named = vec![in alloc; false; config.partitions()]?;
-    for argument in arguments {
+    for (index, argument) in arguments.iter().enumerate() {
         let (p, path) = match partition_and_path(config, argument) {
             Some((p, path)) if !named[p] => (p, path),
             _ => return Err(Unfinished::Refused(Refusal::Argument(argument))),
         };
-        let (log, file) = read_own_log(alloc, opener, p, path)?;
+        let later = &arguments[index + 1..];
+        let (log, file) = read_own_log(alloc, opener, config, p, path, later, form)?;
         all.logs[p] = log;
         all.files[p] = file;
         named[p] = true;
@@ -67,12 +71,15 @@ fn no_logs<'a>(alloc: Global, count: usize) -> Result<OwnLogs<'a>, AllocError>
     Ok(OwnLogs { logs, files })
 }
 
-/// The log of partition `p` in a file.
+/// The log of partition `p` in a file. If it is refused, the error has its mistakes, and those of the later arguments.
 fn read_own_log<'a, O: Opener>(
     alloc: Global,
     opener: &O,
+    config: &Config,
     p: usize,
     path: &'a str,
+    later: &[&'a str],
+    form: Form,
 ) -> Result<(OwnLog, LogFile<'a>), Unfinished<'a>>
     ensures { IfOk result
         (λ read. IfSome (O.bytes_at opener.now path.now) (λ bytes. SaysOwnLog p bytes read.0)) }
@@ -80,9 +87,42 @@ fn read_own_log<'a, O: Opener>(
     let text = read_file(alloc, opener, path)?;
     match entries_in(alloc, p, text.as_slice()) {
         Ok((log, lines)) => Ok((log, LogFile { path, lines })),
-        Err(LogError::Line(faulty)) => Err(Unfinished::FaultyOwnLog { file: path, faulty }),
+        Err(LogError::Line(faulty)) => {
+            let mut mistakes = mistakes_of_own_log(alloc, path, config, p, text.as_slice(), form)?;
+            push_later(alloc, opener, config, later, form, &mut mistakes)?;
+            Err(Unfinished::FaultyOwnLog {
+                text: mistakes.into_bytes(),
+                file: path,
+                faulty,
+            })
+        }
         Err(LogError::OutOfMemory) => Err(Unfinished::from(AllocError)),
     }
+}
+
+/// Adds the mistakes of the logs that these arguments name, of those that can be read.
+fn push_later<'a, O: Opener>(
+    alloc: Global,
+    opener: &O,
+    config: &Config,
+    arguments: &[&'a str],
+    form: Form,
+    mistakes: &mut String,
+) -> Result<(), Unfinished<'a>> {
+    for argument in arguments {
+        let Some((p, path)) = partition_and_path(config, argument) else {
+            continue;
+        };
+        match read_file(alloc, opener, path) {
+            Ok(text) => {
+                let more = mistakes_of_own_log(alloc, path, config, p, text.as_slice(), form)?;
+                mistakes.push_str(more.as_str())?;
+            }
+            Err(Refusal::File { .. }) => {}
+            Err(refusal) => return Err(Unfinished::Refused(refusal)),
+        }
+    }
+    Ok(())
 }
 
 /// The entries of partition `p` that a text has, and their lines, from 1.

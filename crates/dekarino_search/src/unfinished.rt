@@ -17,21 +17,41 @@ pub enum Unfinished<'a> {
     Refused(Refusal<'a>),
     /// The same, with a text to print before: the places of a configuration's fault, the mistakes of a script, or the lines
     /// of a trace up to its fault.
-    RefusedWithText { text: Vec<u8>, refusal: Refusal<'a> },
+    RefusedWithText {
+        text: Vec<u8>,
+        refusal: Refusal<'a>,
+    },
     /// No service has the name.
     UnknownService(&'a str),
     /// The trace has more calls than are drawn.
-    TooManyCalls { calls: usize },
+    TooManyCalls {
+        calls: usize,
+    },
     /// The log has a faulty line.
     FaultyLog(FaultyLine),
-    /// The log that a partition kept, in this file, has a faulty line.
-    FaultyOwnLog { file: &'a str, faulty: FaultyLine },
+    /// The same, with a text to print before: the mistakes of the log.
+    FaultyLogWithText {
+        text: Vec<u8>,
+        faulty: FaultyLine,
+    },
+    /// The log that a partition kept, in this file, has a faulty line. The text is to be printed before: the mistakes of
+    /// this log and of those that were to be read after it.
+    FaultyOwnLog {
+        text: Vec<u8>,
+        file: &'a str,
+        faulty: FaultyLine,
+    },
     /// The file at this path can't be written.
     UnwritableFile(&'a str),
     /// The words of `--when` or `--never` are no question, for this reason.
-    BadQuestion { words: &'a str, reason: String },
+    BadQuestion {
+        words: &'a str,
+        reason: String,
+    },
     /// The orders of scripts lead to more states than this bound.
-    TooManyStates { states: usize },
+    TooManyStates {
+        states: usize,
+    },
 }
 
 impl<'a> From<FaultyLine> for Unfinished<'a> {

@@ -85,26 +85,16 @@ fn finish<W: Write, E: Write>(
     output: &mut W,
     errors: &mut E,
 ) -> u8 {
-    let (text, status, refusal) = match outcome {
-        Ok(Outcome::Done(text)) => (text, 0, None),
-        Ok(Outcome::Negative(text)) => (text, NEGATIVE, None),
-        Ok(Outcome::Undecided(text)) => (text, UNDECIDED, None),
-        Err(Unfinished::RefusedWithText { text, refusal }) => (text, REFUSED, Some(refusal)),
-        Err(Unfinished::Refused(Refusal::File { path, obstacle })) => {
-            return unreadable_file(UnreadableFile { path, obstacle }, errors);
+    let (text, end) = match outcome {
+        Ok(Outcome::Done(text)) => (text, End::Status(0)),
+        Ok(Outcome::Negative(text)) => (text, End::Status(NEGATIVE)),
+        Ok(Outcome::Undecided(text)) => (text, End::Status(UNDECIDED)),
+        Err(Unfinished::RefusedWithText { text, refusal }) => (text, End::Refusal(refusal)),
+        Err(Unfinished::FaultyLogWithText { text, faulty }) => (text, End::FaultyLog(faulty)),
+        Err(Unfinished::FaultyOwnLog { text, file, faulty }) => {
+            (text, End::FaultyOwnLog { file, faulty })
         }
-        Err(Unfinished::Refused(refusal)) => return refuse(refusal, errors),
-        Err(Unfinished::UnknownService(name)) => return unknown_service(name, errors),
-        Err(Unfinished::TooManyCalls { .. }) => return too_many_calls(errors),
-        Err(Unfinished::FaultyLog(faulty)) => return faulty_log(faulty, errors),
-        Err(Unfinished::FaultyOwnLog { file, faulty }) => {
-            return faulty_own_log(file, faulty, errors);
-        }
-        Err(Unfinished::UnwritableFile(file)) => return unwritable_file(file, errors),
-        Err(Unfinished::BadQuestion { words, reason }) => {
-            return bad_question(words, &reason, errors);
-        }
-        Err(Unfinished::TooManyStates { states }) => return too_many_states(states, errors),
+        Err(unfinished) => return refuse_at_once(unfinished, errors),
     };
     if let Err(error) = write_whole(output, text.as_slice()) {
         return match error.kind() {
@@ -112,9 +102,41 @@ fn finish<W: Write, E: Write>(
             _ => refuse(Refusal::Output, errors),
         };
     }
-    match refusal {
-        None => status,
-        Some(refusal) => refuse(refusal, errors),
+    match end {
+        End::Status(status) => status,
+        End::Refusal(refusal) => refuse(refusal, errors),
+        End::FaultyLog(faulty) => faulty_log(faulty, errors),
+        End::FaultyOwnLog { file, faulty } => faulty_own_log(file, faulty, errors),
+    }
+}
+
+/// What comes after the text of a task.
+#[derive(Debug, Drop)]
+enum End<'a> {
+    Status(u8),
+    Refusal(Refusal<'a>),
+    FaultyLog(FaultyLine),
+    FaultyOwnLog { file: &'a str, faulty: FaultyLine },
+}
+
+/// Writes why a task can't be finished that has no text, and answers the status.
+fn refuse_at_once<E: Write>(unfinished: Unfinished<'_>, errors: &mut E) -> u8 {
+    match unfinished {
+        Unfinished::Refused(Refusal::File { path, obstacle }) => {
+            unreadable_file(UnreadableFile { path, obstacle }, errors)
+        }
+        Unfinished::Refused(refusal) | Unfinished::RefusedWithText { refusal, .. } => {
+            refuse(refusal, errors)
+        }
+        Unfinished::UnknownService(name) => unknown_service(name, errors),
+        Unfinished::TooManyCalls { .. } => too_many_calls(errors),
+        Unfinished::FaultyLog(faulty) | Unfinished::FaultyLogWithText { faulty, .. } => {
+            faulty_log(faulty, errors)
+        }
+        Unfinished::FaultyOwnLog { file, faulty, .. } => faulty_own_log(file, faulty, errors),
+        Unfinished::UnwritableFile(file) => unwritable_file(file, errors),
+        Unfinished::BadQuestion { words, reason } => bad_question(words, &reason, errors),
+        Unfinished::TooManyStates { states } => too_many_states(states, errors),
     }
 }
 
