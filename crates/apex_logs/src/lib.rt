@@ -7,6 +7,8 @@ pub mod log_fault;
 pub mod log_line;
 pub mod reply_words;
 pub mod round_trip;
+pub mod time_out;
+mod timed_call;
 
 pub use crate::log::{
     FaultyLine, LogError, LogForm, LoggedEntry, ModuleLog, PartitionLog, next_entry, read_log,
@@ -15,3 +17,4 @@ pub use crate::log_fault::LogFault;
 pub use crate::log_line::{ANY_ENTRY, ends_calls, read_log_line, read_partition_log_line};
 pub use crate::reply_words::read_reply;
 pub use crate::round_trip::reads_back;
+pub use crate::time_out::{MaxWait, TimeOut};

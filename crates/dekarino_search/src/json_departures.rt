@@ -6,11 +6,12 @@ use apex_ports::Entry;
 use apex_texts::{Service, push_reply};
 use apex_types::{Moment, Reply};
 use apex_words::{push_words, row_name};
-use dekarino_texts::{DepartureCounts, DepartureSink};
+use dekarino_texts::{DepartureCounts, DepartureSink, LogPlace, would_wait};
 use serde::Serialize;
 use std::alloc::{AllocError, Global};
 
-/// A departure: its line in the log, from 1, the call, the two replies, and the row that gives the standard's.
+/// A departure: its line in the log, from 1, the call, the two replies, and the row that gives the standard's. The standard
+/// has none if the call would still wait.
 #[derive(Drop, Serialize)]
 struct DepartureLine<'a> {
     line: usize,
@@ -18,7 +19,7 @@ struct DepartureLine<'a> {
     partition: &'a str,
     service: &'static str,
     logged: String,
-    standard: String,
+    standard: Option<String>,
     row: &'static str,
     words: String,
 }
@@ -57,8 +58,7 @@ impl DepartureSink for DepartureObjects {
     fn departure(
         &mut self,
         config: &Config,
-        _file: &str,
-        line: usize,
+        place: LogPlace<'_>,
         entry: &Entry,
         expected: &Expected,
     ) -> Result<(), AllocError> {
@@ -66,13 +66,18 @@ impl DepartureSink for DepartureObjects {
         let (p, Moment(at)) = (entry.partition, entry.at);
         let mut words = String::new(alloc);
         push_words(&mut words, config, p, &entry.call, expected.row)?;
+        let standard = if would_wait(place.wait, expected.row) {
+            None
+        } else {
+            Some(reply_text(alloc, &expected.reply)?)
+        };
         let object = DepartureLine {
-            line,
+            line: place.line,
             at,
             partition: config.partition_name(p).text(),
             service: Service::of(&entry.call).word(),
             logged: reply_text(alloc, &entry.reply)?,
-            standard: reply_text(alloc, &expected.reply)?,
+            standard,
             row: row_name(expected.row),
             words,
         };

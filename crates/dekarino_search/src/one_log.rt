@@ -9,13 +9,15 @@ use dekarino_command_line::Form;
 use dekarino_texts::{DepartureSink, DepartureText, judge_log};
 use std::alloc::Global;
 
-/// The departures of the log in a file, on the configuration in a file, or the first of them alone.
+/// The departures of the log in a file, on the configuration in a file, or the first of them alone. If `time_outs` is set,
+/// a send or a receive whose line says no time-out is taken to have one.
 pub fn departures_of_log<'a, O: Opener>(
     alloc: Global,
     opener: &O,
     config: &'a str,
     log: &'a str,
     first: bool,
+    time_outs: bool,
     form: Form,
 ) -> Result<Outcome, Unfinished<'a>> {
     let config = read_config(alloc, opener, config, form)?;
@@ -24,12 +26,28 @@ pub fn departures_of_log<'a, O: Opener>(
     let (departures, text) = match form {
         Form::Text => {
             let mut sink = DepartureText::new(alloc);
-            let departures = judge_into(alloc, config, log, bytes.as_slice(), most, &mut sink)?;
+            let departures = judge_into(
+                alloc,
+                config,
+                log,
+                bytes.as_slice(),
+                time_outs,
+                most,
+                &mut sink,
+            )?;
             (departures, sink.into_text())
         }
         Form::Json => {
             let mut sink = DepartureObjects::new(alloc);
-            let departures = judge_into(alloc, config, log, bytes.as_slice(), most, &mut sink)?;
+            let departures = judge_into(
+                alloc,
+                config,
+                log,
+                bytes.as_slice(),
+                time_outs,
+                most,
+                &mut sink,
+            )?;
             (departures, sink.into_text())
         }
     };
@@ -47,10 +65,11 @@ fn judge_into<'a, S: DepartureSink>(
     config: Config,
     file: &str,
     log: &[u8],
+    time_outs: bool,
     most: usize,
     sink: &mut S,
 ) -> Result<usize, Unfinished<'a>> {
-    let counts = judge_log(alloc, config, file, log, most, sink)?;
+    let counts = judge_log(alloc, config, file, log, time_outs, most, sink)?;
     sink.end(counts)?;
     Ok(counts.departures)
 }

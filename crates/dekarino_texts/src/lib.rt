@@ -22,8 +22,8 @@ pub mod table_words;
 
 pub use crate::counted::Counted;
 pub use crate::counts::{Counts, Ranges, ranges_of};
-pub use crate::departure_text::DepartureText;
-pub use crate::departures::{DepartureCounts, DepartureSink, judge_log};
+pub use crate::departure_text::{DepartureText, push_time_out, would_wait};
+pub use crate::departures::{DepartureCounts, DepartureSink, LogPlace, judge_log};
 pub use crate::explanation::{
     AnsweredCall, Explained, Explanation, ExplanationSink, explain_trace,
 };
