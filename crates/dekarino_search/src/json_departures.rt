@@ -58,7 +58,8 @@ impl DepartureSink for DepartureObjects {
     fn departure(
         &mut self,
         config: &Config,
-        place: LogPlace<'_>,
+        _file: &str,
+        place: LogPlace,
         entry: &Entry,
         expected: &Expected,
     ) -> Result<(), AllocError> {

@@ -36,12 +36,13 @@ impl DepartureSink for DepartureText {
     fn departure(
         &mut self,
         config: &Config,
-        place: LogPlace<'_>,
+        file: &str,
+        place: LogPlace,
         entry: &Entry,
         expected: &Expected,
     ) -> Result<(), AllocError> {
         let text = &mut self.text;
-        write!(text, "{}:{}: ", place.file, place.line)?;
+        write!(text, "{file}:{}: ", place.line)?;
         push_request(text, config, entry.partition, entry.at, &entry.call)?;
         push_time_out(text, place.time_out)?;
         text.push_str(": logged ")?;

@@ -17,10 +17,8 @@ use apex_types::{OutOfMemory, Reply, ReturnCode};
 use std::alloc::{AllocError, Global};
 
 /// Where a logged call stands, and how long it may wait.
-#[derive(Clone, Copy, Debug)]
-pub struct LogPlace<'a> {
-    /// The name of the log.
-    pub file: &'a str,
+#[derive(Clone, Copy, Debug, PartialEq, Eq)]
+pub struct LogPlace {
     /// The number of the line, from 1.
     pub line: usize,
     /// The time-out that the line says.
@@ -37,12 +35,13 @@ pub trait DepartureSink {
     /// How the sink is before and after it takes a departure.
     ghost takes: { Self → LoggedDeparture → Self → Type 0 };
 
-    /// Takes an entry whose reply departs from the standard, from its place in a log, and what the standard has. A call
-    /// that would still wait has the row of an empty or a full queue, and NOT_AVAILABLE.
+    /// Takes an entry whose reply departs from the standard, from its place in a log, and what the standard has. A call that
+    /// would still wait has the row of an empty or a full queue, and NOT_AVAILABLE.
     fn departure(
         &mut self,
         config: &Config,
-        place: LogPlace<'_>,
+        file: &str,
+        place: LogPlace,
         entry: &Entry,
         expected: &Expected,
     ) -> Result<(), AllocError>
@@ -114,12 +113,11 @@ fn judge_entries<S: DepartureSink>(
     )? {
         let wait = MaxWait::of(time_outs, &entry.call, time_out);
         let place = LogPlace {
-            file,
             line,
             time_out,
             wait,
         };
-        counts = judge_entry(judge, place, &entry, most, counts, sink)?;
+        counts = judge_entry(judge, file, place, &entry, most, counts, sink)?;
         number = line;
         rest = after;
     }
@@ -130,7 +128,8 @@ fn judge_entries<S: DepartureSink>(
 /// before it.
 fn judge_entry<S: DepartureSink>(
     judge: &mut Judge,
-    place: LogPlace<'_>,
+    file: &str,
+    place: LogPlace,
     entry: &Entry,
     most: usize,
     counts: DepartureCounts,
@@ -159,7 +158,7 @@ fn judge_entry<S: DepartureSink>(
     };
     if counts.departures < most {
         place.wait.wait(&mut expected.reply);
-        sink.departure(judge.config(), place, entry, &expected)
+        sink.departure(judge.config(), file, place, entry, &expected)
             .map_err(out_of_memory)?;
     }
     Ok(DepartureCounts {

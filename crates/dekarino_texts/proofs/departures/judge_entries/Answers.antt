@@ -31,17 +31,18 @@ loop-line-preserved g c =
     let room : c.in-Some.line + length c.in-Some.after.now ≤ c.loop-line.number + length c.loop-line.rest.now = rw c.in-Some.is at c.in_ok-line.ensures.room in
     let wait = max_wait_of c.args.time_outs entry.call c.in-Some.time_out in
     let instead = instead_of c.loop-line.judge.config c.loop-line.judge.log (polled_entry wait entry) in
+    let waits : c.of-wait.result ≡ wait = c.of-wait.ensures in
     let more : c.in_ok-counts.counts.calls ≡ c.loop-line.counts.calls + 1 =
-    ap (λ (counts : DepartureCounts). counts.calls) c.in_ok-counts.ensures.counts ∙ one_call_more c.loop-line.counts instead in
+    ap (λ (counts : DepartureCounts). counts.calls) (rw waits at c.in_ok-counts.ensures.counts) ∙ one_call_more c.loop-line.counts instead in
     record {
       judged =
-          rw (c.in_ok-counts.ensures.log, c.in_ok-counts.ensures.counts, c.loop-line.invariant.config)
+          rw (c.in_ok-counts.ensures.log, c.in_ok-counts.ensures.counts, waits, c.loop-line.invariant.config)
           (judges g.S.DepartureSink.takes config c.args.time_outs c.args.most c.loop-line.judge.log c.loop-line.counts c.in-Some.line entry c.in-Some.time_out (log_of config c.args.log.now) c.args.sink.now c.loop-line.sink c.judge_entry.new.sink left after read
-          (rw c.loop-line.invariant.config at c.in_ok-counts.ensures.handed) c.loop-line.invariant.judged);
+          (rw (waits, c.loop-line.invariant.config) at c.in_ok-counts.ensures.handed) c.loop-line.invariant.judged);
       config = c.judge_entry.ensures.config ∙ c.loop-line.invariant.config;
       bound = omega (arith, c.loop-line.invariant.bound, room);
       calls = omega (arith, more, later, c.loop-line.invariant.calls);
-      fewer = rw c.in_ok-counts.ensures.counts (as_many_at_most c.loop-line.counts instead c.loop-line.invariant.fewer);
+      fewer = rw (c.in_ok-counts.ensures.counts, waits) (as_many_at_most c.loop-line.counts instead c.loop-line.invariant.fewer);
     }
 
 pub returns-clause-judged : goal.returns-clause-judged
