@@ -15,6 +15,8 @@ pub(crate) const LOGS: &str = "LOG|NAME=LOG";
 
 pub(crate) const FIRST: &str = "first";
 
+pub(crate) const TIME_OUTS: &str = "time-outs";
+
 pub(crate) const ORDER: &str = "order";
 
 pub(crate) const STEPS: &str = "steps";
@@ -125,6 +127,7 @@ fn judge<'a>(alloc: Global) -> Result<Command<'a>, AllocError> {
         .arg(config(alloc))?
         .arg(files(alloc, LOGS, logs))?
         .arg(flag(alloc, FIRST, help::FIRST))?
+        .arg(flag(alloc, TIME_OUTS, help::TIME_OUTS))?
         .arg(option(alloc, ORDER, "FILE", help::ORDER))?
         .arg(option(alloc, STEPS, "N", help::STEPS))?
         .arg(json(alloc))

@@ -26,11 +26,13 @@ pub enum Task<'a> {
         config: &'a str,
         trace: Option<&'a str>,
     },
-    /// Prints where the replies of a recorded log depart from the standard, or the first of them alone.
+    /// Prints where the replies of a recorded log depart from the standard, or the first of them alone. A send or a
+    /// receive whose line says no time-out may be taken to have one.
     Judge {
         config: &'a str,
         log: &'a str,
         first: bool,
+        time_outs: bool,
         form: Form,
     },
     /// Answers whether the logs that the arguments `NAME=LOG` give to partitions have an order in which each reply is the
@@ -40,6 +42,7 @@ pub enum Task<'a> {
         logs: Vec<&'a str>,
         order: Option<&'a str>,
         steps: u64,
+        time_outs: bool,
         form: Form,
     },
     /// Prints all replies that scripts can get over every order of their calls, or answers a question about one; it gives
@@ -216,10 +219,10 @@ fn judge_in<'a>(alloc: Global, given: &ArgMatches<'a>) -> Result<Task<'a>, Words
             "a log stands alone, and each of several words has to be NAME=LOG",
         ));
     };
-    let (config, first, form) = (
-        config_in(alloc, given)?,
+    let (config, form) = (config_in(alloc, given)?, form_in(given));
+    let (first, time_outs) = (
         given.get_flag(commands::FIRST),
-        form_in(given),
+        given.get_flag(commands::TIME_OUTS),
     );
     let (order, is_bounded) = (
         given.get_str(commands::ORDER),
@@ -235,6 +238,7 @@ fn judge_in<'a>(alloc: Global, given: &ArgMatches<'a>) -> Result<Task<'a>, Words
             config,
             log,
             first,
+            time_outs,
             form,
         }),
         Files::OfPartitions(logs) => Ok(Task::JudgeApart {
@@ -242,6 +246,7 @@ fn judge_in<'a>(alloc: Global, given: &ArgMatches<'a>) -> Result<Task<'a>, Words
             logs,
             order,
             steps,
+            time_outs,
             form,
         }),
     }

@@ -5,33 +5,45 @@ ghost use Rattle.dekarino_search.specs.OwnLogs.{AreOwnLogs, SaysOwnLog};
 use crate::unfinished::Unfinished;
 use apex_files::{Opener, Refusal, partition_and_path, read_file};
 use apex_log_orders::OwnLog;
-use apex_logs::{ANY_ENTRY, LogError, PartitionLog, next_entry};
+use apex_logs::{ANY_ENTRY, LogError, MaxWait, PartitionLog, next_entry};
 use apex_module::Config;
+use apex_types::{Reply, ReturnCode};
+use dekarino_texts::LogPlace;
 use std::alloc::{AllocError, Global};
 
-/// A log for each partition of a configuration, and the lines of its entries.
+/// A log for each partition of a configuration, without time-outs, and the lines of its entries.
 #[derive(Drop)]
 pub(crate) struct OwnLogs<'a> {
     pub(crate) logs: Vec<OwnLog>,
     pub(crate) files: Vec<LogFile<'a>>,
 }
 
-/// The file of a partition's log, and the line of each of its entries, from 1.
+/// The file of a partition's log, and the line of each of its entries.
 #[derive(Drop)]
 pub(crate) struct LogFile<'a> {
     pub(crate) path: &'a str,
-    pub(crate) lines: Vec<usize>,
+    pub(crate) lines: Vec<OwnLine>,
 }
 
-/// The log of each partition, in the file that the argument `NAME=LOG` with its name names, or the empty one.
+/// The line of an entry.
+#[derive(Clone, Copy, Debug)]
+pub(crate) struct OwnLine {
+    pub(crate) place: LogPlace,
+    /// The logged return code, if the reply is one. The entry has the one without the time-out.
+    pub(crate) code: Option<ReturnCode>,
+}
+
+/// The log of each partition, in the file that the argument `NAME=LOG` with its name names, or the empty one. If
+/// `time_outs` is set, a send or a receive whose line says no time-out is taken to have one.
 pub(crate) fn read_own_logs<'a, O: Opener>(
     alloc: Global,
     opener: &O,
     config: &Config,
     arguments: &[&'a str],
+    time_outs: bool,
 ) -> Result<OwnLogs<'a>, Unfinished<'a>>
-    ensures { IfOk result (λ all.
-        AreOwnLogs (O.bytes_at opener.now) config.now arguments.now all.logs.items) }
+    ensures { IfOk result (λ all. AreOwnLogs (O.bytes_at opener.now) time_outs
+        config.now arguments.now all.logs.items) }
 {
     let mut all = no_logs(alloc, config.partitions())?;
     let mut named = vec![in alloc; false; config.partitions()]?;
@@ -40,7 +52,7 @@ pub(crate) fn read_own_logs<'a, O: Opener>(
             Some((p, path)) if !named[p] => (p, path),
             _ => return Err(Unfinished::Refused(Refusal::Argument(argument))),
         };
-        let (log, file) = read_own_log(alloc, opener, p, path)?;
+        let (log, file) = read_own_log(alloc, opener, p, path, time_outs)?;
         all.logs[p] = log;
         all.files[p] = file;
         named[p] = true;
@@ -73,21 +85,27 @@ fn read_own_log<'a, O: Opener>(
     opener: &O,
     p: usize,
     path: &'a str,
+    time_outs: bool,
 ) -> Result<(OwnLog, LogFile<'a>), Unfinished<'a>>
-    ensures { IfOk result
-        (λ read. IfSome (O.bytes_at opener.now path.now) (λ bytes. SaysOwnLog p bytes read.0)) }
+    ensures { IfOk result (λ read. IfSome (O.bytes_at opener.now path.now)
+        (λ bytes. SaysOwnLog time_outs p bytes read.0)) }
 {
     let text = read_file(alloc, opener, path)?;
-    match entries_in(alloc, p, text.as_slice()) {
+    match entries_in(alloc, p, text.as_slice(), time_outs) {
         Ok((log, lines)) => Ok((log, LogFile { path, lines })),
         Err(LogError::Line(faulty)) => Err(Unfinished::FaultyOwnLog { file: path, faulty }),
         Err(LogError::OutOfMemory) => Err(Unfinished::from(AllocError)),
     }
 }
 
-/// The entries of partition `p` that a text has, and their lines, from 1.
-fn entries_in(alloc: Global, p: usize, text: &[u8]) -> Result<(OwnLog, Vec<usize>), LogError>
-    ensures { IfOk result (λ read. SaysOwnLog p text.now read.0) }
+/// The entries of partition `p` that a text has, without time-outs, and their lines.
+fn entries_in(
+    alloc: Global,
+    p: usize,
+    text: &[u8],
+    time_outs: bool,
+) -> Result<(OwnLog, Vec<OwnLine>), LogError>
+    ensures { IfOk result (λ read. SaysOwnLog time_outs p text.now read.0) }
 {
     let form = PartitionLog { partition: p };
     let mut entries = Vec::new(alloc);
@@ -97,13 +115,29 @@ fn entries_in(alloc: Global, p: usize, text: &[u8]) -> Result<(OwnLog, Vec<usize
     loop {
         let mut entry = ANY_ENTRY;
         match next_entry(&form, number, rest, &mut entry)? {
-            Some((line, after)) => {
+            Some((line, time_out, after)) => {
+                let wait = MaxWait::of(time_outs, &entry.call, time_out);
+                let place = LogPlace {
+                    line,
+                    time_out,
+                    wait,
+                };
+                let code = code_in(&entry.reply);
+                lines.push(OwnLine { place, code })?;
+                wait.poll(&mut entry.reply);
                 entries.push(entry)?;
-                lines.push(line)?;
                 number = line;
                 rest = after;
             }
             None => return Ok((OwnLog { entries }, lines)),
         }
+    }
+}
+
+/// The return code that a reply is, if it has no data.
+fn code_in(reply: &Reply) -> Option<ReturnCode> {
+    match reply {
+        Reply::Code(code) => Some(*code),
+        _ => None,
     }
 }

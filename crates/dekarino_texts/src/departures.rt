@@ -144,7 +144,7 @@ fn judge_entry<S: DepartureSink>(
     ensures handed { let judged = polled_entry place.wait entry.now in
         let instead = instead_of judge.old.config judge.old.log judged in
         let handed = departures_handed most counts.departures place.line entry.now
-            place.time_out place.wait instead in
+        place.time_out place.wait instead in
         OnOk result (IsHanded S.takes sink.old handed sink.new) }
     ensures log { OnOk result
         (judge.new.log ≡ judge.old.log ++ polled_entry place.wait entry.now ∷ []) }
