@@ -59,6 +59,8 @@ impl OwnIds {
         ensures entry { IfOk result (λ _.
             entry.new ≡ entry_in_ours config.now self.old entry.old) }
         ensures told { IfOk result (λ _. self.new ≡ own_after config.now self.old entry.old) }
+        ensures partition { IfOk result (λ _. entry.new.partition ≡ entry.old.partition) }
+        ensures count { IfOk result (λ _. length self.new.told ≡ length self.old.told) }
         ensures replaced { IfOk result (λ replaced.
             replaced ≡ replaced_in config.now self.old entry.old) }
     {

@@ -44,9 +44,8 @@ pub fn read_log_line(
     match parts_of(line)? {
         None => Ok(None),
         Some(parts) => {
-            let time_out = read_request(config, parts.moment, parts.words, entry).map_err(
-                LogFault::Line,
-            )?;
+            let asked = read_request(config, parts.moment, parts.words, entry);
+            let time_out = asked.map_err(LogFault::Line)?;
             read_reply_behind(parts.reply, &mut entry.reply)?;
             Ok(Some(time_out))
         }
@@ -68,9 +67,8 @@ pub fn read_partition_log_line(
     match parts_of(line)? {
         None => Ok(None),
         Some(parts) => {
-            let time_out = read_own_request(partition, parts.moment, parts.words, entry).map_err(
-                LogFault::Line,
-            )?;
+            let asked = read_own_request(partition, parts.moment, parts.words, entry);
+            let time_out = asked.map_err(LogFault::Line)?;
             read_reply_behind(parts.reply, &mut entry.reply)?;
             Ok(Some(time_out))
         }

@@ -27,12 +27,13 @@ pub enum Task<'a> {
         trace: Option<&'a str>,
     },
     /// Prints where the replies of a recorded log depart from the standard, or the first of them alone. A send or a
-    /// receive whose line says no time-out may be taken to have one.
+    /// receive whose line says no time-out may be taken to have one, and identifiers to be those of the system.
     Judge {
         config: &'a str,
         log: &'a str,
         first: bool,
         time_outs: bool,
+        own_ids: bool,
         form: Form,
     },
     /// Answers whether the logs that the arguments `NAME=LOG` give to partitions have an order in which each reply is the
@@ -220,9 +221,10 @@ fn judge_in<'a>(alloc: Global, given: &ArgMatches<'a>) -> Result<Task<'a>, Words
         ));
     };
     let (config, form) = (config_in(alloc, given)?, form_in(given));
-    let (first, time_outs) = (
+    let (first, time_outs, own_ids) = (
         given.get_flag(commands::FIRST),
         given.get_flag(commands::TIME_OUTS),
+        given.get_flag(commands::OWN_IDS),
     );
     let (order, is_bounded) = (
         given.get_str(commands::ORDER),
@@ -234,11 +236,15 @@ fn judge_in<'a>(alloc: Global, given: &ArgMatches<'a>) -> Result<Task<'a>, Words
             "--order and --steps go with words NAME=LOG",
         )),
         Files::OfPartitions(_) if first => Err(judge_fault(alloc, "--first goes with one log")),
+        Files::OfPartitions(_) if own_ids => {
+            Err(judge_fault(alloc, "--own-ids goes with one log"))
+        }
         Files::One(log) => Ok(Task::Judge {
             config,
             log,
             first,
             time_outs,
+            own_ids,
             form,
         }),
         Files::OfPartitions(logs) => Ok(Task::JudgeApart {

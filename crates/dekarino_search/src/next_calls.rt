@@ -79,7 +79,8 @@ fn hand_call<S: DepartureSink>(
         None => Ok(()),
         Some(mut expected) => {
             line.place.wait.wait(&mut expected.reply);
-            sink.departure(config, file, line.place, &logged(entry, line), &expected)
+            let logged = logged(entry, line);
+            sink.departure(config, file, line.place, &logged, &entry.call, &expected)
         }
     }
 }

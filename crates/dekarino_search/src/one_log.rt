@@ -6,18 +6,17 @@ use crate::unfinished::Unfinished;
 use apex_files::{Opener, read_file};
 use apex_module::Config;
 use dekarino_command_line::Form;
-use dekarino_texts::{DepartureSink, DepartureText, judge_log};
+use dekarino_texts::{DepartureSink, DepartureText, Reading, judge_log};
 use std::alloc::Global;
 
-/// The departures of the log in a file, on the configuration in a file, or the first of them alone. If `time_outs` is set,
-/// a send or a receive whose line says no time-out is taken to have one.
+/// The departures of the log in a file, on the configuration in a file, or the first of them alone.
 pub fn departures_of_log<'a, O: Opener>(
     alloc: Global,
     opener: &O,
     config: &'a str,
     log: &'a str,
     first: bool,
-    time_outs: bool,
+    reading: Reading,
     form: Form,
 ) -> Result<Outcome, Unfinished<'a>> {
     let config = read_config(alloc, opener, config, form)?;
@@ -31,7 +30,7 @@ pub fn departures_of_log<'a, O: Opener>(
                 config,
                 log,
                 bytes.as_slice(),
-                time_outs,
+                reading,
                 most,
                 &mut sink,
             )?;
@@ -44,7 +43,7 @@ pub fn departures_of_log<'a, O: Opener>(
                 config,
                 log,
                 bytes.as_slice(),
-                time_outs,
+                reading,
                 most,
                 &mut sink,
             )?;
@@ -65,11 +64,11 @@ fn judge_into<'a, S: DepartureSink>(
     config: Config,
     file: &str,
     log: &[u8],
-    time_outs: bool,
+    reading: Reading,
     most: usize,
     sink: &mut S,
 ) -> Result<usize, Unfinished<'a>> {
-    let counts = judge_log(alloc, config, file, log, time_outs, most, sink)?;
+    let counts = judge_log(alloc, config, file, log, reading, most, sink)?;
     sink.end(counts)?;
     Ok(counts.departures)
 }

@@ -121,6 +121,7 @@ fn entries_in(
                     line,
                     time_out,
                     wait,
+                    known: None,
                 };
                 let code = code_in(&entry.reply);
                 lines.push(OwnLine { place, code })?;
