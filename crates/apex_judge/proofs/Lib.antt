@@ -1,6 +1,7 @@
 pub mod ChannelSteps
 pub mod Lookups
 pub mod Results
+pub mod OwnIdLemmas
 pub mod PartitionSteps
 pub mod DepartureSteps
 pub mod WaitingLaws

@@ -2,6 +2,7 @@ pub mod Departures
 pub mod DepartureLaws
 pub mod JudgeView
 pub mod Kept
+pub mod OwnIds
 pub mod Past
 pub mod Replies
 pub mod Shown

@@ -7,12 +7,13 @@ use Rattle.apex_texts.specs.Arguments.{◌>>=◌}
 use Rattle.apex_logs.specs.declared.log.FaultyLine.{FaultyLine}
 use Rattle.apex_logs.specs.declared.log.LoggedEntry.{LoggedEntry}
 use Rattle.apex_logs.specs.declared.log_fault.LogFault.{LogFault}
+use Rattle.apex_logs.specs.declared.time_out.TimeOut.{TimeOut}
 use Rattle.apex_logs.specs.LogLine.{entry_of_line, ends_calls}
 use Rattle.apex_logs.specs.Log.{before, entries_from}
 
-module _ (asked_by : List ℕ → List (List ℕ) → Result Request LineFault) (number : ℕ) where
+module _ (asked_by : List ℕ → List (List ℕ) → Result (Request × TimeOut) LineFault) (number : ℕ) where
   -- at a line with what it is read as
-  pub reads : (lines : List (List ℕ)) (line : List ℕ) (rest : List (List ℕ)) (read : Result (Option Entry) LogFault) → lines ≡ line ∷ rest → ends_calls line ≡ false → entry_of_line asked_by line ≡ read
+  pub reads : (lines : List (List ℕ)) (line : List ℕ) (rest : List (List ℕ)) (read : Result (Option (Entry × TimeOut)) LogFault) → lines ≡ line ∷ rest → ends_calls line ≡ false → entry_of_line asked_by line ≡ read
       → entries_from asked_by number lines ≡ before number read (entries_from asked_by (number + 1) rest)
   unfolding entries_from
   reads lines line rest read cut goes is = rw (cut, goes, is) refl

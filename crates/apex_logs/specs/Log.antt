@@ -8,14 +8,15 @@ use Rattle.apex_ports.specs.declared.history.Entry.{Entry}
 use Rattle.apex_ports.specs.declared.history.Request.{Request}
 use Rattle.apex_texts.specs.declared.line_fault.LineFault.{LineFault}
 use Rattle.apex_texts.specs.Arguments.{◌>>=◌}
-use Rattle.apex_texts.specs.Trace.{request_at}
 use Rattle.apex_logs.specs.declared.log.FaultyLine.{FaultyLine}
 use Rattle.apex_logs.specs.declared.log.LogError.{LogError}
 use Rattle.apex_logs.specs.declared.log.LogError.TheVariants as errors
 use Rattle.apex_logs.specs.declared.log.LoggedEntry.{LoggedEntry}
 use Rattle.apex_logs.specs.declared.log_fault.LogFault.{LogFault}
+use Rattle.apex_logs.specs.declared.time_out.TimeOut.{TimeOut}
 use Rattle.apex_logs.specs.LogFault.{number_of, log_fault_words}
-use Rattle.apex_logs.specs.LogLine.{entry_of_line, own_request_at, ends_calls}
+use Rattle.apex_logs.specs.LogLine.{entry_of_line, ends_calls}
+use Rattle.apex_logs.specs.TimedCall.{logged_request_at, own_request_at}
 
 -- `line L fault N: WORDS`
 abbrev pub faulty_line_words : FaultyLine → List ℕ
@@ -26,32 +27,32 @@ error_words (errors.Line faulty) = faulty_line_words faulty
 error_words errors.OutOfMemory = codes "out of memory"
 
 -- what the line with this number adds in front of what the lines after it stand for
-abbrev pub before : ℕ → Result (Option Entry) LogFault → Result (List LoggedEntry) FaultyLine → Result (List LoggedEntry) FaultyLine
+abbrev pub before : ℕ → Result (Option (Entry × TimeOut)) LogFault → Result (List LoggedEntry) FaultyLine → Result (List LoggedEntry) FaultyLine
 before number (Err fault) after = Err (record { line = number; fault = fault })
 before number (Ok None) after = after
-before number (Ok (Some entry)) after = do
+before number (Ok (Some (entry, time_out))) after = do
   entries ← after
-  Ok (record { line = number; entry = entry } ∷ entries)
+  Ok (record { line = number; entry = entry; time_out = time_out } ∷ entries)
 
 -- the entries of lines of which the first has this number, up to the line that ends the calls
-unfoldable pub entries_from : (List ℕ → List (List ℕ) → Result Request LineFault) → ℕ → List (List ℕ) → Result (List LoggedEntry) FaultyLine
+unfoldable pub entries_from : (List ℕ → List (List ℕ) → Result (Request × TimeOut) LineFault) → ℕ → List (List ℕ) → Result (List LoggedEntry) FaultyLine
 entries_from asked_by number [] = Ok []
 entries_from asked_by number (line ∷ rest) =
     if ends_calls line then Ok [] else before number (entry_of_line asked_by line) (entries_from asked_by (number + 1) rest)
 
 -- the entries of a module's log, or its first faulty line
 abbrev pub log_of : Configuration → List ℕ → Result (List LoggedEntry) FaultyLine
-log_of config text = entries_from (request_at config) 1 (lines text)
+log_of config text = entries_from (logged_request_at config) 1 (lines text)
 
 -- the entries of a partition's own log, or its first faulty line
 abbrev pub own_log_of : ℕ → List ℕ → Result (List LoggedEntry) FaultyLine
 own_log_of partition text = entries_from (own_request_at partition) 1 (lines text)
 
--- the first entry of lines of which the first has this number: found is the number of its line and the lines after it
-abbrev pub IsNext : (List ℕ → List (List ℕ) → Result Request LineFault) → ℕ → List (List ℕ) → Entry → Option (ℕ × List (List ℕ)) → Type 0
+-- the first entry of lines of which the first has this number: found is the number of its line, its time-out and the lines after it
+abbrev pub IsNext : (List ℕ → List (List ℕ) → Result (Request × TimeOut) LineFault) → ℕ → List (List ℕ) → Entry → Option (ℕ × TimeOut × List (List ℕ)) → Type 0
 IsNext asked_by number lines entry None = entries_from asked_by number lines ≡ Ok []
 IsNext asked_by number lines entry (Some found) =
-    entries_from asked_by number lines ≡ before found.0 (Ok (Some entry)) (entries_from asked_by (found.0 + 1) found.1)
+    entries_from asked_by number lines ≡ before found.0 (Ok (Some (entry, found.1))) (entries_from asked_by (found.0 + 1) found.2)
 
 -- what a reader answered is what the log stands for, unless memory was refused
 abbrev pub IsLogRead : Result (Vec LoggedEntry) LogError → Result (List LoggedEntry) FaultyLine → Type 0

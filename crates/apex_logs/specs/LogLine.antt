@@ -1,6 +1,6 @@
 -- What a line of a log stands for: the entry of its call and its logged reply.
---     MOMENT PARTITION CALL ARGUMENTS -> REPLY (NOTE)
--- A log of one partition has no PARTITION. A note may be left out, and is passed over.
+--     MOMENT PARTITION CALL ARGUMENTS timeout TIME -> REPLY (NOTE)
+-- A log of one partition has no PARTITION. A time-out and a note may be left out, and a note is passed over.
 use Rattle.std.specs.Prelude.{ℕ, Bool, false, ◌+◌, ◌==◌, if◌then◌else◌, List, [], ◌∷◌, take, drop, codes, bytes_eq, position, Option, Some, None, Result, Ok, Err}
 use Rattle.memchr.specs.Find.{matches, first_of}
 use Rattle.apex_module.specs.Configuration.{Configuration}
@@ -10,12 +10,12 @@ use Rattle.apex_ports.specs.declared.history.Request.{Request}
 use Rattle.apex_texts.specs.declared.line_fault.LineFault.{LineFault}
 use Rattle.apex_texts.specs.Arguments.{◌>>=◌}
 use Rattle.apex_texts.specs.Lines.{line_words}
-use Rattle.apex_texts.specs.Script.{timed_call_at}
 use Rattle.apex_texts.specs.Text.{is_blank, words_of}
-use Rattle.apex_texts.specs.Trace.{request_at}
 use Rattle.apex_logs.specs.declared.log_fault.LogFault.{LogFault}
 use Rattle.apex_logs.specs.declared.log_fault.LogFault.TheVariants.{NoReply, OpenNote}
+use Rattle.apex_logs.specs.declared.time_out.TimeOut.{TimeOut}
 use Rattle.apex_logs.specs.ReplyWords.{as_in_trace, first_word, reply_of}
+use Rattle.apex_logs.specs.TimedCall.{logged_request_at, own_request_at}
 
 -- ---- the arrow
 
@@ -88,32 +88,26 @@ request_in entry = record { partition = entry.partition; at = entry.at; call = e
 abbrev pub with_reply : Request → Reply → Entry
 with_reply request reply = record { partition = request.partition; at = request.at; call = request.call; reply = reply }
 
--- the entry of a line's parts, by the way in which the words of its call are read
-unfoldable pub entry_of_parts : (List ℕ → List (List ℕ) → Result Request LineFault) → Option Parts → Result (Option Entry) LogFault
+-- the entry of a line's parts and its time-out, by the way in which the words of its call are read
+unfoldable pub entry_of_parts : (List ℕ → List (List ℕ) → Result (Request × TimeOut) LineFault) → Option Parts → Result (Option (Entry × TimeOut)) LogFault
 entry_of_parts asked_by None = Ok None
 entry_of_parts asked_by (Some parts) = do
-  request ← as_in_trace (asked_by parts.moment parts.words)
+  asked ← as_in_trace (asked_by parts.moment parts.words)
   reply ← reply_behind parts.reply
-  Ok (Some (with_reply request reply))
+  Ok (Some (with_reply asked.0 reply, asked.1))
 
--- the entry of a line
-unfoldable pub entry_of_line : (List ℕ → List (List ℕ) → Result Request LineFault) → List ℕ → Result (Option Entry) LogFault
+-- the entry of a line and its time-out
+unfoldable pub entry_of_line : (List ℕ → List (List ℕ) → Result (Request × TimeOut) LineFault) → List ℕ → Result (Option (Entry × TimeOut)) LogFault
 entry_of_line asked_by line = do
   parts ← parts_of line
   entry_of_parts asked_by parts
 
--- the entry of a log's line, if it has one
-abbrev pub logged_at : Configuration → List ℕ → Result (Option Entry) LogFault
-logged_at config line = entry_of_line (request_at config) line
+-- the entry of a log's line and its time-out, if it has one
+abbrev pub logged_at : Configuration → List ℕ → Result (Option (Entry × TimeOut)) LogFault
+logged_at config line = entry_of_line (logged_request_at config) line
 
--- MOMENT CALL ARGUMENTS, of a partition that is known
-unfoldable pub own_request_at : ℕ → List ℕ → List (List ℕ) → Result Request LineFault
-own_request_at partition moment words = do
-  timed ← timed_call_at moment words
-  Ok (record { partition = partition; at = timed.0; call = timed.1 })
-
--- the entry of a line in the log of one partition, if it has one
-abbrev pub own_logged_at : ℕ → List ℕ → Result (Option Entry) LogFault
+-- the entry of a line in the log of one partition and its time-out, if it has one
+abbrev pub own_logged_at : ℕ → List ℕ → Result (Option (Entry × TimeOut)) LogFault
 own_logged_at partition line = entry_of_line (own_request_at partition) line
 
 -- ---- the end of the calls

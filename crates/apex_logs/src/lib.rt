@@ -7,6 +7,8 @@ pub mod log_fault;
 pub mod log_line;
 pub mod reply_words;
 pub mod round_trip;
+pub mod time_out;
+mod timed_call;
 
 pub use crate::log::{
     FaultyLine, LogError, LogForm, LoggedEntry, ModuleLog, PartitionLog, next_entry, read_log,
@@ -17,3 +19,4 @@ pub use crate::log_line::{
 };
 pub use crate::reply_words::read_reply;
 pub use crate::round_trip::reads_back;
+pub use crate::time_out::{MaxWait, TimeOut};

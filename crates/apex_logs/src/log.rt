@@ -1,14 +1,15 @@
 //! Reading a log line by line: the entries of its lines, each with the number of its line, or its first faulty line.
-ghost use Rattle.std.specs.Prelude.{◌≡◌, ◌+◌, ◌<◌, ◌≤◌, ◌^◌, if◌then◌else◌, length, option_map, Some, None, Ok, Err, IfOk, IfErr, IfSome, IsTrue};
+ghost use Rattle.std.specs.Prelude.{◌≡◌, ◌+◌, ◌<◌, ◌≤◌, ◌^◌, length, option_map, Some, Ok, Err, IfOk, IfErr, IfSome};
 ghost use Rattle.std.specs.Str.Lines.{lines};
-ghost use Rattle.apex_texts.specs.Trace.{request_at};
 ghost use Rattle.apex_logs.specs.ReplyWords.{Gives};
-ghost use Rattle.apex_logs.specs.LogLine.{entry_of_line, own_request_at};
+ghost use Rattle.apex_logs.specs.LogLine.{entry_of_line};
+ghost use Rattle.apex_logs.specs.TimedCall.{logged_request_at, own_request_at};
 ghost use Rattle.apex_logs.specs.Log.{faulty_line_words, error_words, entries_from, IsNext, IsLogRead};
 ghost use Rattle.apex_logs.specs.declared.log.LogError.TheVariants as errors;
 
 use crate::log_fault::LogFault;
 use crate::log_line::{ANY_ENTRY, ends_calls, read_log_line, read_partition_log_line};
+use crate::time_out::TimeOut;
 use apex_module::Config;
 use apex_ports::Entry;
 use apex_texts::text::next_line;
@@ -16,11 +17,12 @@ use std::alloc::{AllocFailed, Global};
 use std::error::Error;
 use std::fmt;
 
-/// An entry with the number of its line, from 1.
+/// An entry with the number of its line, from 1, and the time-out that the line says.
 #[derive(Debug, Drop, PartialEq, Eq)]
 pub struct LoggedEntry {
     pub line: usize,
     pub entry: Entry,
+    pub time_out: TimeOut,
 }
 
 /// A faulty line, from 1, and its first fault.
@@ -84,19 +86,20 @@ pub trait LogForm {
     ghost use Rattle.std.specs.Prelude.{ℕ, List, Result};
     ghost use Rattle.apex_ports.specs.declared.history.Request.{Request};
     ghost use Rattle.apex_texts.specs.declared.line_fault.LineFault.{LineFault};
+    ghost use Rattle.apex_logs.specs.declared.time_out.TimeOut.{TimeOut};
 
-    // What a first word and the words after it ask.
-    ghost asked_by: { Self → List ℕ → List (List ℕ) → Result Request LineFault };
+    // What a first word and the words after it ask, and the time-out that they say.
+    ghost asked_by: { Self → List ℕ → List (List ℕ) → Result (Request × TimeOut) LineFault };
 
     // That a partition can make calls in the log.
     ghost Knows: { Self → ℕ → Type 0 };
 
     /// Reads the entry of a line into `entry`, as `read_log_line` does.
-    fn read_line(&self, line: &[u8], entry: &mut Entry) -> Result<bool, LogFault>
-        ensures exact { Gives (λ has_call. if has_call then Some entry.new else None) result
+    fn read_line(&self, line: &[u8], entry: &mut Entry) -> Result<Option<TimeOut>, LogFault>
+        ensures exact { Gives (option_map (λ time_out. (entry.new, time_out))) result
             (entry_of_line (asked_by self.now) line.now) }
         ensures known { IfOk result
-            (λ has_call. IsTrue has_call → Knows self.now entry.new.partition) };
+            (λ found. IfSome found (λ _. Knows self.now entry.new.partition)) };
 }
 
 /// The log of a module, whose lines name their partitions.
@@ -106,11 +109,11 @@ pub struct ModuleLog<'a> {
 }
 
 impl LogForm for ModuleLog<'_> {
-    ghost asked_by = { λ log. request_at log.config.now };
+    ghost asked_by = { λ log. logged_request_at log.config.now };
 
     ghost Knows = { λ log partition. partition < length log.config.now.partitions };
 
-    fn read_line(&self, line: &[u8], entry: &mut Entry) -> Result<bool, LogFault> {
+    fn read_line(&self, line: &[u8], entry: &mut Entry) -> Result<Option<TimeOut>, LogFault> {
         read_log_line(self.config, line, entry)
     }
 }
@@ -126,24 +129,24 @@ impl LogForm for PartitionLog {
 
     ghost Knows = { λ log partition. partition ≡ log.partition };
 
-    fn read_line(&self, line: &[u8], entry: &mut Entry) -> Result<bool, LogFault> {
+    fn read_line(&self, line: &[u8], entry: &mut Entry) -> Result<Option<TimeOut>, LogFault> {
         read_partition_log_line(self.partition, line, entry)
     }
 }
 
-/// Reads the first entry of a text that follows so many lines into `entry`, and answers the number of its line and
-/// the text after that line; none where the calls have ended. Lines without a call are passed over. After a fault, and
+/// Reads the first entry of a text that follows so many lines into `entry`, and answers the number of its line, its
+/// time-out and the text after that line; none where the calls have ended. Lines without a call are passed over. After a fault, and
 /// where there is none, any entry may stand there.
 pub fn next_entry<'a, F: LogForm>(
     form: &F,
     before: usize,
     text: &'a [u8],
     entry: &mut Entry,
-) -> Result<Option<(usize, &'a [u8])>, FaultyLine>
+) -> Result<Option<(usize, TimeOut, &'a [u8])>, FaultyLine>
     requires { before + length text.now < 2 ^ 64 }
     ensures next { IfOk result (λ found.
         IsNext (F.asked_by form.now) (before + 1) (lines text.now) entry.new
-        (option_map (λ x. (x.0, lines x.1.now)) found)) }
+        (option_map (λ x. (x.0, x.1, lines x.2.now)) found)) }
     ensures faulty { IfErr result (λ faulty.
         entries_from (F.asked_by form.now) (before + 1) (lines text.now) ≡ Err faulty) }
 
@@ -152,7 +155,7 @@ pub fn next_entry<'a, F: LogForm>(
         (λ _. F.Knows form.now entry.new.partition)) }
     ensures later { IfOk result (λ found. IfSome found (λ x. before < x.0)) }
     ensures room { IfOk result (λ found. IfSome found
-        (λ x. x.0 + length x.1.now ≤ before + length text.now)) }
+        (λ x. x.0 + length x.2.now ≤ before + length text.now)) }
 {
     let mut rest = text;
     let mut number = before;
@@ -162,8 +165,8 @@ pub fn next_entry<'a, F: LogForm>(
             return Ok(None);
         }
         match form.read_line(line, entry) {
-            Ok(true) => return Ok(Some((number, after))),
-            Ok(false) => rest = after,
+            Ok(Some(time_out)) => return Ok(Some((number, time_out, after))),
+            Ok(None) => rest = after,
             Err(fault) => {
                 return Err(FaultyLine {
                     line: number,
@@ -190,8 +193,12 @@ pub fn read_log<F: LogForm>(
         let mut entry = ANY_ENTRY;
         match next_entry(form, number, rest, &mut entry)? {
             None => return Ok(entries),
-            Some((line, after)) => {
-                entries.push(LoggedEntry { line, entry })?;
+            Some((line, time_out, after)) => {
+                entries.push(LoggedEntry {
+                    line,
+                    entry,
+                    time_out,
+                })?;
                 number = line;
                 rest = after;
             }

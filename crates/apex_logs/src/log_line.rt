@@ -1,17 +1,20 @@
 //! The lines of a log: each has the entry of its call and its logged reply, or is passed over.
-ghost use Rattle.std.specs.Prelude.{◌≡◌, ◌+◌, ◌<◌, ◌≤◌, if◌then◌else◌, length, position, option_map, Some, None, false, IfOk, IfSome, IsTrue, OnOk};
+ghost use Rattle.std.specs.Prelude.{◌≡◌, ◌+◌, ◌<◌, ◌≤◌, length, position, option_map, false, IfOk, IfSome, OnOk};
 ghost use Rattle.apex_texts.specs.Arguments as of_trace;
 ghost use Rattle.apex_texts.specs.Text.{words_of, is_blank};
-ghost use Rattle.apex_texts.specs.Trace.{partition_of, request_at};
+ghost use Rattle.apex_texts.specs.Trace.{partition_of};
 ghost use Rattle.apex_logs.specs.ReplyWords.{Gives};
-ghost use Rattle.apex_logs.specs.LogLine.{arrow_in, sides_of, is_bracket, is_closed, before_note, reply_behind, parts_of, request_in, logged_at, own_request_at, own_logged_at, ends_calls};
+ghost use Rattle.apex_logs.specs.LogLine.{arrow_in, sides_of, is_bracket, is_closed, before_note, reply_behind, parts_of, request_in, logged_at, own_logged_at, ends_calls};
+ghost use Rattle.apex_logs.specs.TimedCall.{logged_request_at, own_request_at};
 
 use crate::log_fault::LogFault;
 use crate::reply_words::{first_word, read_reply};
+use crate::time_out::TimeOut;
+use crate::timed_call::read_timed_call;
 use apex_module::Config;
 use apex_ports::Entry;
 use apex_texts::LineFault;
-use apex_texts::arguments::{moment_of, read_call, service_at, word_at};
+use apex_texts::arguments::{moment_of, service_at, word_at};
 use apex_texts::lines::line_words;
 use apex_texts::text::next_word;
 use apex_types::{Call, Moment, Reply};
@@ -25,21 +28,26 @@ pub const ANY_ENTRY: Entry = Entry {
     reply: Reply::NotMade,
 };
 
-/// Reads the entry of a log's line into `entry`, and answers whether the line has one: a line
-/// without words and a comment have none. After a fault any entry may stand there.
+/// Reads the entry of a log's line into `entry`, and answers its time-out, if the line has an entry: a line without
+/// words and a comment have none. After a fault any entry may stand there.
 #[tactic(auto, unfolding(crate::specs::LogLine::entry_of_line, crate::specs::LogLine::entry_of_parts))]
-pub fn read_log_line(config: &Config, line: &[u8], entry: &mut Entry) -> Result<bool, LogFault>
-    ensures exact { Gives (λ has_call. if has_call then Some entry.new else None) result
+pub fn read_log_line(
+    config: &Config,
+    line: &[u8],
+    entry: &mut Entry,
+) -> Result<Option<TimeOut>, LogFault>
+    ensures exact { Gives (option_map (λ time_out. (entry.new, time_out))) result
         (logged_at config.now line.now) }
     ensures known { IfOk result
-        (λ has_call. IsTrue has_call → entry.new.partition < length config.now.partitions) }
+        (λ found. IfSome found (λ _. entry.new.partition < length config.now.partitions)) }
 {
     match parts_of(line)? {
-        None => Ok(false),
+        None => Ok(None),
         Some(parts) => {
-            read_request(config, parts.moment, parts.words, entry).map_err(LogFault::Line)?;
+            let asked = read_request(config, parts.moment, parts.words, entry);
+            let time_out = asked.map_err(LogFault::Line)?;
             read_reply_behind(parts.reply, &mut entry.reply)?;
-            Ok(true)
+            Ok(Some(time_out))
         }
     }
 }
@@ -51,17 +59,18 @@ pub fn read_partition_log_line(
     partition: usize,
     line: &[u8],
     entry: &mut Entry,
-) -> Result<bool, LogFault>
-    ensures exact { Gives (λ has_call. if has_call then Some entry.new else None) result
+) -> Result<Option<TimeOut>, LogFault>
+    ensures exact { Gives (option_map (λ time_out. (entry.new, time_out))) result
         (own_logged_at partition line.now) }
-    ensures own { IfOk result (λ has_call. IsTrue has_call → entry.new.partition ≡ partition) }
+    ensures own { IfOk result (λ found. IfSome found (λ _. entry.new.partition ≡ partition)) }
 {
     match parts_of(line)? {
-        None => Ok(false),
+        None => Ok(None),
         Some(parts) => {
-            read_own_request(partition, parts.moment, parts.words, entry).map_err(LogFault::Line)?;
+            let asked = read_own_request(partition, parts.moment, parts.words, entry);
+            let time_out = asked.map_err(LogFault::Line)?;
             read_reply_behind(parts.reply, &mut entry.reply)?;
-            Ok(true)
+            Ok(Some(time_out))
         }
     }
 }
@@ -124,23 +133,23 @@ fn arrow_in(line: &[u8]) -> Option<usize>
     memmem::find(line, b"->")
 }
 
-// Reads what is asked in a line that names its partition.
-#[tactic(auto, unfolding(apex_texts::specs::Trace::request_at, apex_texts::specs::Arguments::call_of))]
+// Reads what is asked in a line that names its partition, and answers its time-out.
+#[tactic(auto, unfolding(crate::specs::TimedCall::logged_request_at, crate::specs::TimedCall::timed_call_of))]
 fn read_request(
     config: &Config,
     moment: &[u8],
     words: &[u8],
     entry: &mut Entry,
-) -> Result<(), LineFault>
-    ensures exact { of_trace.Gives (λ _. request_in entry.new) result
-        (request_at config.now moment.now (words_of words.now)) }
+) -> Result<TimeOut, LineFault>
+    ensures exact { of_trace.Gives (λ time_out. (request_in entry.new, time_out)) result
+        (logged_request_at config.now moment.now (words_of words.now)) }
     ensures known { OnOk result (entry.new.partition < length config.now.partitions) }
 {
     let (partition, words) = word_at(words)?;
     let (call, words) = word_at(words)?;
     entry.at = moment_of(moment)?;
     entry.partition = partition_of(config, partition)?;
-    read_call(service_at(call)?, words, &mut entry.call)
+    read_timed_call(service_at(call)?, words, &mut entry.call)
 }
 
 fn partition_of(config: &Config, word: &[u8]) -> Result<usize, LineFault>
@@ -149,22 +158,22 @@ fn partition_of(config: &Config, word: &[u8]) -> Result<usize, LineFault>
     config.partition_called(word).ok_or(LineFault::Partition)
 }
 
-// Reads what is asked in a line of a partition's own log.
-#[tactic(auto, unfolding(crate::specs::LogLine::own_request_at, apex_texts::specs::Script::timed_call_at, apex_texts::specs::Arguments::call_of))]
+// Reads what is asked in a line of a partition's own log, and answers its time-out.
+#[tactic(auto, unfolding(crate::specs::TimedCall::own_request_at, crate::specs::TimedCall::timed_call_of))]
 fn read_own_request(
     partition: usize,
     moment: &[u8],
     words: &[u8],
     entry: &mut Entry,
-) -> Result<(), LineFault>
-    ensures exact { of_trace.Gives (λ _. request_in entry.new) result
+) -> Result<TimeOut, LineFault>
+    ensures exact { of_trace.Gives (λ time_out. (request_in entry.new, time_out)) result
         (own_request_at partition moment.now (words_of words.now)) }
     ensures own { entry.new.partition ≡ partition }
 {
     entry.partition = partition;
     let (call, words) = word_at(words)?;
     entry.at = moment_of(moment)?;
-    read_call(service_at(call)?, words, &mut entry.call)
+    read_timed_call(service_at(call)?, words, &mut entry.call)
 }
 
 #[tactic(auto, unfolding(crate::specs::LogLine::reply_behind))]

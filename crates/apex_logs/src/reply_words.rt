@@ -4,11 +4,11 @@ ghost use Rattle.apex_texts.specs.Text.{words_of};
 ghost use Rattle.apex_logs.specs.ReplyWords.{Gives, first_word, after_word, named_at, number_at, number_after, no_word, code_named, direction_named, validity_named, not_made_at, id_at, message_of, shown_by, message_reply_at, queuing_status_at, sampling_status_at, data_at, behind_no_error, behind_code, reply_by, reply_of};
 
 use crate::log_fault::LogFault;
+use crate::timed_call;
 use apex_texts::LineFault;
 use apex_texts::arguments::NUMBER_LIMIT;
 use apex_texts::text::{next_word, number_up_to};
 use apex_types::{Direction, Message, Reply, ReturnCode, Validity};
-use std::str;
 
 /// The greatest refresh period of a logged status, in nanoseconds: that of 64 bits.
 pub const REFRESH_LIMIT: u64 = 18_446_744_073_709_551_615;
@@ -156,12 +156,7 @@ fn read_sample(
 fn read_message(word: &[u8], message: &mut Message) -> Result<(), LogFault>
     ensures { Gives (λ _. message.new) result (message_of word.now) }
 {
-    let Ok(text) = str::from_utf8(word) else {
-        return Err(LogFault::Line(LineFault::Message));
-    };
-    message
-        .read_hex(text)
-        .map_err(|_| LogFault::Line(LineFault::Message))
+    timed_call::read_message(word, message).map_err(LogFault::Line)
 }
 
 #[tactic(auto, unfolding(crate::specs::ReplyWords::queuing_status_at))]

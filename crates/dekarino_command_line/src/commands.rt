@@ -15,6 +15,10 @@ pub(crate) const LOGS: &str = "LOG|NAME=LOG";
 
 pub(crate) const FIRST: &str = "first";
 
+pub(crate) const TIME_OUTS: &str = "time-outs";
+
+pub(crate) const OWN_IDS: &str = "own-ids";
+
 pub(crate) const ORDER: &str = "order";
 
 pub(crate) const STEPS: &str = "steps";
@@ -131,6 +135,8 @@ fn judge<'a>(alloc: Global) -> Result<Command<'a>, AllocError> {
         .arg(config(alloc))?
         .arg(files(alloc, LOGS, logs))?
         .arg(flag(alloc, FIRST, help::FIRST))?
+        .arg(flag(alloc, TIME_OUTS, help::TIME_OUTS))?
+        .arg(flag(alloc, OWN_IDS, help::OWN_IDS))?
         .arg(option(alloc, ORDER, "FILE", help::ORDER))?
         .arg(option(alloc, STEPS, "N", help::STEPS))?
         .arg(json(alloc))

@@ -61,6 +61,13 @@ A call is judged after what the log itself shows before it. So after a lost, dou
 again after a call or two, but after a wrong creation, identifier or mode the later calls of that partition that rest on
 it depart too. The last line counts the departures. The status is 4 if there is one.
 
+A call without a time-out in its line is taken to have time-out zero. `timeout NANOSECONDS` or `timeout infinite` behind
+the arguments of a send or a receive says another; such a call stands in the log where it returned. TIMED_OUT is then
+right where a call with time-out zero gets NOT_AVAILABLE, and with `infinite` neither is.
+
+With --own-ids, identifiers are the system's: the reply to a create or an id call tells which one a port has, until the
+partition restarts. Another identifier for the port, or the same for another port of the partition, departs.
+
 A word NAME=LOG gives the log that partition NAME kept for itself: its lines lack the partition, and nothing says which
 call of another partition came before. If some order of all calls gives each of them its logged reply, the status is 0,
 and --order writes that order as a log. If there is no such order, the status is 4. If neither is found, it is 5.
@@ -72,6 +79,12 @@ Example:
   8 calls, 2 departures
   $ ./dekarino judge examples/recorded/config.toml FMS=examples/recorded/fms.log DSP=examples/recorded/dsp.log
   9 calls, as the standard says in some order";
+
+pub(crate) const TIME_OUTS: &str =
+    "Takes each send and receive whose line says no time-out to have one";
+
+pub(crate) const OWN_IDS: &str =
+    "Takes the identifiers in the log to be those that the system gave its ports";
 
 pub(crate) const FIRST: &str = "Prints the first departure only, and the count of all";
 

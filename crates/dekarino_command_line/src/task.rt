@@ -31,11 +31,14 @@ pub enum Task<'a> {
         config: &'a str,
         trace: &'a str,
     },
-    /// Prints where the replies of a recorded log depart from the standard, or the first of them alone.
+    /// Prints where the replies of a recorded log depart from the standard, or the first of them alone. A send or a
+    /// receive whose line says no time-out may be taken to have one, and identifiers to be those of the system.
     Judge {
         config: &'a str,
         log: &'a str,
         first: bool,
+        time_outs: bool,
+        own_ids: bool,
         form: Form,
     },
     /// Answers whether the logs that the arguments `NAME=LOG` give to partitions have an order in which each reply is the
@@ -45,6 +48,7 @@ pub enum Task<'a> {
         logs: Vec<&'a str>,
         order: Option<&'a str>,
         steps: u64,
+        time_outs: bool,
         form: Form,
     },
     /// Prints all replies that scripts can get over every order of their calls, or answers a question about one; it gives
@@ -231,10 +235,11 @@ fn judge_in<'a>(alloc: Global, given: &ArgMatches<'a>) -> Result<Task<'a>, Words
             "a log stands alone, and each of several words has to be NAME=LOG",
         ));
     };
-    let (config, first, form) = (
-        config_in(alloc, given)?,
+    let (config, form) = (config_in(alloc, given)?, form_in(given));
+    let (first, time_outs, own_ids) = (
         given.get_flag(commands::FIRST),
-        form_in(given),
+        given.get_flag(commands::TIME_OUTS),
+        given.get_flag(commands::OWN_IDS),
     );
     let (order, is_bounded) = (
         given.get_str(commands::ORDER),
@@ -246,10 +251,15 @@ fn judge_in<'a>(alloc: Global, given: &ArgMatches<'a>) -> Result<Task<'a>, Words
             "--order and --steps go with words NAME=LOG",
         )),
         Files::OfPartitions(_) if first => Err(judge_fault(alloc, "--first goes with one log")),
+        Files::OfPartitions(_) if own_ids => {
+            Err(judge_fault(alloc, "--own-ids goes with one log"))
+        }
         Files::One(log) => Ok(Task::Judge {
             config,
             log,
             first,
+            time_outs,
+            own_ids,
             form,
         }),
         Files::OfPartitions(logs) => Ok(Task::JudgeApart {
@@ -257,6 +267,7 @@ fn judge_in<'a>(alloc: Global, given: &ArgMatches<'a>) -> Result<Task<'a>, Words
             logs,
             order,
             steps,
+            time_outs,
             form,
         }),
     }

@@ -1,5 +1,5 @@
 -- What is found of the logs that files give.
-use Rattle.std.proofs.Common.{◌≡◌, ℕ, List, Option, Some, None, Ok, subst}
+use Rattle.std.proofs.Common.{◌≡◌, ℕ, Bool, List, Option, Some, None, Ok, subst}
 use Rattle.std.specs.Global.{Vec}
 use Rattle.std.specs.Prelude.{IfSome}
 use Rattle.apex_module.specs.Configuration.{Configuration}
@@ -15,17 +15,17 @@ use Rattle.dekarino_search.specs.OrderAnswer.{IsOrderAnswer}
 use Rattle.dekarino_search.specs.OwnLogs.{AreOwnLogs}
 use Rattle.dekarino_search.specs.declared.order_answer.OrderAnswer.TheVariants as answers
 
-module _ (files : FileBytes) (arguments : Arguments) where
-  module _ (config : Configuration) (logs : Logs) (are : AreOwnLogs files config arguments logs) where
-    pub order_found : (read : Option (List ℕ)) (history : History) → IfSome read (λ bytes. config_of bytes ≡ Ok config) → IsOrder config logs history → IfSome read (IsOrderAnswer files arguments answers.Exists)
+module _ (files : FileBytes) (all : Bool) (arguments : Arguments) where
+  module _ (config : Configuration) (logs : Logs) (are : AreOwnLogs files all config arguments logs) where
+    pub order_found : (read : Option (List ℕ)) (history : History) → IfSome read (λ bytes. config_of bytes ≡ Ok config) → IsOrder config logs history → IfSome read (IsOrderAnswer files all arguments answers.Exists)
     order_found None history known is = tt
     order_found (Some bytes) history known is = (config, known, logs, are, history, is)
 
-    pub none_found : (read : Option (List ℕ)) → IfSome read (λ bytes. config_of bytes ≡ Ok config) → HasNoOrder config logs → IfSome read (IsOrderAnswer files arguments answers.Impossible)
+    pub none_found : (read : Option (List ℕ)) → IfSome read (λ bytes. config_of bytes ≡ Ok config) → HasNoOrder config logs → IfSome read (IsOrderAnswer files all arguments answers.Impossible)
     none_found None known none = tt
     none_found (Some bytes) known none = (config, known, logs, are, none)
 
-  pub nothing_found : (steps : ℕ) (read : Option (List ℕ)) → IfSome read (IsOrderAnswer files arguments (answers.Undecided steps))
+  pub nothing_found : (steps : ℕ) (read : Option (List ℕ)) → IfSome read (IsOrderAnswer files all arguments (answers.Undecided steps))
   nothing_found steps None = tt
   nothing_found steps (Some bytes) = tt
 

@@ -4,13 +4,16 @@ use apex_judge::Expected;
 use apex_module::Config;
 use apex_ports::Entry;
 use apex_texts::{Service, push_reply};
-use apex_types::{Moment, Reply};
+use apex_types::{Call, Moment, Reply};
 use apex_words::{push_words, row_name};
-use dekarino_texts::{DepartureCounts, DepartureSink};
+use dekarino_texts::{
+    DepartureCounts, DepartureSink, LogPlace, StandardReply, conflict_of, named_by, push_conflict,
+};
 use serde::Serialize;
 use std::alloc::{AllocError, Global};
 
-/// A departure: its line in the log, from 1, the call, the two replies, and the row that gives the standard's.
+/// A departure: its line in the log, from 1, the call, the two replies, and the row that gives the standard's. The standard
+/// has none if the call would still wait.
 #[derive(Drop, Serialize)]
 struct DepartureLine<'a> {
     line: usize,
@@ -18,7 +21,7 @@ struct DepartureLine<'a> {
     partition: &'a str,
     service: &'static str,
     logged: String,
-    standard: String,
+    standard: Option<String>,
     row: &'static str,
     words: String,
 }
@@ -58,21 +61,31 @@ impl DepartureSink for DepartureObjects {
         &mut self,
         config: &Config,
         _file: &str,
-        line: usize,
+        place: LogPlace,
         entry: &Entry,
+        asked: &Call,
         expected: &Expected,
     ) -> Result<(), AllocError> {
         let alloc = *self.text.allocator();
         let (p, Moment(at)) = (entry.partition, entry.at);
         let mut words = String::new(alloc);
-        push_words(&mut words, config, p, &entry.call, expected.row)?;
+        match conflict_of(place, &entry.reply, expected.row) {
+            Some(conflict) => push_conflict(&mut words, config, p, conflict)?,
+            None => push_words(
+                &mut words,
+                config,
+                p,
+                named_by(place, entry, asked, expected),
+                expected.row,
+            )?,
+        }
         let object = DepartureLine {
-            line,
+            line: place.line,
             at,
             partition: config.partition_name(p).text(),
             service: Service::of(&entry.call).word(),
             logged: reply_text(alloc, &entry.reply)?,
-            standard: reply_text(alloc, &expected.reply)?,
+            standard: standard_text(alloc, place, expected)?,
             row: row_name(expected.row),
             words,
         };
@@ -87,6 +100,22 @@ impl DepartureSink for DepartureObjects {
         };
         push_object(*self.text.allocator(), &mut self.text, &object)
     }
+}
+
+/// What the standard has, in the words of a report.
+fn standard_text(
+    alloc: Global,
+    place: LogPlace,
+    expected: &Expected,
+) -> Result<Option<String>, AllocError> {
+    let mut text = String::new(alloc);
+    match StandardReply::of(place, expected) {
+        StandardReply::Waits => return Ok(None),
+        StandardReply::AnyId => text.push_str("NO_ERROR and an identifier")?,
+        StandardReply::Id(id) => push_reply(&mut text, &Reply::Id(id))?,
+        StandardReply::Reply => push_reply(&mut text, &expected.reply)?,
+    }
+    Ok(Some(text))
 }
 
 /// A reply in the words of a report.

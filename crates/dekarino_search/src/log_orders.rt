@@ -20,7 +20,7 @@ use std::alloc::Global;
 
 /// Looks for an order of all calls of the logs that the arguments `NAME=LOG` name, on the configuration in a file, in which
 /// each reply is the standard's. If there is one, it is written as a log to `order`, if that is given. The search gives up
-/// after `steps` steps.
+/// after `steps` steps. If `time_outs` is set, a send or a receive whose line says no time-out is taken to have one.
 pub fn order_of_logs<'a, O: Opener + FileWriter, P: Progress>(
     alloc: Global,
     files: &O,
@@ -28,11 +28,12 @@ pub fn order_of_logs<'a, O: Opener + FileWriter, P: Progress>(
     arguments: &[&'a str],
     order: Option<&'a str>,
     steps: u64,
+    time_outs: bool,
     form: Form,
     progress: &mut P,
 ) -> Result<Outcome, Unfinished<'a>> {
     let (answer, text) = search(
-        alloc, files, config, arguments, order, steps, form, progress,
+        alloc, files, config, arguments, order, steps, time_outs, form, progress,
     )?;
     Ok(match answer {
         OrderAnswer::Exists => Outcome::Done(text),
@@ -49,14 +50,15 @@ fn search<'a, O: Opener + FileWriter, P: Progress>(
     arguments: &[&'a str],
     order: Option<&'a str>,
     steps: u64,
+    time_outs: bool,
     form: Form,
     progress: &mut P,
 ) -> Result<(OrderAnswer, Vec<u8>), Unfinished<'a>>
     ensures { IfOk result (λ found. IfSome (O.bytes_at files.now config.now)
-        (IsOrderAnswer (O.bytes_at files.now) arguments.now found.0)) }
+        (IsOrderAnswer (O.bytes_at files.now) time_outs arguments.now found.0)) }
 {
     let config = read_config(alloc, files, config, form)?;
-    let mut all = read_own_logs(alloc, files, &config, arguments, form)?;
+    let mut all = read_own_logs(alloc, files, &config, arguments, time_outs, form)?;
     let mut progress = SearchProgress { progress };
     let logs = all.logs.as_mut_slice();
     let (answer, longest) = match find_order_apart(alloc, &config, logs, steps, &mut progress)? {
@@ -82,7 +84,7 @@ fn write_order<'a, O: FileWriter>(
 ) -> Result<(), Unfinished<'a>>
     requires { length all.now.logs.items ≡ length config.now.partitions }
 {
-    let text = order_log(alloc, config, all.logs.as_slice(), order)?;
+    let text = order_log(alloc, config, all, order)?;
     match files.write_file(file, text.as_bytes()) {
         Ok(()) => Ok(()),
         Err(_) => Err(Unfinished::UnwritableFile(file)),

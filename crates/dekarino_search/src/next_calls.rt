@@ -1,10 +1,12 @@
 //! The calls that are next after an order of logs that partitions kept apart.
-use crate::own_logs::OwnLogs;
+ghost use Rattle.std.specs.Prelude.{◌≡◌};
+
+use crate::own_logs::{OwnLine, OwnLogs};
 use apex_judge::Judge;
 use apex_log_orders::{CallPlace, OwnLog};
 use apex_module::Config;
 use apex_ports::Entry;
-use apex_types::OutOfMemory;
+use apex_types::{OutOfMemory, Reply};
 use dekarino_texts::DepartureSink;
 use std::alloc::{AllocError, Global};
 
@@ -65,7 +67,7 @@ fn add_entry(
 fn hand_call<S: DepartureSink>(
     judge: &Judge,
     file: &str,
-    line: usize,
+    line: OwnLine,
     entry: &Entry,
     sink: &mut S,
 ) -> Result<(), AllocError> {
@@ -75,6 +77,25 @@ fn hand_call<S: DepartureSink>(
     }
     match judge.instead_of(entry.partition, entry.at, &entry.call, &entry.reply) {
         None => Ok(()),
-        Some(expected) => sink.departure(config, file, line, entry, &expected),
+        Some(mut expected) => {
+            line.place.wait.wait(&mut expected.reply);
+            let logged = logged(entry, line);
+            sink.departure(config, file, line.place, &logged, &entry.call, &expected)
+        }
+    }
+}
+
+/// An entry as it was logged.
+fn logged(entry: &Entry, line: OwnLine) -> Entry
+    ensures { result.partition ≡ entry.now.partition }
+{
+    Entry {
+        partition: entry.partition,
+        at: entry.at,
+        call: entry.call.copy(),
+        reply: match line.code {
+            Some(code) => Reply::Code(code),
+            None => entry.reply.copy(),
+        },
     }
 }

@@ -7,7 +7,7 @@ use crate::unfinished::Unfinished;
 use apex_files::{Opener, read_file};
 use apex_module::Config;
 use dekarino_command_line::Form;
-use dekarino_texts::{DepartureSink, DepartureText, judge_log};
+use dekarino_texts::{DepartureSink, DepartureText, Reading, judge_log};
 use std::alloc::Global;
 
 /// The departures of the log in a file, on the configuration in a file, or the first of them alone. If the log has a faulty
@@ -18,12 +18,13 @@ pub fn departures_of_log<'a, O: Opener>(
     config: &'a str,
     log: &'a str,
     first: bool,
+    reading: Reading,
     form: Form,
 ) -> Result<Outcome, Unfinished<'a>> {
     let config = read_config(alloc, opener, config, form)?;
     let bytes = read_file(alloc, opener, log)?;
     let text = bytes.as_slice();
-    match departures_of_text(alloc, config.copy()?, log, text, first, form) {
+    match departures_of_text(alloc, config.copy()?, log, text, first, reading, form) {
         Err(Unfinished::FaultyLog(faulty)) => {
             let mistakes = mistakes_of_log(alloc, log, &config, text, form)?;
             Err(Unfinished::FaultyLogWithText {
@@ -42,18 +43,19 @@ fn departures_of_text<'a>(
     file: &str,
     log: &[u8],
     first: bool,
+    reading: Reading,
     form: Form,
 ) -> Result<Outcome, Unfinished<'a>> {
     let most = if first { 1 } else { usize::MAX };
     let (departures, text) = match form {
         Form::Text => {
             let mut sink = DepartureText::new(alloc);
-            let departures = judge_into(alloc, config, file, log, most, &mut sink)?;
+            let departures = judge_into(alloc, config, file, log, reading, most, &mut sink)?;
             (departures, sink.into_text())
         }
         Form::Json => {
             let mut sink = DepartureObjects::new(alloc);
-            let departures = judge_into(alloc, config, file, log, most, &mut sink)?;
+            let departures = judge_into(alloc, config, file, log, reading, most, &mut sink)?;
             (departures, sink.into_text())
         }
     };
@@ -71,10 +73,11 @@ fn judge_into<'a, S: DepartureSink>(
     config: Config,
     file: &str,
     log: &[u8],
+    reading: Reading,
     most: usize,
     sink: &mut S,
 ) -> Result<usize, Unfinished<'a>> {
-    let counts = judge_log(alloc, config, file, log, most, sink)?;
+    let counts = judge_log(alloc, config, file, log, reading, most, sink)?;
     sink.end(counts)?;
     Ok(counts.departures)
 }

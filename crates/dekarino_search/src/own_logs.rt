@@ -6,35 +6,47 @@ use crate::mistakes::mistakes_of_own_log;
 use crate::unfinished::Unfinished;
 use apex_files::{Opener, Refusal, partition_and_path, read_file};
 use apex_log_orders::OwnLog;
-use apex_logs::{ANY_ENTRY, LogError, PartitionLog, next_entry};
+use apex_logs::{ANY_ENTRY, LogError, MaxWait, PartitionLog, next_entry};
 use apex_module::Config;
+use apex_types::{Reply, ReturnCode};
 use dekarino_command_line::Form;
+use dekarino_texts::LogPlace;
 use std::alloc::{AllocError, Global};
 
-/// A log for each partition of a configuration, and the lines of its entries.
+/// A log for each partition of a configuration, without time-outs, and the lines of its entries.
 #[derive(Drop)]
 pub(crate) struct OwnLogs<'a> {
     pub(crate) logs: Vec<OwnLog>,
     pub(crate) files: Vec<LogFile<'a>>,
 }
 
-/// The file of a partition's log, and the line of each of its entries, from 1.
+/// The file of a partition's log, and the line of each of its entries.
 #[derive(Drop)]
 pub(crate) struct LogFile<'a> {
     pub(crate) path: &'a str,
-    pub(crate) lines: Vec<usize>,
+    pub(crate) lines: Vec<OwnLine>,
 }
 
-/// The log of each partition, in the file that the argument `NAME=LOG` with its name names, or the empty one.
+/// The line of an entry.
+#[derive(Clone, Copy, Debug)]
+pub(crate) struct OwnLine {
+    pub(crate) place: LogPlace,
+    /// The logged return code, if the reply is one. The entry has the one without the time-out.
+    pub(crate) code: Option<ReturnCode>,
+}
+
+/// The log of each partition, in the file that the argument `NAME=LOG` with its name names, or the empty one. If
+/// `time_outs` is set, a send or a receive whose line says no time-out is taken to have one.
 pub(crate) fn read_own_logs<'a, O: Opener>(
     alloc: Global,
     opener: &O,
     config: &Config,
     arguments: &[&'a str],
+    time_outs: bool,
     form: Form,
 ) -> Result<OwnLogs<'a>, Unfinished<'a>>
-    ensures { IfOk result (λ all.
-        AreOwnLogs (O.bytes_at opener.now) config.now arguments.now all.logs.items) }
+    ensures { IfOk result (λ all. AreOwnLogs (O.bytes_at opener.now) time_outs
+        config.now arguments.now all.logs.items) }
 {
     let mut all = no_logs(alloc, config.partitions())?;
     let mut named = vec![in alloc; false; config.partitions()]?;
@@ -44,7 +56,7 @@ pub(crate) fn read_own_logs<'a, O: Opener>(
             _ => return Err(Unfinished::Refused(Refusal::Argument(argument))),
         };
         let later = &arguments[index + 1..];
-        let (log, file) = read_own_log(alloc, opener, config, p, path, later, form)?;
+        let (log, file) = read_own_log(alloc, opener, config, p, path, later, time_outs, form)?;
         all.logs[p] = log;
         all.files[p] = file;
         named[p] = true;
@@ -79,13 +91,14 @@ fn read_own_log<'a, O: Opener>(
     p: usize,
     path: &'a str,
     later: &[&'a str],
+    time_outs: bool,
     form: Form,
 ) -> Result<(OwnLog, LogFile<'a>), Unfinished<'a>>
-    ensures { IfOk result
-        (λ read. IfSome (O.bytes_at opener.now path.now) (λ bytes. SaysOwnLog p bytes read.0)) }
+    ensures { IfOk result (λ read. IfSome (O.bytes_at opener.now path.now)
+        (λ bytes. SaysOwnLog time_outs p bytes read.0)) }
 {
     let text = read_file(alloc, opener, path)?;
-    match entries_in(alloc, p, text.as_slice()) {
+    match entries_in(alloc, p, text.as_slice(), time_outs) {
         Ok((log, lines)) => Ok((log, LogFile { path, lines })),
         Err(LogError::Line(faulty)) => {
             let mut mistakes = mistakes_of_own_log(alloc, path, config, p, text.as_slice(), form)?;
@@ -125,9 +138,14 @@ fn push_later<'a, O: Opener>(
     Ok(())
 }
 
-/// The entries of partition `p` that a text has, and their lines, from 1.
-fn entries_in(alloc: Global, p: usize, text: &[u8]) -> Result<(OwnLog, Vec<usize>), LogError>
-    ensures { IfOk result (λ read. SaysOwnLog p text.now read.0) }
+/// The entries of partition `p` that a text has, without time-outs, and their lines.
+fn entries_in(
+    alloc: Global,
+    p: usize,
+    text: &[u8],
+    time_outs: bool,
+) -> Result<(OwnLog, Vec<OwnLine>), LogError>
+    ensures { IfOk result (λ read. SaysOwnLog time_outs p text.now read.0) }
 {
     let form = PartitionLog { partition: p };
     let mut entries = Vec::new(alloc);
@@ -137,13 +155,30 @@ fn entries_in(alloc: Global, p: usize, text: &[u8]) -> Result<(OwnLog, Vec<usize
     loop {
         let mut entry = ANY_ENTRY;
         match next_entry(&form, number, rest, &mut entry)? {
-            Some((line, after)) => {
+            Some((line, time_out, after)) => {
+                let wait = MaxWait::of(time_outs, &entry.call, time_out);
+                let place = LogPlace {
+                    line,
+                    time_out,
+                    wait,
+                    known: None,
+                };
+                let code = code_in(&entry.reply);
+                lines.push(OwnLine { place, code })?;
+                wait.poll(&mut entry.reply);
                 entries.push(entry)?;
-                lines.push(line)?;
                 number = line;
                 rest = after;
             }
             None => return Ok((OwnLog { entries }, lines)),
         }
+    }
+}
+
+/// The return code that a reply is, if it has no data.
+fn code_in(reply: &Reply) -> Option<ReturnCode> {
+    match reply {
+        Reply::Code(code) => Some(*code),
+        _ => None,
     }
 }

@@ -12,6 +12,7 @@ use dekarino_search::{
     FileWriter, Outcome, Progress, Unfinished, UnreadableFile, departures_of_log, order_of_logs,
     outcomes_of_scripts,
 };
+use dekarino_texts::Reading;
 use std::alloc::Global;
 use std::io;
 use std::io::{ErrorKind, Write};
@@ -227,13 +228,19 @@ fn perform<'a, R: Threads + Wait + Sync, O: Opener + FileWriter, P: Progress>(
             config,
             log,
             first,
+            time_outs,
+            own_ids,
             form,
-        } => departures_of_log(alloc, opener, config, log, first, form),
+        } => {
+            let reading = Reading { time_outs, own_ids };
+            departures_of_log(alloc, opener, config, log, first, reading, form)
+        }
         Task::JudgeApart {
             config,
             logs,
             order,
             steps,
+            time_outs,
             form,
         } => order_of_logs(
             alloc,
@@ -242,6 +249,7 @@ fn perform<'a, R: Threads + Wait + Sync, O: Opener + FileWriter, P: Progress>(
             logs.as_slice(),
             order,
             steps,
+            time_outs,
             form,
             progress,
         ),

@@ -1,33 +1,75 @@
 -- A log, judged entry by entry: which departures a sink is handed, and what is counted.
-use Rattle.std.specs.Prelude.{◌≡◌, ℕ, ◌+◌, nat_lt, if◌then◌else◌, List, [], ◌∷◌, ◌++◌, Option, Some, None, Result, Ok, Err}
+use Rattle.std.specs.Prelude.{◌≡◌, ℕ, Bool, ◌+◌, nat_lt, if◌then◌else◌, List, [], ◌∷◌, ◌++◌, Option, Some, None, option_map, Result, Ok, Err}
+use Rattle.apex_types.specs.declared.call.Call.{Call}
 use Rattle.apex_module.specs.Configuration.{Configuration}
 use Rattle.apex_ports.specs.declared.history.Entry.{Entry}
 use Rattle.apex_ports.specs.History.{History}
 use Rattle.apex_judge.specs.declared.departure.Expected.{Expected}
+use Rattle.apex_judge.specs.declared.own_ids.Replaced.{Replaced}
+use Rattle.apex_judge.specs.declared.told_ids.KnownIds.{KnownIds}
 use Rattle.apex_judge.specs.Departures.{instead_of}
+use Rattle.apex_judge.specs.OwnIds.{Own, untold, entry_in_ours, own_after, replaced_in}
 use Rattle.apex_logs.specs.declared.log.FaultyLine.{FaultyLine}
 use Rattle.apex_logs.specs.declared.log.LogError.{LogError}
 use Rattle.apex_logs.specs.declared.log.LogError.TheVariants as errors
 use Rattle.apex_logs.specs.declared.log.LoggedEntry.{LoggedEntry}
+use Rattle.apex_logs.specs.declared.time_out.MaxWait.{MaxWait}
+use Rattle.apex_logs.specs.Polled.{wait_of, polled_entry}
+use Rattle.apex_logs.specs.TimeOut.{as_waited}
 use Rattle.dekarino_texts.specs.declared.departures.DepartureCounts.{DepartureCounts}
+use Rattle.dekarino_texts.specs.declared.departures.LogPlace.{LogPlace}
+use Rattle.dekarino_texts.specs.declared.departures.Reading.{Reading}
 use Rattle.dekarino_texts.specs.Handed.{IsHanded}
 
 -- ---- one entry
 
--- an entry that departs, with the number of its line and what the standard has
-pub record LoggedDeparture : Type 0 where
-  pub line : ℕ
+-- what is judged in the place of a logged entry: what its call would have got without a time-out, with our identifiers
+pub record JudgedEntry : Type 0 where
+  pub logged : LoggedEntry
+  pub wait : MaxWait
+  pub replaced : Option Replaced
   pub entry : Entry
+
+-- a logged entry with what is judged in its place, after what was told of a system's identifiers; whether all calls that
+-- say no time-out have one is a parameter
+abbrev pub to_judge : Configuration → Bool → Own → LoggedEntry → JudgedEntry
+to_judge config all own logged = record {
+  logged = logged;
+  wait = wait_of all logged;
+  replaced = replaced_in config own logged.entry;
+  entry = polled_entry (wait_of all logged) (entry_in_ours config own logged.entry);
+}
+
+-- an entry that departs, as it was logged, with its place, its call with our identifiers, and what the standard has
+pub record LoggedDeparture : Type 0 where
+  pub place : LogPlace
+  pub entry : Entry
+  pub asked : Call
   pub expected : Expected
 
-abbrev pub departure_in : ℕ → Entry → Expected → LoggedDeparture
-departure_in line entry expected = record { line = line; entry = entry; expected = expected }
+abbrev pub departure_in : LogPlace → Entry → Call → Expected → LoggedDeparture
+departure_in place entry asked expected = record { place = place; entry = entry; asked = asked; expected = expected }
+
+-- what was told before of the port that an entry creates or asks for
+abbrev pub known_in : Option Replaced → Option KnownIds
+known_in replaced = option_map (λ one. one.known) replaced
+
+-- the place of a logged entry, which is as it was before with what was told
+abbrev pub place_with : LogPlace → Option Replaced → LogPlace
+place_with place replaced = record { line = place.line; time_out = place.time_out; wait = place.wait; known = known_in replaced }
+
+abbrev pub place_of : JudgedEntry → LogPlace
+place_of judged = record { line = judged.logged.line; time_out = judged.logged.time_out; wait = judged.wait; known = known_in judged.replaced }
+
+-- what the standard has for a call that may wait, by what it has for one that doesn't
+abbrev pub expected_waited : MaxWait → Expected → Expected
+expected_waited wait expected = record { row = expected.row; reply = as_waited wait expected.reply }
 
 -- the departure of an entry is handed on, if it departs and fewer than `most` entries did before it
-abbrev pub departures_handed : ℕ → ℕ → ℕ → Entry → Option Expected → List LoggedDeparture
-departures_handed most count line entry None = []
-departures_handed most count line entry (Some expected) =
-    if nat_lt count most then departure_in line entry expected ∷ [] else []
+abbrev pub departures_handed : ℕ → ℕ → LogPlace → Entry → Call → Option Expected → List LoggedDeparture
+departures_handed most count place entry asked None = []
+departures_handed most count place entry asked (Some expected) =
+    if nat_lt count most then departure_in place entry asked (expected_waited place.wait expected) ∷ [] else []
 
 -- the counts with one more entry
 abbrev pub counts_with : DepartureCounts → Option Expected → DepartureCounts
@@ -39,28 +81,38 @@ counts_with counts (Some expected) = record { calls = counts.calls + 1; departur
 abbrev pub no_counts : DepartureCounts
 no_counts = record { calls = 0; departures = 0 }
 
--- the counts after the entries that follow a log; each is judged after the entries before it, as they were logged
-unfoldable pub judged_counts_after : Configuration → History → DepartureCounts → List LoggedEntry → DepartureCounts
+-- what is judged in the place of the entries of a log, after what was told
+unfoldable pub all_to_judge : Configuration → Bool → Own → List LoggedEntry → List JudgedEntry
+all_to_judge config all own [] = []
+all_to_judge config all own (logged ∷ rest) =
+    to_judge config all own logged ∷ all_to_judge config all (own_after config own logged.entry) rest
+
+-- what is judged in the place of the entries of a log
+abbrev pub log_to_judge : Configuration → Reading → List LoggedEntry → List JudgedEntry
+log_to_judge config reading entries = all_to_judge config reading.time_outs (untold reading.own_ids config) entries
+
+-- the counts after the entries that follow a log; each is judged after the entries before it
+unfoldable pub judged_counts_after : Configuration → History → DepartureCounts → List JudgedEntry → DepartureCounts
 judged_counts_after config before counts [] = counts
-judged_counts_after config before counts (logged ∷ rest) =
-    judged_counts_after config (before ++ logged.entry ∷ []) (counts_with counts (instead_of config before logged.entry)) rest
+judged_counts_after config before counts (judged ∷ rest) =
+    judged_counts_after config (before ++ judged.entry ∷ []) (counts_with counts (instead_of config before judged.entry)) rest
 
 -- the departures of the entries that follow a log, as far as they are handed on
-unfoldable pub handed_after : Configuration → ℕ → History → DepartureCounts → List LoggedEntry → List LoggedDeparture
+unfoldable pub handed_after : Configuration → ℕ → History → DepartureCounts → List JudgedEntry → List LoggedDeparture
 handed_after config most before counts [] = []
-handed_after config most before counts (logged ∷ rest) =
-    let instead = instead_of config before logged.entry in
-    departures_handed most counts.departures logged.line logged.entry instead
-    ++ handed_after config most (before ++ logged.entry ∷ []) (counts_with counts instead) rest
+handed_after config most before counts (judged ∷ rest) =
+    let instead = instead_of config before judged.entry in
+    departures_handed most counts.departures (place_of judged) judged.logged.entry judged.entry.call instead
+    ++ handed_after config most (before ++ judged.entry ∷ []) (counts_with counts instead) rest
 
 -- ---- a log
 
 -- the sink is handed the first departures of the log, as many as were asked for, and all of its entries and departures are counted
-abbrev pub IsJudged : {S : Type 0} → (S → LoggedDeparture → S → Type 0) → Configuration → ℕ → Result (List LoggedEntry) FaultyLine → S → S → DepartureCounts → Type 0
-IsJudged takes config most log before after counts =
+abbrev pub IsJudged : {S : Type 0} → (S → LoggedDeparture → S → Type 0) → Configuration → Reading → ℕ → Result (List LoggedEntry) FaultyLine → S → S → DepartureCounts → Type 0
+IsJudged takes config reading most log before after counts =
     (entries : List LoggedEntry) × (log ≡ Ok entries)
-    × IsHanded takes before (handed_after config most [] no_counts entries) after
-    × (counts ≡ judged_counts_after config [] no_counts entries)
+    × IsHanded takes before (handed_after config most [] no_counts (log_to_judge config reading entries)) after
+    × (counts ≡ judged_counts_after config [] no_counts (log_to_judge config reading entries))
 
 -- the log has this faulty line, or memory was refused
 abbrev pub IsRefusedLog : Result (List LoggedEntry) FaultyLine → LogError → Type 0

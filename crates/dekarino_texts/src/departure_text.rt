@@ -1,10 +1,15 @@
 //! The lines of a judged log.
+ghost use Rattle.std.specs.Prelude.{◌<◌, length};
+
 use crate::counted::Counted;
-use crate::departures::{DepartureCounts, DepartureSink};
+use crate::departures::{DepartureCounts, DepartureSink, LogPlace};
+use crate::standard_reply::{Conflict, StandardReply, conflict_of};
 use apex_judge::Expected;
+use apex_logs::{MaxWait, TimeOut};
 use apex_module::Config;
 use apex_ports::{Entry, Refusal, Row};
 use apex_texts::push_reply;
+use apex_types::Call;
 use apex_words::{push_note, push_request};
 use std::alloc::{AllocError, Global};
 
@@ -36,18 +41,34 @@ impl DepartureSink for DepartureText {
         &mut self,
         config: &Config,
         file: &str,
-        line: usize,
+        place: LogPlace,
         entry: &Entry,
+        asked: &Call,
         expected: &Expected,
     ) -> Result<(), AllocError> {
-        let text = &mut self.text;
-        write!(text, "{file}:{line}: ")?;
-        push_request(text, config, entry.partition, entry.at, &entry.call)?;
+        let (text, p) = (&mut self.text, entry.partition);
+        write!(text, "{file}:{}: ", place.line)?;
+        push_request(text, config, p, entry.at, &entry.call)?;
+        push_time_out(text, place.time_out)?;
         text.push_str(": logged ")?;
         push_reply(text, &entry.reply)?;
-        text.push_str(introduction(expected.row))?;
-        push_reply(text, &expected.reply)?;
-        push_note(text, config, entry.partition, &entry.call, expected.row)?;
+        push_introduction(text, place, expected.row)?;
+        match StandardReply::of(place, expected) {
+            StandardReply::Waits => {}
+            StandardReply::AnyId => text.push_str("NO_ERROR and an identifier")?,
+            StandardReply::Id(id) => write!(text, "NO_ERROR id {id}")?,
+            StandardReply::Reply => push_reply(text, &expected.reply)?,
+        }
+        match conflict_of(place, &entry.reply, expected.row) {
+            Some(conflict) => push_conflict(text, config, p, conflict)?,
+            None => push_note(
+                text,
+                config,
+                p,
+                named_by(place, entry, asked, expected),
+                expected.row,
+            )?,
+        }
         text.push('\n')
     }
 
@@ -68,18 +89,72 @@ impl DepartureSink for DepartureText {
     }
 }
 
-/// The words before the reply of a row. Two choices of this project decide replies that the standard leaves open: how
-/// ports are numbered, and that no call waits.
-fn introduction(row: Row) -> &'static str {
-    match row {
-        Row::Created { .. }
-        | Row::Identified { .. }
-        | Row::Refused(Refusal::NotCreated | Refusal::NoSuchPort) => {
+/// Writes ` timeout NANOSECONDS` or ` timeout infinite`, if a line says it.
+pub fn push_time_out(text: &mut String, time_out: TimeOut) -> Result<(), AllocError> {
+    match time_out {
+        TimeOut::Unsaid => Ok(()),
+        TimeOut::Nanoseconds(time) => write!(text, " timeout {time}"),
+        TimeOut::Infinite => text.push_str(" timeout infinite"),
+    }
+}
+
+/// Writes the words before the standard's reply. Two choices of this project decide replies that the standard leaves open:
+/// how ports are numbered, and that a call whose line says no time-out has time-out zero.
+fn push_introduction(text: &mut String, place: LogPlace, row: Row) -> Result<(), AllocError> {
+    text.push_str(match (row, place.wait) {
+        (Row::Refused(Refusal::QueueFull | Refusal::QueueEmpty), MaxWait::Zero) => {
+            ", with time-out zero it is "
+        }
+        (Row::Refused(Refusal::QueueFull | Refusal::QueueEmpty), MaxWait::Finite) => {
+            ", with a time-out the standard has "
+        }
+        (Row::Refused(Refusal::QueueFull | Refusal::QueueEmpty), MaxWait::Infinite) => {
+            ", with an infinite time-out the call would still wait"
+        }
+        _ if is_of_identifiers(row) && place.known.is_none() => {
             ", with the identifiers of this project the standard has "
         }
-        Row::Refused(Refusal::QueueFull | Refusal::QueueEmpty) => {
-            ", with time-out zero the standard has "
-        }
         _ => ", the standard has ",
+    })
+}
+
+/// Whether the reply of a row rests on how ports are numbered.
+fn is_of_identifiers(row: Row) -> bool {
+    matches!(
+        row,
+        Row::Created { .. }
+            | Row::Identified { .. }
+            | Row::Refused(Refusal::NotCreated | Refusal::NoSuchPort)
+    )
+}
+
+/// The call whose identifier the words of a row say: the logged one if no port has it.
+pub fn named_by<'a>(
+    place: LogPlace,
+    entry: &'a Entry,
+    asked: &'a Call,
+    expected: &Expected,
+) -> &'a Call {
+    match expected.row {
+        Row::Refused(Refusal::NoSuchPort) if place.known.is_some() => &entry.call,
+        _ => asked,
+    }
+}
+
+/// Writes ` (WORDS)`: which port has an identifier that was told for another one, or which identifier the port has.
+pub fn push_conflict(
+    text: &mut String,
+    config: &Config,
+    partition: usize,
+    conflict: Conflict,
+) -> Result<(), AllocError>
+    requires { partition < length config.now.partitions }
+{
+    match conflict {
+        Conflict::HasAnother { id } => write!(text, " (the port has identifier {id})"),
+        Conflict::IsOf { id, port } => match config.port(partition, port) {
+            Some(port) => write!(text, " (identifier {id} is that of {})", port.name.text()),
+            None => Ok(()),
+        },
     }
 }

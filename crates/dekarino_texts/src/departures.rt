@@ -1,16 +1,43 @@
 //! The departures of a log, found entry by entry as it is read.
 ghost use Rattle.std.specs.Prelude.{◌≡◌, ◌<◌, ◌≤◌, ◌+◌, ◌^◌, ◌-◌, ◌∷◌, ◌++◌, [], length, IfOk, IfErr, OnOk};
+ghost use Rattle.apex_types.specs.declared.reply.Reply.TheVariants as replies;
+ghost use Rattle.apex_ports.specs.History.{entry_of};
 ghost use Rattle.apex_judge.specs.Departures.{instead_of};
+ghost use Rattle.apex_judge.specs.OwnIds.{untold, entry_in_ours, own_after, replaced_in, restored};
 ghost use Rattle.apex_logs.specs.declared.log.LogError.TheVariants as errors;
 ghost use Rattle.apex_logs.specs.Log.{log_of};
-ghost use Rattle.dekarino_texts.specs.Departures.{IsJudged, IsRefusedLog, counts_with, departures_handed};
+ghost use Rattle.apex_logs.specs.Polled.{polled_entry};
+ghost use Rattle.dekarino_texts.specs.Departures.{IsJudged, IsRefusedLog, counts_with, departure_in, departures_handed, expected_waited, known_in, place_with};
 ghost use Rattle.dekarino_texts.specs.Handed.{IsHanded};
 
-use apex_judge::{Expected, Judge};
-use apex_logs::{ANY_ENTRY, LogError, ModuleLog, next_entry};
+use apex_judge::{Expected, Judge, KnownIds, OwnIds, Replaced};
+use apex_logs::{ANY_ENTRY, LogError, MaxWait, ModuleLog, TimeOut, next_entry};
 use apex_module::Config;
 use apex_ports::Entry;
+use apex_types::{Call, OutOfMemory, Reply, ReturnCode};
 use std::alloc::{AllocError, Global};
+
+/// How a log is read.
+#[derive(Clone, Copy, Debug, PartialEq, Eq)]
+pub struct Reading {
+    /// Each send and receive whose line says no time-out has one.
+    pub time_outs: bool,
+    /// The identifiers are those that the system gave its ports.
+    pub own_ids: bool,
+}
+
+/// Where a logged call stands, how long it may wait, and what the log told before.
+#[derive(Clone, Copy, Debug, PartialEq, Eq)]
+pub struct LogPlace {
+    /// The number of the line, from 1.
+    pub line: usize,
+    /// The time-out that the line says.
+    pub time_out: TimeOut,
+    /// How long the call may wait.
+    pub wait: MaxWait,
+    /// What was told of a port that the call creates or asks for, if the identifiers are the system's.
+    pub known: Option<KnownIds>,
+}
 
 /// Takes the departures of logs, in order.
 pub trait DepartureSink {
@@ -20,18 +47,20 @@ pub trait DepartureSink {
     /// How the sink is before and after it takes a departure.
     ghost takes: { Self → LoggedDeparture → Self → Type 0 };
 
-    /// Takes an entry whose reply departs from the standard, from a line of a log, and what the standard has.
+    /// Takes an entry whose reply departs from the standard, from its place in a log, its call with our identifiers, and what
+    /// the standard has. A call that would still wait has the row of an empty or a full queue, and NOT_AVAILABLE.
     fn departure(
         &mut self,
         config: &Config,
         file: &str,
-        line: usize,
+        place: LogPlace,
         entry: &Entry,
+        asked: &Call,
         expected: &Expected,
     ) -> Result<(), AllocError>
         requires { entry.now.partition < length config.now.partitions }
-        ensures { OnOk result
-            (takes self.old (departure_in line entry.now expected.now) self.new) };
+        ensures { OnOk result (takes self.old
+            (departure_in place entry.now asked.now expected.now) self.new) };
 
     /// Takes the counts of a whole log.
     fn end(&mut self, counts: DepartureCounts) -> Result<(), AllocError>;
@@ -54,28 +83,33 @@ pub fn judge_log<S: DepartureSink>(
     config: Config,
     file: &str,
     log: &[u8],
+    reading: Reading,
     most: usize,
     sink: &mut S,
 ) -> Result<DepartureCounts, LogError>
     ensures judged { IfOk result
-        (IsJudged S.takes config most (log_of config log.now) sink.old sink.new) }
+        (IsJudged S.takes config reading most (log_of config log.now) sink.old sink.new) }
     ensures refused { IfErr result (IsRefusedLog (log_of config log.now)) }
 {
     let mut judge = Judge::new(alloc, config).map_err(out_of_memory)?;
-    judge_entries(&mut judge, file, log, most, sink)
+    let mut ids = OwnIds::new(alloc, judge.config(), reading.own_ids).map_err(out_of_memory)?;
+    judge_entries(&mut judge, &mut ids, file, log, reading, most, sink)
 }
 
 /// Judges the entries of a log one after another.
 fn judge_entries<S: DepartureSink>(
     judge: &mut Judge,
+    ids: &mut OwnIds,
     file: &str,
     log: &[u8],
+    reading: Reading,
     most: usize,
     sink: &mut S,
 ) -> Result<DepartureCounts, LogError>
     requires fresh { judge.old.log ≡ [] }
+    requires untold { ids.old ≡ untold reading.own_ids judge.old.config }
     ensures judged { IfOk result (let config = judge.old.config in
-        IsJudged S.takes config most (log_of config log.now) sink.old sink.new) }
+        IsJudged S.takes config reading most (log_of config log.now) sink.old sink.new) }
     ensures refused { IfErr result (IsRefusedLog (log_of judge.old.config log.now)) }
 {
     let mut counts = DepartureCounts {
@@ -85,7 +119,7 @@ fn judge_entries<S: DepartureSink>(
     let mut entry = ANY_ENTRY;
     let mut rest = log;
     let mut number = 0;
-    while let Some((line, after)) = next_entry(
+    while let Some((line, time_out, after)) = next_entry(
         &ModuleLog {
             config: judge.config(),
         },
@@ -93,7 +127,14 @@ fn judge_entries<S: DepartureSink>(
         rest,
         &mut entry,
     )? {
-        counts = judge_entry(judge, file, line, &entry, most, counts, sink)?;
+        let wait = MaxWait::of(reading.time_outs, &entry.call, time_out);
+        let place = LogPlace {
+            line,
+            time_out,
+            wait,
+            known: None,
+        };
+        counts = judge_entry(judge, ids, file, place, &mut entry, most, counts, sink)?;
         number = line;
         rest = after;
     }
@@ -104,40 +145,131 @@ fn judge_entries<S: DepartureSink>(
 /// before it.
 fn judge_entry<S: DepartureSink>(
     judge: &mut Judge,
+    ids: &mut OwnIds,
     file: &str,
-    line: usize,
-    entry: &Entry,
+    place: LogPlace,
+    entry: &mut Entry,
     most: usize,
     counts: DepartureCounts,
     sink: &mut S,
 ) -> Result<DepartureCounts, LogError>
-    requires partition { entry.now.partition < length judge.old.config.partitions }
+    requires partition { entry.old.partition < length judge.old.config.partitions }
+    requires told { length ids.old.told ≡ length judge.old.config.partitions }
     requires few { counts.calls < 2 ^ 64 - 1 }
     requires fewer { counts.departures ≤ counts.calls }
-    ensures counts { let instead = instead_of judge.old.config judge.old.log entry.now in
+    ensures counts { let ours = entry_in_ours judge.old.config ids.old entry.old in
+        let instead = instead_of judge.old.config judge.old.log (polled_entry place.wait ours) in
         IfOk result (λ after. after ≡ counts_with counts instead) }
-    ensures handed { let instead = instead_of judge.old.config judge.old.log entry.now in
-        let handed = departures_handed most counts.departures line entry.now instead in
+    ensures handed { let ours = entry_in_ours judge.old.config ids.old entry.old in
+        let instead = instead_of judge.old.config judge.old.log (polled_entry place.wait ours) in
+        let here = place_with place (replaced_in judge.old.config ids.old entry.old) in
+        let handed = departures_handed most counts.departures here entry.old ours.call instead in
         OnOk result (IsHanded S.takes sink.old handed sink.new) }
-    ensures log { OnOk result (judge.new.log ≡ judge.old.log ++ entry.now ∷ []) }
+    ensures log { let ours = entry_in_ours judge.old.config ids.old entry.old in
+        OnOk result (judge.new.log ≡ judge.old.log ++ polled_entry place.wait ours ∷ []) }
+    ensures told { OnOk result (ids.new ≡ own_after judge.old.config ids.old entry.old) }
+    ensures count { OnOk result (length ids.new.told ≡ length ids.old.told) }
     ensures config { judge.new.config ≡ judge.old.config }
     ensures refused { IfErr result (λ why. why ≡ errors.OutOfMemory) }
 {
     let calls = counts.calls + 1;
-    let departs = judge
-        .judge(entry.partition, entry.at, &entry.call, &entry.reply)
-        .map_err(out_of_memory)?;
+    let replaced = ids.enter(judge.config(), entry).map_err(out_of_memory)?;
+    let departs = judge_polled(judge, entry, place.wait).map_err(out_of_memory)?;
     let Some(expected) = departs else {
         return Ok(DepartureCounts { calls, ..counts });
     };
     if counts.departures < most {
-        sink.departure(judge.config(), file, line, entry, &expected)
-            .map_err(out_of_memory)?;
+        hand_on(judge.config(), file, place, entry, replaced, expected, sink).map_err(
+            out_of_memory,
+        )?;
     }
     Ok(DepartureCounts {
         calls,
         departures: counts.departures + 1,
     })
+}
+
+/// Hands an entry that departs to the sink, with the system's identifiers again.
+fn hand_on<S: DepartureSink>(
+    config: &Config,
+    file: &str,
+    place: LogPlace,
+    entry: &mut Entry,
+    replaced: Option<Replaced>,
+    expected: Expected,
+    sink: &mut S,
+) -> Result<(), AllocError>
+    requires { entry.old.partition < length config.now.partitions }
+    ensures { let handed = departure_in (place_with place replaced) (restored replaced entry.old)
+        entry.old.call (expected_waited place.wait expected) in
+        OnOk result (S.takes sink.old handed sink.new) }
+{
+    let asked = entry.call.copy();
+    restore(replaced, entry);
+    let mut expected = expected;
+    place.wait.wait(&mut expected.reply);
+    let here = LogPlace {
+        known: known_in(replaced),
+        ..place
+    };
+    sink.departure(config, file, here, entry, &asked, &expected)
+}
+
+fn restore(replaced: Option<Replaced>, entry: &mut Entry)
+    ensures { entry.new ≡ restored replaced entry.old }
+    ensures { entry.new.partition ≡ entry.old.partition }
+{
+    if let Some(replaced) = replaced {
+        replaced.restore(entry);
+    }
+}
+
+fn known_in(replaced: Option<Replaced>) -> Option<KnownIds>
+    ensures { result ≡ known_in replaced }
+{
+    match replaced {
+        Some(replaced) => Some(replaced.known),
+        None => None,
+    }
+}
+
+/// Judges what the call of an entry would have got without a time-out where it returned.
+fn judge_polled(
+    judge: &mut Judge,
+    entry: &Entry,
+    wait: MaxWait,
+) -> Result<Option<Expected>, OutOfMemory>
+    requires { entry.now.partition < length judge.old.config.partitions }
+    ensures judged { let judged = polled_entry wait entry.now in
+        IfOk result (λ instead. instead ≡ instead_of judge.old.config judge.old.log judged) }
+    ensures log { IfOk result (λ _.
+        judge.new.log ≡ judge.old.log ++ polled_entry wait entry.now ∷ []) }
+    ensures config { judge.new.config ≡ judge.old.config }
+{
+    match &entry.reply {
+        Reply::Code(code) if wait.polled_code(*code) != *code => {
+            judge_code(judge, entry, wait.polled_code(*code))
+        }
+        reply => judge.judge(entry.partition, entry.at, &entry.call, reply),
+    }
+}
+
+/// Judges the call of an entry as if it had been answered a return code.
+// Not inlined, since a function that makes a reply clears its room where it begins.
+#[inline(never)]
+fn judge_code(
+    judge: &mut Judge,
+    entry: &Entry,
+    code: ReturnCode,
+) -> Result<Option<Expected>, OutOfMemory>
+    requires { entry.now.partition < length judge.old.config.partitions }
+    ensures judged { let judged = entry_of entry.now.partition entry.now.at entry.now.call (replies.Code code) in
+        IfOk result (λ instead. instead ≡ instead_of judge.old.config judge.old.log judged) }
+    ensures log { let judged = entry_of entry.now.partition entry.now.at entry.now.call (replies.Code code) in
+        IfOk result (λ _. judge.new.log ≡ judge.old.log ++ judged ∷ []) }
+    ensures config { judge.new.config ≡ judge.old.config }
+{
+    judge.judge(entry.partition, entry.at, &entry.call, &Reply::Code(code))
 }
 
 fn out_of_memory<E: Drop>(_refused: E) -> LogError

@@ -17,13 +17,14 @@ pub mod remark_words;
 mod remarks;
 pub mod run_explanation;
 pub mod script_lines;
+pub mod standard_reply;
 pub mod table;
 pub mod table_words;
 
 pub use crate::counted::Counted;
 pub use crate::counts::{Counts, Ranges, ranges_of};
-pub use crate::departure_text::DepartureText;
-pub use crate::departures::{DepartureCounts, DepartureSink, judge_log};
+pub use crate::departure_text::{DepartureText, named_by, push_conflict, push_time_out};
+pub use crate::departures::{DepartureCounts, DepartureSink, LogPlace, Reading, judge_log};
 pub use crate::explanation::{
     AnsweredCall, Explained, Explanation, ExplanationSink, explain_trace,
 };
@@ -34,5 +35,6 @@ pub use crate::remark::Remark;
 pub use crate::remark_words::{Hex, MESSAGES_SHOWN, RemarkWords, channel_called, destination_of};
 pub use crate::run_explanation::explain_run;
 pub use crate::script_lines::{LineNumbers, call_lines};
+pub use crate::standard_reply::{Conflict, StandardReply, conflict_of};
 pub use crate::table::{PortPlace, TableRow, port_table};
 pub use crate::table_words::{direction_word, kind_word, table_text};

@@ -8,4 +8,4 @@ on_ok (Ok x) holds = holds
 on_ok (Err fault) holds = tt
 
 pub returns-clause-known : goal.returns-clause-known
-returns-clause-known c = on_ok c.read_call.result (index-known c.args.config.now c.in_ok-partition.partition.now c.in_ok-entry-2.field-0 c.in_ok-entry-2.ensures)
+returns-clause-known c = on_ok c.read_timed_call.result (index-known c.args.config.now c.in_ok-partition.partition.now c.in_ok-entry-2.field-0 c.in_ok-entry-2.ensures)

@@ -35,10 +35,10 @@ loop-index-preserved g c =
     let unnamed = flag_read named p c.index.result.now false i_named c.index.ensures c.if-not-index.true in
     let first : has_argument (arguments_for config p (take i arguments)) ≡ false = sym (before.flags p i_named) ∙ unnamed in
     let count = before.logs.count in
-    let read = subst (λ (path : List ℕ). IfSome (files path) (λ bytes. SaysOwnLog p bytes log)) c.in-Some.ensures.path c.in_ok-log.ensures in
+    let read = subst (λ (path : List ℕ). IfSome (files path) (λ bytes. SaysOwnLog c.args.time_outs p bytes log)) c.in-Some.ensures.path c.in_ok-log.ensures in
     record {
-      logs = subst (λ (done : Arguments). AreOwnLogs files config done (set logs p log)) (sym one_more)
-          (given_more SaysOwnLog [] files config (take i arguments) argument p logs log names (omega arith) first read before.logs);
+      logs = subst (λ (done : Arguments). AreOwnLogs files c.args.time_outs config done (set logs p log)) (sym one_more)
+          (given_more (SaysOwnLog c.args.time_outs) [] files config (take i arguments) argument p logs log names (omega arith) first read before.logs);
       files = length-set c.loop-index.all.files.items p c.in_ok-log.file ∙ before.files;
       flags = subst (λ (done : Arguments). AreFlags config done (set named p true)) (sym one_more)
           (flags_more config (take i arguments) argument p named names i_named before.flags);

@@ -5,7 +5,7 @@ use Rattle.dekarino_search.proofs.own_logs.read_own_logs.Given as goal
 
 abbrev pub invariant-loop-index : goal.invariant-loop-index
 invariant-loop-index g l = record {
-  logs : AreOwnLogs (g.O.Opener.bytes_at l.opener) l.config (take l.index l.arguments) l.all.logs.items;
+  logs : AreOwnLogs (g.O.Opener.bytes_at l.opener) l.time_outs l.config (take l.index l.arguments) l.all.logs.items;
   files : length l.all.files.items ≡ length l.config.partitions;
   flags : AreFlags l.config (take l.index l.arguments) l.named.items;
   count : vec_len l.named ≡ length l.config.partitions;

@@ -1,0 +1,167 @@
+-- A system's own identifiers. The reply to a call that creates a port, or that asks for its identifier, tells which
+-- identifier the system gave it, until the partition restarts. What is judged is the log with ours in the place of those.
+use Rattle.std.specs.Prelude.{ℕ, Bool, true, false, ◌&&◌, ◌||◌, ◌==◌, if◌then◌else◌, List, [], ◌∷◌, ◌++◌, find, get_or, set, replicate, length, Option, Some, None, is_none, option_map, unwrap_or}
+use Rattle.apex_types.specs.declared.call.Call.{Call}
+use Rattle.apex_types.specs.declared.call.Call.TheVariants as calls
+use Rattle.apex_types.specs.declared.reply.Reply.{Reply}
+use Rattle.apex_types.specs.declared.reply.Reply.TheVariants as replies
+use Rattle.apex_module.specs.Configuration.{Configuration, id_named}
+use Rattle.apex_ports.specs.declared.history.Entry.{Entry}
+use Rattle.apex_ports.specs.Modes.{is_code_no_error, is_restart, mode_asked}
+use Rattle.apex_judge.specs.declared.told_ids.KnownIds.{KnownIds}
+use Rattle.apex_judge.specs.declared.told_ids.ToldId.{ToldId}
+use Rattle.apex_judge.specs.declared.own_ids.Replaced.{Replaced}
+
+-- ---- what was told of the ports of a partition
+
+-- our identifier of the port that has one of the system's
+abbrev pub ours_in : List ToldId → ℕ → Option ℕ
+ours_in told system = option_map (λ one. one.ours) (find (λ one. one.system == system) told)
+
+-- the same; no port has 0
+abbrev pub ours_of : List ToldId → ℕ → ℕ
+ours_of told system = unwrap_or (ours_in told system) 0
+
+-- the system's identifier of the port that has one of ours
+abbrev pub system_of : List ToldId → ℕ → Option ℕ
+system_of told ours = option_map (λ one. one.system) (find (λ one. one.ours == ours) told)
+
+-- neither the system's identifier nor the port was told of
+abbrev pub is_new : List ToldId → ℕ → ℕ → Bool
+is_new told system port = is_none (ours_in told system) && is_none (system_of told port)
+
+-- ---- identifiers in calls and replies
+
+-- the identifier in a call, 0 where there is none
+abbrev pub id_asked : Call → ℕ
+id_asked (calls.WriteSampling id message) = id
+id_asked (calls.ReadSampling id) = id
+id_asked (calls.SamplingStatus id) = id
+id_asked (calls.SendQueuing id message) = id
+id_asked (calls.ReceiveQueuing id) = id
+id_asked (calls.QueuingStatus id) = id
+id_asked (calls.ClearQueuing id) = id
+id_asked _ = 0
+
+-- a call with another identifier in the place of its own, if it has one
+abbrev pub asked_of : ℕ → Call → Call
+asked_of id (calls.WriteSampling old message) = calls.WriteSampling id message
+asked_of id (calls.ReadSampling old) = calls.ReadSampling id
+asked_of id (calls.SamplingStatus old) = calls.SamplingStatus id
+asked_of id (calls.SendQueuing old message) = calls.SendQueuing id message
+asked_of id (calls.ReceiveQueuing old) = calls.ReceiveQueuing id
+asked_of id (calls.QueuingStatus old) = calls.QueuingStatus id
+asked_of id (calls.ClearQueuing old) = calls.ClearQueuing id
+asked_of id call = call
+
+-- the identifier that a reply is, 0 where it is none
+abbrev pub id_replied : Reply → ℕ
+id_replied (replies.Id id) = id
+id_replied _ = 0
+
+-- a reply with another identifier in the place of its own, if it has one
+abbrev pub replied_of : ℕ → Reply → Reply
+replied_of id (replies.Id old) = replies.Id id
+replied_of id reply = reply
+
+-- the name of the port that a call creates, or whose identifier it asks for
+abbrev pub name_asked : Call → Option (List ℕ)
+name_asked (calls.CreateSampling name size direction refresh) = Some name
+name_asked (calls.CreateQueuing name size depth direction discipline) = Some name
+name_asked (calls.SamplingId name) = Some name
+name_asked (calls.QueuingId name) = Some name
+name_asked _ = None
+
+abbrev pub port_called : Configuration → ℕ → Option (List ℕ) → Option ℕ
+port_called config partition None = None
+port_called config partition (Some name) = id_named config partition name
+
+-- our identifier of that port
+abbrev pub port_asked : Configuration → ℕ → Call → Option ℕ
+port_asked config partition call = port_called config partition (name_asked call)
+
+-- ---- an entry in our identifiers
+
+-- ours in the place of an identifier that is told for a port: that of the port, if the identifier is the port's, or if
+-- neither has been told of. Another port's identifier, and another identifier of the port, become 0, which departs
+abbrev pub given_of : List ToldId → Option ℕ → ℕ → ℕ
+given_of told None system = 0
+given_of told (Some port) system = if (ours_of told system == port) || is_new told system port then port else 0
+
+-- the entry, after what was told of its partition's ports
+abbrev pub in_ours : Configuration → List ToldId → Entry → Entry
+in_ours config told entry = record {
+  partition = entry.partition;
+  at = entry.at;
+  call = asked_of (ours_of told (id_asked entry.call)) entry.call;
+  reply = replied_of (given_of told (port_asked config entry.partition entry.call) (id_replied entry.reply)) entry.reply;
+}
+
+-- ---- what is told
+
+-- what was told, with the identifier of a port that is new
+abbrev pub told_with : List ToldId → Option ℕ → Reply → List ToldId
+told_with told (Some port) (replies.Id system) =
+    if is_new told system port then told ++ record { system = system; ours = port } ∷ [] else told
+told_with told port reply = told
+
+-- the partition was restarted
+abbrev pub restarted : Call → Reply → Bool
+restarted call reply = is_code_no_error reply && is_restart (mode_asked call)
+
+-- what was told after an entry of the partition
+abbrev pub told_after : Configuration → List ToldId → Entry → List ToldId
+told_after config told entry =
+    if restarted entry.call entry.reply then []
+    else told_with told (port_asked config entry.partition entry.call) entry.reply
+
+-- ---- all partitions
+
+-- what was told of the ports of each partition, if a log's identifiers are the system's
+pub record Own : Type 0 where
+  pub on : Bool
+  pub told : List (List ToldId)
+
+-- nothing was told
+abbrev pub untold : Bool → Configuration → Own
+untold on config = record { on = on; told = replicate (length config.partitions) [] }
+
+abbrev pub told_in : Own → ℕ → List ToldId
+told_in own partition = get_or own.told partition []
+
+-- the entry as it is judged
+abbrev pub entry_in_ours : Configuration → Own → Entry → Entry
+entry_in_ours config own entry = if own.on then in_ours config (told_in own entry.partition) entry else entry
+
+-- what was told after an entry
+abbrev pub own_after : Configuration → Own → Entry → Own
+own_after config own entry =
+    if own.on then record { on = true; told = set own.told entry.partition (told_after config (told_in own entry.partition) entry) }
+    else own
+
+-- ---- what was replaced
+
+-- of a port that is asked for: the identifier that was told for it, and the port that has the identifier in the reply
+abbrev pub known_of : List ToldId → Option ℕ → ℕ → KnownIds
+known_of told None system = record { own = None; holder = None }
+known_of told (Some port) system = record { own = system_of told port; holder = ours_in told system }
+
+abbrev pub replaced_by : Configuration → List ToldId → Entry → Replaced
+replaced_by config told entry = record {
+  asked = id_asked entry.call;
+  replied = id_replied entry.reply;
+  known = known_of told (port_asked config entry.partition entry.call) (id_replied entry.reply);
+}
+
+abbrev pub replaced_in : Configuration → Own → Entry → Option Replaced
+replaced_in config own entry = if own.on then Some (replaced_by config (told_in own entry.partition) entry) else None
+
+-- the entry with the system's identifiers again
+abbrev pub restored : Option Replaced → Entry → Entry
+restored None entry = entry
+restored (Some replaced) entry = record {
+  partition = entry.partition;
+  at = entry.at;
+  call = asked_of replaced.asked entry.call;
+  reply = replied_of replaced.replied entry.reply;
+}
