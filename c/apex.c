@@ -377,10 +377,15 @@ uint32_t bench_open(const void *text, size_t length) {
     if (text == NULL) {
         return 1;
     }
+    static uint8_t path[1];
+    static char lines[16384];
+    uint64_t path_length = 0, lines_length = 0;
     pthread_mutex_lock(&lock);
-    uint32_t answer = apex_open(&module, text, length);
-    if (answer >= 1 && answer <= 10) {
-        apex_tell_mistakes(text, length);
+    uint32_t answer = apex_open_explained(&module, text, length, path, sizeof path, &path_length, (uint8_t *)lines,
+                                          sizeof lines - 1, &lines_length);
+    if (lines_length < sizeof lines) {
+        lines[lines_length] = '\0';
+        apex_tell_lines(lines);
     }
     pthread_mutex_unlock(&lock);
     return answer;

@@ -55,8 +55,8 @@ void apex_forget_words(void);
 /* Keeps a line beside the calls as a comment, where they are kept. */
 void apex_keep_comment(const char *line);
 
-/* Says a line on standard error, or to the bench's sink; and each line that says why a configuration is refused. */
+/* Says a line on standard error, or to the bench's sink; and each line of a text, which is cut into its lines. */
 void apex_tell(const char *line);
-void apex_tell_mistakes(const void *text, size_t length);
+void apex_tell_lines(char *lines);
 
 #endif

@@ -93,15 +93,7 @@ void apex_tell(const char *line) {
     }
 }
 
-/* Says each line of the refusal of a configuration. */
-void apex_tell_mistakes(const void *text, size_t length) {
-    static char lines[16384];
-    uint64_t lines_length = 0;
-    apex_configuration_mistakes(text, length, (uint8_t *)lines, sizeof lines - 1, &lines_length);
-    if (lines_length >= sizeof lines) {
-        return;
-    }
-    lines[lines_length] = '\0';
+void apex_tell_lines(char *lines) {
     char *rest = lines;
     for (char *end = strchr(rest, '\n'); end != NULL; rest = end + 1, end = strchr(rest, '\n')) {
         *end = '\0';

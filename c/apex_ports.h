@@ -78,6 +78,14 @@ uint32_t apex_configuration_fault(const uint8_t *text, size_t text_length, uint8
 uint32_t apex_configuration_mistakes(const uint8_t *text, size_t text_length, uint8_t *buffer, size_t buffer_length,
                                      uint64_t *lines_length);
 
+/* Opens a handle as apex_open does. Of a text that is refused, the path and the lines go into their buffers, as
+ * apex_configuration_fault and apex_configuration_mistakes put them, from one reading of the text. Where the answer is
+ * APEX_OUT_OF_MEMORY or APEX_ALREADY_OPEN, buffers and lengths stay as they were.
+ * Assumed: `text` points to `text_length` bytes, `path` to `path_room`, and `lines` to `lines_room`. */
+uint32_t apex_open_explained(struct apex_handle *handle, const uint8_t *text, size_t text_length, uint8_t *path,
+                             size_t path_room, uint64_t *path_length, uint8_t *lines, size_t lines_room,
+                             uint64_t *lines_length);
+
 /* Closes a handle, which can be opened again. Answers 0, or APEX_NOT_OPEN. Assumed: no more than above. */
 uint32_t apex_close(struct apex_handle *handle);
 

@@ -84,17 +84,14 @@ static uint32_t give_number(struct noted *new, uint32_t *place, uint32_t value) 
     return answer_of(new);
 }
 
-uint32_t apex_open(struct apex_handle *handle, const uint8_t *text, size_t length) {
+/* (no test of the shim alone asks for words) */
+uint32_t apex_open_explained(struct apex_handle *handle, const uint8_t *text, size_t length, uint8_t *path,
+                             size_t path_room, uint64_t *path_length, uint8_t *lines, size_t lines_room,
+                             uint64_t *lines_length) {
     struct noted *new = note("open", handle, 0, 0);
+    (void)path, (void)path_room, (void)path_length, (void)lines, (void)lines_room, (void)lines_length;
     note_text(new, text, length);
     return answer_of(new);
-}
-
-/* (no test of the shim alone asks for words) */
-uint32_t apex_configuration_mistakes(const uint8_t *text, size_t length, uint8_t *buffer, size_t buffer_length,
-                                     uint64_t *lines_length) {
-    (void)text, (void)length, (void)buffer, (void)buffer_length, (void)lines_length;
-    return 1;
 }
 
 uint32_t apex_call_words(struct apex_handle *handle, uint32_t partition, uint64_t at, const struct apex_call *call,

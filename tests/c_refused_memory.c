@@ -97,6 +97,19 @@ static uint32_t tell_mistakes(struct apex_handle *handle, uint8_t *buffer, size_
     return apex_configuration_mistakes(faulty, sizeof faulty - 1, buffer, buffer_length, length);
 }
 
+static uint32_t tell_opening(struct apex_handle *handle, uint8_t *buffer, size_t buffer_length, uint64_t *length) {
+    static uint8_t path[64];
+    struct apex_handle closed;
+    uint64_t path_length = 0;
+    (void)handle;
+    memset(&closed, 0, sizeof closed);
+    const uint32_t answer = apex_open_explained(&closed, faulty, sizeof faulty - 1, path, sizeof path, &path_length, buffer,
+                                                buffer_length, length);
+    expect((path_length > 0) == (answer != APEX_OUT_OF_MEMORY), "the path comes with the lines");
+    expect(apex_close(&closed) == APEX_NOT_OPEN, "the handle stays closed");
+    return answer;
+}
+
 /* Tells with each request refused in turn, and with all from each on, until none is; how often one was. */
 static unsigned long tell_without_memory(const uint8_t *text, size_t length, telling *tell, uint32_t right,
                                          uint32_t no_memory) {
@@ -173,7 +186,8 @@ int main(int count, char **words) {
     call_without_memory(text, length);
     const unsigned long told = tell_without_memory(text, length, tell_words, 0, APEX_NO_MEMORY) +
                                tell_without_memory(text, length, tell_fault, 3, APEX_OUT_OF_MEMORY) +
-                               tell_without_memory(text, length, tell_mistakes, 3, APEX_OUT_OF_MEMORY);
+                               tell_without_memory(text, length, tell_mistakes, 3, APEX_OUT_OF_MEMORY) +
+                               tell_without_memory(text, length, tell_opening, 3, APEX_OUT_OF_MEMORY);
     printf("%lu openings with one request refused, %lu with all from one on; %lu refused tellings\n", one, all, told);
     return 0;
 }

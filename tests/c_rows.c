@@ -181,6 +181,19 @@ static void ask_at_random(long calls) {
     apex_close(&module);
 }
 
+/* Opening with words puts the same path and lines as asking for each, and opens what isn't refused. */
+static void expect_explained(uint32_t answer, const uint8_t *path, uint64_t path_length, const uint8_t *lines,
+                             uint64_t lines_length) {
+    static uint8_t same_path[256], same_lines[65536];
+    uint64_t length = 0, all = 0;
+    expect(apex_open_explained(&module, config, config_length, same_path, sizeof same_path, &length, same_lines,
+                               sizeof same_lines, &all) == answer,
+           "opening with words answers as opening does");
+    expect(length == path_length && memcmp(same_path, path, length) == 0, "and puts the same path");
+    expect(all == lines_length && memcmp(same_lines, lines, all) == 0, "and the same lines");
+    expect(apex_close(&module) == (answer == 0 ? 0 : 8), "and opens what is not refused");
+}
+
 /* Prints what a configuration is refused with; a buffer that is too short for it stays as it was. */
 static void print_fault(void) {
     static uint8_t path[256], lines[65536];
@@ -193,6 +206,7 @@ static void print_fault(void) {
            "an opening has the same answer");
     expect(apex_configuration_fault(config, config_length, &byte, 1, &told) == answer && told == path_length &&
                byte == FILL, "a short buffer stays as it was");
+    expect_explained(answer, path, path_length, lines, lines_length);
     printf("%u\n%.*s\n%.*s", (unsigned)answer, (int)path_length, (const char *)path, (int)lines_length,
            (const char *)lines);
 }

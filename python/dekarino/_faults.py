@@ -1,27 +1,38 @@
-"""Why a configuration is refused, and where."""
+"""Opening a module, and why a configuration is refused."""
 import ctypes
+from typing import Any
 
 from . import _library
 from ._errors import FAULTS, ConfigError
 
-# enough bytes for what is told of most texts: a text is read again for more
-ROOM = 65536
+# enough bytes for the path of any place, and for the lines of most texts: a text is read again for more
+PATH_ROOM, LINES_ROOM = 256, 65536
 
 
-def _told(reader: str, text: bytes) -> str:
-    """What a reader tells of a text that was refused; nothing where memory is refused."""
-    function, length = _library.library().function(reader), ctypes.c_uint64()
-    buffer = ctypes.create_string_buffer(ROOM)
-    answer = function(text, len(text), buffer, ROOM, ctypes.byref(length))
-    if length.value > ROOM:
-        buffer = ctypes.create_string_buffer(length.value)
-        answer = function(text, len(text), buffer, length.value, ctypes.byref(length))
-    return "" if answer == _library.OUT_OF_MEMORY else ctypes.string_at(buffer, length.value).decode("ascii")
-
-
-def refused(text: bytes, fault: int) -> Exception:
-    """What is raised of a text that was refused by the fault of a number."""
+def open_module(handle: Any, text: bytes) -> None:
+    """Opens a handle with the ports of a configuration. Raises ConfigError if it is refused, and says where."""
+    path, lines = ctypes.create_string_buffer(PATH_ROOM), ctypes.create_string_buffer(LINES_ROOM)
+    path_length, lines_length = ctypes.c_uint64(), ctypes.c_uint64()
+    fault = _library.library().function("open_explained")(
+        handle, text, len(text), path, PATH_ROOM, ctypes.byref(path_length), lines, LINES_ROOM,
+        ctypes.byref(lines_length))
+    if fault == 0:
+        return
     if fault == _library.OUT_OF_MEMORY:
-        return MemoryError("memory was refused")
-    lines = tuple(_told("configuration_mistakes", text).splitlines())
-    return ConfigError(fault, FAULTS[fault - 1], _told("configuration_fault", text), lines)
+        raise MemoryError("memory was refused")
+    if lines_length.value > LINES_ROOM:
+        lines = _all_lines(text, lines_length)
+    raise ConfigError(fault, FAULTS[fault - 1], _ascii(path, path_length), tuple(_ascii(lines, lines_length).splitlines()))
+
+
+def _all_lines(text: bytes, length: ctypes.c_uint64) -> Any:
+    """A buffer with lines of this length, of a text that is refused."""
+    buffer = ctypes.create_string_buffer(length.value)
+    mistakes = _library.library().function("configuration_mistakes")
+    if mistakes(text, len(text), buffer, len(buffer), ctypes.byref(length)) == _library.OUT_OF_MEMORY:
+        raise MemoryError("memory was refused")
+    return buffer
+
+
+def _ascii(buffer: Any, length: ctypes.c_uint64) -> str:
+    return ctypes.string_at(buffer, length.value).decode("ascii")

@@ -64,9 +64,8 @@ class ChannelFields(ctypes.Structure):
 
 # The parameters of each function.
 PARAMETERS: Dict[str, Tuple[Any, ...]] = {
-    "open": (_handle, _text, _length),
+    "open_explained": (_handle, _text, _length, _place, _length, _place, _place, _length, _place),
     "close": (_handle,),
-    "configuration_fault": (_text, _length, _place, _length, _place),
     "configuration_mistakes": (_text, _length, _place, _length, _place),
     "create_sampling_port": (*_caller, _text, _length, _u32, _u32, _u64, _place),
     "write_sampling_message": (*_caller, _u32, _text, _length),

@@ -9,7 +9,7 @@ from . import _library
 from ._calls import Calls
 from ._codes import Code
 from ._errors import NoCallError
-from ._faults import refused
+from ._faults import open_module
 from ._library import MOMENT_LIMIT, number
 from ._lock import end_call, is_held, later, lock, refuse_within_a_call
 from ._readers import Readers
@@ -55,9 +55,7 @@ class Server(Readers):
 
     def __init__(self, text: bytes, is_kept: bool) -> None:
         super().__init__()
-        fault = self.functions.function("open")(self.lent, text, len(text))
-        if fault != 0:
-            raise refused(text, fault)
+        open_module(self.lent, text)
         weakref.finalize(self, self.functions.function("close"), self.lent).atexit = False
         self.moment = 0
         self.calls = Calls(is_kept)

@@ -4,12 +4,12 @@ ghost use Rattle.apex_config.specs.Meaning.{config_of, read_of};
 ghost use Rattle.apex_module.specs.declared.fault.ConfigFault.TheVariants.{OutOfMemory};
 ghost use Rattle.apex_c.specs.Fault.{AreLinesOf, first_path, path_at, path_in};
 ghost use Rattle.apex_c.specs.Opening.{fault_number, opening_number};
-ghost use Rattle.apex_c.specs.Texts.{text_after, text_length_after};
+ghost use Rattle.apex_c.specs.Texts.{IsText, text_after, text_length_after};
 
 use crate::buffer::put_text;
 use crate::opening::{OPENED, OUT_OF_MEMORY};
 use apex_config::{Config, ConfigFault, Part, Place, ReadConfig, Refusal, Spot};
-use apex_refusals::{PathOfPart, refusal_lines};
+use apex_refusals::{PathOfPart, Refused, read_config};
 use std::alloc::{AllocError, Global};
 use std::fmt;
 
@@ -58,13 +58,46 @@ pub extern "C" fn apex_configuration_mistakes(
     ensures no_lines { (result ≡ OUT_OF_MEMORY) ⊎ (result ≡ OPENED) →
         (buffer.new ≡ buffer.old) × (lines_length.new ≡ lines_length.old) }
 {
-    match Config::read_placed(alloc, text) {
-        Ok(_) => OPENED,
-        Err(refusal) => match refusal_lines(alloc, text, &refusal) {
-            Ok(lines) => put_fault(refusal.fault, lines.as_bytes(), buffer, lines_length),
-            Err(_) => OUT_OF_MEMORY,
-        },
+    match read_config(alloc, None, text) {
+        Ok(Ok(_)) => OPENED,
+        Ok(Err(refused)) => {
+            let lines = refused.lines.as_bytes();
+            put_fault(refused.refusal.fault, lines, buffer, lines_length)
+        }
+        Err(_) => OUT_OF_MEMORY,
     }
+}
+
+/// Puts the path of a refusal's first place and its lines into their buffers. Answers the number of the fault.
+pub(crate) fn put_refused(
+    alloc: Global,
+    refused: &Refused,
+    path: &mut [u8],
+    path_length: &mut u64,
+    lines: &mut [u8],
+    lines_length: &mut u64,
+) -> u32
+    ensures number { result ≢ OUT_OF_MEMORY → result ≡ fault_number refused.now.refusal.fault }
+    ensures refused { result ≢ OPENED }
+    ensures path { result ≢ OUT_OF_MEMORY →
+        path.new ≡ text_after (Ok (first_path refused.now.refusal.places)) path.old }
+    ensures path_length { result ≢ OUT_OF_MEMORY →
+        path_length.new ≡ length (first_path refused.now.refusal.places) }
+    ensures lines { result ≢ OUT_OF_MEMORY →
+        IsText lines.old lines.new lines_length.new }
+    ensures no_path { result ≡ OUT_OF_MEMORY →
+        (path.new ≡ path.old) × (path_length.new ≡ path_length.old) }
+    ensures no_lines { result ≡ OUT_OF_MEMORY →
+        (lines.new ≡ lines.old) × (lines_length.new ≡ lines_length.old) }
+{
+    let Ok(found) = first_path(alloc, &refused.refusal) else {
+        return OUT_OF_MEMORY;
+    };
+    let answer = put_fault(refused.refusal.fault, found.as_bytes(), path, path_length);
+    if answer != OUT_OF_MEMORY {
+        let _ = put_text(refused.lines.as_bytes(), lines, lines_length);
+    }
+    answer
 }
 
 // Puts the text of a fault into the buffer. Answers the number of the fault.

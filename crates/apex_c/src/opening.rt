@@ -1,14 +1,18 @@
 //! Opening and closing.
-ghost use Rattle.std.specs.Prelude.{◌≡◌, ◌≢◌, [], Ok, Err, None, is_some, if◌then◌else◌, MatchResult};
-ghost use Rattle.apex_config.specs.Meaning.{config_of};
-ghost use Rattle.apex_module.specs.declared.fault.ConfigFault.TheVariants.{OutOfMemory};
+ghost use Rattle.std.specs.Prelude.{◌≡◌, ◌≢◌, ◌⊎◌, [], Ok, None, is_some, if◌then◌else◌, IfOk};
+ghost use Rattle.apex_config.specs.Meaning.{config_of, read_of};
+ghost use Rattle.apex_c.specs.Fault.{AreLinesOf, path_in};
 ghost use Rattle.apex_c.specs.Opening.{fault_number, opening_number, ports_at_start};
+ghost use Rattle.apex_c.specs.Texts.{text_after, text_length_after};
 
 use crate::answer::NOT_OPEN;
+use crate::fault::put_refused;
 use crate::handle::Handle;
 use apex_config::ReadConfig;
 use apex_module::{Config, ConfigFault};
 use apex_ports::Ports;
+use apex_refusals::read_config;
+use apex_types::OutOfMemory;
 use std::alloc::Global;
 
 /// The handle was opened.
@@ -37,12 +41,49 @@ pub extern "C" fn apex_open(alloc: Global, handle: &mut Handle, text: &[u8]) -> 
     if handle.is_open() {
         return ALREADY_OPEN;
     }
-    match ports_of_text(alloc, text) {
-        Ok(ports) => {
-            *handle = Handle::of(ports);
-            OPENED
-        }
+    match Config::read(alloc, text) {
+        Ok(config) => open(alloc, handle, config),
         Err(fault) => number_of_fault(fault),
+    }
+}
+
+/// Opens a handle as `apex_open` does, and says why a text is refused, from one reading of it: the path of the fault's first
+/// place and a line for each place, as `apex_configuration_fault` and `apex_configuration_mistakes` put them.
+#[unsafe(no_mangle)]
+#[tactic(auto, unfolding(apex_config::specs::Meaning::config_of))]
+pub extern "C" fn apex_open_explained(
+    alloc: Global,
+    handle: &mut Handle,
+    text: &[u8],
+    path: &mut [u8],
+    path_length: &mut u64,
+    lines: &mut [u8],
+    lines_length: &mut u64,
+) -> u32
+    ensures already { handle.old.held.ports ≢ None → result ≡ ALREADY_OPEN }
+    ensures refused { result ≢ OPENED → handle.new.held.ports ≡ handle.old.held.ports }
+    ensures opened { result ≡ OPENED →
+        handle.new.held.ports ≡ ports_at_start (config_of text.now) }
+    ensures number { handle.old.held.ports ≡ None → result ≢ OUT_OF_MEMORY →
+        result ≡ opening_number (config_of text.now) }
+    ensures path { handle.old.held.ports ≡ None → result ≢ OUT_OF_MEMORY →
+        path.new ≡ text_after (path_in (read_of text.now)) path.old }
+    ensures path_length { handle.old.held.ports ≡ None → result ≢ OUT_OF_MEMORY →
+        path_length.new ≡ text_length_after (path_in (read_of text.now)) path_length.old }
+    ensures lines { handle.old.held.ports ≡ None → result ≢ OUT_OF_MEMORY →
+        AreLinesOf (read_of text.now) lines.old lines.new lines_length.new }
+    ensures no_path { (result ≡ OUT_OF_MEMORY) ⊎ (result ≡ ALREADY_OPEN) →
+        (path.new ≡ path.old) × (path_length.new ≡ path_length.old) }
+    ensures no_lines { (result ≡ OUT_OF_MEMORY) ⊎ (result ≡ ALREADY_OPEN) →
+        (lines.new ≡ lines.old) × (lines_length.new ≡ lines_length.old) }
+{
+    if handle.is_open() {
+        return ALREADY_OPEN;
+    }
+    match read_config(alloc, None, text) {
+        Ok(Ok(config)) => open(alloc, handle, config),
+        Ok(Err(refused)) => put_refused(alloc, &refused, path, path_length, lines, lines_length),
+        Err(_) => OUT_OF_MEMORY,
     }
 }
 
@@ -61,13 +102,26 @@ pub extern "C" fn apex_close(alloc: Global, handle: &mut Handle) -> u32
     }
 }
 
-// The ports of a configuration's text before the first call.
-fn ports_of_text(alloc: Global, text: &[u8]) -> Result<Box<Ports>, ConfigFault>
-    ensures { MatchResult result
-        (λ ports. (config_of text.now ≡ Ok ports.value.config) × (ports.value.history ≡ []))
-        (λ fault. fault ≢ OutOfMemory → config_of text.now ≡ Err fault) }
+// Opens a handle with the ports of a configuration before the first call.
+fn open(alloc: Global, handle: &mut Handle, config: Config) -> u32
+    ensures answer { (result ≡ OPENED) ⊎ (result ≡ OUT_OF_MEMORY) }
+    ensures opened { result ≡ OPENED → handle.new.held.ports ≡ ports_at_start (Ok config) }
+    ensures refused { result ≢ OPENED → handle.new.held.ports ≡ handle.old.held.ports }
 {
-    let config = Config::read(alloc, text)?;
+    match boxed_ports(alloc, config) {
+        Ok(ports) => {
+            *handle = Handle::of(ports);
+            OPENED
+        }
+        Err(_) => OUT_OF_MEMORY,
+    }
+}
+
+// The ports of a configuration before the first call.
+fn boxed_ports(alloc: Global, config: Config) -> Result<Box<Ports>, OutOfMemory>
+    ensures config { IfOk result (λ ports. ports.value.config ≡ config) }
+    ensures fresh { IfOk result (λ ports. ports.value.history ≡ []) }
+{
     let ports = Ports::new(alloc, config)?;
     Ok(Box::new(alloc, ports)?)
 }

@@ -21,4 +21,4 @@ mod value_finding;
 pub use crate::known_word::nearest;
 pub use crate::more::{MISTAKE_LIMIT, push_more};
 pub use crate::path::PathOfPart;
-pub use crate::reading::{Refused, read_config, refusal_lines};
+pub use crate::reading::{Refused, read_config};

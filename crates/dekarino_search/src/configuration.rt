@@ -22,7 +22,7 @@ pub fn read_config<'a, O: Opener>(
         IfSome (O.bytes_at opener.now path.now) (λ bytes. config_of bytes ≡ Ok config)) }
 {
     let bytes = read_file(alloc, opener, path)?;
-    match apex_refusals::read_config(alloc, path, bytes.as_slice())? {
+    match apex_refusals::read_config(alloc, Some(path), bytes.as_slice())? {
         Ok(config) => Ok(config),
         Err(refused) => Err(unfinished(alloc, refused, form)),
     }
@@ -30,10 +30,11 @@ pub fn read_config<'a, O: Opener>(
 
 /// The error of a refused configuration; running out of memory goes before all else.
 fn unfinished<'a>(alloc: Global, refused: Refused, form: Form) -> Unfinished<'a> {
-    let refusal = Refusal::Text(Fault::from(refused.fault));
+    let fault = refused.refusal.fault;
+    let refusal = Refusal::Text(Fault::from(fault));
     let text = match form {
         Form::Text => Ok(refused.lines),
-        Form::Json => place_lines(alloc, refused.fault.number(), refused.lines.as_str()),
+        Form::Json => place_lines(alloc, fault.number(), refused.lines.as_str()),
     };
     match text {
         Ok(text) => Unfinished::RefusedWithText {
