@@ -12,6 +12,7 @@ use Rattle.apex_logs.specs.declared.log.FaultyLine.{FaultyLine}
 use Rattle.apex_logs.specs.declared.log.LoggedEntry.{LoggedEntry}
 use Rattle.apex_logs.specs.declared.log_fault.LogFault.{LogFault}
 use Rattle.apex_logs.specs.declared.log_fault.LogFault.TheVariants.{Line, NoReply, OpenNote, UnknownReply}
+use Rattle.apex_logs.specs.declared.time_out.TimeOut.{TimeOut}
 use Rattle.apex_logs.specs.LogLine.{entry_of_line, ends_calls}
 use Rattle.apex_logs.specs.Log.{before, entries_from}
 use Rattle.apex_mistakes.specs.declared.log_place.LogPart.TheVariants as parts
@@ -21,7 +22,7 @@ use Rattle.apex_mistakes.specs.LogPlace.{call_side, is_in_call, of_line_place, p
 use Rattle.apex_mistakes.specs.LogFaults.{log_places_from, faulty_log_line}
 use Rattle.apex_mistakes.proofs.PlaceLemmas.{place-line}
 
-module _ (asked_by : List ℕ → List (List ℕ) → Result Request LineFault) (front : List Expected) (number : ℕ) where
+module _ (asked_by : List ℕ → List (List ℕ) → Result (Request × TimeOut) LineFault) (front : List Expected) (number : ℕ) where
   -- at a faulty line
   pub finds : (lines : List (List ℕ)) (line : List ℕ) (rest : List (List ℕ)) (fault : LogFault) → lines ≡ line ∷ rest → ends_calls line ≡ false → entry_of_line asked_by line ≡ Err fault
       → log_places_from asked_by front number lines ≡ log_place_in asked_by front number fault line ∷ log_places_from asked_by front (number + 1) rest
@@ -29,7 +30,7 @@ module _ (asked_by : List ℕ → List (List ℕ) → Result Request LineFault) 
   finds lines line rest fault cut goes read = rw (cut, goes, read) refl
 
   -- at another line
-  pub passes : (lines : List (List ℕ)) (line : List ℕ) (rest : List (List ℕ)) (entry : Option Entry) → lines ≡ line ∷ rest → ends_calls line ≡ false → entry_of_line asked_by line ≡ Ok entry
+  pub passes : (lines : List (List ℕ)) (line : List ℕ) (rest : List (List ℕ)) (entry : Option (Entry × TimeOut)) → lines ≡ line ∷ rest → ends_calls line ≡ false → entry_of_line asked_by line ≡ Ok entry
       → log_places_from asked_by front number lines ≡ log_places_from asked_by front (number + 1) rest
   unfolding log_places_from
   passes lines line rest entry cut goes read = rw (cut, goes, read) refl
@@ -66,25 +67,25 @@ module _ (asked_by : List ℕ → List (List ℕ) → Result Request LineFault) 
 
 -- ---- the first fault is the one for which the log isn't read
 
-agrees_after : (entry : Entry) (after : Result (List LoggedEntry) FaultyLine) (number : ℕ) → result_err after ≡ result_err (before number (Ok (Some entry)) after)
+agrees_after : (entry : Entry × TimeOut) (after : Result (List LoggedEntry) FaultyLine) (number : ℕ) → result_err after ≡ result_err (before number (Ok (Some entry)) after)
 agrees_after entry (Ok entries) number = refl
 agrees_after entry (Err faulty) number = refl
 
-agrees_by : (asked_by : List ℕ → List (List ℕ) → Result Request LineFault) (front : List Expected) (number : ℕ) (line : List ℕ) (read : Result (Option Entry) LogFault) (places : List LogPlace) (after : Result (List LoggedEntry) FaultyLine)
+agrees_by : (asked_by : List ℕ → List (List ℕ) → Result (Request × TimeOut) LineFault) (front : List Expected) (number : ℕ) (line : List ℕ) (read : Result (Option (Entry × TimeOut)) LogFault) (places : List LogPlace) (after : Result (List LoggedEntry) FaultyLine)
     → option_map faulty_log_line (slice_get places 0) ≡ result_err after
     → option_map faulty_log_line (slice_get (option_to_list (option_map (λ fault. log_place_in asked_by front number fault line) (result_err read)) ++ places) 0) ≡ result_err (before number read after)
 agrees_by asked_by front number line (Err fault) places after later = ap (λ (x : FaultyLine). Some x) (log_place-faulty asked_by front number fault line)
 agrees_by asked_by front number line (Ok None) places after later = later
 agrees_by asked_by front number line (Ok (Some entry)) places after later = later ∙ agrees_after entry after number
 
-agrees_at : (asked_by : List ℕ → List (List ℕ) → Result Request LineFault) (front : List Expected) (number : ℕ) (line : List ℕ) (b : Bool) (places : List LogPlace) (after : Result (List LoggedEntry) FaultyLine)
+agrees_at : (asked_by : List ℕ → List (List ℕ) → Result (Request × TimeOut) LineFault) (front : List Expected) (number : ℕ) (line : List ℕ) (b : Bool) (places : List LogPlace) (after : Result (List LoggedEntry) FaultyLine)
     → option_map faulty_log_line (slice_get places 0) ≡ result_err after
     → option_map faulty_log_line (slice_get (if b then [] else option_to_list (option_map (λ fault. log_place_in asked_by front number fault line) (result_err (entry_of_line asked_by line))) ++ places) 0)
     ≡ result_err (if b then Ok [] else before number (entry_of_line asked_by line) after)
 agrees_at asked_by front number line true places after later = refl
 agrees_at asked_by front number line false places after later = agrees_by asked_by front number line (entry_of_line asked_by line) places after later
 
-pub agrees : (asked_by : List ℕ → List (List ℕ) → Result Request LineFault) (front : List Expected) (number : ℕ) (lines : List (List ℕ))
+pub agrees : (asked_by : List ℕ → List (List ℕ) → Result (Request × TimeOut) LineFault) (front : List Expected) (number : ℕ) (lines : List (List ℕ))
     → option_map faulty_log_line (slice_get (log_places_from asked_by front number lines) 0) ≡ result_err (entries_from asked_by number lines)
 unfolding log_places_from entries_from
 agrees asked_by front number [] = refl

@@ -7,26 +7,27 @@ use Rattle.apex_ports.specs.declared.history.Request.{Request}
 use Rattle.apex_texts.specs.declared.expected.Expected.{Expected}
 use Rattle.apex_texts.specs.declared.expected.Expected.TheVariants as kinds
 use Rattle.apex_texts.specs.declared.line_fault.LineFault.{LineFault}
-use Rattle.apex_texts.specs.Trace.{request_at}
 use Rattle.apex_logs.specs.declared.log.FaultyLine.{FaultyLine}
-use Rattle.apex_logs.specs.LogLine.{entry_of_line, own_request_at, ends_calls}
+use Rattle.apex_logs.specs.declared.time_out.TimeOut.{TimeOut}
+use Rattle.apex_logs.specs.LogLine.{entry_of_line, ends_calls}
+use Rattle.apex_logs.specs.TimedCall.{logged_request_at, own_request_at}
 use Rattle.apex_mistakes.specs.declared.faulty_log.LogFaults.{LogFaults}
 use Rattle.apex_mistakes.specs.declared.log_place.LogPlace.{LogPlace}
 use Rattle.apex_mistakes.specs.LogPlace.{log_place_in}
 
 -- the place of a line's fault, if it has one
-abbrev pub log_place_of : (List ℕ → List (List ℕ) → Result Request LineFault) → List Expected → ℕ → List ℕ → Option LogPlace
+abbrev pub log_place_of : (List ℕ → List (List ℕ) → Result (Request × TimeOut) LineFault) → List Expected → ℕ → List ℕ → Option LogPlace
 log_place_of asked_by front number line = option_map (λ fault. log_place_in asked_by front number fault line) (result_err (entry_of_line asked_by line))
 
 -- the places of the faulty lines among lines of which the first has this number, up to the line that ends the calls
-unfoldable pub log_places_from : (List ℕ → List (List ℕ) → Result Request LineFault) → List Expected → ℕ → List (List ℕ) → List LogPlace
+unfoldable pub log_places_from : (List ℕ → List (List ℕ) → Result (Request × TimeOut) LineFault) → List Expected → ℕ → List (List ℕ) → List LogPlace
 log_places_from asked_by front number [] = []
 log_places_from asked_by front number (line ∷ rest) =
     if ends_calls line then [] else option_to_list (log_place_of asked_by front number line) ++ log_places_from asked_by front (number + 1) rest
 
 -- the places of the faulty lines of a module's log
 abbrev pub log_places : Configuration → List ℕ → List LogPlace
-log_places config text = log_places_from (request_at config) (kinds.Moment ∷ kinds.Partition ∷ []) 1 (lines text)
+log_places config text = log_places_from (logged_request_at config) (kinds.Moment ∷ kinds.Partition ∷ []) 1 (lines text)
 
 -- the places of the faulty lines of a partition's own log
 abbrev pub own_log_places : ℕ → List ℕ → List LogPlace

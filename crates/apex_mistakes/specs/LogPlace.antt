@@ -9,6 +9,7 @@ use Rattle.apex_texts.specs.declared.line_fault.LineFault.TheVariants as faults
 use Rattle.apex_texts.specs.Text.{words_of}
 use Rattle.apex_logs.specs.declared.log_fault.LogFault.{LogFault}
 use Rattle.apex_logs.specs.declared.log_fault.LogFault.TheVariants.{Line, NoReply, OpenNote, UnknownReply}
+use Rattle.apex_logs.specs.declared.time_out.TimeOut.{TimeOut}
 use Rattle.apex_logs.specs.LogLine.{sides_of, is_bracket, before_note, entry_of_line}
 use Rattle.apex_logs.specs.ReplyWords.{reply_of}
 use Rattle.apex_mistakes.specs.declared.line_place.LinePlace.{LinePlace}
@@ -43,7 +44,7 @@ abbrev pub call_alone : List ℕ → List ℕ
 call_alone line = call_side line ++ codes "->not made"
 
 -- whether a line is faulty whatever its reply is
-abbrev pub is_in_call : (List ℕ → List (List ℕ) → Result Request LineFault) → List ℕ → Bool
+abbrev pub is_in_call : (List ℕ → List (List ℕ) → Result (Request × TimeOut) LineFault) → List ℕ → Bool
 is_in_call asked_by line = is_err (entry_of_line asked_by (call_alone line))
 
 -- how many words precede the place of an arrow that is missing: those of the call, or all where no service is called
@@ -94,7 +95,7 @@ place_in_reply number fault line =
     record { line = number; fault = fault; part = parts.Reply; word = before + 1; column = reply_column before line }
 
 -- the place of a fault of the line with this number
-abbrev pub log_place_in : (List ℕ → List (List ℕ) → Result Request LineFault) → List Expected → ℕ → LogFault → List ℕ → LogPlace
+abbrev pub log_place_in : (List ℕ → List (List ℕ) → Result (Request × TimeOut) LineFault) → List Expected → ℕ → LogFault → List ℕ → LogPlace
 log_place_in asked_by front number (Line faults.NotAscii) line = of_line_place (Line faults.NotAscii) parts.Line (place_in front number faults.NotAscii line)
 log_place_in asked_by front number (Line fault) line =
     if is_in_call asked_by line then of_line_place (Line fault) parts.Call (place_in front number fault (call_side line)) else place_in_reply number (Line fault) line

@@ -1,5 +1,5 @@
-use Rattle.std.proofs.Common.{◌≡◌, ◌+◌, ◌-◌, ◌++◌, List, ◌∷◌, Some, None, length, take, sym, ap, ◌∙◌, arith}
-use Rattle.std.specs.Prelude.{if◌then◌else◌}
+use Rattle.std.proofs.Common.{◌≡◌, ◌+◌, ◌-◌, ◌++◌, List, ◌∷◌, length, take, sym, ap, ◌∙◌, arith}
+use Rattle.std.specs.Prelude.{option_map}
 use Rattle.std.specs.Global.{Vec}
 use Rattle.std.specs.Str.Lines.{lines}
 use Rattle.apex_mistakes.specs.declared.log_place.LogPlace.{LogPlace}
@@ -12,7 +12,7 @@ use Rattle.apex_mistakes.proofs.faulty_log.find_log_faults.Goals as goal
 pub loop-line-preserved : goal.loop-line-preserved
 loop-line-preserved g c =
     let asked_by = g.F.LogForm.asked_by c.args.form.now in
-    let entry = if c.in_default-read_line.field-0 then Some c.read_line.new.entry else None in
+    let entry = option_map (λ time_out. (c.read_line.new.entry, time_out)) c.in_default-read_line.field-0 in
     let goes = sym c.ends_calls.ensures ∙ c.if-ends_calls.false in
     let same = passes asked_by c.args.front.now (c.loop-line.number + 1) (lines c.loop-line.rest.now) c.in-Some.line.now (lines c.in-Some.after.now) entry c.in-Some.ensures.line goes c.in_default-read_line.ensures.exact in
     record {
