@@ -22,6 +22,8 @@ MOST_ORDERED = 500
 MOST_EXACT = 2**53 - 1
 ARROW = re.compile(r'<path class="(message|sample)" data-from="(\d+)" data-to="(\d+)"')
 WAITS = re.compile(r'<circle class="waits" data-call="(\d+)"')
+# (a time-out stands behind the arguments of a call that waits)
+TIME_OUT = re.compile(rb"[ \t]+timeout[ \t]+(?:\d+|infinite)[ \t]*$")
 
 
 class Undecided(Exception):
@@ -189,7 +191,7 @@ def _without_replies(content: bytes) -> Tuple[List[bytes], List[List[Optional[st
             lines.append(line)
             continue
         call, _, behind = line.partition(b"->")
-        lines.append(call)
+        lines.append(TIME_OUT.sub(b"", call))
         reply, bracket, note = behind.decode(errors="replace").partition("(")
         logged.append([" ".join(reply.split()), note.strip()[:-1] if bracket else None])
     return lines, logged
