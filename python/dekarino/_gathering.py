@@ -18,6 +18,8 @@ Told = Dict[str, Any]
 MOST_ORDERED = 500
 # The greatest whole number that JavaScript has exactly.
 MOST_EXACT = 2**53 - 1
+# (a time-out stands behind the arguments of a call that waits)
+TIME_OUT = re.compile(rb"[ \t]+timeout[ \t]+(?:\d+|infinite)[ \t]*$")
 
 
 class Undecided(Exception):
@@ -185,7 +187,7 @@ def _without_replies(content: bytes) -> Tuple[List[bytes], List[List[Optional[st
             lines.append(line)
             continue
         call, _, behind = line.partition(b"->")
-        lines.append(call)
+        lines.append(TIME_OUT.sub(b"", call))
         reply, bracket, note = behind.decode(errors="replace").partition("(")
         logged.append([" ".join(reply.split()), note.strip()[:-1] if bracket else None])
     return lines, logged

@@ -12,8 +12,7 @@ use dekarino_texts::{
 use serde::Serialize;
 use std::alloc::{AllocError, Global};
 
-/// A departure: its line in the log, from 1, the call, the two replies, and the row that gives the standard's. The standard
-/// has none if the call would still wait.
+/// A departure: its line in the log, from 1, the call, the two replies, and the row that gives the standard's.
 #[derive(Drop, Serialize)]
 struct DepartureLine<'a> {
     line: usize,
@@ -21,7 +20,7 @@ struct DepartureLine<'a> {
     partition: &'a str,
     service: &'static str,
     logged: String,
-    standard: Option<String>,
+    standard: String,
     row: &'static str,
     words: String,
 }
@@ -107,15 +106,15 @@ fn standard_text(
     alloc: Global,
     place: LogPlace,
     expected: &Expected,
-) -> Result<Option<String>, AllocError> {
+) -> Result<String, AllocError> {
     let mut text = String::new(alloc);
     match StandardReply::of(place, expected) {
-        StandardReply::Waits => return Ok(None),
+        StandardReply::Waits => text.push_str("the call would still wait")?,
         StandardReply::AnyId => text.push_str("NO_ERROR and an identifier")?,
         StandardReply::Id(id) => push_reply(&mut text, &Reply::Id(id))?,
         StandardReply::Reply => push_reply(&mut text, &expected.reply)?,
     }
-    Ok(Some(text))
+    Ok(text)
 }
 
 /// A reply in the words of a report.

@@ -216,8 +216,8 @@ fn hand_on<S: DepartureSink>(
 }
 
 fn restore(replaced: Option<Replaced>, entry: &mut Entry)
-    ensures { entry.new ≡ restored replaced entry.old }
-    ensures { entry.new.partition ≡ entry.old.partition }
+    ensures entry { entry.new ≡ restored replaced entry.old }
+    ensures partition { entry.new.partition ≡ entry.old.partition }
 {
     if let Some(replaced) = replaced {
         replaced.restore(entry);
