@@ -56,8 +56,8 @@ enum { FRONT_BYTES = sizeof LONGEST_LOST - 1 + sizeof LONGEST_MOMENT - 1, LINE_B
 #define AN_INTEGER " -9223372036854775808"
 #define A_CODE " -> not made (return code" AN_INTEGER ")"
 #define HAS_ROOM(name, form, message) typedef char name[sizeof(form) - 1 + 2 * (message) <= LINE_BYTES ? 1 : -1]
-HAS_ROOM(room_to_send, " write" AN_INTEGER " " A_CODE " (time-out" AN_INTEGER ")\n", MESSAGE_BYTES);
-HAS_ROOM(room_to_receive, " receive" AN_INTEGER " -> NO_ERROR message  (time-out" AN_INTEGER ")\n", MESSAGE_BYTES);
+HAS_ROOM(room_to_send, " write" AN_INTEGER "  timeout" AN_INTEGER A_CODE "\n", MESSAGE_BYTES);
+HAS_ROOM(room_to_receive, " receive" AN_INTEGER " timeout" AN_INTEGER " -> NO_ERROR message  INVALID\n", MESSAGE_BYTES);
 HAS_ROOM(room_to_create, " create-queuing " AN_INTEGER AN_INTEGER AN_INTEGER AN_INTEGER A_CODE "\n", 2 * NAME_BYTES);
 HAS_ROOM(room_for_status, " sampling-status" AN_INTEGER " -> NO_ERROR waiting" AN_INTEGER " depth" AN_INTEGER " size"
          AN_INTEGER " DESTINATION processes 0 (WAITING_PROCESSES" AN_INTEGER ")\n", 0);
@@ -90,8 +90,6 @@ static uint64_t moment(void) {
 #endif
     return time < 0 ? 0 : (uint64_t)time;
 }
-
-/* Words and numbers. */
 
 static void put(struct text *text, char byte) { text->bytes[text->at++] = byte; }
 
@@ -190,7 +188,14 @@ static void put_message(struct text *text, const void *bytes, int64_t length) {
     }
 }
 
-/* Replies. */
+/* No log has a negative time-out but the infinite one. */
+static void put_time_out(struct text *text, int64_t time_out) {
+    put_text(text, time_out == 0 ? "" : time_out == INFINITE_TIME_VALUE ? " timeout infinite" : " timeout ");
+    if (time_out != 0 && time_out != INFINITE_TIME_VALUE) {
+        put_signed(text, time_out);
+        text->is_unsaid |= time_out < 0;
+    }
+}
 
 /* Words, or null where the standard has none. */
 static const char *code_word(RETURN_CODE_TYPE code) {
@@ -272,8 +277,6 @@ static void put_received(struct text *text, const void *bytes, const MESSAGE_SIZ
     put_text(text, validity);
 }
 
-/* Lines. */
-
 static void start(struct text *line, const char *call) {
     line->at = FRONT_BYTES;
     line->is_unsaid = 0;
@@ -339,8 +342,6 @@ void apex_record_restarted(OPERATING_MODE_TYPE mode) {
         end(&line);
     }
 }
-
-/* The services. */
 
 void RECORDED(CREATE_SAMPLING_PORT)(SAMPLING_PORT_NAME_TYPE name, MESSAGE_SIZE_TYPE size, PORT_DIRECTION_TYPE direction,
                                     SYSTEM_TIME_TYPE refresh, SAMPLING_PORT_ID_TYPE *id, RETURN_CODE_TYPE *code) {
@@ -437,9 +438,9 @@ void RECORDED(SEND_QUEUING_MESSAGE)(QUEUING_PORT_ID_TYPE id, MESSAGE_ADDR_TYPE m
     begin(&line, "send");
     put_integer(&line, id);
     put_message(&line, message, length);
+    put_time_out(&line, time_out);
     PASSED_ON(SEND_QUEUING_MESSAGE)(id, message, length, time_out, code);
     put_code(&line, code);
-    put_note(&line, "time-out", time_out);
     end(&line);
 }
 
@@ -448,11 +449,11 @@ void RECORDED(RECEIVE_QUEUING_MESSAGE)(QUEUING_PORT_ID_TYPE id, SYSTEM_TIME_TYPE
     struct text line;
     begin(&line, "receive");
     put_integer(&line, id);
+    put_time_out(&line, time_out);
     PASSED_ON(RECEIVE_QUEUING_MESSAGE)(id, time_out, message, length, code);
     if (put_code(&line, code)) {
         put_received(&line, message, length, "");
     }
-    put_note(&line, "time-out", time_out);
     end(&line);
 }
 
