@@ -173,8 +173,7 @@ fn judge_entry<S: DepartureSink>(
     ensures refused { IfErr result (λ why. why ≡ errors.OutOfMemory) }
 {
     let calls = counts.calls + 1;
-    let replaced = ids.enter(judge.config(), entry).map_err(out_of_memory)?;
-    let departs = judge_polled(judge, entry, place.wait).map_err(out_of_memory)?;
+    let (replaced, departs) = judge_ours(judge, ids, entry, place.wait).map_err(out_of_memory)?;
     let Some(expected) = departs else {
         return Ok(DepartureCounts { calls, ..counts });
     };
@@ -187,6 +186,36 @@ fn judge_entry<S: DepartureSink>(
         calls,
         departures: counts.departures + 1,
     })
+}
+
+/// Judges an entry in our identifiers, which then stand in it.
+#[tactic(auto, using(apex_judge::proofs::OwnIdLemmas::put_back))]
+fn judge_ours(
+    judge: &mut Judge,
+    ids: &mut OwnIds,
+    entry: &mut Entry,
+    wait: MaxWait,
+) -> Result<(Option<Replaced>, Option<Expected>), OutOfMemory>
+    requires partition { entry.old.partition < length judge.old.config.partitions }
+    requires told { length ids.old.told ≡ length judge.old.config.partitions }
+    ensures judged { let ours = entry_in_ours judge.old.config ids.old entry.old in
+        let instead = instead_of judge.old.config judge.old.log (polled_entry wait ours) in
+        IfOk result (λ x. x.1 ≡ instead) }
+    ensures log { let ours = entry_in_ours judge.old.config ids.old entry.old in
+        IfOk result (λ _. judge.new.log ≡ judge.old.log ++ polled_entry wait ours ∷ []) }
+    ensures config { judge.new.config ≡ judge.old.config }
+    ensures told { IfOk result (λ _. ids.new ≡ own_after judge.old.config ids.old entry.old) }
+    ensures count { IfOk result (λ _. length ids.new.told ≡ length ids.old.told) }
+    ensures replaced { IfOk result
+        (λ x. x.0 ≡ replaced_in judge.old.config ids.old entry.old) }
+    ensures back { IfOk result (λ x. restored x.0 entry.new ≡ entry.old) }
+    ensures call { IfOk result
+        (λ _. entry.new.call ≡ (entry_in_ours judge.old.config ids.old entry.old).call) }
+    ensures partition { IfOk result (λ _. entry.new.partition ≡ entry.old.partition) }
+{
+    let replaced = ids.enter(judge.config(), entry)?;
+    let instead = judge_polled(judge, entry, wait)?;
+    Ok((replaced, instead))
 }
 
 /// Hands an entry that departs to the sink, with the system's identifiers again.
