@@ -42,6 +42,12 @@ function courseOf(x1, y1, x2, y2, column) {
   return `M${x1} ${y1}C${aside} ${y1} ${aside} ${y2} ${x2} ${y2}`;
 }
 
+// The part of a way down that lies between two heights. (dashes that are far out of sight take long)
+function clipped([x1, y1], [x2, y2], top, bottom) {
+  const across = y => x1 + (x2 - x1) * (y - y1) / (y2 - y1), begin = Math.max(y1, top), end = Math.min(y2, bottom);
+  return [across(begin), begin, across(end), end];
+}
+
 // The most arrows that are drawn to ends below the rows in sight.
 const MOST_BELOW = 400;
 
@@ -64,7 +70,8 @@ function drawChart(shown, first, last, column, high) {
     const kind = kindOfArrow(arrow), chosen = arrow.from === shown.selected || arrow.to === shown.selected;
     arrows.push(make("svg:path", {
       class: `arrow ${kind}${chosen ? " chosen" : ""}`, "marker-end": `url(#head-${kind})`, "data-from": arrow.from + 1,
-      "data-to": arrow.to + 1, d: courseOf(...place(run.calls[arrow.from]), ...place(run.calls[arrow.to]), column)}));
+      "data-to": arrow.to + 1,
+      d: courseOf(...clipped(place(run.calls[arrow.from]), place(run.calls[arrow.to]), -3 * high, height + 3 * high), column)}));
   }
   for (let row = first; row < last; row += 1) {
     const call = run.calls[rows[row]], [x, y] = place(call);
