@@ -213,8 +213,7 @@ def _judged(programs: Programs, config: bytes, log: bytes) -> Told:
     ran = programs.run("judge", "--json", config, log)
     lines = ran.told()
     departures = [{key: _exact(it) for key, it in line.items()} for line in lines if "logged" in line]
-    fault = re.match(r"log line (\d+) fault \d+: (.*)", ran.said)
-    mistakes = [{"line": int(fault[1]), "column": None, "words": fault[2]}] if fault else []
+    mistakes = [_mistake(line, ran.paths[1]) for line in lines if "place" in line]
     counts = [line for line in lines if "departures" in line]
     return {"departures": departures, "judged": counts[0] if counts else None, "said": ran.said, "mistakes": mistakes}
 
