@@ -187,10 +187,12 @@ def _departure(line: str) -> Departure:
                      Row[it["row"].upper().replace(" ", "_")], it["words"])
 
 
-def judge(config: Text, log: Text) -> Judgement:
-    """Judges a recorded log by the program. Each text is the path of a file, or is given as bytes."""
+def judge(config: Text, log: Text, *, time_outs: bool = False, own_ids: bool = False) -> Judgement:
+    """Judges a recorded log by the program. Each text is the path of a file, or is given as bytes. With `time_outs` each
+    send and receive whose line says no time-out has one; with `own_ids` identifiers are those of the system."""
+    options = ["--time-outs"] * time_outs + ["--own-ids"] * own_ids
     with _file(config) as config_path, _file(log) as log_path:
-        status, told, said = _run("dekarino", "judge", "--json", config_path, log_path)
+        status, told, said = _run("dekarino", "judge", "--json", *options, config_path, log_path)
     if status not in (0, DEPARTS):
         raise _refusal(status, said)
     *departures, counts = told.splitlines()

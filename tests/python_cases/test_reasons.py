@@ -119,6 +119,16 @@ class Judged(unittest.TestCase):
             log = f"0 FMS create-queuing NAV_OUT 4 2 0 0 -> NO_ERROR id {out.id}\n0 FMS send 1 31 -> {out.send(b'1')}\n"
         self.assertEqual(dekarino.judge(BOTH, log.encode()), dekarino.Judgement(2, ()))
 
+    def test_time_outs(self):
+        log = b"0 DSP create-queuing NAV_IN 4 2 1 0 -> NO_ERROR id 1\n1 DSP receive 1 -> TIMED_OUT\n"
+        self.assertEqual(dekarino.judge(BOTH, log, time_outs=True), dekarino.Judgement(2, ()))
+        self.assertEqual([it.line for it in dekarino.judge(BOTH, log).departures], [2])
+
+    def test_identifiers_of_the_system(self):
+        log = b"0 FMS create-queuing NAV_OUT 4 2 0 0 -> NO_ERROR id 4097\n1 FMS send 4097 31 -> NO_ERROR\n"
+        self.assertEqual(dekarino.judge(BOTH, log, own_ids=True), dekarino.Judgement(2, ()))
+        self.assertEqual([it.line for it in dekarino.judge(BOTH, log).departures], [1, 2])
+
     def test_refusals(self):
         with self.assertRaises(dekarino.LogError) as raised:
             dekarino.judge(BOTH, b"\n1 FMS receive 1\n")
