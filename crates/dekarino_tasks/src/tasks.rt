@@ -95,7 +95,18 @@ fn finish<W: Write, E: Write>(
         Err(Unfinished::FaultyOwnLog { text, file, faulty }) => {
             (text, End::FaultyOwnLog { file, faulty })
         }
-        Err(unfinished) => return refuse_at_once(unfinished, errors),
+        Err(Unfinished::Refused(Refusal::File { path, obstacle })) => {
+            return unreadable_file(UnreadableFile { path, obstacle }, errors);
+        }
+        Err(Unfinished::Refused(refusal)) => return refuse(refusal, errors),
+        Err(Unfinished::UnknownService(name)) => return unknown_service(name, errors),
+        Err(Unfinished::TooManyCalls { .. }) => return too_many_calls(errors),
+        Err(Unfinished::FaultyLog(faulty)) => return faulty_log(faulty, errors),
+        Err(Unfinished::UnwritableFile(file)) => return unwritable_file(file, errors),
+        Err(Unfinished::BadQuestion { words, reason }) => {
+            return bad_question(words, &reason, errors);
+        }
+        Err(Unfinished::TooManyStates { states }) => return too_many_states(states, errors),
     };
     if let Err(error) = write_whole(output, text.as_slice()) {
         return match error.kind() {
@@ -103,12 +114,7 @@ fn finish<W: Write, E: Write>(
             _ => refuse(Refusal::Output, errors),
         };
     }
-    match end {
-        End::Status(status) => status,
-        End::Refusal(refusal) => refuse(refusal, errors),
-        End::FaultyLog(faulty) => faulty_log(faulty, errors),
-        End::FaultyOwnLog { file, faulty } => faulty_own_log(file, faulty, errors),
-    }
+    report_end(end, errors)
 }
 
 /// What comes after the text of a task.
@@ -120,24 +126,13 @@ enum End<'a> {
     FaultyOwnLog { file: &'a str, faulty: FaultyLine },
 }
 
-/// Writes why a task can't be finished that has no text, and answers the status.
-fn refuse_at_once<E: Write>(unfinished: Unfinished<'_>, errors: &mut E) -> u8 {
-    match unfinished {
-        Unfinished::Refused(Refusal::File { path, obstacle }) => {
-            unreadable_file(UnreadableFile { path, obstacle }, errors)
-        }
-        Unfinished::Refused(refusal) | Unfinished::RefusedWithText { refusal, .. } => {
-            refuse(refusal, errors)
-        }
-        Unfinished::UnknownService(name) => unknown_service(name, errors),
-        Unfinished::TooManyCalls { .. } => too_many_calls(errors),
-        Unfinished::FaultyLog(faulty) | Unfinished::FaultyLogWithText { faulty, .. } => {
-            faulty_log(faulty, errors)
-        }
-        Unfinished::FaultyOwnLog { file, faulty, .. } => faulty_own_log(file, faulty, errors),
-        Unfinished::UnwritableFile(file) => unwritable_file(file, errors),
-        Unfinished::BadQuestion { words, reason } => bad_question(words, &reason, errors),
-        Unfinished::TooManyStates { states } => too_many_states(states, errors),
+/// Writes what comes after the text of a task, and answers the status.
+fn report_end<E: Write>(end: End<'_>, errors: &mut E) -> u8 {
+    match end {
+        End::Status(status) => status,
+        End::Refusal(refusal) => refuse(refusal, errors),
+        End::FaultyLog(faulty) => faulty_log(faulty, errors),
+        End::FaultyOwnLog { file, faulty } => faulty_own_log(file, faulty, errors),
     }
 }
 
