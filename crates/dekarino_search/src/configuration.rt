@@ -30,12 +30,13 @@ pub fn read_config<'a, O: Opener>(
 
 /// The error of a refused configuration; running out of memory goes before all else.
 fn unfinished<'a>(alloc: Global, refused: Refused, form: Form) -> Unfinished<'a> {
-    let fault = refused.refusal.fault;
-    let refusal = Refusal::Text(Fault::from(fault));
+    let Refused { refusal, lines } = refused;
+    let fault = refusal.fault;
     let text = match form {
-        Form::Text => Ok(refused.lines),
-        Form::Json => place_lines(alloc, fault.number(), refused.lines.as_str()),
+        Form::Text => Ok(lines),
+        Form::Json => place_lines(alloc, fault.number(), lines.as_str()),
     };
+    let refusal = Refusal::Text(Fault::from(fault));
     match text {
         Ok(text) => Unfinished::RefusedWithText {
             text: text.into_bytes(),
