@@ -12,6 +12,7 @@ use dekarino_command_line::Form;
 use std::alloc::{AllocError, Global};
 
 /// The configuration in a file. If it is refused, the error has the places of its fault.
+#[tactic(auto, unfolding(apex_config::specs::Meaning::config_of))]
 pub fn read_config<'a, O: Opener>(
     alloc: Global,
     opener: &O,
