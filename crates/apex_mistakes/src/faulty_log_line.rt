@@ -55,6 +55,16 @@ impl<'a> FaultyLogLine<'a> {
         self.as_line().service()
     }
 
+    /// Whether the fault is behind the arguments of a call that may have a time-out there.
+    pub(crate) fn is_behind_arguments(&self) -> bool {
+        matches!(self.place.part, LogPart::Call)
+            && matches!(
+                self.service(),
+                Some(Service::SendQueuing | Service::ReceiveQueuing)
+            )
+            && matches!(self.as_line().place.expected, Expected::EndOfLine)
+    }
+
     /// The call of the line, as a faulty line of a trace or a script; the whole line, if no part of it is faulty.
     pub(crate) fn as_line(&self) -> FaultyLine<'a> {
         let line = match self.place.part {

@@ -114,7 +114,12 @@ fn call_hint<'a>(
 fn word_hint<'a>(faulty: &FaultyLogLine<'a>) -> Option<Hint<'a>> {
     let word = faulty.faulty_word()?;
     match faulty.place.fault {
-        LogFault::Line(LineFault::TooManyWords) => other_arrow_hint(word),
+        LogFault::Line(LineFault::TooManyWords) => match other_arrow_hint(word) {
+            None if is_number(word) && faulty.is_behind_arguments() => {
+                Some(Hint::Advice("write `timeout` before a time-out"))
+            }
+            hint => hint,
+        },
         LogFault::Line(LineFault::Moment) => moment_hint(word),
         _ => other_log_hint(faulty, word),
     }

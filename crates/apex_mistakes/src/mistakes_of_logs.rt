@@ -111,11 +111,14 @@ fn push_log_expected(
     }
 }
 
-/// The same at a fault that a trace's line can have too.
+/// The same at a fault that a trace's line can have too. Behind the arguments of a send or a receive stands a time-out.
 fn push_line_expected(
     alloc: Global,
     text: &mut String,
     faulty: &FaultyLogLine<'_>,
 ) -> Result<(), AllocError> {
+    if faulty.is_behind_arguments() {
+        return text.push_str("`timeout` and nanoseconds or `infinite`, or the end of the call");
+    }
     push_expected(alloc, text, faulty.config, faulty.as_line().place.expected)
 }

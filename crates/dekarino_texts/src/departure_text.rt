@@ -60,7 +60,11 @@ impl DepartureSink for DepartureText {
             StandardReply::Reply => push_reply(text, &expected.reply)?,
         }
         match conflict_of(place, &entry.reply, expected.row) {
-            Some(conflict) => push_conflict(text, config, p, conflict)?,
+            Some(conflict) => {
+                text.push_str(" (")?;
+                push_conflict(text, config, p, conflict)?;
+                text.push_str(")")?;
+            }
             None => push_note(
                 text,
                 config,
@@ -141,7 +145,7 @@ pub fn named_by<'a>(
     }
 }
 
-/// Writes ` (WORDS)`: which port has an identifier that was told for another one, or which identifier the port has.
+/// Writes which port has an identifier that was told for another one, or which identifier the port has.
 pub fn push_conflict(
     text: &mut String,
     config: &Config,
@@ -151,9 +155,9 @@ pub fn push_conflict(
     requires { partition < length config.now.partitions }
 {
     match conflict {
-        Conflict::HasAnother { id } => write!(text, " (the port has identifier {id})"),
+        Conflict::HasAnother { id } => write!(text, "the port has identifier {id}"),
         Conflict::IsOf { id, port } => match config.port(partition, port) {
-            Some(port) => write!(text, " (identifier {id} is that of {})", port.name.text()),
+            Some(port) => write!(text, "identifier {id} is that of {}", port.name.text()),
             None => Ok(()),
         },
     }
