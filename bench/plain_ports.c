@@ -67,11 +67,12 @@ uint32_t apex_close(struct apex_handle *handle) {
     return 0;
 }
 
-/* The one configuration of c_calls has no mistakes. */
-uint32_t apex_configuration_mistakes(const uint8_t *text, size_t text_length, uint8_t *buffer, size_t buffer_length,
-                                     uint64_t *lines_length) {
-    (void)text, (void)text_length, (void)buffer, (void)buffer_length, (void)lines_length;
-    return 0;
+/* (the one configuration of c_calls is not refused) */
+uint32_t apex_open_explained(struct apex_handle *handle, const uint8_t *text, size_t text_length, uint8_t *path,
+                             size_t path_room, uint64_t *path_length, uint8_t *lines, size_t lines_room,
+                             uint64_t *lines_length) {
+    (void)path, (void)path_room, (void)path_length, (void)lines, (void)lines_room, (void)lines_length;
+    return apex_open(handle, text, text_length);
 }
 
 static void count(uint64_t *number) { *number += *number < UINT64_MAX; }
