@@ -124,7 +124,7 @@ static void put_signed(struct text *text, int64_t number) {
     put_number(text, number < 0 ? 0 - (uint64_t)number : (uint64_t)number);
 }
 
-/* Whether a log has the number of an integer: a negative one is told as that of the same 32 bits. */
+/* Whether a log has the number of an integer. A negative one is written as the unsigned number of the same 32 bits. */
 static int is_said(int64_t number) { return number >= INT32_MIN && number <= (int64_t)UINT32_MAX; }
 
 static void put_integer(struct text *text, int64_t number) {
@@ -143,7 +143,7 @@ static int is_of_name(char byte) {
     return (byte >= '0' && byte <= '9') || (byte >= 'A' && byte <= 'Z') || (byte >= 'a' && byte <= 'z') || byte == '_';
 }
 
-/* Of a name that no log can have at most 30 bytes are told, those that no name has by their numbers. */
+/* Writes at most 30 bytes of a name that no log can have; bytes that no name has, by their numbers. */
 static void put_name(struct text *text, const char *name) {
     size_t length = 0;
     put(text, ' ');
@@ -177,7 +177,7 @@ static int is_message(const void *bytes, int64_t length) {
     return length <= 0 || (bytes != NULL && length <= MESSAGE_BYTES);
 }
 
-/* A message on its way in. One of a negative length is told as one of length 0. */
+/* A message on its way in. One of a negative length is written as one of length 0. */
 static void put_message(struct text *text, const void *bytes, int64_t length) {
     if (is_message(bytes, length)) {
         put_bytes(text, bytes, length);
@@ -233,7 +233,7 @@ static void put_note(struct text *text, const char *words, int64_t number) {
     }
 }
 
-/* Puts the return code, and answers whether it is NO_ERROR. One that the standard doesn't have is told by a reply that
+/* Puts the return code, and answers whether it is NO_ERROR. One that the standard doesn't have becomes a reply that
  * departs, and a note. */
 static int put_code(struct text *text, const RETURN_CODE_TYPE *code) {
     put_text(text, " -> ");
@@ -307,7 +307,7 @@ static void hand_on(struct text *line, uint64_t at) {
     }
 }
 
-/* Begins the line of a call. A SET_PARTITION_MODE before it that hasn't returned was accepted, and is told first. */
+/* Begins the line of a call. A SET_PARTITION_MODE that has not returned was accepted, and comes first. */
 static void begin(struct text *line, const char *call) {
     if (APEX_RECORD_EXCHANGE(&is_unreturned, 0)) {
         start(line, "mode");
@@ -327,7 +327,7 @@ void apex_record_to(apex_record_sink to, void *context) {
 
 uint32_t apex_record_lost(void) { return APEX_RECORD_ADD(&lost, 0); }
 
-/* A restart has the effect of an accepted SET_PARTITION_MODE, and is told as one. WARM_START isn't accepted in
+/* A restart has the effect of an accepted SET_PARTITION_MODE, and is written as one. WARM_START isn't accepted in
  * COLD_START, where the log may have the partition. */
 void apex_record_restarted(OPERATING_MODE_TYPE mode) {
     const OPERATING_MODE_TYPE steps[] = {COLD_START, NORMAL, WARM_START};
@@ -466,7 +466,7 @@ void RECORDED(GET_QUEUING_PORT_ID)(QUEUING_PORT_NAME_TYPE name, QUEUING_PORT_ID_
     end(&line);
 }
 
-/* Waiting processes are no part of what a log tells, so that they are told by a note. */
+/* A log has no waiting processes, so a note says how many there are. */
 static void put_queuing_status(struct text *line, const QUEUING_PORT_STATUS_TYPE *status) {
     const char *direction = status == NULL ? NULL : direction_word(status->PORT_DIRECTION);
     if (direction == NULL || !is_said(status->NB_MESSAGE) || !is_said(status->MAX_NB_MESSAGE) ||
