@@ -8,7 +8,7 @@ use Rattle.std_heap.specs.contracts.GlobalAllocator.TheImpl.{ghosts, dict}
 use Rattle.std_heap.proofs.Global.TheLaws as heap
 use Rattle.apex_ports.specs.contracts.ports.Ports as Ports
 use Rattle.apex_ports.proofs.ports.Ports.TheLaws as ports
-use Rattle.apex_c.specs.contracts.held.parts.Parts as Parts
+use Rattle.apex_c.specs.contracts.parts.Parts as Parts
 use Rattle.apex_c.specs.contracts.held.Held as Held
 
 abbrev pub E : Bx

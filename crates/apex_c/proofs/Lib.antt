@@ -1,3 +1,4 @@
 mod AsBox
+mod AsJudgeBox
 mod HeldValues
 mod RefusedCalls

@@ -5,9 +5,12 @@ pub mod Configured
 pub mod Fault
 pub mod Found
 pub mod Held
+pub mod HeldJudge
+pub mod Judging
 pub mod Law
 pub mod Opening
 pub mod Places
 pub mod Readers
+pub mod Replies
 pub mod Rows
 pub mod Texts

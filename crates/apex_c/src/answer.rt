@@ -39,5 +39,11 @@ pub const NO_SERVICE: u32 = 18;
 /// Memory was refused (a reader that takes some).
 pub const NO_MEMORY: u32 = 19;
 
+/// A reply that was judged isn't the standard's.
+pub const DEPARTS: u32 = 20;
+
+/// No reply of the service has the values.
+pub const NO_REPLY: u32 = 21;
+
 /// A reader has read.
 pub const READ: u32 = 0;

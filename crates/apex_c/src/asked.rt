@@ -35,8 +35,8 @@ pub struct AskedCall {
 }
 
 impl AskedCall {
-    // The call, with the name or the message that the bytes are, or the number that says why there is none.
-    fn with(&self, bytes: &[u8]) -> Result<Call, u32>
+    /// The call, with the name or the message that the bytes are, or the number that says why there is none.
+    pub(crate) fn with(&self, bytes: &[u8]) -> Result<Call, u32>
         ensures { result ≡ call_asked self.now bytes.now }
     {
         match service_numbered(self.service) {
@@ -75,7 +75,7 @@ impl AskedCall {
     }
 }
 
-fn service_numbered(number: u32) -> Option<Service>
+pub(crate) fn service_numbered(number: u32) -> Option<Service>
     ensures { result ≡ service_numbered number }
 {
     match number {

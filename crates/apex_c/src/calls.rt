@@ -17,7 +17,7 @@ fn name_in(bytes: &[u8]) -> Result<Name, u32>
 }
 
 /// The message that the bytes are, or `TOO_LONG`.
-fn message_in(bytes: &[u8]) -> Result<Message, u32>
+pub(crate) fn message_in(bytes: &[u8]) -> Result<Message, u32>
     ensures { result ≡ message_asked bytes.now }
 {
     match Message::from_bytes(bytes) {

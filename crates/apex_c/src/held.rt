@@ -2,10 +2,8 @@
 ghost use Rattle.std.specs.Prelude.{◌≡◌, ◌≢◌, Some, None};
 ghost use Rattle.apex_c.specs.Held.{PortsHeld, ports_coded, held_owns};
 
-mod parts;
-
 use apex_ports::Ports;
-use parts::Parts;
+use crate::parts::Parts;
 use std::alloc::Global;
 use std::marker::Model;
 

@@ -126,7 +126,7 @@ fn boxed_ports(alloc: Global, config: Config) -> Result<Box<Ports>, OutOfMemory>
     Ok(Box::new(alloc, ports)?)
 }
 
-fn number_of_fault(fault: ConfigFault) -> u32
+pub(crate) fn number_of_fault(fault: ConfigFault) -> u32
     ensures { result ≡ fault_number fault }
 {
     match fault.number() {
