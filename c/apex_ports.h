@@ -48,7 +48,9 @@ enum {
     APEX_UNKNOWN_NAME = 16, /* a reader's answer: nothing has the name */
     APEX_NO_MESSAGE = 17,   /* apex_waiting_message's answer: no message of the index waits */
     APEX_NO_SERVICE = 18,   /* an answer to what is asked of a call: no service has the number */
-    APEX_NO_MEMORY = 19     /* apex_call_words's answer: memory was refused; nothing changed */
+    APEX_NO_MEMORY = 19,    /* an answer of apex_call_words and apex_judge_call: memory was refused; nothing changed */
+    APEX_DEPARTS = 20,      /* apex_judge_call's answer: the reply isn't the standard's */
+    APEX_NO_REPLY = 21      /* apex_judge_call's answer: no reply of the service has the values; nothing changed */
 };
 
 /* What apex_open answers beside 0, and 1 to 10 for a fault of the configuration (docs/FORMATS.md). */
@@ -320,6 +322,59 @@ uint32_t apex_call_row(struct apex_handle *handle, uint32_t partition, uint64_t 
 uint32_t apex_call_words(struct apex_handle *handle, uint32_t partition, uint64_t at, const struct apex_call *call,
                          const uint8_t *bytes, size_t bytes_length, uint8_t *buffer, size_t buffer_length,
                          uint64_t *words_length);
+
+/* Judging the calls of another layer, as it makes them: whether each gets the reply that the standard has. A judge makes
+ * no calls; it notes those that it is given. One call is judged after the calls before it, as `dekarino judge` judges the
+ * lines of a log (docs/FORMATS.md). Identifiers are those of apex_create_queuing_port and its like, and a call that waited
+ * is given with the reply that it would have had without a time-out: NOT_AVAILABLE in the place of TIMED_OUT. */
+
+/* The judge of a module, or none. As with a handle: it begins all zero, and nothing but these functions writes it. */
+struct apex_judge {
+    bool is_open;
+    void *judge;
+};
+
+/* A reply: its return code, 0 to 6, or APEX_NOT_MADE, and what the service gives beside NO_ERROR but for a message. What
+ * the service doesn't give has no effect, and is 0 in a reply that is given to C. `validity` is that of a read, or the last
+ * one of a status. */
+struct apex_reply {
+    uint64_t refresh;
+    uint32_t code;
+    uint32_t id;
+    uint32_t waiting;
+    uint32_t depth;
+    uint32_t size;
+    uint32_t direction;
+    uint32_t validity;
+};
+
+/* What the standard has for a call that departs: its reply, its row, and the lengths of its message and of its words. */
+struct apex_departure {
+    uint64_t words_length;
+    struct apex_reply standard;
+    uint32_t row;
+    uint32_t message_length;
+};
+
+/* Opens a judge of a configuration before the first call, every partition in COLD_START. Answers as apex_open.
+ * Assumed: `text` points to `text_length` bytes. */
+uint32_t apex_judge_open(struct apex_judge *judge, const uint8_t *text, size_t text_length);
+
+/* Closes a judge, which can be opened again. Answers 0, or APEX_NOT_OPEN. Assumed: no more than above. */
+uint32_t apex_judge_close(struct apex_judge *judge);
+
+/* Judges a call and the reply that it got, and notes it. `bytes` are the name or the message that the call is made with,
+ * as in apex_call_row, and `message` is the message of the reply to a receive or a read. Answers 0 where the reply is the
+ * standard's, or APEX_DEPARTS: then the places of `departure` are set, the message of the standard's reply is in the
+ * buffer's first bytes, and the words of the row are in those of `words` if it has room for all of them; an accepted call
+ * has none. Where it answers another number nothing changes: APEX_SHORT_BUFFER if `buffer` has fewer than
+ * APEX_MESSAGE_LIMIT bytes, APEX_NO_SERVICE, APEX_NO_NAME, APEX_TOO_LONG, APEX_NO_REPLY, APEX_NOT_OPEN or
+ * APEX_NO_PARTITION, the first that applies; or APEX_NO_MEMORY.
+ * Assumed: each pointer to bytes points to as many as the length behind it. */
+uint32_t apex_judge_call(struct apex_judge *judge, uint32_t partition, uint64_t at, const struct apex_call *call,
+                         const uint8_t *bytes, size_t bytes_length, const struct apex_reply *reply,
+                         const uint8_t *message, size_t message_length, struct apex_departure *departure,
+                         uint8_t *buffer, size_t buffer_length, uint8_t *words, size_t words_room);
 
 #ifdef __cplusplus
 }

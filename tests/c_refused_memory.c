@@ -1,7 +1,7 @@
 /* c_refused_memory CONFIG: opens with every request for memory refused in turn, and with all refused from each on,
  * until an opening meets no refusal. Each refused opening has to answer want of memory, leave the handle closed and
  * give all memory back. The words of a refused call and what is told of a faulty configuration are asked for likewise.
- * Then come calls with all memory refused, which have to ask for none. Prints the numbers. Its malloc and the like stand
+ * A judge is opened and asked likewise. Then come calls with all memory refused, which have to ask for none. Prints the numbers. Its malloc and the like stand
  * in the place of the C library's, for the static library and for the shared object. */
 #include "../c/apex_ports.h"
 #include "c_test.h"
@@ -139,6 +139,38 @@ static unsigned long tell_without_memory(const uint8_t *text, size_t length, tel
     return tried;
 }
 
+/* Opens a judge with each request refused in turn, and judges a call with all refused from each on, until none is. What was
+ * refused is not noted, and the judge gives the same answer afterwards. Gives how often memory was refused. */
+static unsigned long judge_without_memory(const uint8_t *text, size_t length) {
+    static uint8_t message[APEX_MESSAGE_LIMIT], said[256];
+    const struct apex_call call = {.service = APEX_SEND_QUEUING_MESSAGE, .id = 99};
+    const struct apex_reply reply = {.code = 0};
+    struct apex_judge judge;
+    struct apex_departure departure = {.row = 77};
+    unsigned long openings = 0, calls = 0;
+    memset(&judge, 0, sizeof judge);
+    for (bool was_refused = true; was_refused; openings += was_refused) {
+        refuse(openings + 1, openings + 2);
+        const uint32_t answer = apex_judge_open(&judge, text, length);
+        was_refused = refused > 0;
+        refuse(0, 0);
+        expect(answer == (was_refused ? APEX_OUT_OF_MEMORY : 0), "a judge is opened, or answers that memory was refused");
+        expect((held == 0) == was_refused, "a refused opening gives all memory back");
+    }
+    const long held_before = held;
+    for (bool was_refused = true; was_refused; calls += was_refused) {
+        refuse(calls + 1, -1UL);
+        const uint32_t answer = apex_judge_call(&judge, 0, 0, &call, text, 1, &reply, text, 0, &departure, message,
+                                                sizeof message, said, sizeof said);
+        was_refused = refused > 0;
+        refuse(0, 0);
+        expect(answer == (was_refused ? APEX_NO_MEMORY : APEX_DEPARTS), "a call departs, or memory was refused");
+        expect((departure.row == 77) == was_refused && held == held_before, "and nothing else changes");
+    }
+    expect(apex_judge_close(&judge) == 0 && held == 0, "closing the judge gives all memory back");
+    return openings + calls;
+}
+
 /* Calls and readers on open ports, which ask for no memory. */
 static void call_without_memory(const uint8_t *text, size_t length) {
     static uint8_t bytes[APEX_MESSAGE_LIMIT];
@@ -187,7 +219,8 @@ int main(int count, char **words) {
     const unsigned long told = tell_without_memory(text, length, tell_words, 0, APEX_NO_MEMORY) +
                                tell_without_memory(text, length, tell_fault, 3, APEX_OUT_OF_MEMORY) +
                                tell_without_memory(text, length, tell_mistakes, 3, APEX_OUT_OF_MEMORY) +
-                               tell_without_memory(text, length, tell_opening, 3, APEX_OUT_OF_MEMORY);
+                               tell_without_memory(text, length, tell_opening, 3, APEX_OUT_OF_MEMORY) +
+                               judge_without_memory(text, length);
     printf("%lu openings with one request refused, %lu with all from one on; %lu refused tellings\n", one, all, told);
     return 0;
 }

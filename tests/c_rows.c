@@ -1,6 +1,7 @@
 /* c_rows CONFIG CALLS: asks of random calls which row they get and what its words are, makes them by their exports, and
  * asks again where they were refused. The row has to be one of the answer's return code, and to be the same afterwards;
- * asking changes neither a count nor a place that it has nothing for. Prints how many rows there were.
+ * asking changes neither a count nor a place that it has nothing for. A judge is given each call with its reply, and at
+ * times with another. Prints how many rows there were.
  * c_rows CONFIG: prints the answer, the path of the fault's first place, and the lines of a configuration. */
 #include "../c/apex_ports.h"
 #include "c_test.h"
@@ -11,9 +12,15 @@ enum { ROWS = 31, SERVICES = 12, PARTITIONS = 3, WORDS = 256, FILL = 0xa5, NAMES
 static const uint32_t codes[ROWS] = {7, 4, 1, 4, 4, 4, 4, 4, 5, 4, 3, 3, 4, 5, 5, 2, 2, 1, 3, 1, 5};
 
 static struct apex_handle module;
+static struct apex_judge judged;
 static uint8_t config[65536];
 static size_t config_length;
-static unsigned long rows[ROWS];
+static unsigned long rows[ROWS], departures;
+
+/* The message of the last reply, and the places of the last departure. */
+static uint8_t received[APEX_MESSAGE_LIMIT], standard[APEX_MESSAGE_LIMIT], said[WORDS];
+static uint32_t received_length;
+static struct apex_departure departure;
 
 /* A call with all that it is asked with. */
 struct asked {
@@ -38,6 +45,17 @@ static void give_bytes(struct asked *it) {
     }
 }
 
+/* Opens the module and its judge, at the first call; or both stay closed. */
+static void begin(void) {
+    apex_close(&module);
+    apex_judge_close(&judged);
+    if (any(10) != 0) {
+        expect(apex_open(&module, config, config_length) == 0, "the configuration is opened");
+        expect(apex_judge_open(&judged, config, config_length) == 0, "and judged");
+        expect(apex_judge_open(&judged, config, config_length) == APEX_ALREADY_OPEN, "and no second time");
+    }
+}
+
 /* The right number, mostly. */
 static uint32_t about(uint32_t right) { return any(6) == 0 ? right + 1 : right; }
 
@@ -59,41 +77,104 @@ static void give(struct asked *it) {
     it->call.mode = any(50) == 0 ? 0 : 1 + (uint32_t)any(4);
 }
 
-static uint32_t make(const struct asked *it) {
-    static uint8_t buffer[APEX_MESSAGE_LIMIT];
-    struct apex_sampling_port_status sampling;
-    struct apex_queuing_port_status queuing;
+/* Makes the call, and gives its reply, whose message is in `received`. */
+static struct apex_reply make(const struct asked *it) {
+    struct apex_sampling_port_status sampling = {0, 0, 0, 0};
+    struct apex_queuing_port_status queuing = {0, 0, 0, 0};
+    struct apex_reply reply = {0, 0, 0, 0, 0, 0, 0, 0};
     const struct apex_call *c = &it->call;
     const uint32_t p = it->partition;
-    uint32_t number, other;
+    received_length = 0;
     switch (c->service) {
     case APEX_CREATE_SAMPLING_PORT:
-        return apex_create_sampling_port(&module, p, it->at, it->bytes, it->length, c->size, c->direction, c->refresh,
-                                         &number);
+        reply.code = apex_create_sampling_port(&module, p, it->at, it->bytes, it->length, c->size, c->direction,
+                                               c->refresh, &reply.id);
+        break;
     case APEX_WRITE_SAMPLING_MESSAGE:
-        return apex_write_sampling_message(&module, p, it->at, c->id, it->bytes, it->length);
+        reply.code = apex_write_sampling_message(&module, p, it->at, c->id, it->bytes, it->length);
+        break;
     case APEX_READ_SAMPLING_MESSAGE:
-        return apex_read_sampling_message(&module, p, it->at, c->id, buffer, sizeof buffer, &number, &other);
+        reply.code = apex_read_sampling_message(&module, p, it->at, c->id, received, sizeof received,
+                                                &received_length, &reply.validity);
+        break;
     case APEX_GET_SAMPLING_PORT_ID:
-        return apex_get_sampling_port_id(&module, p, it->at, it->bytes, it->length, &number);
+        reply.code = apex_get_sampling_port_id(&module, p, it->at, it->bytes, it->length, &reply.id);
+        break;
     case APEX_GET_SAMPLING_PORT_STATUS:
-        return apex_get_sampling_port_status(&module, p, it->at, c->id, &sampling);
+        reply.code = apex_get_sampling_port_status(&module, p, it->at, c->id, &sampling);
+        break;
     case APEX_CREATE_QUEUING_PORT:
-        return apex_create_queuing_port(&module, p, it->at, it->bytes, it->length, c->size, c->depth, c->direction,
-                                        c->discipline, &number);
+        reply.code = apex_create_queuing_port(&module, p, it->at, it->bytes, it->length, c->size, c->depth,
+                                              c->direction, c->discipline, &reply.id);
+        break;
     case APEX_SEND_QUEUING_MESSAGE:
-        return apex_send_queuing_message(&module, p, it->at, c->id, it->bytes, it->length);
+        reply.code = apex_send_queuing_message(&module, p, it->at, c->id, it->bytes, it->length);
+        break;
     case APEX_RECEIVE_QUEUING_MESSAGE:
-        return apex_receive_queuing_message(&module, p, it->at, c->id, buffer, sizeof buffer, &number);
+        reply.code = apex_receive_queuing_message(&module, p, it->at, c->id, received, sizeof received,
+                                                  &received_length);
+        break;
     case APEX_GET_QUEUING_PORT_ID:
-        return apex_get_queuing_port_id(&module, p, it->at, it->bytes, it->length, &number);
+        reply.code = apex_get_queuing_port_id(&module, p, it->at, it->bytes, it->length, &reply.id);
+        break;
     case APEX_GET_QUEUING_PORT_STATUS:
-        return apex_get_queuing_port_status(&module, p, it->at, c->id, &queuing);
+        reply.code = apex_get_queuing_port_status(&module, p, it->at, c->id, &queuing);
+        break;
     case APEX_CLEAR_QUEUING_PORT:
-        return apex_clear_queuing_port(&module, p, it->at, c->id);
+        reply.code = apex_clear_queuing_port(&module, p, it->at, c->id);
+        break;
     default:
-        return apex_set_partition_mode(&module, p, it->at, c->mode);
+        reply.code = apex_set_partition_mode(&module, p, it->at, c->mode);
     }
+    reply.refresh = sampling.refresh;
+    reply.waiting = queuing.waiting;
+    reply.depth = queuing.depth;
+    reply.size = sampling.size + queuing.size;
+    reply.direction = sampling.direction + queuing.direction;
+    reply.validity += sampling.last_validity;
+    return reply;
+}
+
+/* Judges the call with a reply; what it answers. The places are filled before, and `said` has the words. */
+static uint32_t judge(const struct asked *it, const struct apex_reply *reply) {
+    memset(&departure, FILL, sizeof departure);
+    memset(standard, FILL, sizeof standard);
+    memset(said, FILL, sizeof said);
+    return apex_judge_call(&judged, it->partition, it->at, &it->call, it->bytes, it->length, reply, received,
+                           received_length, &departure, standard, sizeof standard, said, sizeof said);
+}
+
+static bool all_filled(const void *bytes, size_t length) {
+    const uint8_t *each = bytes;
+    while (length > 0 && each[length - 1] == FILL) {
+        length--;
+    }
+    return length == 0;
+}
+
+static bool same_reply(const struct apex_reply *a, const struct apex_reply *b) {
+    return a->refresh == b->refresh && a->code == b->code && a->id == b->id && a->waiting == b->waiting &&
+           a->depth == b->depth && a->size == b->size && a->direction == b->direction && a->validity == b->validity;
+}
+
+/* The reply that a call got is the standard's. At times another code is judged: then the departure has the reply, the row
+ * and the words, and all begins anew, since the judge may believe what it was told. */
+static void judge_reply(const struct asked *it, const struct apex_reply *reply, uint32_t row, const uint8_t *words,
+                        uint64_t length) {
+    if (any(100) != 0) {
+        expect(judge(it, reply) == 0, "the judge has the same reply");
+        expect(all_filled(&departure, sizeof departure) && all_filled(standard, sizeof standard) &&
+               all_filled(said, WORDS), "a reply that is the standard's leaves the places as they were");
+        return;
+    }
+    struct apex_reply other = {0, (reply->code + 1) % 8, 0, 0, 0, 0, 0, 0};
+    expect(judge(it, &other) == APEX_DEPARTS, "another code departs");
+    expect(departure.row == row && same_reply(&departure.standard, reply), "the departure has the row and the reply");
+    expect(departure.message_length == received_length && memcmp(standard, received, received_length) == 0 &&
+           all_filled(standard + received_length, sizeof standard - received_length), "and the message");
+    expect(departure.words_length == length && memcmp(said, words, WORDS) == 0, "and the words");
+    departures++;
+    begin();
 }
 
 /* What is asked is no call, or no partition's: the number that says so, or 0. */
@@ -149,10 +230,14 @@ static void ask_and_make(void) {
     apex_call_count(&module, it.partition, &count_after);
     expect(answer == refused && count == count_after, "asking has its own answers, and makes no call");
     if (refused != 0) {
+        const struct apex_reply none = {0, 0, 0, 0, 0, 0, 0, 0};
+        received_length = 0;
         expect(row == 77 && length == 77, "the places stay as they were where there is no row");
+        expect(judge(&it, &none) == refused, "what is no call is not judged");
         return;
     }
-    const uint32_t code = make(&it);
+    const struct apex_reply reply = make(&it);
+    const uint32_t code = reply.code;
     expect(row < ROWS && code == codes[row], "the row is one of the return code");
     expect((code == 0) == (length == 0) && length <= WORDS, "what is refused has words, and nothing else");
     rows[row]++;
@@ -161,13 +246,39 @@ static void ask_and_make(void) {
         expect(row_again == row && length_again == length && memcmp(words, again, WORDS) == 0,
                "a call that was refused has the row and the words that it had before");
     }
+    judge_reply(&it, &reply, row, words, length);
+}
+
+/* What is no reply, and a short buffer, is not judged, and the judge stays as it was. */
+static void refuse_replies(void) {
+    struct apex_call call = {0, APEX_GET_QUEUING_PORT_STATUS, 1, 0, 0, 0, 0, 0};
+    struct apex_reply reply = {0, 0, 0, 0, 0, 0, 2, 0};
+    static uint8_t much[APEX_MESSAGE_LIMIT + 1];
+#define JUDGE(length, room) \
+    apex_judge_call(&judged, 0, 0, &call, much, 0, &reply, much, length, &departure, standard, room, said, WORDS)
+    apex_judge_close(&judged);
+    expect(apex_judge_close(&judged) == APEX_NOT_OPEN, "a closed judge is closed");
+    expect(apex_judge_open(&judged, much, 1) == 1, "what is no configuration has no judge");
+    expect(apex_judge_open(&judged, config, config_length) == 0, "the judge is opened");
+    expect(JUDGE(0, sizeof standard) == APEX_NO_REPLY, "there is no direction 2");
+    reply.code = 8;
+    expect(JUDGE(0, sizeof standard) == APEX_NO_REPLY, "there is no code 8");
+    call.service = APEX_READ_SAMPLING_MESSAGE;
+    reply.code = 0;
+    reply.validity = 2;
+    expect(JUDGE(0, sizeof standard) == APEX_NO_REPLY, "there is no validity 2");
+    reply.validity = 1;
+    expect(JUDGE(sizeof much, sizeof standard) == APEX_TOO_LONG, "no message is as long");
+    expect(JUDGE(0, sizeof standard - 1) == APEX_SHORT_BUFFER, "the standard's message may be longer");
+    reply.code = 3;
+    expect(JUDGE(0, sizeof standard) == 0, "no port is created, and nothing was noted");
+#undef JUDGE
 }
 
 static void ask_at_random(long calls) {
     for (; calls > 0; calls--) {
         if (calls % 1000 == 0) {
-            apex_close(&module);
-            expect(any(10) == 0 || apex_open(&module, config, config_length) == 0, "the configuration is opened");
+            begin();
         }
         ask_and_make();
     }
@@ -177,8 +288,11 @@ static void ask_at_random(long calls) {
         all += rows[row];
     }
     expect(kinds == ROWS, "each row was there");
+    expect(departures > 0, "a reply departed");
     printf("%lu calls had %lu rows\n", all, kinds);
+    refuse_replies();
     apex_close(&module);
+    apex_judge_close(&judged);
 }
 
 /* Opening with words puts the same path and lines as asking for each, and opens what isn't refused. */

@@ -2,6 +2,7 @@
 from ._channel import Channel
 from ._codes import Code, Direction, Discipline, Mode, Validity
 from ._errors import ApexError, ConfigError, LibraryError, LogError, NoCallError, ProgramError, TraceError
+from ._judging import Judge
 from ._module import Module
 from ._ports import Message, Partition, QueuingPort, SamplingPort
 from ._program import (Departure, Judgement, Report, ReportedCall, ReportedPartition, ReportedQueuing,
@@ -15,9 +16,10 @@ from ._texts import Text
 # The version of the changes of which the package is.
 __version__ = "0.2.0"
 __all__ = [
-    "ApexError", "Channel", "Code", "ConfigError", "ConfiguredPort", "Departure", "Direction", "Discipline", "IdReply",
-    "Judgement", "LibraryError", "LogError", "Message", "Mode", "Module", "NoCallError", "Partition", "ProgramError",
-    "QueuingPort", "QueuingStatus", "QueuingStatusReply", "ReadReply", "ReceiveReply", "Reply", "Report",
-    "ReportedCall", "ReportedPartition", "ReportedQueuing", "ReportedSampling", "Row", "Sample", "SamplingPort",
-    "SamplingStatus", "SamplingStatusReply", "Text", "TraceError", "Validity", "WrittenSample", "judge", "replay",
+    "ApexError", "Channel", "Code", "ConfigError", "ConfiguredPort", "Departure", "Direction", "Discipline",
+    "IdReply", "Judge", "Judgement", "LibraryError", "LogError", "Message", "Mode", "Module", "NoCallError",
+    "Partition", "ProgramError", "QueuingPort", "QueuingStatus", "QueuingStatusReply", "ReadReply", "ReceiveReply",
+    "Reply", "Report", "ReportedCall", "ReportedPartition", "ReportedQueuing", "ReportedSampling", "Row", "Sample",
+    "SamplingPort", "SamplingStatus", "SamplingStatusReply", "Text", "TraceError", "Validity", "WrittenSample",
+    "judge", "replay",
 ]

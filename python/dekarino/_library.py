@@ -17,6 +17,7 @@ NUMBER_LIMIT = 2**32 - 1
 
 # What a function answers beside the return codes and NOT_MADE.
 NOT_OPEN, NO_PARTITION, TOO_LONG, NO_NAME = 8, 9, 10, 11
+NO_MEMORY, DEPARTS, NO_REPLY = 19, 20, 21
 OUT_OF_MEMORY = 11
 
 _handle = ctypes.c_void_p
@@ -48,6 +49,25 @@ class CallFields(ctypes.Structure):
 
     _fields_ = [("refresh", _u64), ("service", _u32), ("id", _u32), ("size", _u32), ("depth", _u32),
                 ("direction", _u32), ("discipline", _u32), ("mode", _u32)]
+
+
+class JudgeHandle(ctypes.Structure):
+    """The judge of a module, or none."""
+
+    _fields_ = [("is_open", ctypes.c_bool), ("judge", ctypes.c_void_p)]
+
+
+class ReplyFields(ctypes.Structure):
+    """A reply that is judged: its code, and the numbers that come with it."""
+
+    _fields_ = [("refresh", _u64), ("code", _u32), ("id", _u32), ("waiting", _u32), ("depth", _u32), ("size", _u32),
+                ("direction", _u32), ("validity", _u32)]
+
+
+class DepartureFields(ctypes.Structure):
+    """What the standard has for a call that departs."""
+
+    _fields_ = [("words_length", _u64), ("standard", ReplyFields), ("row", _u32), ("message_length", _u32)]
 
 
 class PortFields(ctypes.Structure):
@@ -100,6 +120,9 @@ PARAMETERS: Dict[str, Tuple[Any, ...]] = {
     "find_channel": (_handle, _text, _length, _place),
     "call_row": (*_caller, _place, _text, _length, _place),
     "call_words": (*_caller, _place, _text, _length, _place, _length, _place),
+    "judge_open": (_handle, _text, _length),
+    "judge_close": (_handle,),
+    "judge_call": (*_caller, _place, _text, _length, _place, _text, _length, _place, _place, _length, _place, _length),
 }
 
 

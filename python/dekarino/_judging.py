@@ -1,0 +1,173 @@
+"""Judging the calls of another layer as it makes them, by the library alone."""
+import ctypes
+import weakref
+from types import TracebackType
+from typing import Any, Callable, Dict, NamedTuple, Optional, Tuple, Type, TypeVar, Union
+
+from . import _library
+from ._codes import Code, Direction, Validity
+from ._errors import NoCallError
+from ._library import MOMENT_LIMIT, NUMBER_LIMIT, number
+from ._lock import end_call, lock, refuse_within_a_call
+from ._module import Module
+from ._program import Departure
+from ._replies import AnyValue, QueuingStatus, Sample, SamplingStatus, reply_words
+from ._rows import Row
+from ._services import SERVICES, Service
+from ._texts import Text, bytes_of
+
+# enough bytes for the words of any row
+WORDS_ROOM = 512
+Argument = Union[int, str, bytes]
+Value = TypeVar("Value")
+NO_CALLS = {_library.NOT_OPEN: "the judge is closed",
+            _library.TOO_LONG: f"a message has more than {_library.MESSAGE_LIMIT} bytes",
+            _library.NO_NAME: "a name has 1 to 30 ASCII letters, digits and `_`",
+            _library.NO_REPLY: "the service has no reply with this code and value"}
+
+
+class _Given(NamedTuple):
+    """A reply as the library takes it: its numbers, and its message."""
+
+    fields: _library.ReplyFields
+    message: bytes
+
+
+class Judge:
+    """Judges the calls of another layer, one after another: whether each gets the reply that the standard has after the
+    calls before it. The configuration is the path of a file, or its text as bytes."""
+
+    def __init__(self, config: Text) -> None:
+        text = bytes_of(config)
+        with Module(text, keep_calls=False) as module:
+            self.partitions: Tuple[str, ...] = module.partitions
+        functions = _library.library()
+        self._handle = _library.JudgeHandle()
+        self._lent = ctypes.byref(self._handle)
+        if functions.function("judge_open")(self._lent, text, len(text)) != 0:
+            raise MemoryError("memory was refused")
+        weakref.finalize(self, functions.function("judge_close"), self._lent).atexit = False
+        self._close, self._judge = map(functions.function, ("judge_close", "judge_call"))
+        self._departure = _library.DepartureFields()
+        self._message = ctypes.create_string_buffer(_library.MESSAGE_LIMIT)
+        self._words = ctypes.create_string_buffer(WORDS_ROOM)
+        self._places = (ctypes.byref(self._departure), self._message, len(self._message), self._words, len(self._words))
+        self.calls = 0
+
+    def close(self) -> None:
+        """Closes the judge. If it is closed, nothing is done."""
+        self._within(lambda: self._close(self._lent))
+
+    def __enter__(self) -> "Judge":
+        return self
+
+    def __exit__(self, kind: Optional[Type[BaseException]], error: Optional[BaseException],
+                 trace: Optional[TracebackType]) -> None:
+        self.close()
+
+    def add(self, partition: str, service: str, code: Code, value: AnyValue = None, *, at: int = 0,
+            **arguments: Argument) -> Optional[Departure]:
+        """Judges a call and the reply that it got, and notes it. Returns None if the reply is the standard's, or else the
+        departure, whose line is the number of the call from 1.
+
+        The service has the standard's name, and the arguments have the names of a trace: `id`, `message`, `name`, `size`,
+        `depth`, `direction`, `discipline`, `refresh`, `mode`. The value is what comes with NO_ERROR: an identifier, a
+        received message, a Sample, or a status. A call that waited is given with the reply that it would have had without
+        a time-out: NOT_AVAILABLE in the place of TIMED_OUT."""
+        if partition not in self.partitions:
+            raise NoCallError(f"there is no partition {partition}")
+        called = _service(service, arguments)
+        fields, sent = _call(called, arguments)
+        given = _reply(code, value)
+        moment = number(at, MOMENT_LIMIT, "the moment")
+        caller = self._lent, self.partitions.index(partition), moment, ctypes.byref(fields), sent, len(sent)
+
+        def judged() -> Optional[Departure]:
+            answer = self._judge(*caller, ctypes.byref(given.fields), given.message, len(given.message), *self._places)
+            self._need_call(answer)
+            self.calls += 1
+            if answer == 0:
+                return None
+            logged = reply_words(code, value)
+            return Departure(self.calls, moment, partition, called.word, logged, *self._shown(called))
+
+        return self._within(judged)
+
+    def _need_call(self, answer: int) -> None:
+        """Raises what the library's answer stands for, if the call wasn't judged."""
+        if answer == _library.NO_MEMORY:
+            raise MemoryError("memory was refused")
+        if answer in NO_CALLS:
+            raise NoCallError(NO_CALLS[answer])
+
+    def _shown(self, service: Service) -> Tuple[str, Row, str]:
+        """The standard's reply, its row and the words of the row. The lock is held."""
+        departure, numbers = self._departure, self._departure.standard
+        code = Code(numbers.code)
+        message = ctypes.string_at(self._message, departure.message_length)
+        value = _value(service, numbers, message) if code is Code.NO_ERROR else None
+        words = ctypes.string_at(self._words, min(departure.words_length, WORDS_ROOM)).decode("ascii")
+        return reply_words(code, value), Row(departure.row), words
+
+    def _within(self, what: Callable[[], Value]) -> Value:
+        """What the library answers between two other calls of it."""
+        refuse_within_a_call()
+        try:
+            with lock:
+                return what()
+        finally:
+            end_call()
+
+
+def _service(name: str, arguments: Dict[str, Argument]) -> Service:
+    """The service of this name, which takes these arguments."""
+    service = SERVICES.get(name)
+    if service is None:
+        raise NoCallError(f"there is no service {name}")
+    if set(service.arguments) != set(arguments):
+        raise NoCallError(f"{name} takes {', '.join(service.arguments)}, and not {', '.join(arguments) or 'nothing'}")
+    return service
+
+
+def _call(service: Service, arguments: Dict[str, Argument]) -> Tuple[_library.CallFields, bytes]:
+    """The numbers of a call, and the name or the message that it is made with."""
+    numbers, sent = {}, b""
+    for name, argument in arguments.items():
+        if isinstance(argument, str):
+            sent = argument.encode("ascii", "replace")
+        elif isinstance(argument, bytes):
+            sent = argument
+        else:
+            limit = 2**64 - 1 if name == "refresh" else NUMBER_LIMIT
+            numbers[name] = number(argument, limit, name)
+    return _library.CallFields(service=service.number, **numbers), sent
+
+
+def _reply(code: Code, value: AnyValue) -> _Given:
+    """A reply as the library takes it."""
+    fields: Dict[str, Any] = {"code": code}
+    message = b""
+    if isinstance(value, Sample):
+        message, fields["validity"] = value
+    elif isinstance(value, QueuingStatus):
+        fields.update(value._asdict())
+    elif isinstance(value, SamplingStatus):
+        fields.update(refresh=value.refresh, size=value.size, direction=value.direction, validity=value.last_validity)
+    elif isinstance(value, bytes):
+        message = value
+    elif value is not None:
+        fields["id"] = number(value, NUMBER_LIMIT, "the identifier")
+    return _Given(_library.ReplyFields(**fields), message)
+
+
+def _value(service: Service, numbers: Any, message: bytes) -> AnyValue:
+    """What comes with NO_ERROR in the standard's reply."""
+    if service.word == "read":
+        return Sample(message, Validity(numbers.validity))
+    if service.word == "receive":
+        return message
+    if service.word == "queuing-status":
+        return QueuingStatus(numbers.waiting, numbers.depth, numbers.size, Direction(numbers.direction))
+    if service.word == "sampling-status":
+        return SamplingStatus(numbers.refresh, numbers.size, Direction(numbers.direction), Validity(numbers.validity))
+    return int(numbers.id) if "name" in service.arguments else None
