@@ -6,7 +6,7 @@ import dekarino
 from dekarino import Code, ConfigError, Direction, Judge, NoCallError, QueuingStatus, Row, Sample, SamplingStatus, Validity
 
 ROOT = pathlib.Path(__file__).resolve().parent.parent.parent
-# A queuing channel NAV of depth 2 and a sampling channel SPD of refresh 50, both of 4 bytes, from FMS to DSP.
+# A queuing channel NAV of depth 2 from FMS to DSP, and a sampling channel SPD from AIR to DSP; messages of 4 bytes.
 BOTH = ROOT / "examples/every_reply/config.toml"
 
 
@@ -18,15 +18,12 @@ class Judging(unittest.TestCase):
     def agrees(self, *reply, **call):
         self.assertIsNone(self.judge.add(*reply, **call))
 
-    def creates(self, partition, queuing, sampling, direction):
-        self.agrees(partition, "CREATE_QUEUING_PORT", Code.NO_ERROR, 1, name=queuing, size=4, depth=2,
-                    direction=direction, discipline=0)
-        self.agrees(partition, "CREATE_SAMPLING_PORT", Code.NO_ERROR, 2, name=sampling, size=4, direction=direction,
-                    refresh=0 if direction == Direction.SOURCE else 50)
-
     def creates_all(self):
-        self.creates("FMS", "NAV_OUT", "SPD_OUT", Direction.SOURCE)
-        self.creates("DSP", "NAV_IN", "SPD_IN", Direction.DESTINATION)
+        queuing, sampling = {"size": 4, "depth": 2, "discipline": 0}, {"size": 4, "refresh": 50}
+        self.agrees("FMS", "CREATE_QUEUING_PORT", Code.NO_ERROR, 1, name="NAV_OUT", direction=0, **queuing)
+        self.agrees("DSP", "CREATE_QUEUING_PORT", Code.NO_ERROR, 1, name="NAV_IN", direction=1, **queuing)
+        self.agrees("DSP", "CREATE_SAMPLING_PORT", Code.NO_ERROR, 2, name="SPD_IN", direction=1, **sampling)
+        self.agrees("AIR", "CREATE_SAMPLING_PORT", Code.NO_ERROR, 1, name="SPD_OUT", direction=0, **sampling)
 
     def test_a_system_as_the_standard_says(self):
         self.creates_all()
@@ -37,7 +34,7 @@ class Judging(unittest.TestCase):
         self.agrees("FMS", "SEND_QUEUING_MESSAGE", Code.NO_ERROR, id=1, message=b"\x0a")
         self.agrees("FMS", "GET_QUEUING_PORT_STATUS", Code.NO_ERROR, QueuingStatus(1, 2, 4, Direction.SOURCE), id=1)
         self.agrees("DSP", "RECEIVE_QUEUING_MESSAGE", Code.NO_ERROR, b"\x0a", id=1)
-        self.agrees("FMS", "WRITE_SAMPLING_MESSAGE", Code.NO_ERROR, id=2, message=b"12", at=100)
+        self.agrees("AIR", "WRITE_SAMPLING_MESSAGE", Code.NO_ERROR, id=1, message=b"12", at=100)
         self.agrees("DSP", "READ_SAMPLING_MESSAGE", Code.NO_ERROR, Sample(b"12", Validity.VALID), id=2, at=150)
         self.agrees("DSP", "READ_SAMPLING_MESSAGE", Code.NO_ERROR, Sample(b"12", Validity.INVALID), id=2, at=151)
         self.agrees("DSP", "GET_SAMPLING_PORT_STATUS", Code.NO_ERROR,
@@ -64,7 +61,8 @@ class Judging(unittest.TestCase):
         found = self.departs("NO_ERROR message 0a", Row.RECEIVED, "", "DSP", "RECEIVE_QUEUING_MESSAGE",
                              Code.NO_ERROR, b"\x0b", id=1)
         self.assertEqual(found.logged, "NO_ERROR message 0b")
-        self.agrees("FMS", "WRITE_SAMPLING_MESSAGE", Code.NO_ERROR, id=2, message=b"")
+        self.departs("INVALID_PARAM", Row.EMPTY_MESSAGE, "message of 0 bytes", "AIR", "WRITE_SAMPLING_MESSAGE",
+                     Code.NO_ERROR, id=1, message=b"")
 
     def test_no_calls(self):
         for message, arguments in [
