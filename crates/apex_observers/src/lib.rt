@@ -7,10 +7,10 @@
 //!
 //! | Call | May wait | May fail |
 //! |---|---|---|
-//! | `Publisher::new`, `Publishers::add_sampling` | yes | if memory runs out |
-//! | `Publisher::publish`, `Publishers::publish` | for reads in progress | if memory runs out; `new` allocated what it needs |
+//! | `Publisher::new`, `Publishers::add_sampling` | yes | out of memory |
+//! | `Publisher::publish`, `Publishers::publish` | for reads in progress | out of memory, which `new` allocates |
 //! | `Publisher::close`, `Publishers::close` | for reads in progress | no |
-//! | `Publisher::observer`, `Publishers::observers` | no | if there is no room for another observer, or memory runs out |
+//! | `Publisher::observer`, `Publishers::observers` | no | no room for another observer; out of memory |
 //! | `Publisher::receipt`, `Publishers::receipt`, `Publishers::tell`, `Receipt::copy`, `Observer::learn`, `Observer::read` | no | no |
 //!
 //! # What is published

@@ -15,7 +15,7 @@ no_write : (config : Configuration) (h : History) (p : ℕ) (call : Call) → is
 no_write config h p (WriteSampling id message) other = absurd (cc)
 no_write config h p _ other = λ at channel. none_or_none _
 
--- without room for one more no room is left
+-- if there is no room for one more, no room is left
 used_up : (room before done : ℕ) → (1 ≤ room → false ≡ true) → before ≤ room + done → before ≤ done
 used_up zero before done none at_most = omega arith
 used_up (suc room) before done none at_most = absurd (let some = none (omega arith) in cc)
