@@ -80,7 +80,7 @@ fn is_held(config: &Config, logs: &[OwnLog], walk: &Walk, p: usize, entry: &Entr
     true
 }
 
-/// Whether the other partitions don't affect the reply.
+/// Whether the reply is independent of the other partitions.
 fn is_own(call: &Call) -> bool
     ensures { result ≡ is_own call.now }
 {

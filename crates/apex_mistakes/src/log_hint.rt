@@ -139,7 +139,7 @@ fn other_log_hint<'a>(faulty: &FaultyLogLine<'a>, word: &[u8]) -> Option<Hint<'a
     }
 }
 
-/// The partition whose name, ignoring case, is the file's.
+/// The partition whose name, ignoring case, is that of the file.
 fn partition_in<'a>(config: &'a Config, file: &str) -> Option<&'a str> {
     let stem = stem_of(file).as_bytes();
     for p in 0..config.partitions() {

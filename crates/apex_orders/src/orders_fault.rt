@@ -12,7 +12,7 @@ pub enum OrdersFault {
     /// An allocation failed.
     #[error("out of memory")]
     OutOfMemory,
-    /// The orders lead to more states than the bound: the answer is open.
+    /// The orders lead to more states than the bound: nothing is claimed.
     #[error("undecided: more states than the bound")]
     TooManyStates,
 }

@@ -1,4 +1,4 @@
-//! Compares what the workers were answered with a log or with another run of the calls.
+//! Compares the workers' replies with a log or with those of another run of the calls.
 ghost use Rattle.std.specs.Prelude.{◌≡◌, ◌↔◌, length, IsTrue};
 ghost use Rattle.apex_threads.specs.Collected.{AreComplete};
 

@@ -57,8 +57,8 @@ fn list_refused_after<R: AllocGlobal + Abort + Wait>(
     answered
 }
 
-// The list on a new board, with `refuse` allocations refused after each number of granted ones. If no later allocation
-// succeeds, it stops; it may get by without a single one.
+// The list on a new board, with `refuse` allocations refused after each number of granted ones. It stops if all later
+// allocations fail; after a single refusal it may complete.
 fn list_refused_in_turn<R: AllocGlobal + Abort + Wait>(rt: &R, refuse: u64) -> Result<(), Fail> {
     let requests = requests_of(rt, FULL_QUEUE)?;
     for granted in 0..ALLOCATION_LIMIT {

@@ -10,7 +10,7 @@ use Rattle.apex_ports.proofs.Stays.{none_or_none}
 use Rattle.apex_board.specs.OnRequests.{is_write}
 use Rattle.apex_board.proofs.requests.run_list.Goals as goal
 
--- a call that is no write writes nothing
+-- a call that isn't a write writes nothing
 no_write : (config : Configuration) (h : History) (p : ℕ) (call : Call) → is_write call ≡ false → WritesNothing config h p call
 no_write config h p (WriteSampling id message) other = absurd (cc)
 no_write config h p _ other = λ at channel. none_or_none _

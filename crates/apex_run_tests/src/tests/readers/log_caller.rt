@@ -11,7 +11,7 @@ use apex_module::Config;
 use std::alloc::Global;
 use std::test::Fail;
 
-/// The number of calls of a log.
+/// How many calls a log has.
 fn count_logged(alloc: Global, config: &Config, text: &[u8]) -> Result<usize, LogError>
     ensures { IfOk result
         (λ count. option_map length (value_of (log_of config.now text.now)) ≡ Some count) }

@@ -8,7 +8,7 @@ use apex_texts::{TraceFault, read_script};
 use std::alloc::Global;
 use std::test::Fail;
 
-/// The number of calls of a script.
+/// How many calls a script has.
 fn count_calls(alloc: Global, text: &[u8]) -> Result<usize, TraceFault>
     ensures { IfOk result
         (λ count. option_map length (value_of (script_of text.now)) ≡ Some count) }
