@@ -13,7 +13,7 @@ use Rattle.apex_board.specs.Journals.{journal_at}
 abbrev pub spare : {X A : Type 0} → Vec X A → ℕ
 spare v = vec_capacity v - vec_len v
 
--- the smaller of a journal's room and the given room
+-- the smaller of a journal's room, if there is one, and the given room
 abbrev pub room_beside : {A : Type 0} → Option (Journal A) → ℕ → ℕ
 room_beside None room = room
 room_beside (Some journal) room = min room (spare journal.accepted)

@@ -157,7 +157,7 @@ impl Finder<usize> for HasEnd {
     }
 }
 
-/// Adds the channels without an end of a direction, and then those ports of the others that are too many.
+/// Adds the channels without an end of a direction, and then the ports of channels that have too many.
 pub fn add_wrong_ends<'a>(
     alloc: Global,
     places: &mut Places,

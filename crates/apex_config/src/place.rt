@@ -51,7 +51,7 @@ impl Part {
 pub enum Spot {
     /// All of it.
     Whole,
-    /// The value at a key, even if it is missing.
+    /// The value that is, or must be, at a key.
     At { key: Key },
     /// A key that the part doesn't take, by its number in the order of the part's keys, from 0.
     Unknown { number: usize },

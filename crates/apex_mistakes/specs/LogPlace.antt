@@ -73,7 +73,7 @@ fitting words = position_or_len (λ before. not (begins_reply (take (before + 1)
 
 -- ---- the place
 
--- the column, from 0, of the end of a text that ends a line
+-- the column, from 0, at which a line's last part begins
 abbrev pub bytes_before : List ℕ → List ℕ → ℕ
 bytes_before part line = length line - length part
 

@@ -12,7 +12,7 @@ small word = map to_ascii_lowercase word
 unfoldable pub edits : List ℕ → List ℕ → ℕ
 edits word known = levenshtein_row nat_eq (small word) (small known) (length (small known))
 
--- the maximum number of edits for a mistyped word: one for a short word, two for another, none for one that is too long
+-- the maximum number of edits for a mistyped word: one for a short word, two for another
 abbrev pub most_edits : List ℕ → ℕ
 most_edits word = if nat_le (length word) 3 then 1 else 2
 

@@ -4,7 +4,8 @@ ghost use Rattle.std.specs.Prelude.{◌≡◌};
 use crate::message::Message;
 use crate::name::Name;
 
-/// A call of a service. A direction, discipline or mode is the number that the caller gave, which may be undefined.
+/// A call of a service. A direction, discipline or mode is the number that the caller gave, even if the standard
+/// doesn't define it.
 #[derive(Debug, Drop, PartialEq, Eq)]
 pub enum Call {
     /// CREATE_SAMPLING_PORT. The size is in bytes, the refresh period in nanoseconds.

@@ -86,7 +86,7 @@ impl<A: Allocator> Board<A> {
         self.ports.waiting_count(c)
     }
 
-    /// The `i`-th message that waits on channel `c`; index 0 has the oldest.
+    /// The message at index `i` of those that wait on channel `c`; index 0 has the oldest.
     pub fn waiting(&self, c: usize, i: usize) -> Option<&Message>
         requires { c < length self.now.config.channels }
         ensures message { option_copied result
