@@ -115,7 +115,7 @@ enum Entries {
 }
 
 impl Entries {
-    /// The part that an entry is.
+    /// The part for an entry.
     fn part(self, index: usize) -> Part
         ensures { result ≡ part_in self index }
     {

@@ -50,7 +50,7 @@ impl Model for PackedOrder {
 }
 
 impl PackedOrder {
-    /// The order of no calls.
+    /// The order without calls.
     pub(crate) fn new(alloc: Global) -> PackedOrder
         ensures { result ≡ [] }
     {
@@ -98,7 +98,7 @@ impl PackedOrder {
         Ok(PackedOrder { partitions })
     }
 
-    /// The order with whole numbers.
+    /// The order with `usize` numbers.
     pub(crate) fn unpacked(&self, alloc: Global) -> Result<Order, AllocError>
         ensures { IfOk result (λ order. order ≡ self.now) }
     {

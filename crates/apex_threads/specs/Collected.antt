@@ -1,4 +1,4 @@
--- A log beside the scripts and the replies of all partitions.
+-- A log compared with the scripts and the replies of all partitions.
 use Rattle.std.specs.Prelude.{ℕ, ◌≡◌, ◌<◌, ◌≤◌, List, length, take, slice_get, slice_index, Some}
 use Rattle.apex_types.specs.declared.call.Call.{Call}
 use Rattle.apex_types.specs.declared.moment.Moment.{Moment}

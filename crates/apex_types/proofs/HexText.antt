@@ -34,7 +34,7 @@ bad_digit text e even refused =
       | inr bad ↦ rw (refused, bad.1) refl
     ]
 
--- good digits that are no more than a message has
+-- good digits, at most as many as a message has
 pub good_digits : (text bytes : List ℕ) → length text ≤ 2 * MESSAGE_LIMIT → decode_of text ≡ Ok bytes → message_of_digits (decode_of text) ≡ Ok bytes
 good_digits text bytes short read =
     let twice = (decode_of-ok text bytes read).2 in
