@@ -48,7 +48,7 @@ journal_at-set journals c x within d = by_index (d == c) refl
 pub journal_here : {A : Type 0} (journals : List (Option (Journal A))) (c : ℕ) (x : Option (Journal A)) → c < length journals → x ≡ get_or journals c x → journal_at journals c ≡ x
 journal_here journals c x within is = ap if_there (at_index journals c x within is)
 
--- a journal that is there
+-- a journal that exists
 pub record IsJournal {A : Type 0} (config : Configuration) (h t : History) (c : ℕ) (journal : Journal A) : Type 0 where
   pub queuing : is_queuing config c ≡ true
   pub accepted : journal.accepted.items ≡ accepted_on config c h
@@ -63,7 +63,7 @@ journal_is config h t journals c journal are here = record {
   fits = are.fits c journal here;
 }
 
--- where one journal is set, and the others stay
+-- one journal is set, and the others stay
 module _ {A : Type 0} (config : Configuration) (h t h' t' : History) (journals : List (Option (Journal A))) (c : ℕ) (new : Journal A) where
   pub journal_set : AreJournals config h t journals → c < length journals → is_queuing config c ≡ true
       → new.accepted.items ≡ accepted_on config c h' → new.taken.items ≡ taken_on config c t' → vec_capacity new.accepted ≤ vec_capacity new.taken
@@ -122,7 +122,7 @@ taken_within config h c sound =
 pub taken-one : (config : Configuration) (h : History) (e : Entry) (c : ℕ) (m : List ℕ) → message_received config c e ≡ Some m → taken_on config c (h ++ e ∷ []) ≡ taken_on config c h ++ as_received m ∷ []
 taken-one config h e c m received = taken-received config c h e m received (receives_no_clear config c e m received c)
 
--- a channel from which a message is received has a journal, and its accepted messages are more than those that were taken before
+-- a channel from which a message is received has a journal, and it accepted more messages than were taken before
 pub receives_within : (config : Configuration) (h : History) (e : Entry) (c : ℕ) (m : List ℕ) → IsSound config (h ++ e ∷ []) → message_received config c e ≡ Some m → length (taken_on config c h) < length (accepted_on config c (h ++ e ∷ []))
 receives_within config h e c m sound received =
     let longer = ap (λ (xs : List Taken). length xs) (taken-one config h e c m received) in
@@ -244,13 +244,13 @@ clears_without_journal config h e c journals sound was none no_receive found = r
 
 -- ---- new journals
 
--- where nothing is found, the list has ended
+-- if nothing is found, the index is past the list
 slice_get_outside : {X : Type 0} (xs : List X) (c : ℕ) → slice_get xs c ≡ None → length xs ≤ c
 slice_get_outside [] c none = omega arith
 slice_get_outside (x ∷ xs) zero none = absurd (cc)
 slice_get_outside (x ∷ xs) (suc c) none = let rest = slice_get_outside xs c none in omega arith
 
--- a number past the last channel is no queuing channel's
+-- no channel past the last one is a queuing channel
 past_last : (config : Configuration) (c : ℕ) → length config.channels ≤ c → is_queuing config c ≡ false
 past_last config c past = ap is_queue (slice_get_past config.channels c past)
 
@@ -285,7 +285,7 @@ fresh_journals {A} config journals all each = record {
         let same : journal' ≡ journal = cc in
         subst (λ (j : Journal A). vec_capacity j.accepted ≤ vec_capacity j.taken) same (each c (Some journal') is).3
 
--- a journal that is there is one of the list
+-- a journal that exists is one of the list
 pub journal_within : {A : Type 0} (journals : List (Option (Journal A))) (c : ℕ) (journal : Journal A) → journal_at journals c ≡ Some journal → c < length journals
 journal_within [] c journal here = absurd (cc)
 journal_within (x ∷ journals) zero journal here = omega arith

@@ -1,4 +1,4 @@
--- The room is the greatest number of calls for which the log and each journal have the room.
+-- The room is the greatest number of calls for which the log and each journal have room.
 use Rattle.std.proofs.Common.{◌≡◌, ℕ, zero, suc, ◌+◌, ◌-◌, ◌<◌, ◌≤◌, ◌==◌, Bool, true, false, List, [], ◌∷◌, Option, Some, None, refl, subst, arith}
 use Rattle.std.specs.Vec.{vec_len, vec_capacity}
 use Rattle.std.proofs.lemmas.Bool.Decides.{nat_tests}
@@ -6,7 +6,7 @@ use Rattle.apex_board.specs.declared.journal.Journal.{Journal}
 use Rattle.apex_board.specs.declared.records.Records.{Records}
 use Rattle.apex_board.specs.Room.{HasRoom, KeepsRoom, KeepsAllButOne, spare, room_beside, least_room, room_of}
 
--- the journal has the room
+-- the journal has this room
 abbrev Fits : {A : Type 0} → ℕ → Option (Journal A) → Type 0
 Fits {A} n journal = (j : Journal A) → journal ≡ Some j → vec_len j.accepted + n ≤ vec_capacity j.accepted
 
@@ -40,7 +40,7 @@ least_means (journal ∷ journals) n room enough =
     let rest = least_means journals n (room_beside journal room) enough in
     ((beside_means journal n room rest.0).0, room_of_each journal journals n room rest.0 rest.1)
 
--- what there is room for has its room
+-- if there is room for n calls, the log and each journal have it
 pub room_means : {A : Type 0} (records : Records A) (n : ℕ) → n ≤ room_of records → (vec_len records.log + n ≤ vec_capacity records.log) × HasRoom n records.journals.items
 room_means records n enough =
     let both = least_means records.journals.items n (spare records.log) enough in
@@ -48,7 +48,7 @@ room_means records n enough =
     let entries = both.0 in
     (omega (arith, within), both.1)
 
--- what has its room there is room for
+-- if the log and each journal have room for n calls, there is room for n calls
 pub room_from : {A : Type 0} (records : Records A) (n : ℕ) → vec_len records.log + n ≤ vec_capacity records.log → HasRoom n records.journals.items → n ≤ room_of records
 room_from records n entries each = least_from records.journals.items n (spare records.log) (omega arith) each
 

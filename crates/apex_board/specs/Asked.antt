@@ -18,15 +18,15 @@ queue_asked _ = None
 abbrev pub asked_of : Port → AskedPort
 asked_of port = record { channel = port.channel; direction = port.direction }
 
--- those of the port by which a partition's call sends, receives or clears
+-- the channel and direction of the port by which a partition's call sends, receives or clears
 abbrev pub asked_port : Configuration → ℕ → Call → Option AskedPort
 asked_port config p call = option_map asked_of (option_and_then (port_of config p) (queue_asked call))
 
--- it is the port that the entry's call asks for
+-- it is the port that the entry's call uses
 abbrev pub IsAskedBy : Configuration → Entry → Option AskedPort → Type 0
 IsAskedBy config entry port = port ≡ asked_port config entry.partition entry.call
 
--- its channel is one of so many
+-- its channel is one of this number of channels
 abbrev pub IsBelow : ℕ → Option AskedPort → Type 0
 IsBelow count None = Unit {0}
 IsBelow count (Some port) = port.channel < count

@@ -4,8 +4,8 @@ use Rattle.apex_module.specs.Configuration.{Configuration}
 use Rattle.apex_observers.specs.Channels.{Channels}
 use Rattle.apex_ports.specs.History.{History}
 
--- the configuration, the log, what is published on each channel, how many calls can be served without memory, and how many of
--- them the log alone has room for
+-- the configuration, the log, what is published on each channel, the number of calls that can be served without
+-- allocating, and the number of them that the log alone has room for
 pub record BoardView : Type 0 where
   pub config : Configuration
   pub log : History

@@ -29,13 +29,13 @@ abbrev pub taken_in : {A : Type 0} → Option (Journal A) → List Taken
 taken_in None = []
 taken_in (Some journal) = journal.taken.items
 
--- the journals are what the definitions say: the messages that a history accepted, and those taken in what is recorded of it
+-- the journals follow the definitions: the messages that a history accepted, and those taken in what is recorded of it
 pub record AreJournals {A : Type 0} (config : Configuration) (history recorded : History) (journals : List (Option (Journal A))) : Type 0 where
   pub all : length journals ≡ length config.channels
   pub kind : (c : ℕ) → has_journal (journal_at journals c) ≡ is_queuing config c
   pub accepted : (c : ℕ) → accepted_in (journal_at journals c) ≡ accepted_on config c history
   pub taken : (c : ℕ) → taken_in (journal_at journals c) ≡ taken_on config c recorded
-  -- what is accepted can be taken without memory
+  -- what is accepted can be taken without allocating
   pub fits : (c : ℕ) (journal : Journal A) → journal_at journals c ≡ Some journal → vec_capacity journal.accepted ≤ vec_capacity journal.taken
 
 -- the journal of a channel without messages

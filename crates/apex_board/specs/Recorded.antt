@@ -1,4 +1,4 @@
--- What a board's records say of the history.
+-- What a board's records say about the history.
 use Rattle.std.specs.Prelude.{◌≡◌}
 use Rattle.apex_module.specs.Configuration.{Configuration}
 use Rattle.apex_ports.specs.PortsView.{PortsView}
@@ -12,7 +12,7 @@ use Rattle.apex_observers.specs.Channels.{Channels}
 abbrev pub AreRecords : {A : Type 0} → Configuration → Records A → Type 0
 AreRecords config records = AreJournals config records.log.items records.log.items records.journals.items
 
--- what holds of a board: the log is the history of its ports, and its writes are published
+-- what holds for a board: the log is the history of its ports, and its writes are published
 pub record IsBoard {A : Type 0} (ports : PortsView) (records : Records A) (channels : Channels) : Type 0 where
   pub sound : IsSound ports.config ports.history
   pub same : records.log.items ≡ ports.history

@@ -5,14 +5,14 @@ ghost use Rattle.apex_board.specs.Asked.{asked_port, IsBelow};
 use apex_module::Config;
 use apex_types::{Call, Direction};
 
-/// The channel of a queuing port that a call asks for, and the port's direction.
+/// The channel of the queuing port that a call uses, and the port's direction.
 #[derive(Clone, Copy)]
 pub(crate) struct AskedPort {
     pub(crate) channel: usize,
     pub(crate) direction: Direction,
 }
 
-/// The queuing port that a call of a partition sends to, receives from or clears, if it is such a call and has one.
+/// The queuing port that a partition's call sends to, receives from or clears, if the call does so and the port exists.
 pub(crate) fn asked_port(config: &Config, partition: usize, call: &Call) -> Option<AskedPort>
     ensures port { result ≡ asked_port config.now partition call.now }
     ensures within { IsBelow (length config.now.channels) result }

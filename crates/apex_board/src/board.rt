@@ -1,4 +1,4 @@
-//! The board: its public face.
+//! The board: its public interface.
 ghost use Rattle.std.specs.Prelude.{◌≡◌, ◌+◌, ◌<◌, ◌≤◌, ◌∷◌, ◌++◌, [], true, false, length, Some, slice_get, IfOk, OnOk, OnErr, IsOk};
 
 use crate::asked::asked_port;
@@ -14,12 +14,12 @@ use std::sync::Wait;
 
 mod readers;
 
-/// The board of a module: it answers the calls of all partitions and keeps the log of them.
+/// The board of a module: it answers the calls of all partitions and keeps their log.
 ///
-/// To a contract it is its configuration, its log, what is published on its channels, and its room. The log is lawful, and
-/// whatever the board shows or publishes is what the log comes to.
+/// A contract sees its configuration, its log, what is published on its channels, and its room. The log is lawful, and
+/// whatever the board shows or publishes follows from the log.
 ///
-/// It is not `Drop`: end it by `close`.
+/// It is not `Drop`: end it with `close`.
 pub struct Board<A: Allocator = Global> {
     ports: Ports<A>,
     records: Records<A>,
@@ -49,7 +49,7 @@ impl<A: Allocator + Copy> Board<A> {
     ghost use Rattle.apex_threads.specs.OnChannels.{ArePublished};
     ghost use Rattle.apex_observers.specs.Channels.{AreObservers, sampling_of};
 
-    /// A board with the empty log, every partition in COLD_START. On want of memory the configuration is dropped.
+    /// A board with the empty log and every partition in COLD_START. If memory runs out, the configuration is dropped.
     pub fn new<R: Wait>(rt: &R, alloc: A, config: Config) -> Result<Board<A>, OutOfMemory>
         ensures config { IfOk result (λ board. board.config ≡ config) }
         ensures log { IfOk result (λ board. board.log ≡ []) }
@@ -64,8 +64,8 @@ impl<A: Allocator + Copy> Board<A> {
         })
     }
 
-    /// A board as of `new`, and an observer of each of its sampling channels, in the channels' order. On a fault the
-    /// configuration is dropped.
+    /// A board as `new` gives it, and an observer of each of its sampling channels, in the channels' order. On a fault
+    /// the configuration is dropped.
     pub fn with_observers<R: Wait>(
         rt: &R,
         alloc: A,
@@ -104,7 +104,7 @@ impl<A: Allocator> Board<A> {
     ghost use Rattle.apex_ports.specs.ReplyTable.{reply_to};
     ghost use Rattle.apex_ports.specs.Writes.{WritesNothing};
 
-    /// Makes room for this many more calls. Neither answer changes anything else that a reader shows.
+    /// Makes room for this many more calls. Whether it succeeds or not, nothing else that a reader shows changes.
     pub fn reserve(&mut self, calls: usize) -> Result<(), OutOfMemory>
         ensures room { OnOk result (calls ≤ self.new.room) }
         ensures succeeds { calls ≤ self.old.room → IsOk result }
@@ -130,9 +130,10 @@ impl<A: Allocator> Board<A> {
         Ok(())
     }
 
-    /// One event: the partition makes the call at the moment. What it writes is published before the board changes.
+    /// Makes one call of the partition at the moment. What it writes is published before the board changes.
     ///
-    /// On want of memory nothing changes but the room, which isn't smaller: the next call is answered as if this one had not been asked.
+    /// If memory runs out, nothing changes but the room, which doesn't shrink: the next call is answered as if this one
+    /// had not been made.
     pub fn call<R: Wait>(
         &mut self,
         rt: &R,
@@ -142,18 +143,18 @@ impl<A: Allocator> Board<A> {
     ) -> Result<Reply, OutOfMemory>
         requires { partition < length self.old.config.partitions }
 
-        // The reply is the reply table's, and the log gains just that entry.
+        // The reply is the reply table's, and the log gains exactly this entry.
         ensures reply { IfOk result
             (λ reply. reply ≡ reply_to self.old.config self.old.log partition at call.now) }
         ensures entry { IfOk result (λ reply.
             self.new.log ≡ self.old.log ++ entry_of partition at call.now reply ∷ []) }
         ensures config { self.new.config ≡ self.old.config }
 
-        // Neither answer changes which channels are published.
+        // Success or not, the same channels are published.
         ensures channels { books_of self.new.published ≡ books_of self.old.published }
 
-        // Want of memory changes nothing but the room. Where there is room, it comes at most for a write that
-        // is to be published. A call that is no send needs no more than room in the log.
+        // If memory runs out, nothing changes but the room. If there is room, memory can run out only for a write that
+        // is to be published. A call that isn't a send needs only room in the log.
         ensures refused { OnErr result (self.new.log ≡ self.old.log) }
         ensures refused_published { OnErr result (self.new.published ≡ self.old.published) }
         ensures refused_room { OnErr result (self.old.room ≤ self.new.room) }
@@ -167,7 +168,7 @@ impl<A: Allocator> Board<A> {
 
         ensures lawful { IsLawful self.new.config self.new.log }
 
-        // One channel at most changes, none by a refused send, and a partition in IDLE stays there and sends nothing.
+        // At most one channel changes, none by a refused send, and a partition in IDLE stays there and sends nothing.
         ensures one_channel { ChangesOneChannel self.old.config self.old.log self.new.log }
         ensures refused_send { IfOk result
             (λ reply. is_send call.now ≡ true → is_code_no_error reply ≡ false →
@@ -188,7 +189,7 @@ impl<A: Allocator> Board<A> {
         Ok(reply)
     }
 
-    /// A token of all writes that were published on sampling channel `c` so far.
+    /// A token for all writes published on sampling channel `c` so far.
     pub fn receipt(&self, c: usize) -> Receipt
         requires channel { c < length self.now.config.channels }
         requires sampling { is_queuing self.now.config c ≡ false }
@@ -198,7 +199,7 @@ impl<A: Allocator> Board<A> {
         self.publishers.receipt(c)
     }
 
-    /// Each observer learns the receipt of its channel: what it shows from now on is no less.
+    /// Each observer learns the receipt of its channel: from now on it shows no earlier state.
     pub fn tell(&self, observers: &mut [Observer<A>])
         requires { AreObservers self.now.published observers.old }
         ensures observers { AreObservers self.now.published observers.new }

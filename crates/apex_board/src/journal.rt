@@ -12,7 +12,7 @@ use apex_ports::Entry;
 use apex_types::{Call, Direction, Message, Reply, ReturnCode, Taken};
 use std::alloc::{AllocError, Allocator};
 
-/// The messages that a queuing channel accepted, and those that were taken out of it.
+/// The messages that a queuing channel accepted, and those that were taken from it.
 #[derive(Drop)]
 pub(crate) struct Journal<A: Allocator> {
     pub(crate) accepted: Vec<Message, A>,
@@ -78,7 +78,7 @@ impl<A: Allocator> Journal<A> {
     }
 }
 
-/// The journal of a channel without messages, where it is a queuing channel.
+/// The journal of a channel without messages, if it is a queuing channel.
 pub(crate) fn new_journal<A: Allocator + Copy>(
     alloc: A,
     config: &Config,
@@ -94,7 +94,7 @@ pub(crate) fn new_journal<A: Allocator + Copy>(
     }
 }
 
-/// The message that an entry put into a channel, and the channel's number. The port is the one that its call asks for.
+/// The message that an entry put into a channel, and the channel's number. The port is the one that its call uses.
 pub(crate) fn accepted_message<'a>(
     port: Option<AskedPort>,
     entry: &'a Entry,

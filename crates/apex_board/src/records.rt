@@ -1,4 +1,4 @@
-//! What a board records of its calls: the log, and the journals that it comes to.
+//! What a board records of its calls: the log, and the journals that follow from it.
 ghost use Rattle.std.specs.Prelude.{◌≡◌, ℕ, ◌+◌, ◌<◌, ◌≤◌, [], ◌∷◌, ◌++◌, true, length, None, IfOk, OnOk, IsOk};
 ghost use Rattle.std.specs.Vec.{vec_len, vec_capacity};
 ghost use Rattle.apex_ports.specs.Channels.{message_received};
@@ -22,7 +22,7 @@ pub(crate) struct Records<A: Allocator> {
 impl<A: Allocator + Copy> Records<A> {
     ghost use Rattle.apex_board.specs.Recorded.{AreRecords};
 
-    /// The records of no call.
+    /// The records before the first call.
     pub(crate) fn new(alloc: A, config: &Config) -> Result<Records<A>, AllocError>
         ensures log { IfOk result (λ records. records.log.items ≡ []) }
         ensures recorded { IfOk result (λ records. AreRecords config.now records) }
@@ -44,7 +44,7 @@ impl<A: Allocator> Records<A> {
     ghost use Rattle.apex_board.specs.Recorded.{AreRecords};
     ghost use Rattle.apex_board.specs.Room.{HasRoomFor, HasRoom, HasRoomAt, KeepsRoom, KeepsAllButOne, room_of, spare};
 
-    /// How many calls can be served without memory.
+    /// The number of calls that can be served without allocating.
     pub(crate) fn room(&self) -> usize
         ensures { result ≡ room_of self.now }
     {
@@ -57,7 +57,7 @@ impl<A: Allocator> Records<A> {
         room
     }
 
-    /// How many entries the log takes without memory.
+    /// The number of entries that the log takes without allocating.
     pub(crate) fn log_room(&self) -> usize
         ensures { result ≡ spare self.now.log }
     {
@@ -85,7 +85,7 @@ impl<A: Allocator> Records<A> {
         Ok(())
     }
 
-    // Makes room for this many more messages on a channel, where it has a journal.
+    // Makes room for this many more messages on a channel, if it has a journal.
     fn reserve_channel(
         &mut self,
         config: &Config,
@@ -107,7 +107,7 @@ impl<A: Allocator> Records<A> {
         }
     }
 
-    /// Makes the room that a call may need: for its entry, and for the message that it sends by the port.
+    /// Makes the room that a call may need: for its entry, and for the message that it sends through the port.
     pub(crate) fn make_room(
         &mut self,
         config: &Config,
@@ -138,7 +138,7 @@ impl<A: Allocator> Records<A> {
         }
     }
 
-    /// Records an entry for which there is room. The port is the one that its call asks for.
+    /// Records an entry for which there is room. The port is the one that its call uses.
     pub(crate) fn push(&mut self, config: &Config, port: Option<AskedPort>, entry: Entry)
         requires port { IsAskedBy config.now entry port }
         requires channel { IsBelow (length config.now.channels) port }
@@ -179,7 +179,7 @@ impl<A: Allocator> Records<A> {
         }
     }
 
-    // Puts what an entry took out of a channel into the channel's journal.
+    // Puts what an entry took from a channel into the channel's journal.
     fn push_taken(&mut self, config: &Config, port: Option<AskedPort>, entry: &Entry)
         requires port { IsAskedBy config.now entry.now port }
         requires channel { IsBelow (length config.now.channels) port }
@@ -203,7 +203,7 @@ impl<A: Allocator> Records<A> {
         }
     }
 
-    // Puts what an entry cleared, which received nothing, into its channel's journal.
+    // Puts what an entry cleared into its channel's journal. The entry received nothing.
     fn push_cleared(&mut self, config: &Config, port: Option<AskedPort>, entry: &Entry)
         requires port { IsAskedBy config.now entry.now port }
         requires channel { IsBelow (length config.now.channels) port }

@@ -12,7 +12,7 @@ use std::alloc::Allocator;
 use std::sync::Wait;
 use thiserror::Error;
 
-/// Memory was wanting at request `done`, counted from 0: the requests before it are applied, and no other.
+/// Memory ran out at request `done`, counted from 0: only the requests before it are applied.
 #[derive(Clone, Copy, Debug, PartialEq, Eq, Error)]
 #[error("out of memory")]
 pub struct Stopped {
@@ -37,8 +37,8 @@ pub fn run_list<A: Allocator, R: Wait>(
     ensures config { board.new.config ≡ board.old.config }
     ensures channels { books_of board.new.published ≡ books_of board.old.published }
 
-    // With enough room all are applied, each lowers the room by at most one, and no stop comes before the room is used
-    // up, but at a write that is to be published. A partition in IDLE stays there.
+    // With enough room all are applied, each lowers the room by at most one, and the list stops before the room is used
+    // up only at a write that is to be published. A partition in IDLE stays there.
     ensures succeeds { All (λ request. is_write request.call ≡ false) requests.now →
         length requests.now ≤ board.old.room → IsOk result }
     ensures room { OnOk result (board.old.room ≤ board.new.room + length requests.now) }
@@ -47,7 +47,7 @@ pub fn run_list<A: Allocator, R: Wait>(
         board.old.room ≤ stop.done) }
     ensures idle { StaysIdle board.old.config board.old.log board.new.log }
 {
-    // Where this is refused the log grows as it goes.
+    // If this fails, the log grows as it goes.
     let _ = board.reserve_log(requests.len());
     for (done, request) in requests.iter().enumerate() {
         match board.call(rt, request.partition, request.at, &request.call) {

@@ -1,5 +1,5 @@
 //! Refused memory, boards and ports of modules at the limits, long histories and lists, and observers. The worked
-//! examples of all services are replays, and stand with the texts.
+//! examples of all services are replays, and are among the tests of the texts.
 mod boards;
 mod clears;
 mod closed;

@@ -1,4 +1,4 @@
-//! The words of the command line. Apart from the program, whose proofs then need nothing of `clap`.
+//! The words of the command line. They are in a crate of their own, so that the program's proofs don't need `clap`.
 #![tactic(auto)]
 
 ghost use Rattle.std.specs.Prelude.{◌≡◌};
@@ -33,12 +33,12 @@ pub enum Task<'a> {
     },
 }
 
-/// Why the words name no task.
+/// Why the words don't name a task.
 #[derive(Clone, Copy, Debug, PartialEq, Eq)]
 pub enum WordsFault {
     /// The words aren't those of the usage line.
     Usage,
-    /// A growth of memory was refused.
+    /// An allocation failed.
     OutOfMemory,
 }
 
@@ -99,7 +99,7 @@ fn command<'a>(alloc: Global) -> Result<Command<'a>, AllocError> {
         .subcommand(run_command(alloc)?)
 }
 
-/// The task that the words name; the first word is the program's own name.
+/// The task that the words name. The first word is the program's own name.
 pub fn task_of<'a, S: AsStr>(alloc: Global, words: &'a [S]) -> Result<Task<'a>, WordsFault> {
     let matches = command(alloc)?.try_get_matches_from(words)?;
     let (name, arguments) = matches.subcommand().ok_or(WordsFault::Usage)?;

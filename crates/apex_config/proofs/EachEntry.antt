@@ -1,4 +1,4 @@
--- What is found of one more entry of a list.
+-- What is found in one more entry of a list.
 use Rattle.std.proofs.Common.{◌≡◌, ℕ, suc, ◌+◌, ◌<◌, List, [], ◌∷◌, ◌++◌, length, take, get_or, refl, sym, ap, ◌∙◌, arith}
 use Rattle.std.proofs.lemmas.List.{append_assoc, append-nil, take_more, length-take-le}
 use Rattle.apex_config.specs.declared.place.Place.{Place}
@@ -10,7 +10,7 @@ found_append find n (x ∷ xs) y =
     ap (λ rest. find n x ++ rest) (found_append find (suc n) xs y ∙ ap (λ k. at_each find (suc n) xs ++ find k y) (grind arith))
     ∙ sym (append_assoc (find n x) (at_each find (suc n) xs) (find (n + length (x ∷ xs)) y))
 
--- of the first entries, and the one after them
+-- what is found in the first entries and the next one
 found_more : {X : Type 0} (find : ℕ → X → List Place) (xs : List X) (i : ℕ) (x : X) → i < length xs → x ≡ get_or xs i x
     → at_each find 0 (take (i + 1) xs) ≡ at_each find 0 (take i xs) ++ find i x
 found_more find xs i x inside is =
@@ -32,7 +32,7 @@ one_more find xs i x before now next inside is so_far step =
     both (at_each find 0 (take i xs)) (find i x) before now next so_far step
     ∙ ap (λ places. before ++ places) (sym (found_more find xs i x inside is))
 
--- the same is found by another list and another test
+-- another list with another test gives the same places
 pub same_found : {X Y : Type 0} (f : ℕ → X → List Place) (g : ℕ → Y → List Place) (n : ℕ) (xs : List X) (ys : List Y) (x : X) → length xs ≡ length ys
     → ((i : ℕ) (y : Y) → i < length ys → f (n + i) (get_or xs i x) ≡ g (n + i) y) → at_each f n xs ≡ at_each g n ys
 same_found f g n [] [] d many same = refl

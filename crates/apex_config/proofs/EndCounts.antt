@@ -1,4 +1,4 @@
--- The tests of ends, on the counts of all channels.
+-- The tests of ends, by the counts of all channels.
 use Rattle.std.proofs.Common.{◌≡◌, ℕ, ◌+◌, ◌-◌, ◌^◌, Bool, nat_le, min, List, ap, ◌∙◌, arith}
 use Rattle.apex_types.specs.declared.direction.Direction.{Direction}
 use Rattle.apex_config.specs.declared.place.Part.TheVariants as part

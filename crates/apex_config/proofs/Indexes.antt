@@ -1,4 +1,4 @@
--- Elements at their indexes, against tests and counts of the whole list.
+-- Elements at their indexes, compared with tests and counts of the whole list.
 use Rattle.std.proofs.Common.{◌≡◌, ℕ, zero, suc, ◌≤◌, Bool, true, List, [], ◌∷◌, Some, refl, sym, ap, ◌∙◌, arith}
 use Rattle.std.specs.List.{slice_get, list_any, sum_by}
 use Rattle.std.proofs.lemmas.Bool.{or_left, or_right}
@@ -45,7 +45,7 @@ part_in f y ys zero is more later =
     (suc found.0, found.1, found.2, found.3)
 part_in f y ys (suc n) is more later = (0, y, refl, omega (arith, is))
 
--- a sum that isn't 0 has such a part
+-- a sum that isn't 0 has a part that isn't 0
 pub some_part : {X : Type 0} (f : X → ℕ) (xs : List X) → 1 ≤ sum_by f xs → (i : ℕ) × (x : X) × (slice_get xs i ≡ Some x) × (1 ≤ f x)
 some_part f [] more = absurd (omega arith)
 some_part f (y ∷ ys) more = part_in f y ys (f y) refl more (some_part f ys)

@@ -1,4 +1,4 @@
--- What it says of one entry that a pass finds no place in a text.
+-- What holds for one entry if a pass finds no place in a text.
 use Rattle.std.proofs.Common.{◌≡◌, ℕ, zero, suc, ◌+◌, ◌<◌, ◌≤◌, ℤ, pos, negsuc, Bool, true, false, cond, ◌||◌, not, eqb, ltb, leb, List, [], ◌∷◌, ◌++◌, map, length, take, Option, Some, None, option_map, Result, Ok, Err, is_ok, refl, sym, ap, subst, ◌∙◌, arith}
 use Rattle.std.specs.Prelude.{is_some, is_none}
 use Rattle.std.specs.List.{slice_get, list_all, list_any, count_by}
@@ -50,7 +50,7 @@ found_at find xs i x none found =
     let at : i ≡ 0 + i = omega arith in
     ap (λ (k : ℕ). find k x) at ∙ empty_at find 0 xs i x none found
 
--- the element that an element of a mapped list was
+-- the element that was mapped to an element of a mapped list
 pub from_map : {X Y : Type 0} (f : X → Y) (xs : List X) (i : ℕ) (y : Y) → slice_get (map f xs) i ≡ Some y → (x : X) × (slice_get xs i ≡ Some x) × (y ≡ f x)
 from_map f xs i y found = by_element (slice_get xs i) refl (sym (slice_get-map f xs i) ∙ found)
   where
@@ -61,7 +61,7 @@ from_map f xs i y found = by_element (slice_get xs i) refl (sym (slice_get-map f
 pub to_map : {X Y : Type 0} (f : X → Y) (xs : List X) (i : ℕ) (x : X) → slice_get xs i ≡ Some x → slice_get (map f xs) i ≡ Some (f x)
 to_map f xs i x found = slice_get-map f xs i ∙ ap (option_map f) found
 
--- ---- where a port stands
+-- ---- where a port is
 
 pub record StandsAt (text : ConfigText) (p id : ℕ) (port : Port) : Type 0 where
   pub partition : PartitionText
@@ -204,7 +204,7 @@ end_counted : (text : ConfigText) (direction : Direction) (c p id : ℕ) (port :
 end_counted text direction c p id port at end =
     omega (arith, counted (is_end text.channels direction c at.entry) end, part-le-sum_by (λ (x : PortText). cond (is_end text.channels direction c x) 1 0) at.partition.ports at.index at.entry at.inside)
 
--- two ports that are the only end are one port
+-- two ports that are each the only end are one port
 pub one_end : (text : ConfigText) (direction : Direction) (c : ℕ) → end_count text.channels direction c text.partitions ≤ 1
     → (p id : ℕ) (port : Port) (q jd : ℕ) (other : Port) (at : StandsAt text p id port) (ot : StandsAt text q jd other)
     → is_end text.channels direction c at.entry ≡ true → is_end text.channels direction c ot.entry ≡ true → (p ≡ q) × (id ≡ jd)

@@ -1,4 +1,4 @@
--- The configuration of a text in which no pass finds a place is a configuration that is accepted.
+-- The configuration of a text in which no pass finds a place is accepted.
 use Rattle.std.proofs.Common.{◌≡◌, ℕ, suc, ◌≤◌, ℤ, Bool, true, false, ◌&&◌, leb, List, [], ◌∷◌, ◌++◌, map, length, Option, Some, None, option_map, refl, sym, ap, subst, ◌∙◌}
 use Rattle.std.specs.Prelude.{is_some, is_none}
 use Rattle.std.specs.List.{slice_get, list_all}
@@ -111,7 +111,7 @@ few_ends : (text : ConfigText) (direction : Direction) → wrong_ends direction 
 few_ends text direction none p id port at same single =
     alone text direction at.entry same single (unless_empty (is_alone direction text at.entry) _ (port_found text (one_of_several direction text) p id port at (ends_empty text direction none).1))
 
--- two ends of one direction that are on one channel, where there may be one alone
+-- two ends of one direction that are on one channel that may have only one
 same_end : (text : ConfigText) (direction : Direction) → wrong_ends direction text ≡ [] → (p id : ℕ) (port : Port) (q jd : ℕ) (other : Port) (at : StandsAt text p id port) (ot : StandsAt text q jd other)
     → port.direction ≡ direction → other.direction ≡ direction → port.channel ≡ other.channel → may_have_several direction (channel_of_port text.channels at.entry) ≡ false → (p ≡ q) × (id ≡ jd)
 same_end text direction none p id port q jd other at ot here there same single =

@@ -1,4 +1,4 @@
--- What an entry of a text has where no pass finds a place in it.
+-- What an entry of a text has if no pass finds a place in it.
 use Rattle.std.specs.Prelude.{Bool, ◌&&◌}
 use Rattle.std.specs.List.{list_all}
 use Rattle.apex_module.specs.declared.limits.TheConstants.{SIZE_LIMIT, DEPTH_LIMIT}

@@ -9,17 +9,17 @@ pub record EndsData : Type 0 where
   pub direction : Direction
   pub config : ConfigText
 
--- how many ports of a direction each channel has, or the largest number where they are more
+-- the number of ports of a direction on each channel, or the largest number if there are more
 abbrev pub CountEnds : Direction → List ChannelText → List PartitionText → List ℕ → Type 0
 CountEnds direction channels partitions counts =
     (length counts ≡ length channels) × ((c : ℕ) → c < length channels → slice_index counts c ≡ min (end_count channels direction c partitions) (2 ^ 64 - 1))
 
--- the counts with these ports besides
+-- the counts including these ports
 abbrev pub CountMoreEnds : Direction → List ChannelText → List PortText → List ℕ → List ℕ → Type 0
 CountMoreEnds direction channels ports before counts =
     (c : ℕ) → c < length before → slice_index counts c ≡ min (slice_index before c + count_by (is_end channels direction c) ports) (2 ^ 64 - 1)
 
--- how many ends the channel of a port has, or the largest number where they are more; none, where there is no such channel
+-- the number of ends of a port's channel, or the largest number if there are more; none if there is no such channel
 abbrev pub ends_at : Direction → ConfigText → PortText → Option ℕ
 ends_at direction config port =
     option_map (λ _. min (end_count config.channels direction (index_of_channel config.channels port.channel) config.partitions) (2 ^ 64 - 1))

@@ -1,4 +1,4 @@
--- The pass over the form of a document: it finds all keys that are missing or unknown, values of a wrong type, and wrong words.
+-- The pass over the form of a document: it finds all missing or unknown keys, values of a wrong type, and wrong words.
 use Rattle.std.specs.Prelude.{ℕ, Bool, true, ◌||◌, ◌++◌, if◌then◌else◌, List, [], ◌∷◌, codes, is_some, Option, Some, None}
 use Rattle.std.specs.List.{list_any}
 use Rattle.std.specs.Str.{bytes_eq}
@@ -36,7 +36,7 @@ wants_kind part value = unless (is_queuing value || is_sampling value) (at part 
 abbrev pub wants_direction : Part → Data → List Place
 wants_direction part value = unless (is_source value || has_word key.Direction (codes "destination") value) (at part key.Direction)
 
--- ---- a table, with no other keys than these
+-- ---- a table that has only these keys
 
 abbrev pub is_known : List Key → List ℕ → Bool
 is_known keys word = list_any (λ known. bytes_eq (key_word known) word) keys
@@ -44,7 +44,7 @@ is_known keys word = list_any (λ known. bytes_eq (key_word known) word) keys
 abbrev pub unknown_keys : Part → List Key → Members → List Place
 unknown_keys part keys table = at_each (λ number word. unless (is_known keys word) (unknown part number)) 0 (keys_of_table table)
 
--- what is found in a table; a value that is no table is a place itself
+-- what is found in a table; a value that is not a table is a place itself
 abbrev pub in_table : Part → List Key → List Place → Option Members → List Place
 in_table part keys found None = whole part ∷ []
 in_table part keys found (Some table) = found ++ unknown_keys part keys table

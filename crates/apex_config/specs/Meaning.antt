@@ -1,4 +1,5 @@
--- What the bytes of a configuration mean: the configuration that they are, or the refusal of the first pass that finds places.
+-- What the bytes of a configuration mean: the configuration that they give, or the refusal by the first pass that finds
+-- places.
 use Rattle.std.specs.Prelude.{ℕ, ℤ, pos, negsuc, if◌then◌else◌, List, [], ◌∷◌, map, Option, Some, None, option_map, Result, Ok, Err, ◌≡◌, ◌≢◌}
 use Rattle.std.specs.Str.{is_utf8}
 use Rattle.apex_module.specs.declared.port.Port.{Port}
@@ -19,9 +20,9 @@ use Rattle.apex_config.specs.Text.{PortText, PartitionText, ChannelText, ConfigT
 use Rattle.apex_config.specs.Passes.{index_of_channel, found_by, passes}
 use Rattle.apex_config.specs.Places.{whole}
 
--- ---- the configuration of a text that no pass refuses: its numbers are no less than 1, and each port's channel is there
+-- ---- the configuration of a text that no pass refuses: its numbers are at least 1, and each port's channel exists
 
--- a number as a natural number; 0 where it is below zero
+-- a number as a natural number; 0 if it is negative
 abbrev pub natural : ℤ → ℕ
 natural (pos number) = number
 natural (negsuc number) = 0
@@ -53,12 +54,12 @@ pub record RefusalData : Type 0 where
   pub fault : ConfigFault
   pub places : List Place
 
--- the refusal of a pass that finds places, and otherwise what comes after it
+-- the refusal by a pass that finds places, and otherwise what comes after it
 abbrev pub refused_by : ConfigFault → List Place → Option RefusalData → Option RefusalData
 refused_by fault [] later = later
 refused_by fault (place ∷ places) later = Some (record { fault = fault; places = place ∷ places })
 
--- the refusal of the first of these passes over the text that finds places
+-- the refusal by the first of these passes over the text that finds places
 abbrev pub first_refusal : List ConfigFault → ConfigText → Option RefusalData
 first_refusal [] config = None
 first_refusal (fault ∷ faults) config = refused_by fault (found_by fault config) (first_refusal faults config)
@@ -78,7 +79,7 @@ not_toml = record { fault = NotToml; places = whole Document ∷ [] }
 abbrev pub read_of_value : Data → Result Configuration RefusalData
 read_of_value document = unless_refused (configuration_of (config_text_of document)) (refusal_of document)
 
--- the document that bytes are; none of bytes that are no TOML
+-- the document that bytes give; none if they are not TOML
 abbrev pub document_of : List ℕ → Option Data
 document_of bytes = if is_utf8 bytes then option_map table (parse_document bytes) else None
 
@@ -86,25 +87,25 @@ abbrev pub read_of_document : Option Data → Result Configuration RefusalData
 read_of_document None = Err not_toml
 read_of_document (Some document) = read_of_value document
 
--- the configuration that bytes are, or their refusal
+-- the configuration that bytes give, or their refusal
 unfoldable pub read_of : List ℕ → Result Configuration RefusalData
 read_of bytes = read_of_document (document_of bytes)
 
--- the configuration, or the fault alone
+-- the configuration, or only the fault
 abbrev pub fault_alone : Result Configuration RefusalData → Result Configuration ConfigFault
 fault_alone (Ok config) = Ok config
 fault_alone (Err refusal) = Err refusal.fault
 
--- the configuration that bytes are, or the fault of the first pass that finds places
+-- the configuration that bytes give, or the fault of the first pass that finds places
 unfoldable pub config_of : List ℕ → Result Configuration ConfigFault
 config_of bytes = fault_alone (read_of bytes)
 
--- What reading answers, unless memory ran out: the configuration, or the fault.
+-- What reading returns unless memory runs out: the configuration, or the fault.
 abbrev pub IsConfigRead : Result Configuration ConfigFault → Result Configuration ConfigFault → Type 0
 IsConfigRead (Ok config) meaning = meaning ≡ Ok config
 IsConfigRead (Err fault) meaning = fault ≢ OutOfMemory → meaning ≡ Err fault
 
--- What reading answers, unless memory ran out: the configuration, or the fault with its places.
+-- What reading returns unless memory runs out: the configuration, or the fault with its places.
 abbrev pub IsPlacedRead : Result Configuration RefusalData → Result Configuration RefusalData → Type 0
 IsPlacedRead (Ok config) meaning = meaning ≡ Ok config
 IsPlacedRead (Err refusal) meaning = refusal.fault ≢ OutOfMemory → meaning ≡ Err refusal

@@ -7,7 +7,7 @@ use Rattle.std.specs.Ordering.{nat_cmp}
 use Rattle.std.specs.Str.{bytes_eq}
 use Rattle.apex_config.specs.Text.{ChannelText}
 
--- a map that has the number of the first channel of each name, and no other names
+-- a map from each name to the number of the first channel with that name, without other names
 abbrev pub AreNumbers : BTreeMap (Bor (List ℕ)) ℕ → List ChannelText → Type 0
 AreNumbers numbers channels =
     (name : Bor (List ℕ)) → get (λ x y. slice_cmp nat_cmp x.now y.now) numbers name ≡ position (λ channel. bytes_eq channel.name name.now) channels

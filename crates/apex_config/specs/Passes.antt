@@ -19,7 +19,7 @@ use Rattle.apex_module.specs.Equality.{same_direction}
 use Rattle.apex_config.specs.Places.{whole, at, unless, at_each}
 use Rattle.apex_config.specs.Text.{PortText, PartitionText, ChannelText, ConfigText}
 
--- what is found of each port, with the indexes of its partition and its own
+-- what is found in each port, with the indexes of its partition and its own
 abbrev pub at_ports : (ℕ → ℕ → PortText → List Place) → List PartitionText → List Place
 at_ports find partitions = at_each (λ p partition. at_each (find p) 0 partition.ports) 0 partitions
 
@@ -27,7 +27,7 @@ at_ports find partitions = at_each (λ p partition. at_each (find p) 0 partition
 abbrev pub spot_of_port : Spot → ℕ → ℕ → Place
 spot_of_port spot p i = record { part = part.Port p i; spot = spot }
 
--- ---- names are names
+-- ---- names are valid
 
 abbrev pub is_name : List ℕ → Bool
 is_name text = is_ok (name_of text)
@@ -47,23 +47,23 @@ bad_channel_name c channel = bad_name (part.Channel c) channel.name
 unfoldable pub bad_names : ConfigText → List Place
 bad_names config = at_each bad_partition_names 0 config.partitions ++ at_each bad_channel_name 0 config.channels
 
--- ---- no name twice
+-- ---- no name occurs twice
 
--- the part that an entry of a list is
+-- the part for an entry of a list
 abbrev pub part_in : Entries → ℕ → Part
 part_in entries.Partitions i = part.Partition i
 part_in (entries.PortsOf p) i = part.Port p i
 part_in entries.Channels i = part.Channel i
 
--- the entry of a number, where its name stood before
+-- the entry with this number, if its name occurred before
 abbrev pub stood_before : (ℕ → Part) → List (List ℕ) → ℕ → List ℕ → List Place
 stood_before part names i name = unless (not (list_any (λ other. bytes_eq other name) (take i names))) (at (part i) key.Name)
 
--- the entries with the name of one before them
+-- the entries that have the name of an earlier one
 abbrev pub repeated : (ℕ → Part) → List (List ℕ) → List Place
 repeated part names = at_each (stood_before part names) 0 names
 
--- no two ports of one partition have one name
+-- no two ports of one partition have the same name
 abbrev pub repeated_port_names : ℕ → PartitionText → List Place
 repeated_port_names p partition = repeated (part_in (entries.PortsOf p)) (map (λ port. port.name) partition.ports)
 
@@ -100,7 +100,7 @@ bad_numbers config = at_ports bad_refresh config.partitions ++ at_each bad_chann
 
 -- ---- each port names a channel
 
--- the number of the first channel of a name; where there is none, the number of channels, which is no channel's number
+-- the number of the first channel with this name; if there is none, the number of channels, which no channel has
 abbrev pub index_of_channel : List ChannelText → List ℕ → ℕ
 index_of_channel channels name = unwrap_or (position (λ channel. bytes_eq channel.name name) channels) (length channels)
 
@@ -132,7 +132,7 @@ other_kinds config = at_ports (other_kind config.channels) config.partitions
 abbrev pub is_end : List ChannelText → Direction → ℕ → PortText → Bool
 is_end channels direction c port = same_direction port.direction direction && (index_of_channel channels port.channel == c)
 
--- how many ports of a direction a channel has
+-- the number of ports of a direction that a channel has
 abbrev pub end_count : List ChannelText → Direction → ℕ → List PartitionText → ℕ
 end_count channels direction c partitions = sum_by (λ partition. count_by (is_end channels direction c) partition.ports) partitions
 
@@ -146,7 +146,7 @@ may_have_several Destination (Some channel) = is_none channel.depth
 abbrev pub without_end : Direction → ConfigText → ℕ → ChannelText → List Place
 without_end direction config c channel = unless (nat_le 1 (end_count config.channels direction c config.partitions)) (whole (part.Channel c))
 
--- a port is one of several ends, where there may be one alone
+-- a port is one of several ends of a channel that may have only one
 abbrev pub is_alone : Direction → ConfigText → PortText → Bool
 is_alone direction config port =
     not (same_direction port.direction direction)
@@ -170,7 +170,7 @@ bad_counts config =
     ++ at_each too_many_ports 0 config.partitions
     ++ unless (nat_le (length config.channels) CHANNEL_LIMIT) (at part.Document key.Channel)
 
--- ---- the passes by their faults; those before the text is read find nothing in it
+-- ---- the passes by their faults; those that run before the text is read find nothing in it
 
 abbrev pub found_by : ConfigFault → ConfigText → List Place
 found_by NotToml config = []

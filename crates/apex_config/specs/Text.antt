@@ -1,4 +1,4 @@
--- What a document says of a configuration, where its form is right. Names, numbers and links may be wrong.
+-- What a document says of a configuration if its form is right. Names, numbers and links may be wrong.
 use Rattle.std.specs.Prelude.{ℕ, ℤ, pos, Bool, if◌then◌else◌, List, [], map, codes, unwrap_or, Option, Some, None}
 use Rattle.std.specs.Str.{bytes_eq}
 use Rattle.apex_types.specs.declared.direction.Direction as direction
@@ -8,7 +8,7 @@ use Rattle.apex_config.specs.declared.key.Key.TheVariants as key
 use Rattle.toml.specs.Data.{Data}
 use Rattle.apex_config.specs.Values.{text_at, number_at, items_at}
 
--- a port: a sampling port has a refresh period, and a channel stands by its name
+-- a port: a sampling port has a refresh period, and the channel is given by name
 pub record PortText : Type 0 where
   pub name : List ℕ
   pub refresh : Option ℤ
@@ -29,7 +29,7 @@ pub record ConfigText : Type 0 where
   pub partitions : List PartitionText
   pub channels : List ChannelText
 
--- ---- what stands at a key; where the form is wrong, an empty text or 0
+-- ---- the value at a key; an empty text or 0 if the form is wrong
 
 abbrev pub text_in : Key → Data → List ℕ
 text_in key value = unwrap_or (text_at key value) []

@@ -4,7 +4,7 @@ use Rattle.toml.specs.Data.{Data, Items, no_items, item, Members, no_members, me
 use Rattle.apex_config.specs.declared.key.Key.{Key}
 use Rattle.apex_config.specs.declared.key.Key.TheVariants.{Partition, Port, Channel, Name, Kind, Direction, Size, Depth, Refresh}
 
--- the word that a key is
+-- the key as a word
 abbrev pub key_word : Key → List ℕ
 key_word Partition = codes "partition"
 key_word Port = codes "port"
@@ -37,12 +37,12 @@ abbrev pub list_of : Items → List Data
 list_of no_items = []
 list_of (item value values) = value ∷ list_of values
 
--- the items of an array that is there
+-- the items of an array that exists
 abbrev pub list_of_array : Option Items → List Data
 list_of_array None = []
 list_of_array (Some items) = list_of items
 
--- the items of the array at a key; none, where there is no array
+-- the items of the array at a key; none if there is no array
 abbrev pub items_at : Key → Data → List Data
 items_at key value = list_of_array (array_at key value)
 

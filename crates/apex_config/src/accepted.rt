@@ -1,4 +1,4 @@
-//! Makes the configuration of a text in which no pass found a place.
+//! Makes the configuration of a text in which no pass finds a place.
 ghost use Rattle.std.specs.Prelude.{◌≡◌, ◌&&◌, IsTrue, IfOk, None, map};
 ghost use Rattle.std.specs.List.{list_all};
 ghost use Rattle.apex_config.specs.Meaning.{natural, port_kind_of, channel_kind_of, port_of_text, partition_of_text, channel_of_text, configuration_of, first_refusal};
@@ -119,7 +119,7 @@ fn accepted_channels(alloc: Global, texts: &[ChannelText]) -> Result<Vec<Channel
     Ok(channels)
 }
 
-/// The configuration of a text in which no pass found a place.
+/// The configuration of a text in which no pass finds a place.
 pub fn accepted_config<'a>(
     alloc: Global,
     config: &ConfigText<'a>,

@@ -44,14 +44,14 @@ impl<'t, 'a> ChannelIndex<'t, 'a> {
         Ok(ChannelIndex { channels, numbers })
     }
 
-    /// How many channels there are.
+    /// The number of channels.
     pub fn count(&self) -> usize
         ensures { result ≡ length self.now }
     {
         self.channels.len()
     }
 
-    /// The number of the first channel of a name; where there is none, the number of channels.
+    /// The number of the first channel with this name, or the number of channels if there is none.
     pub fn number_of(&self, name: &'a str) -> usize
         ensures { result ≡ index_of_channel self.now name.now }
     {

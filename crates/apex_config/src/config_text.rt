@@ -2,7 +2,7 @@
 use apex_types::Direction;
 use std::marker::Model;
 
-/// A port. A sampling port has a refresh period, and the channel stands by its name.
+/// A port. A sampling port has a refresh period, and the channel is given by name.
 #[derive(Drop)]
 pub struct PortText<'a> {
     pub name: &'a str,

@@ -1,4 +1,4 @@
-//! Reads what a document says of a configuration, where its form is right.
+//! Reads the text of a configuration from a document whose form is right.
 ghost use Rattle.std.specs.Prelude.{◌≡◌, map, IfOk};
 ghost use Rattle.toml.specs.View.{view};
 ghost use Rattle.apex_config.specs.Text.{is_queuing, is_sampling, is_source, port_text_of, partition_text_of, channel_text_of, config_text_of};
@@ -100,7 +100,7 @@ fn channel_texts(alloc: Global, values: &[Value]) -> Result<Vec<ChannelText<'_>>
     Ok(channels)
 }
 
-/// What a document says of a configuration.
+/// The text of the configuration that a document gives.
 pub fn config_text(alloc: Global, document: &Value) -> Result<ConfigText<'_>, AllocError>
     ensures { IfOk result (λ config. config ≡ config_text_of (view document.now)) }
 {

@@ -1,4 +1,4 @@
-//! The passes over the ends of channels: their source ports, and their destination ports.
+//! The passes over the ends of channels: their source ports and their destination ports.
 ghost use Rattle.std.specs.Prelude.{◌≡◌, ◌<◌, nat_le, length, IfOk, OnOk};
 ghost use Rattle.apex_config.specs.declared.place.Part.TheVariants as part;
 ghost use Rattle.apex_config.specs.Places.{Adds, whole, unless};
@@ -14,7 +14,7 @@ use apex_types::Direction;
 use std::alloc::{AllocError, Global};
 use std::marker::Model;
 
-/// Counts the ports of a direction, each at the number of its channel. A full count stays as it is.
+/// Counts the ports of a direction, each at the number of its channel. A count at its maximum stays there.
 fn count_ends<'a>(
     counts: &mut [usize],
     channels: &ChannelIndex<'_, 'a>,
@@ -33,7 +33,7 @@ fn count_ends<'a>(
     }
 }
 
-/// How many ports of a direction each channel has, or the largest number where they are more.
+/// The number of ports of a direction on each channel, or `usize::MAX` if there are more.
 fn end_counts<'a>(
     alloc: Global,
     channels: &ChannelIndex<'_, 'a>,
@@ -106,7 +106,7 @@ impl<'t, 'a> Ends<'t, 'a> {
         })
     }
 
-    /// How many ends the channel of a port has, or the largest number where they are more.
+    /// The number of ends of a port's channel, or `usize::MAX` if there are more.
     pub fn count_at(&self, port: &PortText<'a>) -> Option<usize>
         ensures { result ≡ ends_at self.now.direction self.now.config port.now }
     {
@@ -116,7 +116,7 @@ impl<'t, 'a> Ends<'t, 'a> {
         }
     }
 
-    /// Whether a port is the only end of its channel, where there may be one alone.
+    /// Whether a port is the only end of its channel, if the channel may have only one.
     pub fn is_alone(&self, port: &PortText<'a>) -> bool
         ensures { result ≡ is_alone self.now.direction self.now.config port.now }
     {
@@ -157,7 +157,7 @@ impl Finder<usize> for HasEnd {
     }
 }
 
-/// Adds the channels without an end of a direction, and then the ports of the others that have too many.
+/// Adds the channels without an end of a direction, and then the ports of channels that have too many.
 pub fn add_wrong_ends<'a>(
     alloc: Global,
     places: &mut Places,

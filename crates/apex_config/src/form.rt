@@ -73,7 +73,7 @@ pub fn is_known(keys: &[Key], word: &str) -> bool
     keys.iter().any(|known| known.word() == word)
 }
 
-/// Adds the keys of a table that are none of these.
+/// Adds the keys of a table that are not among these.
 fn add_unknown_keys(places: &mut Places, part: Part, keys: &[Key], table: &Table) -> Added
     ensures { OnOk result
         (Adds (unknown_keys part keys.now (table_view table.now))
@@ -206,7 +206,7 @@ fn add_wrong_document_keys(places: &mut Places, document: &Value) -> Added
     add_unknown_keys(places, part, &[Key::Partition, Key::Channel], table)
 }
 
-/// Adds the places at which the form of a document is wrong.
+/// Adds the places where the form of a document is wrong.
 #[tactic(auto, unfolding(crate::specs::Form::wrong_form))]
 pub fn add_wrong_form(places: &mut Places, document: &Value) -> Added
     ensures { OnOk result

@@ -1,4 +1,4 @@
-//! What a pass finds: places, entry by entry.
+//! The places that a pass finds, entry by entry.
 ghost use Rattle.std.specs.Prelude.{OnOk};
 ghost use Rattle.apex_config.specs.Places.{Adds, unless, at_each};
 
@@ -11,7 +11,7 @@ pub type Places = Vec<Place>;
 /// Whether there was memory for the places.
 pub type Added = Result<(), AllocError>;
 
-/// Adds the place, where a test fails.
+/// Adds the place if a test fails.
 pub fn add_unless(places: &mut Places, passes: bool, place: Place) -> Added
     ensures { OnOk result (Adds (unless passes place) places.old.items places.new.items) }
 {

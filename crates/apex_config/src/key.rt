@@ -2,7 +2,7 @@
 ghost use Rattle.std.specs.Prelude.{◌≡◌};
 ghost use Rattle.apex_config.specs.Values.{key_word};
 
-/// A key of a configuration's document, of a partition, of a port or of a channel.
+/// A key of a configuration's document, of a partition, a port or a channel.
 #[derive(Clone, Copy, Debug, PartialEq, Eq)]
 pub enum Key {
     Partition,
@@ -17,7 +17,7 @@ pub enum Key {
 }
 
 impl Key {
-    /// The word that the key is.
+    /// The key as a word.
     pub fn word(self) -> &'static str
         ensures { result.now ≡ key_word self }
     {

@@ -1,4 +1,4 @@
-//! The passes over the channels that ports name: each is there, and of the port's kind.
+//! The passes over the channels that ports name: each exists and is of the port's kind.
 ghost use Rattle.std.specs.Prelude.{◌≡◌, is_some, OnOk};
 ghost use Rattle.apex_config.specs.Places.{Adds};
 ghost use Rattle.apex_config.specs.Passes.{channel_of_port, is_of_kind, at_ports, unknown_channel, other_kind};

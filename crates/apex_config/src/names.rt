@@ -1,4 +1,4 @@
-//! The passes over names: each is a name, and none stands twice.
+//! The passes over names: each is valid, and none occurs twice.
 ghost use Rattle.std.specs.Prelude.{◌≡◌, map, OnOk};
 ghost use Rattle.apex_config.specs.Places.{Adds};
 ghost use Rattle.apex_config.specs.Passes.{is_name, bad_port_name, bad_partition_names, bad_channel_name, bad_names, part_in, repeated, repeated_port_names, repeated_names};
@@ -63,7 +63,7 @@ impl<'a> Finder<ChannelText<'a>> for ChannelNames {
     }
 }
 
-/// Adds the places whose name is no name.
+/// Adds the places whose name is not valid.
 #[tactic(auto, unfolding(crate::specs::Passes::bad_names))]
 pub fn add_bad_names(places: &mut Places, config: &ConfigText) -> Added
     ensures { OnOk result (Adds (bad_names config.now) places.old.items places.new.items) }
@@ -72,7 +72,7 @@ pub fn add_bad_names(places: &mut Places, config: &ConfigText) -> Added
     add_each(places, config.channels.as_slice(), &ChannelNames)
 }
 
-/// What has a name, in a list of its kind.
+/// An entry with a name, in a list of its kind.
 trait Named {
     ghost use Rattle.std.specs.Prelude.{List, ℕ};
 
@@ -106,7 +106,7 @@ impl Named for ChannelText<'_> {
     }
 }
 
-/// The list that entries stand in.
+/// The list that entries belong to.
 #[derive(Clone, Copy)]
 enum Entries {
     Partitions,
@@ -115,7 +115,7 @@ enum Entries {
 }
 
 impl Entries {
-    /// The part that an entry is.
+    /// The part for an entry.
     fn part(self, index: usize) -> Part
         ensures { result ≡ part_in self index }
     {
@@ -130,7 +130,7 @@ impl Entries {
     }
 }
 
-/// Adds the entries with the name of one before them.
+/// Adds the entries that have the name of an earlier one.
 fn add_repeated<T: Named>(alloc: Global, places: &mut Places, list: Entries, entries: &[T]) -> Added
     ensures { OnOk result (Adds
         (repeated (part_in list) (map T.name_of entries.now))
@@ -158,7 +158,7 @@ impl<'a> Finder<PartitionText<'a>> for RepeatedPortNames {
     }
 }
 
-/// Adds the places whose name stood before.
+/// Adds the places whose name occurred before.
 #[tactic(auto, unfolding(crate::specs::Passes::repeated_names))]
 pub fn add_repeated_names(alloc: Global, places: &mut Places, config: &ConfigText) -> Added
     ensures { OnOk result (Adds (repeated_names config.now) places.old.items places.new.items) }

@@ -54,7 +54,7 @@ impl<'a> Finder<ChannelText<'a>> for ChannelNumbers {
     }
 }
 
-/// Adds the places whose number is out of its limits.
+/// Adds the places whose number is outside its limits.
 #[tactic(auto, unfolding(crate::specs::Passes::bad_numbers))]
 pub fn add_bad_numbers(places: &mut Places, config: &ConfigText) -> Added
     ensures { OnOk result (Adds (bad_numbers config.now) places.old.items places.new.items) }

@@ -1,4 +1,4 @@
-//! The passes over the text of a configuration, in their order. Each looks at the whole text.
+//! The passes over the text of a configuration, in their order. Each reads the whole text.
 ghost use Rattle.std.specs.Prelude.{◌≡◌, IfOk};
 ghost use Rattle.apex_config.specs.Passes.{found_by};
 ghost use Rattle.apex_config.specs.Meaning.{first_refusal};
@@ -15,7 +15,7 @@ use apex_module::ConfigFault;
 use apex_types::Direction;
 use std::alloc::{AllocError, Global};
 
-/// The passes that look at the text, by their faults, in their order.
+/// The passes over the text, by their faults, in their order.
 pub const PASSES: [ConfigFault; 8] = [
     ConfigFault::BadName,
     ConfigFault::NameTwice,
@@ -59,7 +59,7 @@ fn found_by<'a>(
     Ok(places)
 }
 
-/// The refusal of the first of these passes that finds places.
+/// The refusal by the first of these passes that finds places.
 pub fn first_refusal<'a>(
     alloc: Global,
     faults: &[ConfigFault],

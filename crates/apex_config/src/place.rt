@@ -1,4 +1,4 @@
-//! Where in the text of a configuration something stands.
+//! Places in the text of a configuration.
 ghost use Rattle.std.specs.Prelude.{◌≡◌};
 ghost use Rattle.apex_config.specs.Places.{whole, at, unknown};
 
@@ -46,18 +46,18 @@ impl Part {
     }
 }
 
-/// What of a part.
+/// What a place is within its part.
 #[derive(Clone, Copy, Debug, PartialEq, Eq)]
 pub enum Spot {
     /// All of it.
     Whole,
-    /// What stands, or must stand, at a key.
+    /// The value that is, or must be, at a key.
     At { key: Key },
     /// A key that the part doesn't take, by its number in the order of the part's keys, from 0.
     Unknown { number: usize },
 }
 
-/// A place in the text of a configuration: a path as `partition[0].port[1].kind`.
+/// A place in the text of a configuration: a path like `partition[0].port[1].kind`.
 #[derive(Clone, Copy, Debug, PartialEq, Eq)]
 pub struct Place {
     pub part: Part,

@@ -59,7 +59,7 @@ impl<'t, 'a, T: PortTest<PortText<'a>>> Finder<PartitionText<'a>> for AllPorts<'
     }
 }
 
-/// Adds a spot of each port that fails a test.
+/// Adds a spot for each port that fails a test.
 pub fn add_ports_unless<'a, T: PortTest<PortText<'a>>>(
     places: &mut Places,
     partitions: &[PartitionText<'a>],

@@ -16,7 +16,7 @@ use std::alloc::{AllocError, Global};
 use toml::Value;
 use toml::de::Error;
 
-/// The refusal of bytes that are no TOML.
+/// The refusal of bytes that are not TOML.
 fn not_toml(alloc: Global) -> Result<Refusal, AllocError>
     ensures { IfOk result (λ refusal. refusal ≡ not_toml) }
 {
@@ -28,7 +28,7 @@ fn not_toml(alloc: Global) -> Result<Refusal, AllocError>
     })
 }
 
-/// The configuration that a document is, or its refusal. The only error is that an allocation was refused.
+/// The configuration that a document gives, or its refusal. The only error is a failed allocation.
 #[tactic(auto, unfolding(crate::specs::Meaning::refusal_of))]
 pub fn read_document(alloc: Global, document: &Value) -> Result<Result<Config, Refusal>, AllocError>
     ensures { IfOk result (λ answer. answer ≡ read_of_value (view document.now)) }
@@ -52,7 +52,7 @@ pub fn read_document(alloc: Global, document: &Value) -> Result<Result<Config, R
     }
 }
 
-/// The document that a text is, or why it is no TOML. The only other error is that an allocation was refused.
+/// The document that a text gives, or why it is not TOML. The only other error is a failed allocation.
 pub fn document_of(alloc: Global, text: &[u8]) -> Result<Result<Value, Error>, AllocError>
     ensures document { IfOk result (λ read.
         IfOk read (λ document. document_of text.now ≡ Some (view document))) }
@@ -65,7 +65,7 @@ pub fn document_of(alloc: Global, text: &[u8]) -> Result<Result<Value, Error>, A
     }
 }
 
-/// The configuration that bytes are, or their refusal. The only error is that an allocation was refused.
+/// The configuration that bytes give, or their refusal. The only error is a failed allocation.
 #[tactic(auto, unfolding(crate::specs::Meaning::read_of))]
 fn read_bytes(alloc: Global, bytes: &[u8]) -> Result<Result<Config, Refusal>, AllocError>
     ensures { IfOk result (λ answer. answer ≡ read_of bytes.now) }
@@ -79,7 +79,7 @@ fn read_bytes(alloc: Global, bytes: &[u8]) -> Result<Result<Config, Refusal>, Al
 /// Reads a configuration from its TOML text.
 pub trait ReadConfig: Sized {
     /// Reads a configuration. The passes run one after the other over the whole text, and the first that finds a fault
-    /// names it. `OutOfMemory` comes only if an allocation was refused, in any pass.
+    /// names it. It returns `OutOfMemory` only if an allocation failed, in any pass.
     fn read(alloc: Global, bytes: &[u8]) -> Result<Self, ConfigFault>;
 
     /// Reads a configuration as `read` does; the refusal of a text has all places that the pass of its fault finds.

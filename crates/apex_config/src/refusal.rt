@@ -3,8 +3,8 @@ use crate::place::Place;
 use apex_module::ConfigFault;
 use std::marker::Model;
 
-/// Why a text is refused: the fault of the first pass that finds one, and all places that this pass finds. There is no
-/// place where memory ran out.
+/// Why a text is refused: the fault of the first pass that finds one, and all places that this pass finds. If memory
+/// ran out, there are no places.
 #[derive(Debug, Drop)]
 pub struct Refusal {
     pub fault: ConfigFault,

@@ -1,4 +1,4 @@
-//! What stands at the keys of a TOML value.
+//! The values at the keys of a TOML value.
 ghost use Rattle.std.specs.Prelude.{◌≡◌, map, option_map};
 ghost use Rattle.std.specs.Option.{option_copied};
 ghost use Rattle.std.specs.Str.{bytes_eq};
@@ -57,7 +57,7 @@ pub fn array_at(value: &Value, key: Key) -> Option<&[Value]>
     }
 }
 
-/// The items of the array at a key; none, where there is no array.
+/// The items of the array at a key; none if there is no array.
 pub fn items_at(value: &Value, key: Key) -> &[Value]
     ensures { list_of (items_view result.now) ≡ items_at key (view value.now) }
 {
@@ -67,7 +67,7 @@ pub fn items_at(value: &Value, key: Key) -> &[Value]
     }
 }
 
-/// The text at a key; an empty one, where there is none.
+/// The text at a key; an empty one if there is none.
 pub fn text_in(value: &Value, key: Key) -> &str
     ensures { result.now ≡ text_in key (view value.now) }
 {
@@ -77,7 +77,7 @@ pub fn text_in(value: &Value, key: Key) -> &str
     }
 }
 
-/// The whole number at a key; 0, where there is none.
+/// The whole number at a key; 0 if there is none.
 pub fn number_in(value: &Value, key: Key) -> i64
     ensures { result ≡ number_in key (view value.now) }
 {
@@ -87,7 +87,7 @@ pub fn number_in(value: &Value, key: Key) -> i64
     }
 }
 
-/// Whether the text at a key is a word.
+/// Whether the text at a key is this word.
 pub fn has_word(value: &Value, key: Key, word: &str) -> bool
     ensures { result ≡ has_word key word.now (view value.now) }
 {

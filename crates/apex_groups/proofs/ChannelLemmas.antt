@@ -1,4 +1,4 @@
--- What a channel counts comes from the entries of the partitions that have its ports.
+-- A channel's counts depend only on the entries of the partitions that have its ports.
 use Rattle.std.proofs.Common.{◌≡◌, ℕ, ◌<◌, Bool, true, false, List, [], length, drop, filter, Some, refl, sym, ap, ◌∙◌}
 use Rattle.apex_types.specs.declared.taken.Taken.{Taken}
 use Rattle.apex_module.specs.Configuration.{Configuration, port_of}
@@ -41,7 +41,7 @@ module _ (config : Configuration) (inside : ℕ → Bool) (closed : IsClosed con
     waiting = λ i. length (drop (length (taken_inside h i)) (accepted_inside h i));
   }
 
-  -- where the entries inside come to one point, the channel counts the same
+  -- if the entries inside lead to one point, the channel's counts are the same
   pub same_totals : c < length config.channels → (h other : History)
       → IsSamePoint config (entries_inside inside h) (entries_inside inside other) → HasSameTotals config h other c
   same_totals within h other same =

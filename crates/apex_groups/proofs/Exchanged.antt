@@ -1,4 +1,4 @@
--- Items in each other's place.
+-- Swapped items.
 use Rattle.std.proofs.Common.{◌≡◌, ◌≢◌, ⊎_elim, ℕ, zero, suc, ◌+◌, ◌<◌, ◌≤◌, ◌&&◌, ltb, Bool, true, false, cond, List, [], ◌∷◌, length, set, Option, Some, None, refl, sym, ap, ◌∙◌, subst, arith}
 use Rattle.std.specs.Prelude.{replicate, IfOk, Result, Ok, Err}
 use Rattle.std.specs.List.{slice_get}
@@ -23,7 +23,7 @@ same_items (x ∷ xs) (y ∷ ys) each =
     let rest : xs ≡ ys = same_items xs ys (λ p. each (suc p)) in
     cc
 
--- ---- one number more
+-- ---- one more number
 
 below_more : (i : ℕ) (inside : ℕ → Bool) (p : ℕ) → p ≢ i → below (i + 1) inside p ≡ below i inside p
 below_more i inside p apart = ap (λ (b : Bool). b && inside p) (by_test (ltb p i) refl)
@@ -44,7 +44,7 @@ below_all count inside p within = ap (λ (b : Bool). b && inside p) (let is : lt
 below_none : (inside : ℕ → Bool) (p : ℕ) → below 0 inside p ≡ false
 below_none inside p = ap (λ (b : Bool). b && inside p) (let none : ltb p 0 ≡ false = grind (arith, nat_tests) in none)
 
--- ---- lists, place by place
+-- ---- lists, index by index
 
 module _ {X : Type 0} (inside : ℕ → Bool) (xs other : List X) where
   abbrev pub one_of : (p : ℕ) → Bool → Option X
@@ -73,7 +73,7 @@ module _ {X : Type 0} (inside : ℕ → Bool) (xs other : List X) where
             (λ (apart : p ≡ i → ⊥). set_elsewhere now i x p apart ∙ (is.each p ∙ sym (ap (one_of p) (below_more i inside p apart))))
             (cases_eq p i)
 
-    -- what was not exchanged yet
+    -- what was not swapped yet
     pub still : slice_get now i ≡ slice_get xs i
     still = is.each i ∙ ap (one_of i) (not_yet i inside)
 
@@ -90,7 +90,7 @@ module _ {X : Type 0} (inside : ℕ → Bool) (xs other : List X) where
           nothing beyond true = slice_get_past other p (omega (arith, few_too, beyond))
           nothing beyond false = slice_get_past xs p (omega (arith, few, beyond))
 
-  -- exchanged twice
+  -- swapped twice
   pub exchanged_back : (one two back : List X) → AreExchanged inside xs other one → AreExchanged inside other xs two → AreExchanged inside one two back → back ≡ xs
   exchanged_back one two back first second third = same_items back xs (λ p. third.each p ∙ by_test p (inside p) (first.each p) (second.each p))
     where
@@ -123,7 +123,7 @@ module _ {X : Type 0} (inside : ℕ → Bool) (lists part : List (List X)) (is :
   pub none_outside : (p : ℕ) → inside p ≡ false → list_of part p ≡ []
   none_outside p out = is p ∙ ap (λ (b : Bool). cond b (list_of lists p) []) out
 
--- of what comes without an error
+-- for a result without an error
 pub of_ok : {X E : Type 0} (P Q : X → Type 0) (result : Result X E) → ((x : X) → P x → Q x) → IfOk result P → IfOk result Q
 of_ok P Q (Ok x) goes holds = goes x holds
 of_ok P Q (Err e) goes holds = holds

@@ -25,7 +25,7 @@ is_in groups group p same = grind (arith, nat_tests, same)
 has_group : (groups : List ℕ) (group p : ℕ) → in_group groups group p ≡ true → group_of groups p ≡ group
 has_group groups group p is = grind (arith, nat_tests, is)
 
--- where all are searched together
+-- if all are searched together
 pub together : (config : Configuration) (scripts : Scripts) (ends : List (List ℕ)) → AreEnds config scripts ends → ShowAllCounts config scripts ends
 together config scripts ends are = record {
   ways = are.ways;
@@ -54,7 +54,7 @@ module _ (config : Configuration) (scripts : Scripts) (groups : List ℕ) where
   }
 
   module _ (valid : IsConfiguration config) (count : length scripts ≡ length config.partitions) (group : ℕ) where
-    -- ---- a number that is no group's
+    -- ---- a number that no group has
 
     pub replies_pass : HasNone config groups group → (replies : List PossibleReply) → AreRepliesBelow config scripts groups group replies → AreRepliesBelow config scripts groups (group + 1) replies
     replies_pass none replies are one = (
@@ -71,7 +71,7 @@ module _ (config : Configuration) (scripts : Scripts) (groups : List ℕ) where
       points = λ p within few. show.points p within (let apart : group_of groups p ≢ group = none p within in grind (arith, few, apart));
     }
 
-    -- ---- one group more
+    -- ---- one more group
 
     module _ (apart : AreApart config groups) (part : Scripts) (is : IsPart (in_group groups group) scripts part) where
       abbrev pub inside : ℕ → Bool

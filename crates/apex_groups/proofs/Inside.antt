@@ -14,7 +14,7 @@ use Rattle.apex_ports.proofs.LawfulSteps.{lawful_push}
 
 -- ---- entries inside
 
--- partitions of which one alone is inside
+-- partitions, only one of which is inside
 apart : (inside : ℕ → Bool) (p q : ℕ) → inside q ≢ inside p → (q == p) ≡ false
 apart inside p q differ = by_test (q == p) refl
   where
@@ -62,7 +62,7 @@ none_inside inside (e ∷ h) none = by_test (inside e.partition) refl (none_insi
     by_test true here rest = absurd (first_is_own e h (none e.partition here))
     by_test false outside rest = rest
 
--- a history with entries of the partitions inside alone
+-- a history that has only entries of the partitions inside
 pub all_inside : (inside : ℕ → Bool) (h : History) → ((p : ℕ) → inside p ≡ false → entries_of p h ≡ []) → entries_inside inside h ≡ h
 all_inside inside [] none = refl
 all_inside inside (e ∷ h) none = by_test (inside e.partition) refl (all_inside inside h (λ p here. none_after p e h (none p here)))
@@ -74,7 +74,7 @@ all_inside inside (e ∷ h) none = by_test (inside e.partition) refl (all_inside
 pub inside_twice : (inside : ℕ → Bool) (h : History) → entries_inside inside (entries_inside inside h) ≡ entries_inside inside h
 inside_twice inside h = all_inside inside (entries_inside inside h) (λ p outside. entries_go inside p outside h)
 
--- ---- one history behind the other
+-- ---- one history after the other
 
 module _ (config : Configuration) (inside : ℕ → Bool) (closed : IsClosed config inside) where
   pub joined_lawful : (h more : History) → IsLawful config h → IsLawful config more → entries_inside inside h ≡ [] → entries_inside inside more ≡ more → IsLawful config (h ++ more)

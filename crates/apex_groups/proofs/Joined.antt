@@ -9,7 +9,7 @@ use Rattle.apex_groups.specs.Groups.{IsPart}
 use Rattle.apex_groups.proofs.Exchanged.{here_inside, none_outside}
 use Rattle.apex_groups.proofs.Inside.{entries_stay, entries_go}
 
--- an order of all entries has one of the entries inside
+-- an order of all entries contains one of the entries inside
 pub no_order : (config : Configuration) (inside : ℕ → Bool) → IsClosed config inside → (logs part : Logs) → IsPart inside logs part → HasNoOrder config part → HasNoOrder config logs
 no_order config inside closed logs part is none history order = none (entries_inside inside history) (record {
   lawful = (independent config inside closed history order.lawful).alone;

@@ -29,7 +29,7 @@ module _ {X : Type 0} where
   has_behind [] ys x has = has
   has_behind (y ∷ xs) ys x has = has_rest y (xs ++ ys) x (has_behind xs ys x has)
 
-  -- what an item is that a list has which begins with another
+  -- an item of a list is its first one, or one of the rest
   first_or_rest : (y : X) (xs : List X) (x : X) → Has (y ∷ xs) x → (y ≡ x) ⊎ Has xs x
   first_or_rest y xs x has = of_index has.0 has.1
     where
@@ -83,7 +83,7 @@ pub nothing_mapped : {X Y : Type 0} (f : X → Y) (xs : List X) → map f xs ≡
 nothing_mapped f [] is = refl
 nothing_mapped f (x ∷ xs) is = absurd (cc)
 
--- ---- how often an order names a partition
+-- ---- how many times an order names a partition
 
 pub times_append : (p : ℕ) (order more : List ℕ) → times p (order ++ more) ≡ times p order + times p more
 times_append p order more = sum_by-append (λ (partition : ℕ). cond (partition == p) 1 0) order more

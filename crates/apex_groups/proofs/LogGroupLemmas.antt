@@ -19,7 +19,7 @@ use Rattle.apex_groups.specs.LogParts.{AreWhole, IsOfGroups}
 
 -- ---- histories
 
--- the places of the partitions inside have the entries that all places have in their part of the logs
+-- the places of the partitions inside give the entries that all places give in this part of the logs
 pub entries_inside_at : (inside : ℕ → Bool) (logs part : Logs) → IsPart inside logs part → (places : List CallPlace)
     → entries_at logs (filter (λ (place : CallPlace). inside place.partition) places) ≡ entries_at part places
 entries_inside_at inside logs part is [] = refl
@@ -83,7 +83,7 @@ module _ (config : Configuration) (logs : Logs) (groups : List ℕ) where
           by_test true here = mine p here ∙ (order.entries p ∙ here_inside inside logs part is p here)
           by_test false out = others p out ∙ whole p within (grind (arith, nat_tests, few, out))
 
-  -- where all groups are searched
+  -- if all groups are searched
   pub all_groups : AreApart config groups → length logs ≡ length config.partitions → (h : History) → IsOfGroups config logs groups (length config.partitions) h → AreWhole config logs groups (length config.partitions) h → IsOrder config logs h
   all_groups apart count h joined whole = record {
     lawful = joined.begins.lawful;
@@ -95,7 +95,7 @@ module _ (config : Configuration) (logs : Logs) (groups : List ℕ) where
         (cases_lt p (length config.partitions));
   }
 
-  -- with the places of a group's answer behind the others
+  -- with the places of a group's answer after the others
   pub places_more : (group : ℕ) (part : Logs) → IsPart (in_group groups group) logs part → (all places : List CallPlace)
       → entries_at logs (all ++ filter (λ (place : CallPlace). in_group groups group place.partition) places) ≡ entries_at logs all ++ entries_at part places
   places_more group part is all places =

@@ -1,4 +1,4 @@
--- The scripts of the partitions inside come to what all scripts come to inside.
+-- The scripts of the partitions inside lead to what all scripts lead to inside.
 use Rattle.std.proofs.Common.{◌≡◌, ⊎_elim, ℕ, ◌<◌, ◌≤◌, Bool, true, false, List, [], length, map, take, Ok, Err, Result, Option, refl, sym, ap, ◌∙◌, subst, arith}
 use Rattle.std.specs.Prelude.{IfOk, IfSome, IfNone}
 use Rattle.std.specs.List.{slice_get}
@@ -39,7 +39,7 @@ no_reply config scripts one none can =
     let at = sym (ap (λ (es : History). slice_get (map (λ (entry : Entry). entry.reply) es) one.index) nothing) ∙ can.reply in
     absurd (cc)
 
--- what is answered is a partition's of the configuration
+-- what is answered belongs to a partition of the configuration
 pub occurs_within : (config : Configuration) (scripts : Scripts) → length scripts ≡ length config.partitions → (one : PossibleReply) → CanOccur config scripts one → one.partition < length config.partitions
 occurs_within config scripts count one can = ⊎_elim
     (λ (within : one.partition < length config.partitions). within)
@@ -70,7 +70,7 @@ module _ (config : Configuration) (inside : ℕ → Bool) (scripts part : Script
           let none : calls_of p h ≡ [] = begins.calls p ∙ (ap (take (length (calls_of p h))) (none_outside inside scripts part is p out) ∙ take_all (length (calls_of p h)) [] (omega arith)) in
           subst (λ (calls : List (Moment × Call)). calls ≡ take (length calls) (script_of scripts p)) (sym none) refl
 
-  -- a way of the part has entries of the partitions inside alone
+  -- a way of the part has only entries of the partitions inside
   pub part_inside : (way : History) → IsWay config part way → entries_inside inside way ≡ way
   part_inside way is_way = all_inside inside way (λ p out. no_entries part p way (none_outside inside scripts part is p out) (is_way.calls p))
 

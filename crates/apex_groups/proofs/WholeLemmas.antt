@@ -1,4 +1,4 @@
--- Orders of the calls inside, made orders of all calls.
+-- Orders of the calls inside, extended to orders of all calls.
 use Rattle.std.proofs.Common.{◌≡◌, ◌⊎◌, inl, inr, ⊎_elim, ℕ, zero, suc, ◌+◌, ◌<◌, ◌≤◌, Bool, true, false, cond, List, [], ◌∷◌, ◌++◌, length, refl, sym, ap, ◌∙◌, subst, arith, append-nil, length-append}
 use Rattle.std.specs.Prelude.{replicate}
 use Rattle.std.specs.List.{slice_get, filter}
@@ -58,13 +58,13 @@ module _ (inside : ℕ → Bool) where
       omega (arith, later, split)
 
 module _ (config : Configuration) (scripts : Scripts) where
-  -- ---- an order that names a partition as often as it has calls
+  -- ---- an order that names a partition as many times as it has calls
 
   -- the partition has made all calls of its script
   abbrev IsFull : ℕ → History → Type 0
   IsFull p h = length (script_of scripts p) ≤ length (calls_of p h)
 
-  -- it has made all, or as many more as the order names it
+  -- it has made all calls, or one more for each time that the order names it
   abbrev HasEnough : ℕ → List ℕ → History → History → Type 0
   HasEnough q order h end = IsFull q end ⊎ (times q order + length (calls_of q h) ≤ length (calls_of q end))
 
@@ -127,7 +127,7 @@ module _ (config : Configuration) (scripts : Scripts) where
           (next_cases config scripts h p)
 
 module _ (config : Configuration) (inside : ℕ → Bool) (scripts part : Scripts) (is : IsPart inside scripts part) where
-  -- ---- the calls inside alone
+  -- ---- only the calls inside
 
   next_inside : (h : History) (p : ℕ) → inside p ≡ true → next_entries config scripts h p ≡ next_entries config part h p
   next_inside h p here = ap (λ (script : List (Moment × Call)). entries_for config h p (slice_get script (length (entries_of p h)))) (sym (here_inside inside scripts part is p here))
@@ -165,7 +165,7 @@ module _ (config : Configuration) (inside : ℕ → Bool) (scripts part : Script
     given = given_inside answered.one order answered.given;
   }
 
-  -- ---- with all other calls behind them
+  -- ---- followed by all other calls
 
   whole_history : (order : List ℕ) → history_of config scripts (made_whole inside scripts order) ≡ continued config scripts (history_of config part order) (calls_outside inside 0 scripts)
   whole_history order =

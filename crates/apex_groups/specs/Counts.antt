@@ -7,18 +7,18 @@ use Rattle.apex_orders.specs.Orders.{Scripts, IsWay, history_of}
 use Rattle.apex_orders.specs.Points.{HasSameCounts}
 use Rattle.apex_orders.specs.Lists.{Has}
 
--- the channel has the same counts of messages after both, and as many wait
+-- the channel has the same counts of messages after both, and the same number wait
 pub record HasSameTotals (config : Configuration) (history other : History) (c : ℕ) : Type 0 where
   pub counts : HasSameCounts config history other c
   pub waiting : length (waiting_on config c history) ≡ length (waiting_on config c other)
 
--- one of the orders leads to what the channel counts after the way
+-- one of the orders leads to the channel's counts after the way
 pub record ShowsCounts (config : Configuration) (scripts : Scripts) (ends : List (List ℕ)) (way : History) (c : ℕ) : Type 0 where
   pub order : List ℕ
   pub here : Has ends order
   pub same : HasSameTotals config way (history_of config scripts order) c
 
--- each order listed makes all calls, and whatever a channel counts after some way, it counts after one of them
+-- each listed order makes all calls, and whatever a channel counts after some way, it counts after one of them
 pub record ShowAllCounts (config : Configuration) (scripts : Scripts) (ends : List (List ℕ)) : Type 0 where
   pub ways : (order : List ℕ) → Has ends order → IsWay config scripts (history_of config scripts order)
   pub counts : (way : History) → IsWay config scripts way → (c : ℕ) → c < length config.channels

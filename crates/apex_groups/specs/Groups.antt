@@ -6,7 +6,7 @@ use Rattle.apex_ports.specs.Interference.{IsClosed}
 
 -- ---- groups
 
--- the number of the group that a partition is in, or that has a channel
+-- the number of a partition's or a channel's group
 abbrev pub group_of : List ℕ → ℕ → ℕ
 group_of groups place = unwrap_or (slice_get groups place) 0
 
@@ -35,7 +35,7 @@ pub record AreExchanged {X : Type 0} (inside : ℕ → Bool) (xs other exchanged
   pub count : length exchanged ≡ length xs
   pub each : (p : ℕ) → slice_get exchanged p ≡ (if inside p then slice_get other p else slice_get xs p)
 
--- the list of a partition; no items where it has none
+-- the list of a partition; no items if it has none
 abbrev pub list_of : {X : Type 0} → List (List X) → ℕ → List X
 list_of lists p = unwrap_or (slice_get lists p) []
 

@@ -1,4 +1,4 @@
--- What is found of the logs of each group of partitions.
+-- What is found for the logs of each group of partitions.
 use Rattle.std.specs.Prelude.{ℕ, ◌≡◌, ◌≤◌, ◌<◌, Bool, List, [], length}
 use Rattle.apex_module.specs.Configuration.{Configuration}
 use Rattle.apex_ports.specs.History.{History, entries_of}
@@ -8,13 +8,13 @@ use Rattle.apex_groups.specs.Groups.{IsPart, group_of}
 
 -- ---- the logs of one group
 
--- what an answer says of the logs of the partitions inside
+-- what an answer says about the logs of the partitions inside
 abbrev pub IsAnswerOf : Configuration → (ℕ → Bool) → Logs → Answer → Type 0
 IsAnswerOf config inside logs answer = (part : Logs) × IsPart inside logs part × IsAnswer config part answer
 
 -- ---- the groups searched so far
 
--- a beginning with entries of the first groups alone
+-- a beginning that has only entries of the first groups
 pub record IsOfGroups (config : Configuration) (logs : Logs) (groups : List ℕ) (count : ℕ) (history : History) : Type 0 where
   pub begins : IsBeginning config logs history
   pub others : (p : ℕ) → count ≤ group_of groups p → entries_of p history ≡ []

@@ -1,4 +1,4 @@
--- What is found of the scripts of each group of partitions.
+-- What is found for the scripts of each group of partitions.
 use Rattle.std.specs.Prelude.{ℕ, ◌<◌, ◌↔◌, ◌+◌, if◌then◌else◌, Bool, List, [], ◌∷◌, ◌++◌, length, filter, replicate, Option, IfSome, IfNone}
 use Rattle.apex_module.specs.Configuration.{Configuration}
 use Rattle.apex_ports.specs.History.{History}
@@ -14,26 +14,26 @@ use Rattle.apex_orders.specs.declared.replies.PossibleReply.{PossibleReply}
 
 -- ---- orders
 
--- all calls of the partitions outside, one partition after the other, where the first script is of this partition
+-- all calls of the partitions outside, one partition after the other; the first script is this partition's
 unfoldable pub calls_outside : (ℕ → Bool) → ℕ → Scripts → List ℕ
 calls_outside inside p [] = []
 calls_outside inside p (script ∷ rest) =
     (if inside p then [] else replicate (length script) p) ++ calls_outside inside (p + 1) rest
 
--- an order of the calls inside, with all others behind it
+-- an order of the calls inside, followed by all others
 abbrev pub made_whole : (ℕ → Bool) → Scripts → List ℕ → List ℕ
 made_whole inside scripts order = filter inside order ++ calls_outside inside 0 scripts
 
 -- ---- one group
 
--- what is found says all of the scripts of the partitions inside
+-- what is found says everything about the scripts of the partitions inside
 pub record IsFoundOf (config : Configuration) (inside : ℕ → Bool) (scripts : Scripts) (found : Outcomes) : Type 0 where
   pub part : Scripts
   pub is : IsPart inside scripts part
   pub replies : AreReplies config part found.replies.items
   pub ends : AreEnds config part found.ends.items
 
--- what an answer says of the scripts of the partitions inside
+-- what an answer says about the scripts of the partitions inside
 pub record IsAnswerOf (config : Configuration) (inside : ℕ → Bool) (scripts : Scripts) (asked : Asked) (answer : Option (List ℕ)) : Type 0 where
   pub part : Scripts
   pub is : IsPart inside scripts part
@@ -47,13 +47,14 @@ abbrev pub AreRepliesBelow : Configuration → Scripts → List ℕ → ℕ → 
 AreRepliesBelow config scripts groups count replies =
     (one : PossibleReply) → Has replies one ↔ (CanOccur config scripts one × (group_of groups one.partition < count))
 
--- the calls inside come to the same point after one of the orders
+-- the calls inside lead to the same point after one of the orders
 pub record ShowsPoint (config : Configuration) (scripts : Scripts) (inside : ℕ → Bool) (ends : List (List ℕ)) (way : History) : Type 0 where
   pub order : List ℕ
   pub here : Has ends order
   pub same : IsSamePoint config (entries_inside inside way) (entries_inside inside (history_of config scripts order))
 
--- each order listed makes all calls, and each way's calls of one of the first groups come to the same point after one of them
+-- each listed order makes all calls, and each way's calls of one of the first groups lead to the same point after one
+-- of them
 pub record ShowGroups (config : Configuration) (scripts : Scripts) (groups : List ℕ) (count : ℕ) (ends : List (List ℕ)) : Type 0 where
   pub ways : (order : List ℕ) → Has ends order → IsWay config scripts (history_of config scripts order)
   pub points : (p : ℕ) → p < length config.partitions → group_of groups p < count → (way : History) → IsWay config scripts way

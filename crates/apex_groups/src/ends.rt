@@ -1,4 +1,4 @@
-//! Orders of a group's calls, made orders of all calls.
+//! Orders of a group's calls, extended to orders of all calls.
 ghost use Rattle.std.specs.Prelude.{◌≡◌, ◌++◌, filter, map, replicate, IfOk, OnOk};
 ghost use Rattle.apex_groups.specs.Groups.{in_group};
 ghost use Rattle.apex_groups.specs.ScriptParts.{calls_outside, made_whole};
@@ -8,7 +8,7 @@ use apex_orders::Order;
 use apex_ports::Script;
 use std::alloc::{AllocError, Global};
 
-/// Adds orders of the group's calls, each with the calls of the other partitions behind it.
+/// Adds orders of the group's calls, each followed by the calls of the other partitions.
 pub(crate) fn add_ends(
     alloc: Global,
     groups: &Groups,
@@ -30,7 +30,7 @@ pub(crate) fn add_ends(
     Ok(())
 }
 
-/// Those of an order's calls that partitions of the group make.
+/// The calls of an order that partitions of the group make.
 pub(crate) fn calls_inside(
     alloc: Global,
     groups: &Groups,
@@ -69,7 +69,7 @@ fn calls_outside(
     Ok(partitions)
 }
 
-/// Adds a number so many times.
+/// Adds a number `count` times.
 fn push_times(partitions: &mut Vec<usize>, p: usize, count: usize) -> Result<(), AllocError>
     ensures { OnOk result (partitions.new.items ≡ partitions.old.items ++ replicate count p) }
 {

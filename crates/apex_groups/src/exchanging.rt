@@ -1,11 +1,11 @@
-//! What is listed for each partition, in another list's place.
+//! Swaps two lists' items for some partitions.
 ghost use Rattle.std.specs.Prelude.{◌≡◌, length};
 ghost use Rattle.apex_groups.specs.Groups.{AreExchanged, in_group};
 
 use crate::groups::Groups;
 use std::mem;
 
-/// Puts the items of the group's partitions in each other's place.
+/// Swaps the two lists' items for the group's partitions.
 pub fn exchange<T>(groups: &Groups, group: usize, one: &mut [T], other: &mut [T])
     requires { length one.old ≡ length other.old }
     ensures one { AreExchanged (in_group groups.now.of_partitions.items group)

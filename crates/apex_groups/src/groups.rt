@@ -5,7 +5,7 @@ ghost use Rattle.apex_groups.specs.Groups.{AreApart, HasItsChannels, HasNone, gr
 use apex_module::Config;
 use std::alloc::{AllocError, Global};
 
-/// The number of the group that each partition is in, and of the group that has each channel.
+/// The number of each partition's group, and of each channel's.
 #[derive(Drop)]
 pub struct Groups {
     pub of_partitions: Vec<usize>,
@@ -13,8 +13,8 @@ pub struct Groups {
 }
 
 impl Groups {
-    /// The smallest groups. Each has the number of its first partition. No clause says so: whoever rests on groups asks
-    /// whether they are apart.
+    /// The smallest groups. Each has the number of its first partition. No clause says so: whoever relies on groups
+    /// checks whether they are apart.
     pub fn new(alloc: Global, config: &Config) -> Result<Groups, AllocError> {
         let mut of_partitions = Vec::with_capacity(alloc, config.partitions())?;
         for p in 0..config.partitions() {
@@ -54,14 +54,14 @@ impl Groups {
         }
     }
 
-    /// The group that the partition is in.
+    /// The group of the partition.
     pub fn of_partition(&self, p: usize) -> usize
         ensures { result ≡ group_of self.now.of_partitions.items p }
     {
         self.of_partitions.get(p).copied().unwrap_or(0)
     }
 
-    /// The group that has the channel.
+    /// The group of the channel.
     fn of_channel(&self, channel: usize) -> usize
         ensures { result ≡ group_of self.now.of_channels.items channel }
     {

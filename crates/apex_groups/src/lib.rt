@@ -1,4 +1,4 @@
-//! Groups of partitions that share no channel with the others, and searches of orders that take each group by itself.
+//! Groups of partitions that share no channel with the others, and searches for orders that take each group by itself.
 #![tactic(auto)]
 
 mod ends;

@@ -1,4 +1,4 @@
-//! The search of an order, group by group.
+//! The search for an order, group by group.
 ghost use Rattle.std.specs.Prelude.{◌≡◌, length, IfOk};
 ghost use Rattle.apex_log_orders.specs.LogOrders.{IsAnswer};
 ghost use Rattle.apex_groups.specs.Groups.{AreApart};
@@ -10,9 +10,10 @@ use apex_module::Config;
 use apex_types::OutOfMemory;
 use std::alloc::Global;
 
-/// Looks for an order of all entries of the logs as `find_order` does, but searches each group of partitions that share no
-/// channel with the others by itself, and puts the groups' orders one after another. Each group may take `steps` steps. The
-/// logs change only while a group is searched. `progress` receives from time to time how far the search is.
+/// Searches for an order of all entries of the logs as `find_order` does, but searches each group of partitions that
+/// share no channel with the others by itself, and puts the groups' orders one after another. Each group may take
+/// `steps` steps. The logs change only while a group is searched. `progress` receives from time to time how far the
+/// search is.
 pub fn find_order_apart<P: Progress>(
     alloc: Global,
     config: &Config,

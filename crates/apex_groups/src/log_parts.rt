@@ -23,7 +23,7 @@ fn no_logs(alloc: Global, count: usize) -> Result<Vec<OwnLog>, AllocError>
     Ok(logs)
 }
 
-/// Looks for an order of the logs of one group's partitions, and leaves the logs as they were.
+/// Searches for an order of the logs of one group's partitions, and leaves the logs as they were.
 pub(crate) fn find_order_of<P: Progress>(
     alloc: Global,
     config: &Config,

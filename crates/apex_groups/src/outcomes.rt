@@ -15,31 +15,32 @@ use apex_orders::{
 use apex_ports::Script;
 use std::alloc::{AllocError, Global};
 
-/// What a group of partitions can come to by itself.
+/// What can happen to a group of partitions by itself.
 #[derive(Debug, Drop)]
 pub struct GroupCounts {
     /// The group's partitions, ascending.
     pub partitions: Vec<usize>,
-    /// How many states its calls can lead to, with those on the way.
+    /// The number of states that its calls can lead to, including those on the way.
     pub states: usize,
-    /// How many of them come after all of its calls.
+    /// The number of states after all of its calls.
     pub ends: usize,
 }
 
-/// All that can happen to scripts, where each group of partitions is searched by itself.
+/// All that can happen to scripts, with each group of partitions searched by itself.
 #[derive(Debug, Drop)]
 pub struct OutcomesApart {
     /// The replies that the calls can get, each once.
     pub replies: Vec<PossibleReply>,
     /// Orders of all calls: whatever counts of a channel some order leads to, one of these does.
     pub ends: Vec<Order>,
-    /// The groups whose partitions have calls, or one group of all if no partition has one.
+    /// The groups whose partitions have calls, or one group of all if no partition has any.
     pub groups: Vec<GroupCounts>,
 }
 
-/// All that can happen to the partitions' scripts, as `all_outcomes` of `apex_orders` finds it, but each group of partitions
-/// that share no channel with the others is searched by itself. It is undecided if a group comes to more states than the
-/// bound. The scripts change only while a group is searched. `progress` receives from time to time how far the search is.
+/// All that can happen to the partitions' scripts, as `all_outcomes` of `apex_orders` finds it, but each group of
+/// partitions that share no channel with the others is searched by itself. It is undecided if a group leads to more
+/// states than the bound. The scripts change only while a group is searched. `progress` receives from time to time how
+/// far the search is.
 pub fn all_outcomes_apart<P: Progress>(
     alloc: Global,
     config: &Config,
@@ -150,7 +151,7 @@ fn outcomes_by_groups<P: Progress>(
     Ok(all)
 }
 
-/// Adds what the group was found to come to.
+/// Adds what was found for the group.
 fn add_group(
     alloc: Global,
     config: &Config,

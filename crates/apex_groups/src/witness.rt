@@ -1,4 +1,4 @@
-//! An order in which a call gets a reply, looked for in the group of its partition.
+//! An order in which a call gets a reply, searched for in the group of its partition.
 ghost use Rattle.std.specs.Prelude.{◌≡◌, length, IfOk, IfSome, IfNone};
 ghost use Rattle.apex_groups.specs.Groups.{AreApart};
 ghost use Rattle.apex_orders.specs.Outcomes.{CanBeAnswered, IsAnsweredBy, IsUndecided};
@@ -11,8 +11,8 @@ use apex_orders::{Asked, Order, OrdersFault, Progress, order_giving_with_progres
 use apex_ports::Script;
 use std::alloc::Global;
 
-/// An order in which the asked call gets an admitted reply, as `order_giving` of `apex_orders` answers it, but only the calls
-/// of the group of the call's partition are searched. The scripts change only during the search.
+/// An order in which the asked call gets an admitted reply, like `order_giving` of `apex_orders`, but only the calls of
+/// the group of the call's partition are searched. The scripts change only during the search.
 pub fn order_giving_apart<P: Progress>(
     alloc: Global,
     config: &Config,

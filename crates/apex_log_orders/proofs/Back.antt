@@ -13,7 +13,7 @@ use Rattle.apex_log_orders.specs.Walking.{GoesOn, Ends, HasNoWay, IsMade, IsOwn,
 use Rattle.apex_log_orders.proofs.Beginnings.{begins_front, goes_last, same_next, entries_at-push, made_mine}
 use Rattle.apex_log_orders.proofs.Counts.{made_back}
 
--- a list whose last item was taken
+-- a list whose last item was removed
 pub cut_by : {X : Type 0} (old new : List X) (r : Option X) (x : X) → old ≡ new ++ option_to_list r → r ≡ Some x → old ≡ new ++ x ∷ []
 cut_by old new r x is some = is ∙ ap (λ (o : Option _). new ++ option_to_list o) some
 

@@ -1,4 +1,4 @@
--- One entry more and one less of a history in which each partition made the first calls of its log.
+-- Histories in which each partition made the first calls of its log, with one entry more or less.
 use Rattle.std.proofs.Common.{◌≡◌, ◌⊎◌, inl, inr, ⊎_elim, ℕ, zero, suc, ◌<◌, ◌≤◌, List, [], ◌∷◌, ◌++◌, length, take, Option, Some, refl, sym, ap, ◌∙◌, subst, arith, append_assoc, append-nil, length-append}
 use Rattle.std.specs.List.{slice_get}
 use Rattle.std.specs.Option.{option_to_list, unwrap_or}
@@ -28,7 +28,7 @@ front_begins (x ∷ xs) ys (z ∷ zs) (suc n) is =
     let rest : xs ++ ys ≡ take n zs = cc in
     λ i. same i ∷ front_begins xs ys zs n rest i
 
--- ---- one entry more
+-- ---- one more entry
 
 module _ (config : Configuration) (logs : Logs) where
   pub begins_nil : IsBeginning config logs []
@@ -100,7 +100,7 @@ module _ (config : Configuration) (logs : Logs) where
 
   -- ---- orders
 
-  -- an order that begins with the history is the history, or goes on with the next call of a partition
+  -- an order that begins with the history is the history, or continues with the next call of a partition
   pub ends_cases : (h : History) → Ends config logs h → IsOrder config logs h ⊎ ((p : ℕ) × (e : Entry) × (p < length config.partitions) × (GoesOn config logs h p e) × Ends config logs (h ++ e ∷ []))
   ends_cases h ends = of_rest ends.rest ends.order
     where
@@ -118,7 +118,7 @@ module _ (config : Configuration) (logs : Logs) where
   pub order_ends : (h : History) → IsOrder config logs h → Ends config logs h
   order_ends h order = record { rest = []; order = subst (IsOrder config logs) (sym (append-nil h)) order }
 
-  -- two next entries of one partition are one
+  -- two next entries of one partition are equal
   pub same_next : (h : History) (p : ℕ) (e other : Entry) → GoesOn config logs h p e → GoesOn config logs h p other → e ≡ other
   same_next h p e other goes goes_too = let both : Some e ≡ Some other = sym goes.next ∙ goes_too.next in cc
 

@@ -1,4 +1,4 @@
--- How far the first entries of a log take the ends of a channel.
+-- How far the first entries of a log advance the ends of a channel.
 use Rattle.std.proofs.Common.{◌≡◌, ℕ, suc, ◌+◌, true, if◌then◌else◌, length, take, Some, None, List, ap, ◌∙◌, arith, length-append}
 use Rattle.std.specs.List.{slice_get}
 use Rattle.std.specs.Option.{option_to_list}

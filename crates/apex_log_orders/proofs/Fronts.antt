@@ -1,4 +1,4 @@
--- Where none of the next calls can be made before the others, there is no order.
+-- If none of the next calls can be made before the others, there is no order.
 use Rattle.std.proofs.Common.{◌≡◌, ⊎_elim, ℕ, zero, suc, ◌<◌, ◌≤◌, List, [], ◌∷◌, ◌++◌, length, take, drop, Some, refl, sym, ap, ◌∙◌, subst, arith, append_assoc, append-nil}
 use Rattle.std.specs.List.{slice_get}
 use Rattle.std.proofs.lemmas.Bool.{cases_eq, cases_lt}
@@ -12,7 +12,7 @@ use Rattle.apex_log_orders.specs.Walking.{GoesOn, Ends}
 use Rattle.apex_log_orders.specs.Stuck.{IsWithin, NeverNext}
 use Rattle.apex_log_orders.proofs.Beginnings.{begins_nil, begins_front, begins_push, goes_last, made_mine, made_others}
 
--- the shorter of two fronts of a list begins the longer one
+-- the shorter of two prefixes of a list is a prefix of the longer one
 front_of : {X : Type 0} (n m : ℕ) (xs : List X) → n ≤ m → take m xs ≡ take n xs ++ drop n (take m xs)
 front_of zero m xs few = refl
 front_of (suc n) zero xs few = absurd (omega (arith, few))
@@ -20,7 +20,7 @@ front_of (suc n) (suc m) [] few = refl
 front_of (suc n) (suc m) (x ∷ xs) few = ap (λ ys. x ∷ ys) (front_of n m xs (omega (arith, few)))
 
 module _ (config : Configuration) (logs : Logs) where
-  -- a partition's entries of one beginning begin those of another in which it made no fewer calls
+  -- a partition's entries in one beginning are a prefix of those in another in which it made no fewer calls
   pub own_grows : (q : ℕ) (h front : History) → IsBeginning config logs h → IsBeginning config logs front
       → length (entries_of q h) ≤ length (entries_of q front) → (more : History) × (entries_of q front ≡ entries_of q h ++ more)
   own_grows q h front begins leads few =
@@ -38,7 +38,7 @@ module _ (config : Configuration) (logs : Logs) where
     entries = λ q. order.entries q ∙ sym (ap (λ (es : History). take (length es) (log_in logs q)) (order.entries q) ∙ take_all (length (log_in logs q)) (log_in logs q) (omega arith));
   }
 
-  -- an order that begins with a history goes on from it with a next call
+  -- an order that begins with a history continues it with a next call
   pub goes_first : (h : History) (e : Entry) (rest : History) → IsOrder config logs (h ++ e ∷ rest) → GoesOn config logs h e.partition e × Ends config logs (h ++ e ∷ [])
   goes_first h e rest order =
       let split : h ++ e ∷ rest ≡ (h ++ e ∷ []) ++ rest = sym (append_assoc h (e ∷ []) rest) in
@@ -81,7 +81,8 @@ module _ (config : Configuration) (logs : Logs) where
             never p goes.lawful.0 h begins within same e goes first.1)
             (cases_lt (length (entries_of p h)) (length (entries_of p front)))
 
-    -- an order in which something stays true until a call is made has not made it, where the call can't be made then
+    -- if something that stays true prevents a call, no order begins with a history in which it is true and the call
+    -- isn't made yet
     pub never_passed : (q j : ℕ) (f : Entry) → slice_get (log_in logs q) j ≡ Some f → (P : History → Type 0)
         → ((h : History) (e : Entry) → P h → P (h ++ e ∷ []))
         → ((h : History) → IsBeginning config logs h → length (entries_of q h) ≡ j → P h → GoesOn config logs h q f → ⊥)

@@ -66,7 +66,7 @@ module _ (config : Configuration) (valid : IsConfiguration config) (logs : Logs)
   unclear : (h : History) → IsBeginning config logs h → HasNoClear h
   unclear h begins = no_clears h (λ p. subst HasNoClear (sym (begins.entries p)) (no_clear_front (length (entries_of p h)) (log_in logs p) (none p)))
 
-  -- as many wait as were accepted and not received
+  -- the waiting messages are as many as were accepted and not received
   pub waits : (c : ℕ) (h : History) → IsBeginning config logs h → waiting_on config c h ≡ drop (length (received_on config c h)) (accepted_on config c h)
   waits c h begins = (without_clears config h c (unclear h begins)).waiting
 
@@ -82,7 +82,7 @@ module _ (config : Configuration) (valid : IsConfiguration config) (logs : Logs)
   -- ---- the two ends of a queuing channel
 
   module _ (c p id : ℕ) (port : Port) (h front : History) (begins : IsBeginning config logs h) (leads : IsBeginning config logs front) where
-    -- the source made no more calls: what was accepted begins what is accepted
+    -- if the source made no more calls, what was accepted is a prefix of what is accepted
     pub accepted_grows : IsEnd config c p id port Source → length (entries_of p h) ≤ length (entries_of p front)
         → (more : List (List ℕ)) × (accepted_on config c front ≡ accepted_on config c h ++ more)
     accepted_grows end few = subst (λ (d : ℕ). (more : List (List ℕ)) × (accepted_on config d front ≡ accepted_on config d h ++ more)) end.channel
@@ -256,7 +256,7 @@ module _ (config : Configuration) (valid : IsConfiguration config) (logs : Logs)
     abbrev early_sample : ℕ → Option Sample
     early_sample id = sample_of config h (port_of config p id)
 
-    -- the same of itself
+    -- the partition itself sees the same
     seen_same : seen config h p ≡ record { mode = mode_of p front; created = λ id. is_created p id front; last = λ id. last_validity_of p id front; waiting = early_waiting; sample = early_sample }
     seen_same = λ i. record {
       mode = same_mode i;

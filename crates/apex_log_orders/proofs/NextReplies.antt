@@ -31,7 +31,7 @@ module _ (config : Configuration) (early late : Seen) (p id : ℕ) where
   sending seen empty long destination full =
       reply_of config seen p (if empty then Refused EmptyMessage else if long then Refused MessageTooLong else if destination then Refused NotSource else if full then Refused QueueFull else Sent)
 
-  -- with as many messages waiting or more, a send gets the same reply, or finds no room
+  -- with as many waiting messages or more, a send gets the same reply, or finds no room
   pub send_replies : (port : Option Port) (m : List ℕ)
       → ((q : Port) → port ≡ Some q → is_source q.direction ≡ true → (length (late.waiting id) ≤ length (early.waiting id)) × (length (early.waiting id) ≤ depth_of config q.channel))
       → (reply_of config early p (send_row config early id port m) ≡ reply_of config late p (send_row config late id port m))
@@ -49,7 +49,7 @@ module _ (config : Configuration) (early late : Seen) (p id : ℕ) where
       by_tests false false true false false way is are = inl refl
       by_tests false false true true false way is are = absurd (let counts = more q refl way in grind (arith, nat_tests))
 
-  -- with the first of the messages waiting, a receive gets the same reply, or finds none
+  -- with the first of the waiting messages, a receive gets the same reply, or finds none
   pub receive_replies : (port : Option Port) → ((q : Port) → port ≡ Some q → is_source q.direction ≡ false → (more : List (List ℕ)) × (late.waiting id ≡ early.waiting id ++ more))
       → (reply_of config early p (receive_row early id port) ≡ reply_of config late p (receive_row late id port))
       ⊎ (reply_of config early p (receive_row early id port) ≡ not_available)

@@ -1,4 +1,4 @@
--- What a partition does to its ends of channels is read off its own entries alone.
+-- What a partition does to its ends of channels depends only on its own entries.
 use Rattle.std.proofs.Common.{◌≡◌, ◌≢◌, ℕ, zero, suc, take, ◌==◌, ◌&&◌, ◌||◌, not, Bool, true, false, if◌then◌else◌, [], ◌∷◌, Option, Some, None, cond, refl, sym, ap, ◌∙◌, subst, arith}
 use Rattle.std.specs.Option.{unwrap_or}
 use Rattle.std.specs.List.{slice_get, list_any}
@@ -94,7 +94,7 @@ first_or_rest e h none = both (asks_clear e.call) (list_any (λ (entry : Entry).
     both true b is = absurd cc
     both false b is = (refl, is)
 
--- where no partition's entries have a clear, none has
+-- if no partition's entries have a clear, the history has none
 pub no_clears : (h : History) → ((p : ℕ) → HasNoClear (entries_of p h)) → HasNoClear h
 no_clears [] none = refl
 no_clears (e ∷ h) none = λ i. mine i || no_clears h (λ p. others p) i
@@ -115,7 +115,7 @@ no_clears (e ∷ h) none = λ i. mine i || no_clears h (λ p. others p) i
         by_test true is = (first_or_rest e (entries_of p h) is).1
         by_test false is = is
 
--- nor does a front of entries without a clear
+-- nor does a prefix of entries without a clear
 pub no_clear_front : (n : ℕ) (h : History) → HasNoClear h → HasNoClear (take n h)
 no_clear_front zero h none = refl
 no_clear_front (suc n) [] none = refl

@@ -1,4 +1,4 @@
--- Calls whose replies the other partitions have no part in.
+-- Calls whose replies the other partitions don't affect.
 use Rattle.std.proofs.Common.{◌≡◌, ℕ, ◌==◌, nat_lt, not, Bool, true, false, if◌then◌else◌, List, length, Option, Some, None, refl, ap, ◌∙◌}
 use Rattle.apex_types.specs.Direction.{number_of}
 use Rattle.apex_types.specs.Mode.{mode_numbered}
@@ -20,7 +20,7 @@ use Rattle.apex_ports.specs.ReplyTable.{size_of, depth_of, create_queuing_row, c
 use Rattle.apex_ports.specs.Seen.{Seen, sampling_port, queuing_port}
 use Rattle.apex_log_orders.specs.Stuck.{is_own}
 
--- the row's reply looks at no channel
+-- the row's reply depends on no channel
 abbrev is_plain : Row → Bool
 is_plain (row.OldestReceived id) = false
 is_plain (row.QueuingStatus id) = false
@@ -100,7 +100,7 @@ module _ (config : Configuration) (seen : Seen) where
   plain_service p now (call.SetMode number) own = plain_mode seen.mode (mode_numbered number)
   plain_service p now _ own = absurd cc
 
--- seen with what waits and the samples of another moment
+-- seen with the waiting messages and samples of another moment
 module _ (config : Configuration) (p : ℕ) (mode : Mode) (created : ℕ → Bool) (last : ℕ → Validity) (waiting other_waiting : ℕ → List (List ℕ)) (sample other_sample : ℕ → Option Sample) where
   abbrev one : Seen
   one = record { mode = mode; created = created; last = last; waiting = waiting; sample = sample }
@@ -114,7 +114,7 @@ module _ (config : Configuration) (p : ℕ) (mode : Mode) (created : ℕ → Boo
   plain_reply (row.LastRead id validity) plain = absurd cc
   plain_reply _ plain = refl
 
-  -- the row is the same, since no check of these calls looks at a channel
+  -- the row is the same, since no check of these calls reads a channel
   same_row : (now : Moment) (asked : Call) → is_own asked ≡ true → row_of config one p now asked ≡ row_of config other p now asked
   same_row now (call.SendQueuing id message) own = absurd cc
   same_row now (call.ReceiveQueuing id) own = absurd cc

@@ -20,7 +20,7 @@ log_of logs place e here = of_log (slice_get logs place.partition) refl here
     of_log None is at = absurd cc
     of_log (Some log) is at = (log, is, at)
 
--- with a place more, each still has an entry
+-- with one more place, each still has an entry
 pub own_push : (config : Configuration) (logs : Logs) (places : List CallPlace) (place : CallPlace) → IsOwn config logs place → AreOwn config logs places → AreOwn config logs (places ++ place ∷ [])
 own_push config logs places place is are k other at = ⊎_elim
     (λ (before : slice_get places k ≡ Some other). are k other before)

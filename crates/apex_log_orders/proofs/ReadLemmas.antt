@@ -31,7 +31,7 @@ use Rattle.apex_log_orders.proofs.NeverNexts.{same_entry, table}
 
 -- ---- lists
 
--- what a list gives is given by one of its items
+-- one of the list's items gives what the list gives
 member : {Y : Type 0} (f : Entry → Option Y) (xs : History) (n : ℕ) (y : Y) → slice_get (filter_map f xs) n ≡ Some y
     → (k : ℕ) × (e : Entry) × (slice_get xs k ≡ Some e) × (f e ≡ Some y)
 member f [] n y at = absurd cc
@@ -43,7 +43,7 @@ member {Y} f (x ∷ xs) n y at = by_first (f x) refl n at (λ k here. member f x
     by_first (Some z) is zero at rest = (0, x, refl, is ∙ at)
     by_first (Some z) is (suc n) at rest = let found = rest n at in (suc found.0, found.1, found.2, found.3)
 
--- an entry stands among its partition's own
+-- an entry is among its partition's own
 in_own : (p : ℕ) (h : History) (k : ℕ) (e : Entry) → e.partition ≡ p → slice_get h k ≡ Some e → (j : ℕ) × (slice_get (entries_of p h) j ≡ Some e)
 in_own p [] k e own at = absurd cc
 in_own p (x ∷ h) zero e own at = by_test (x.partition == p) refl

@@ -1,4 +1,4 @@
--- The partitions tried before each call, and what follows where all were.
+-- The partitions tried before each call, and what follows if all were.
 use Rattle.std.proofs.Common.{◌≡◌, ◌⊎◌, inl, inr, ⊎_elim, ℕ, zero, suc, ◌+◌, ◌-◌, ◌<◌, ◌≤◌, true, false, ltb, if◌then◌else◌, List, [], ◌∷◌, ◌++◌, length, take, Some, None, refl, sym, ap, ◌∙◌, subst, arith, length-append}
 use Rattle.std.specs.List.{slice_get}
 use Rattle.std.proofs.lemmas.Bool.{cases_eq, cases_lt}
@@ -46,7 +46,7 @@ reached n first p within = ⊎_elim
     (k, few, (λ i. if test i then Some (if around i then first + k else k - (n - first)) else None) ∙ ap Some is))
     (cases_lt p first)
 
--- where there is none to try, all were tried
+-- if there is none to try, all were tried
 pub all_tried : (n first tried : ℕ) → candidate n first tried ≡ None → n ≤ tried
 all_tried n first tried none = ⊎_elim
     (λ (below : tried < n).
@@ -82,7 +82,7 @@ module _ (config : Configuration) (logs : Logs) where
       let index : length choices - 1 ≡ length path = let count = tried.count in omega (arith, count) in
       (found.0, found.1, ap (λ (k : ℕ). candidate_by (length config.partitions) (slice_get choices k)) index ∙ ap (candidate_by (length config.partitions)) found.1)
 
-  -- ---- one call more
+  -- ---- one more call
 
   pub tried_go : (path : List CallPlace) (choices : List Choice) (place : CallPlace) (next : Choice) → AreTried config logs path choices
       → candidate_of config choices ≡ Some place.partition → next.tried ≡ 0 → AreTried config logs (path ++ place ∷ []) (choices ++ next ∷ [])
@@ -114,7 +114,7 @@ module _ (config : Configuration) (logs : Logs) where
           let none : choice.tried ≡ 0 = ap (λ (c : Choice). c.tried) (sym last.1) ∙ untried in
           absurd (omega (arith, below, none))
 
-  -- ---- one partition more has no way on
+  -- ---- one more partition can't continue to an order
 
   pub tried_pass : (path : List CallPlace) (front : List Choice) (top next : Choice) → AreTried config logs path (front ++ top ∷ []) → next.first ≡ top.first → next.tried ≡ suc top.tried
       → ((p : ℕ) → candidate_of config (front ++ top ∷ []) ≡ Some p → HasNoWay config logs (entries_at logs path) p) → AreTried config logs path (front ++ next ∷ [])
@@ -183,7 +183,7 @@ module _ (config : Configuration) (logs : Logs) where
       let top = top_of path front (tried_back path place front last tried) in
       top.2 ∙ tried.chosen (length path) place top.0 (at_seam path place []) (stays_before front (last ∷ []) (length path) top.0 top.1)
 
-  -- ---- all partitions have no way on
+  -- ---- no partition can continue to an order
 
   pub none_left : (h : History) (path : List CallPlace) (choices : List Choice) → h ≡ entries_at logs path → AreTried config logs path choices
       → candidate_of config choices ≡ None → (IsOrder config logs h → ⊥) → Ends config logs h → ⊥

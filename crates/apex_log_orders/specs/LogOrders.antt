@@ -1,4 +1,4 @@
--- Logs that partitions kept apart, and the orders of all their entries.
+-- Logs that partitions kept separately, and the orders of all their entries.
 use Rattle.std.specs.Prelude.{ℕ, ◌≡◌, List, [], ◌∷◌, ◌++◌, length, take, slice_get, unwrap_or, Option}
 use Rattle.std.specs.Option.{option_to_list}
 use Rattle.apex_module.specs.Configuration.{Configuration}
@@ -13,7 +13,7 @@ use Rattle.apex_log_orders.specs.declared.answer.CallPlace.{CallPlace}
 abbrev pub Logs : Type 0
 Logs = List History
 
--- the log of a partition; no entries where it has none
+-- the log of a partition; no entries if it has none
 abbrev pub log_in : Logs → ℕ → History
 log_in logs p = unwrap_or (slice_get logs p) []
 
@@ -40,7 +40,7 @@ abbrev pub entries_at : Logs → List CallPlace → History
 entries_at logs [] = []
 entries_at logs (place ∷ places) = option_to_list (entry_at logs place) ++ entries_at logs places
 
--- what an answer says of the logs
+-- what an answer says about the logs
 abbrev pub IsAnswer : Configuration → Logs → Answer → Type 0
 IsAnswer config logs (Order places) = IsOrder config logs (entries_at logs places.items)
 IsAnswer config logs (NoOrder longest) = HasNoOrder config logs × IsBeginning config logs (entries_at logs longest.items)

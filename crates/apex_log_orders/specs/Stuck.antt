@@ -1,4 +1,4 @@
--- Beginnings that no order goes on from, nor passes by: whatever was called before, none of the calls that stand next in
+-- Beginnings that no order continues or leads past: whatever was called before, none of the calls that are next in
 -- their logs can be made without one of the others.
 use Rattle.std.specs.Prelude.{ℕ, ◌≡◌, ◌≤◌, ◌<◌, Bool, true, false, List, length, slice_get, Some}
 use Rattle.apex_types.specs.declared.call.Call.{Call}
@@ -19,7 +19,7 @@ use Rattle.apex_log_orders.specs.Walking.{HasNoWay, next_of}
 abbrev pub IsWithin : History → History → Type 0
 IsWithin history front = (p : ℕ) → length (entries_of p history) ≤ length (entries_of p front)
 
--- no order goes on with the partition's next call as long as no partition made more calls than in this beginning
+-- no order continues with the partition's next call as long as no partition made more calls than in this beginning
 abbrev pub NeverNext : Configuration → Logs → History → ℕ → Type 0
 NeverNext config logs front p = (history : History) → IsBeginning config logs history → IsWithin history front
     → length (entries_of p history) ≡ length (entries_of p front) → HasNoWay config logs history p
@@ -34,7 +34,7 @@ is_transfer (SendQueuing id message) = true
 is_transfer (ReceiveQueuing id) = true
 is_transfer _ = false
 
--- the other partitions have no part in the reply: it looks at no message that waits, and at no sample
+-- the other partitions don't affect the reply: it depends on no waiting message, and on no sample
 abbrev pub is_own : Call → Bool
 is_own (SendQueuing id message) = false
 is_own (ReceiveQueuing id) = false
@@ -61,11 +61,11 @@ pub record ArePair (logs : Logs) (front : History) (p : ℕ) (entry : Entry) (pl
   pub to_come : length (entries_of place.partition front) ≤ place.index
   pub none : is_code_not_available later.reply ≡ true
 
--- the entry asks to write these bytes into the channel (WRITE_SAMPLING_MESSAGE at the channel's source)
+-- the entry requests to write these bytes to the channel (WRITE_SAMPLING_MESSAGE at the channel's source)
 abbrev pub Writes : Configuration → ℕ → List ℕ → Entry → Type 0
 Writes config c bytes entry = message_written config c entry.partition entry.call ≡ Some bytes
 
--- none of the entries from one index up to another asks so
+-- none of the entries from one index up to another requests this
 abbrev pub NoneWrites : Configuration → ℕ → List ℕ → History → ℕ → ℕ → Type 0
 NoneWrites config c bytes log first past =
     (k : ℕ) (entry : Entry) → first ≤ k → k < past → slice_get log k ≡ Some entry → ¬ Writes config c bytes entry

@@ -1,4 +1,4 @@
--- A search that goes on call by call, and goes back where no partition can go on.
+-- A search that goes forward call by call, and goes back if no partition can go on.
 use Rattle.std.specs.Prelude.{ℕ, ◌≡◌, ◌⊎◌, ◌<◌, ◌+◌, ◌-◌, suc, if◌then◌else◌, ltb, List, [], ◌∷◌, ◌++◌, length, take, slice_get, Option, Some, None}
 use Rattle.apex_module.specs.Configuration.{Configuration, IsConfiguration}
 use Rattle.apex_ports.specs.declared.history.Entry.{Entry}
@@ -11,7 +11,7 @@ use Rattle.apex_log_orders.specs.declared.answer.CallPlace.{CallPlace}
 use Rattle.apex_log_orders.specs.declared.choice.Choice.{Choice}
 use Rattle.apex_log_orders.specs.LogOrders.{Logs, log_in, IsOrder, IsBeginning, entry_at, entries_at}
 
--- the partition that is tried after so many, of so many: from the first upward, and around
+-- given the number of partitions, the first to try and the number tried: the next to try, upward and cyclically
 abbrev pub candidate : ℕ → ℕ → ℕ → Option ℕ
 candidate partitions first tried =
     if ltb tried partitions
@@ -33,11 +33,11 @@ pub record Ends (config : Configuration) (logs : Logs) (history : History) : Typ
   pub rest : History
   pub order : IsOrder config logs (history ++ rest)
 
--- no order begins with the history and goes on with the partition's next call
+-- no order begins with the history followed by the partition's next call
 abbrev pub HasNoWay : Configuration → Logs → History → ℕ → Type 0
 HasNoWay config logs history p = (entry : Entry) → GoesOn config logs history p entry → ¬ Ends config logs (history ++ entry ∷ [])
 
--- the partitions tried before have no way on
+-- the partitions tried before can't continue to an order
 abbrev pub HaveNoWay : Configuration → Logs → History → Choice → Type 0
 HaveNoWay config logs history choice =
     (k p : ℕ) → k < choice.tried → candidate (length config.partitions) choice.first k ≡ Some p → HasNoWay config logs history p
@@ -53,7 +53,7 @@ pub record IsOwn (config : Configuration) (logs : Logs) (place : CallPlace) : Ty
   pub own : entry.partition ≡ place.partition
   pub within : place.partition < length config.partitions
 
--- each place has
+-- this holds for each place
 abbrev pub AreOwn : Configuration → Logs → List CallPlace → Type 0
 AreOwn config logs places = (k : ℕ) (place : CallPlace) → slice_get places k ≡ Some place → IsOwn config logs place
 
@@ -65,7 +65,7 @@ candidate_by partitions (Some choice) = candidate partitions choice.first choice
 abbrev pub candidate_of : Configuration → List Choice → Option ℕ
 candidate_of config choices = candidate_by (length config.partitions) (slice_get choices (length choices - 1))
 
--- before each call the partitions tried have no way on, and the next to try made it
+-- before each call, the partitions tried can't continue to an order, and the next one to try made the call
 pub record AreTried (config : Configuration) (logs : Logs) (path : List CallPlace) (choices : List Choice) : Type 0 where
   pub count : length choices ≡ suc (length path)
   pub chosen : (k : ℕ) (place : CallPlace) (choice : Choice) → slice_get path k ≡ Some place → slice_get choices k ≡ Some choice
@@ -77,7 +77,7 @@ pub record IsMade (config : Configuration) (made : List ℕ) (history : History)
   pub count : length made ≡ length config.partitions
   pub each : (p : ℕ) → p < length config.partitions → slice_get made p ≡ Some (length (entries_of p history))
 
--- what is kept along a search
+-- the invariant of a search
 pub record IsWalk (config : Configuration) (logs : Logs) (walk : Walk) : Type 0 where
   pub valid : IsConfiguration config
   pub judged : walk.judge.config ≡ config
@@ -88,12 +88,12 @@ pub record IsWalk (config : Configuration) (logs : Logs) (walk : Walk) : Type 0 
   pub own : AreOwn config logs walk.path.items
   pub tried : AreTried config logs walk.path.items walk.choices.items
 
--- the partition to try next has no way on
+-- the partition to try next can't continue to an order
 abbrev pub HasNoWayNext : Configuration → Logs → Walk → Type 0
 HasNoWayNext config logs walk =
     (p : ℕ) × (candidate_of config walk.choices.items ≡ Some p) × HasNoWay config logs walk.judge.log p
 
--- a search that goes on is kept; one that has come to its end has an order, or goes back where none begins so
+-- if the search is complete, it has an order; if it goes back, no order begins with its calls
 abbrev pub IsStep : Configuration → Logs → Walk → Step → Type 0
 IsStep config logs walk On = Unit {0}
 IsStep config logs walk Whole = IsOrder config logs walk.judge.log

@@ -7,11 +7,11 @@ use apex_judge::Judge;
 use apex_module::Config;
 use std::alloc::{AllocError, Global};
 
-/// What the logs say of the order before any call is tried: how far each call takes an end of a channel, and how far the
-/// other end may be when a call is made that shows it.
+/// What the logs say about the order before any call is tried: how far each call advances an end of a channel, and how
+/// far the other end may be when a call is made that shows it.
 #[derive(Drop)]
 pub(crate) struct Advice {
-    /// Of each partition, what each of its calls does.
+    /// For each partition, what each of its calls does.
     advances: Vec<Vec<Option<Advance>>>,
     bounds: Bounds,
 }
@@ -55,8 +55,8 @@ impl Advice {
         Ok(())
     }
 
-    /// The partition to try first after `made` calls of each: from the one that made the last call upward, and around, the
-    /// first whose next call gets the reply that was logged and hinders no call to come.
+    /// The partition to try first after `made` calls of each: starting with the one that made the last call, upward and
+    /// cyclically, the first whose next call gets the logged reply and hinders no call to come.
     pub(crate) fn first(
         &self,
         judge: &Judge,
@@ -78,7 +78,7 @@ impl Advice {
         last
     }
 
-    /// Whether the partition's next call gets the reply that was logged, and hinders no call to come.
+    /// Whether the partition's next call gets the logged reply and hinders no call to come.
     pub(crate) fn is_good(&self, judge: &Judge, logs: &[OwnLog], made: &[usize], p: usize) -> bool {
         let Some(index) = made.get(p).copied() else {
             return false;

@@ -1,4 +1,4 @@
-//! What is found of logs that partitions kept apart.
+//! What is found for logs that partitions kept separately.
 use apex_ports::Entry;
 use std::marker::Model;
 
@@ -29,9 +29,9 @@ pub struct CallPlace {
 /// Whether there is an order of all entries in which each reply is the standard's.
 #[derive(Debug, Drop)]
 pub enum Answer {
-    /// There is: this one.
+    /// Yes: this one.
     Order(Vec<CallPlace>),
-    /// There is none. The longest beginning that was found.
+    /// No. The longest beginning that was found.
     NoOrder(Vec<CallPlace>),
     /// Neither was found within the steps. The longest beginning that was found.
     Undecided(Vec<CallPlace>),

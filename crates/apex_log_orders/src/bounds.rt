@@ -4,7 +4,7 @@ use apex_module::Config;
 use apex_types::Direction;
 use std::alloc::{AllocError, Global};
 
-/// A call that takes an end of a channel further: after it, the channel has accepted `count` messages, or `count` are taken.
+/// A call that advances an end of a channel: after it, the channel has accepted `count` messages, or `count` are taken.
 #[derive(Clone, Copy)]
 pub(crate) struct Advance {
     pub(crate) channel: usize,
@@ -20,7 +20,7 @@ pub(crate) struct Bound {
 }
 
 impl Bound {
-    /// Whether the call isn't made yet, and could not be made after the other one.
+    /// Whether the call isn't made yet and could not be made after the other one.
     pub(crate) fn hinders(&self, made: &[usize], advance: Advance) -> bool {
         match made.get(self.place.partition) {
             Some(made) => *made <= self.place.index && self.most < advance.count,
@@ -45,7 +45,7 @@ impl Bounds {
         })
     }
 
-    /// The bounds on the end of a channel that a call takes further.
+    /// The bounds on the end of a channel that a call advances.
     pub(crate) fn on(&self, advance: Advance) -> &[Bound] {
         let all = match advance.end {
             Direction::Source => self.on_sources.as_slice(),
@@ -57,7 +57,7 @@ impl Bounds {
         }
     }
 
-    /// The other end of the channel may have handled at most `most` messages when the call is made.
+    /// Adds a bound: the other end of the channel may have handled at most `most` messages when the call is made.
     pub(crate) fn add(
         &mut self,
         end: Direction,

@@ -1,18 +1,18 @@
-//! Which partition goes on.
+//! Which partition makes the next call.
 ghost use Rattle.std.specs.Prelude.{◌≡◌, ◌<◌, IfSome};
 ghost use Rattle.apex_log_orders.specs.Walking.{candidate};
 
-/// The partitions that are tried after the calls so far: from a first one upward, and around.
+/// The partitions that are tried after the calls so far: from a first one upward and cyclically.
 #[derive(Clone, Copy)]
 pub(crate) struct Choice {
     /// The one to try first.
     pub(crate) first: usize,
-    /// How many were tried.
+    /// The number of partitions tried.
     pub(crate) tried: usize,
 }
 
 impl Choice {
-    /// The partition to try, of this number of partitions.
+    /// The partition to try, out of this number of partitions.
     pub(crate) fn candidate(&self, partitions: usize) -> Option<usize>
         ensures exact { result ≡ candidate partitions self.now.first self.now.tried }
         ensures within { IfSome result (λ p. p < partitions) }

@@ -1,4 +1,4 @@
-//! The ends of queuing channels, and how far the first calls of a log take them.
+//! The ends of queuing channels, and how far the first calls of a log advance them.
 ghost use Rattle.std.specs.Prelude.{◌≡◌, ◌≤◌, if◌then◌else◌, length, take, IfSome};
 ghost use Rattle.std.specs.Option.{option_to_list};
 ghost use Rattle.apex_ports.specs.Channels.{accepted_on, received_on, message_accepted, message_received};
@@ -12,7 +12,7 @@ use apex_module::{Config, PortKind};
 use apex_ports::Entry;
 use apex_types::{Call, Direction, Reply, ReturnCode};
 
-/// The queuing channel of which the partition's port is this end.
+/// The queuing channel that has the partition's port as this end.
 pub(crate) fn queuing_end(config: &Config, p: usize, id: u32, way: Direction) -> Option<usize>
     ensures { IfSome result (λ c. HasEnd config.now c p id way) }
 {

@@ -1,4 +1,5 @@
-//! Orders of the entries of logs that partitions kept apart: whether there is one in which each reply is the standard's.
+//! Orders of the entries of logs that partitions kept separately: whether there is one in which each reply is the
+//! standard's.
 #![tactic(auto)]
 
 mod advice;

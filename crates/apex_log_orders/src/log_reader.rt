@@ -1,4 +1,4 @@
-//! What the log of one partition says of the ends of its channels.
+//! What the log of one partition says about the ends of its channels.
 use crate::answer::{CallPlace, OwnLog};
 use crate::bounds::{Advance, Bounds};
 use crate::messages::{index_of, is_accepted, received_next};
@@ -7,14 +7,14 @@ use apex_ports::Entry;
 use apex_types::{Call, Direction, Reply, ReturnCode};
 use std::alloc::{AllocError, Global};
 
-/// A log that is read, and how far it took the ends of its partition so far.
+/// A log that is being read, and how far it has advanced the ends of its partition so far.
 #[derive(Drop)]
 pub(crate) struct LogReader {
     partition: usize,
-    /// Of each channel, how many messages it has accepted.
+    /// For each channel, the number of messages that it has accepted.
     accepted: Vec<usize>,
-    /// Of each channel, how many messages are taken, or the number of the write that was read last; unknown after a clear
-    /// that nothing was received after.
+    /// For each channel, the number of messages taken, or the number of the write that was read last; unknown after a
+    /// clear that no receive follows.
     taken: Vec<Option<usize>>,
 }
 
@@ -71,7 +71,7 @@ impl LogReader {
         }
     }
 
-    /// A call of a source: a message more, or how many wait.
+    /// A call of a source: one more message, or how many wait.
     fn read_source(
         &mut self,
         bounds: &mut Bounds,
@@ -103,7 +103,7 @@ impl LogReader {
         Ok(None)
     }
 
-    /// A call of a destination: a message less, how many wait, or which write it shows.
+    /// A call of a destination: one message fewer, how many wait, or which write it shows.
     fn read_destination(
         &mut self,
         logs: &[OwnLog],
@@ -142,7 +142,7 @@ struct Effect {
 }
 
 impl Effect {
-    /// What it takes further, if `before` messages were taken before it.
+    /// How far it advances the end, if `before` messages were taken before it.
     fn advance(&self, channel: usize, before: usize) -> Option<Advance> {
         let count = self.taken?;
         if count == before {
@@ -209,7 +209,7 @@ fn clearing(
     Effect { taken, most: taken }
 }
 
-/// How many messages the reply shows to wait on a channel of the depth.
+/// The number of messages that wait on a channel of this depth, according to the reply.
 fn waiting_shown(entry: &Entry, depth: usize) -> Option<usize> {
     match &entry.reply {
         Reply::QueuingStatus { waiting, .. } => Some(*waiting as usize),
@@ -222,7 +222,7 @@ fn waiting_shown(entry: &Entry, depth: usize) -> Option<usize> {
     }
 }
 
-/// The identifier of the port that a call names, but for those that create or look up.
+/// The identifier of the port that a call names, except for calls that create or look up.
 fn port_of(call: &Call) -> Option<u32> {
     match call {
         Call::WriteSampling { id, .. } => Some(*id),

@@ -1,11 +1,11 @@
 //! Reports of how far a search is.
 
-/// How many steps a search makes before it reports again.
+/// The number of steps that a search makes before it reports again.
 const STEPS_BETWEEN_REPORTS: u64 = 65_536;
 
-/// Receives reports of how far the search of an order is. No contract depends on what it does with them.
+/// Receives reports of how far the search for an order is. No contract depends on what it does with them.
 pub trait Progress {
-    /// The order that is tried has `placed` calls now, and this many dead ends were met before it.
+    /// The order that is being tried has `placed` calls now, and the search met this many dead ends before it.
     fn searched(&mut self, placed: usize, dead_ends: u64);
 }
 
@@ -20,7 +20,7 @@ impl Progress for NoProgress {
 /// How far a search is, and when it reports next.
 #[derive(Drop)]
 pub(crate) struct Reports {
-    /// How many steps were left at the last report.
+    /// The number of steps left at the last report.
     last: u64,
     dead_ends: u64,
 }
@@ -34,7 +34,7 @@ impl Reports {
         }
     }
 
-    /// Counts one dead end more.
+    /// Counts one more dead end.
     pub(crate) fn meet_dead_end(&mut self) {
         self.dead_ends = self.dead_ends.saturating_add(1);
     }

@@ -10,7 +10,7 @@ use apex_module::Config;
 use apex_ports::Entry;
 use apex_types::{Call, Message, Reply};
 
-/// Whether the partition's next call is a read that showed a message which no call made so far has written.
+/// Whether the partition's next call is a read that showed a message that no call made so far has written.
 pub(crate) fn is_read_held(
     config: &Config,
     logs: &[OwnLog],
@@ -41,7 +41,7 @@ pub(crate) fn is_read_held(
     true
 }
 
-/// Whether none of the entries from `first` up to `past` asks to write the message into the channel.
+/// Whether none of the entries from `first` up to `past` requests to write the message to the channel.
 pub(crate) fn none_writes(
     config: &Config,
     channel: usize,
@@ -61,7 +61,7 @@ pub(crate) fn none_writes(
     true
 }
 
-/// Whether the entry asks to write the message into the channel.
+/// Whether the entry requests to write the message to the channel.
 fn writes(config: &Config, channel: usize, message: &Message, entry: &Entry) -> bool
     ensures { ¬ IsTrue result → ¬ Writes config.now channel message.now entry.now }
 {

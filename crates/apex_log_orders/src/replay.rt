@@ -1,4 +1,4 @@
-//! Judging the entries of an order.
+//! Judges the entries of an order.
 ghost use Rattle.std.specs.Prelude.{◌≡◌, ◌++◌, ◌∷◌, [], IfOk};
 ghost use Rattle.apex_log_orders.specs.LogOrders.{entries_at};
 ghost use Rattle.apex_log_orders.specs.Walking.{AreOwn, IsOwn};
@@ -27,7 +27,7 @@ pub(crate) fn judge_at(
     Ok(judge)
 }
 
-/// The judge goes along with the entry at a place.
+/// Applies the entry at a place to the judge.
 pub(crate) fn add_at(
     judge: &mut Judge,
     config: &Config,

@@ -1,4 +1,4 @@
-//! The search of an order.
+//! The search for an order.
 ghost use Rattle.std.specs.Prelude.{◌≡◌, length, IfOk, OnOk};
 ghost use Rattle.apex_log_orders.specs.LogOrders.{IsAnswer};
 ghost use Rattle.apex_log_orders.specs.Walking.{IsWalk, IsStep, IsOneOf};
@@ -12,9 +12,9 @@ use apex_module::Config;
 use apex_types::OutOfMemory;
 use std::alloc::{AllocError, Global};
 
-/// Looks for an order of all entries of the logs in which each reply is the reply table's. Each partition's entries keep
-/// their order, and their moments order nothing. A step is a call that is tried, or that is looked at again because no call
-/// is advised or the search went back.
+/// Searches for an order of all entries of the logs in which each reply is the reply table's. Each partition's entries
+/// keep their order; their moments don't restrict the order. A step is a call that is tried, or one that is looked at
+/// again because no call is advised or the search went back.
 pub fn find_order(
     alloc: Global,
     config: &Config,
@@ -27,7 +27,7 @@ pub fn find_order(
     find_order_with_progress(alloc, config, logs, steps, &mut NoProgress)
 }
 
-/// The answer of `find_order`. `progress` receives from time to time how far the search is.
+/// Answers like `find_order`. `progress` receives from time to time how far the search is.
 pub fn find_order_with_progress<P: Progress>(
     alloc: Global,
     config: &Config,
@@ -73,11 +73,11 @@ pub fn find_order_with_progress<P: Progress>(
 
 /// The result of one step of a search.
 enum Step {
-    /// The search goes on.
+    /// The search continues.
     On,
-    /// The calls made so far are all calls.
+    /// All calls are made.
     Whole,
-    /// No partition has a way on.
+    /// No partition can continue to an order.
     Back,
 }
 

@@ -1,5 +1,5 @@
-//! Whether no order goes on from the calls made so far, nor passes by them. This needs no trying: it shows in what a call
-//! gets while others made fewer calls, and in what a call to come shows of the other end of its channel.
+//! Whether no order continues the calls made so far, nor leads past them. This needs no trying: it follows from what a
+//! call gets while others made fewer calls, and from what a call to come shows of the other end of its channel.
 ghost use Rattle.std.specs.Prelude.{◌≡◌, ◌<◌, length, Some, IsTrue};
 ghost use Rattle.apex_log_orders.specs.LogOrders.{HasNoOrder};
 ghost use Rattle.apex_log_orders.specs.Stuck.{HaveNoClear, NeverNext, is_own, is_transfer};
@@ -33,7 +33,7 @@ pub(crate) fn is_stuck(config: &Config, logs: &[OwnLog], advice: &Advice, walk: 
     true
 }
 
-/// Whether this shows that no order goes on with the partition's next call before another partition's.
+/// Whether this shows that no order continues with the partition's next call before another partition's.
 fn is_never_next(config: &Config, logs: &[OwnLog], advice: &Advice, walk: &Walk, p: usize) -> bool
     requires walk { IsWalk config.now logs.now walk.now }
     requires clears { HaveNoClear logs.now }
@@ -56,8 +56,8 @@ fn is_never_next(config: &Config, logs: &[OwnLog], advice: &Advice, walk: &Walk,
 }
 
 /// Whether the partition can't make its next call before another partition's. It logged another reply than it gets now,
-/// and the others have no part in it; or it sends or receives, and got before what it gets now, or found no message or no
-/// room, which is not what it logged.
+/// and the others don't affect the reply; or it sends or receives, and got before what it gets now, or found no message
+/// or no room, which is not what it logged.
 fn is_held(config: &Config, logs: &[OwnLog], walk: &Walk, p: usize, entry: &Entry) -> bool
     requires walk { IsWalk config.now logs.now walk.now }
     requires clears { HaveNoClear logs.now }
@@ -80,7 +80,7 @@ fn is_held(config: &Config, logs: &[OwnLog], walk: &Walk, p: usize, entry: &Entr
     true
 }
 
-/// Whether the other partitions have no part in the reply.
+/// Whether the reply is independent of the other partitions.
 fn is_own(call: &Call) -> bool
     ensures { result ≡ is_own call.now }
 {

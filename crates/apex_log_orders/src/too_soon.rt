@@ -1,4 +1,4 @@
-//! Calls that would come too soon: after them a call to come can no longer get the reply that was logged.
+//! Calls that would come too soon: after them a call to come can no longer get its logged reply.
 ghost use Rattle.std.specs.Prelude.{◌≡◌, ◌<◌, length, Some, IsTrue};
 ghost use Rattle.apex_log_orders.specs.Stuck.{ArePair, HaveNoClear, NeverNext};
 ghost use Rattle.apex_log_orders.specs.Walking.{IsWalk, next_of};

@@ -19,7 +19,7 @@ use std::alloc::Global;
 pub(crate) struct Walk {
     /// The judge after them.
     pub(crate) judge: Judge,
-    /// How many of them each partition made.
+    /// The number of them that each partition made.
     pub(crate) made: Vec<usize>,
     /// Their places in the logs, in order.
     pub(crate) path: Vec<CallPlace>,
@@ -110,7 +110,7 @@ impl Walk {
         entry.partition == p && self.judge.agrees(p, entry.at, &entry.call, &entry.reply)
     }
 
-    /// The partition makes its next call.
+    /// Makes the partition's next call.
     pub(crate) fn go_on(
         &mut self,
         config: &Config,
@@ -138,7 +138,7 @@ impl Walk {
         Ok(())
     }
 
-    /// The partition to try next has no way on.
+    /// Records that the partition to try next can't continue to an order.
     pub(crate) fn pass(&mut self, config: &Config, logs: &[OwnLog])
         requires walk { IsWalk config.now logs.now self.old }
         requires tried { HasNoWayNext config.now logs.now self.old }
@@ -149,7 +149,7 @@ impl Walk {
         }
     }
 
-    /// Goes back before the last call, whose partition has no way on. Answers whether there was one.
+    /// Goes back before the last call, whose partition can't continue to an order. Returns whether there was one.
     pub(crate) fn go_back(
         &mut self,
         alloc: Global,

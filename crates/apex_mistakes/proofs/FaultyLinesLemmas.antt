@@ -28,7 +28,7 @@ module _ {A : Type 0} (item_at : List ℕ → List (List ℕ) → Result A LineF
   unfolding places_from
   finds_nothing lines cut = rw cut refl
 
--- ---- the first fault is the one for which the text isn't read
+-- ---- the first fault is the one for which the text is refused
 
 agrees_after : {A : Type 0} (item : A) (after : Result (List A) FaultyLine) (number : ℕ) → result_err after ≡ result_err (before number (Ok (Some item)) after)
 agrees_after item (Ok items) number = refl
@@ -48,7 +48,7 @@ agrees item_at front number [] = refl
 agrees item_at front number (line ∷ rest) =
     agrees_by front number line (item_of_line item_at line) (places_from item_at front (number + 1) rest) (items_from item_at (number + 1) rest) (agrees item_at front (number + 1) rest)
 
--- ---- at most so many are kept
+-- ---- at most this many are kept
 
 pub keeps : {X : Type 0} (first : List X) (most count : ℕ) (x : X) (left after total : List X) → left ≡ x ∷ after → count < most
     → first ++ take (most - count) left ≡ total → (first ++ x ∷ []) ++ take (most - (count + 1)) after ≡ total

@@ -45,7 +45,7 @@ module _ (asked_by : List ℕ → List (List ℕ) → Result (Request × TimeOut
   unfolding log_places_from
   finds_nothing lines cut = rw cut refl
 
-  -- a place has the line and the fault that it is of
+  -- a place has the line and the fault that it was made for
   in-call : (fault : LineFault) (line : List ℕ) (b : Bool)
       → faulty_log_line (if b then of_line_place (Line fault) parts.Call (place_in front number fault (call_side line)) else place_in_reply number (Line fault) line) ≡ record { line = number; fault = Line fault }
   in-call fault line true = ap (λ (n : ℕ). record { line = n; fault = Line fault }) (place-line front number fault (call_side line))
@@ -65,7 +65,7 @@ module _ (asked_by : List ℕ → List (List ℕ) → Result (Request × TimeOut
   log_place-faulty OpenNote line = refl
   log_place-faulty UnknownReply line = refl
 
--- ---- the first fault is the one for which the log isn't read
+-- ---- the first fault is the one for which the log is refused
 
 agrees_after : (entry : Entry × TimeOut) (after : Result (List LoggedEntry) FaultyLine) (number : ℕ) → result_err after ≡ result_err (before number (Ok (Some entry)) after)
 agrees_after entry (Ok entries) number = refl

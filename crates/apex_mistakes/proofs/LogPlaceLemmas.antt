@@ -1,4 +1,4 @@
--- The words in front of a text that is cut behind one of its words, and the first word that no reply has there.
+-- The words before a text that is cut after one of its words, and the first word that no reply has there.
 use Rattle.std.proofs.Common.{◌≡◌, ℕ, zero, suc, ◌+◌, ◌-◌, ◌<◌, ◌≤◌, Bool, true, false, not, eqb, List, [], ◌∷◌, ◌++◌, length, take, drop, get_or, refl, sym, ap, ◌∙◌, arith, subst, inl, inr, length-append, append-nil, zero-add, eq-or-lt_of_le}
 use Rattle.std.proofs.Math.Seq.{take-append-add, take-nil}
 use Rattle.std.proofs.lemmas.List.{take-append-drop, length-drop, drop-drop}
@@ -14,7 +14,7 @@ use Rattle.apex_mistakes.specs.LinePlace.{from_first_word, behind_first_word}
 use Rattle.apex_mistakes.specs.LogPlace.{before_arrow_of, begins_reply, fitting}
 use Rattle.apex_mistakes.proofs.PlaceLemmas.{behind_first}
 
--- ---- a text that is cut in front of a blank
+-- ---- a text that is cut before a blank
 
 onto-append : {X : Type 0} (x : X) (parts more : List (List X)) → 0 < length parts → onto_first x (parts ++ more) ≡ onto_first x parts ++ more
 onto-append x [] more some = absurd (omega (arith, some))
@@ -49,7 +49,7 @@ at_blank-take zero rest blank = refl
 at_blank-take (suc n) [] blank = refl
 at_blank-take (suc n) (byte ∷ rest) blank = blank
 
--- ---- a text behind its first words
+-- ---- a text after its first words
 
 abbrev pub behind_words : ℕ → List ℕ → List ℕ
 behind_words zero text = text
@@ -73,7 +73,7 @@ behind_blank (byte ∷ rest) = behind_blank_by byte rest (is_blank byte) refl (b
 abbrev pub front_of : List ℕ → List ℕ → List ℕ
 front_of text rest = take (length text - length rest) text
 
--- that a text ends with another
+-- a text ends with another
 record Ends (text rest : List ℕ) : Type 0 where
   pub short : length rest ≤ length text
   pub whole : front_of text rest ++ rest ≡ text
@@ -95,14 +95,14 @@ behind_words-short : (before : ℕ) (text : List ℕ) → length (behind_words b
 behind_words-short zero text = omega arith
 behind_words-short (suc before) text = omega (arith, behind_words-short before (behind_first_word text), (behind-ends text).short)
 
--- the elements of a part and of the front of what follows it, where the part has the first element alone
+-- if the rest is all but the first element, what precedes it and its first n elements are the first n + 1 elements
 one-before : {X : Type 0} (n : ℕ) (front rest all : List X) → all ≡ front ++ rest → rest ≡ drop 1 all → front ++ take n rest ≡ take (suc n) all
 one-before n [] [] all is behind = take-nil n ∙ sym (ap (take (suc n)) is)
 one-before n [] (x ∷ rest) all is behind = absurd (omega (arith, ap length is, ap length behind, length-drop 1 all))
 one-before n (x ∷ []) rest all is behind = sym (ap (take (suc n)) is)
 one-before n (x ∷ y ∷ front) rest all is behind = absurd (omega (arith, ap length is, ap length behind, length-drop 1 all, length-append front rest))
 
--- the text in front of what follows its first words has these words
+-- the text before what follows its first words has these words
 pub words-front : (before : ℕ) (text : List ℕ) → words_of (front_of text (behind_words before text)) ≡ take before (words_of text)
 words-front zero text =
     let none : length text - length text ≡ 0 = omega arith in
@@ -149,7 +149,7 @@ fits-until words i within fit misfit =
     (λ k lt. ap misfits (at k (omega (arith, lt, within))) ∙ ap not (fit k lt))
     (λ lt. let few : i < count = omega (arith, lt, length-range_with_len 0 count) in ap misfits (at i few) ∙ ap not (misfit few)))
 
--- with what is in front of the rest
+-- with what is before the rest
 pub begun : (result : Bool) (cut before : ℕ) (text rest : List ℕ) → result ≡ begins_reply (words_of (take cut text)) → cut ≡ length text - length rest → rest ≡ behind_words (before + 1) text → result ≡ begins_reply (take (before + 1) (words_of text))
 begun result cut before text rest is at behind =
     is ∙ ap (λ (n : ℕ). begins_reply (words_of (take n text))) (at ∙ ap (λ (xs : List ℕ). length text - length xs) behind) ∙ ap begins_reply (words-front (before + 1) text)

@@ -1,4 +1,4 @@
--- The words of a line from a word on, and the place of a fault in it.
+-- The words of a line starting at a word, and the place of a fault in it.
 use Rattle.std.proofs.Common.{◌≡◌, ◌≢◌, ℕ, zero, suc, ◌+◌, ◌-◌, ◌<◌, not, List, [], ◌∷◌, ◌++◌, length, take, drop, get_or, Option, Some, None, refl, sym, ap, ◌∙◌, arith, length-append}
 use Rattle.std.proofs.Math.Seq.{drop-nil, get_or-append_right}
 use Rattle.std.proofs.Math.ListN.{drop_of_length-le}
@@ -37,19 +37,19 @@ drop-one : (before : ℕ) (words : List (List ℕ)) → drop before (drop 1 word
 drop-one before [] = drop-nil before
 drop-one before (word ∷ words) = refl
 
--- the words of a line from the word on that so many others precede
+-- the words of a line, starting at the word after this number of others
 pub words_from : (before : ℕ) (line : List ℕ) → words_of (from_word_at before line) ≡ drop before (words_of line)
 words_from zero line = words_skip line
 words_from (suc before) line =
     words_from before (behind_first_word line) ∙ ap (drop before) (behind_first line (position (λ byte. not (is_blank byte)) line) refl) ∙ drop-one before (words_of line)
 
--- what is expected behind the call word
+-- what is expected after the call word
 pub behind_call : {X : Type 0} (front : List X) (call : X) (parameters : List X) (i : ℕ) (none : X) → length front < i → get_or (front ++ call ∷ parameters) i none ≡ get_or parameters (i - length front - 1) none
 behind_call front call parameters i none behind =
     let later : i - length front ≡ suc (i - length front - 1) = omega arith in
     get_or-append_right front (call ∷ parameters) i none (omega arith) ∙ ap (λ (n : ℕ). get_or (call ∷ parameters) n none) later
 
--- how many words are expected, and so precede the first that is too many
+-- the number of words that are expected, and so precede the first that is too many
 pub expected-count : {X : Type 0} (front : List X) (call : X) (found parameters : List X) → found ≡ parameters → length front + 1 + length found ≡ length (front ++ call ∷ parameters)
 expected-count front call found parameters is = omega (arith, ap length is, length-append front (call ∷ parameters))
 
@@ -71,7 +71,7 @@ argument-before front faults.Number words few many moment partition call = refl
 argument-before front faults.Name words few many moment partition call = refl
 argument-before front faults.Message words few many moment partition call = refl
 
--- a place has the line and the fault that it is of
+-- a place has the line and the fault that it was made for
 pub place-faulty : (front : List Expected) (number : ℕ) (fault : LineFault) (line : List ℕ) → faulty_line (place_in front number fault line) ≡ record { line = number; fault = number_of fault }
 place-faulty front number faults.NotAscii line = refl
 place-faulty front number faults.TooFewWords line = refl

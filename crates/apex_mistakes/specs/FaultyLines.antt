@@ -18,7 +18,7 @@ use Rattle.apex_texts.specs.Trace.{request_at}
 abbrev pub place_of : {A : Type 0} → (List ℕ → List (List ℕ) → Result A LineFault) → List Expected → ℕ → List ℕ → Option LinePlace
 place_of item_at front number line = option_map (λ fault. place_in front number fault line) (result_err (item_of_line item_at line))
 
--- the places of the faulty lines among lines of which the first has this number
+-- the places of the faulty lines among lines, the first of which has this number
 unfoldable pub places_from : {A : Type 0} → (List ℕ → List (List ℕ) → Result A LineFault) → List Expected → ℕ → List (List ℕ) → List LinePlace
 places_from item_at front number [] = []
 places_from item_at front number (line ∷ rest) = option_to_list (place_of item_at front number line) ++ places_from item_at front (number + 1) rest
@@ -39,7 +39,7 @@ script_places text = places_of timed_call_at (kinds.Moment ∷ []) text
 abbrev pub faulty_line : LinePlace → FaultyLine
 faulty_line place = record { line = place.line; fault = number_of place.fault }
 
--- the first places, and how many there are
+-- the first places, and the number of all
 pub record AreFirst (most : ℕ) (places : List LinePlace) (found : FaultyLines) : Type 0 where
   pub first : found.first.items ≡ take most places
   pub count : found.count ≡ length places

@@ -1,5 +1,5 @@
--- Where the fault of a line stands: the number of its word, and its column. The words in front of the call
--- word, which differ between traces and scripts, are a parameter.
+-- The place of a line's fault: the number of its word, and its column. The words before the call word, which differ
+-- between traces and scripts, are a parameter.
 use Rattle.std.specs.Prelude.{ℕ, zero, suc, ◌+◌, ◌-◌, not, if◌then◌else◌, List, [], ◌∷◌, ◌++◌, length, take, drop, slice_index_or, position, unwrap_or, Option, Some, None}
 use Rattle.std.specs.List.{position_or_len}
 use Rattle.apex_texts.specs.declared.expected.Expected.{Expected}
@@ -13,44 +13,44 @@ use Rattle.apex_texts.specs.Service.{service_named, parameters_of}
 use Rattle.apex_texts.specs.Lines.{is_ascii}
 use Rattle.apex_texts.specs.Expected.{is_argument}
 
--- a line from its first word on
+-- a line, starting at its first word
 abbrev pub from_first_word : List ℕ → List ℕ
 from_first_word line = drop (position_or_len (λ byte. not (is_blank byte)) line) line
 
--- a line behind its first word
+-- a line after its first word
 abbrev pub behind_first_word : List ℕ → List ℕ
 behind_first_word line = drop (position_or_len is_blank (from_first_word line)) (from_first_word line)
 
--- a line from the word on that so many others precede; nothing where there are no more
+-- a line, starting at the word after this number of others; nothing if there is none
 abbrev pub from_word_at : ℕ → List ℕ → List ℕ
 from_word_at zero line = from_first_word line
 from_word_at (suc before) line = from_word_at before (behind_first_word line)
 
--- the column of the word that so many others precede, from 1; where there are no more, the line's end
+-- the column, from 1, of the word after this number of others; the line's end if there is none
 abbrev pub column_of : ℕ → List ℕ → ℕ
 column_of before line = length line - length (from_word_at before line) + 1
 
--- what the arguments of a service have to be; a word that names no service has none
+-- what the arguments of a service must be; a word that names no service has none
 abbrev pub parameters_named : Option Service → List Expected
 parameters_named None = []
 parameters_named (Some service) = parameters_of service
 
--- what the arguments behind a call word have to be
+-- what the arguments after a call word must be
 abbrev pub parameters_at : List (List ℕ) → List Expected
 parameters_at [] = []
 parameters_at (call ∷ arguments) = parameters_named (service_named call)
 
--- what each word of a line has to be
+-- what each word of a line must be
 abbrev pub words_expected : List Expected → List (List ℕ) → List Expected
 words_expected front words = front ++ kinds.Service ∷ parameters_at (drop (length front) words)
 
--- how many words precede the first that isn't the argument that it has to be
+-- the number of words before the first that isn't the argument that it must be
 abbrev pub misfit : List Expected → List (List ℕ) → ℕ
 misfit [] words = 0
 misfit (parameter ∷ parameters) [] = 0
 misfit (parameter ∷ parameters) (word ∷ words) = if is_argument parameter word then 1 + misfit parameters words else 0
 
--- how many words precede that at which a fault of an ASCII line stands; a word that is missing stands behind all
+-- the number of words before the faulty one in an ASCII line; a missing word comes after all others
 abbrev pub words_before : List Expected → LineFault → List (List ℕ) → ℕ
 words_before front faults.Moment words = 0
 words_before front faults.Partition words = 1
@@ -59,7 +59,7 @@ words_before front faults.TooFewWords words = length words
 words_before front faults.TooManyWords words = length (words_expected front words)
 words_before front _ words = length front + 1 + misfit (parameters_at (drop (length front) words)) (drop (length front + 1) words)
 
--- the place of a fault of the line with this number
+-- the place of a fault in the line with this number
 abbrev pub place_in : List Expected → ℕ → LineFault → List ℕ → LinePlace
 place_in front number faults.NotAscii line =
     let bytes = unwrap_or (position (λ byte. not (is_ascii byte)) line) (length line) in

@@ -19,7 +19,7 @@ use Rattle.apex_mistakes.specs.LogPlace.{log_place_in}
 abbrev pub log_place_of : (List ℕ → List (List ℕ) → Result (Request × TimeOut) LineFault) → List Expected → ℕ → List ℕ → Option LogPlace
 log_place_of asked_by front number line = option_map (λ fault. log_place_in asked_by front number fault line) (result_err (entry_of_line asked_by line))
 
--- the places of the faulty lines among lines of which the first has this number, up to the line that ends the calls
+-- the places of the faulty lines among lines, the first of which has this number, up to the line that ends the calls
 unfoldable pub log_places_from : (List ℕ → List (List ℕ) → Result (Request × TimeOut) LineFault) → List Expected → ℕ → List (List ℕ) → List LogPlace
 log_places_from asked_by front number [] = []
 log_places_from asked_by front number (line ∷ rest) =
@@ -37,7 +37,7 @@ own_log_places partition text = log_places_from (own_request_at partition) (kind
 abbrev pub faulty_log_line : LogPlace → FaultyLine
 faulty_log_line place = record { line = place.line; fault = place.fault }
 
--- the first places, and how many there are
+-- the first places, and the number of all
 pub record AreFirstOfLog (most : ℕ) (places : List LogPlace) (found : LogFaults) : Type 0 where
   pub first : found.first.items ≡ take most places
   pub count : found.count ≡ length places

@@ -3,7 +3,7 @@ use apex_module::Config;
 use apex_texts::{Expected, SERVICES};
 use std::alloc::{AllocError, Global};
 
-/// The most known words that are listed.
+/// The maximum number of known words that are listed.
 const NAMES_SHOWN: usize = 12;
 
 /// Writes what was expected.

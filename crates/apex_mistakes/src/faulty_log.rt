@@ -23,8 +23,8 @@ pub struct LogFaults {
     pub count: usize,
 }
 
-/// The faulty lines of a module's log, up to the line that ends its calls: the places of the first `most`, and the number
-/// of all. The only error is that an allocation was refused.
+/// The faulty lines of a module's log, up to the line that ends its calls: the places of the first `most`, and the
+/// number of all. The only error is a failed allocation.
 pub fn log_faults(
     alloc: Global,
     config: &Config,
@@ -54,7 +54,8 @@ pub fn own_log_faults(
     )
 }
 
-/// The law that the first of these places has the line and the fault for which a log isn't read. Nothing is to be run.
+/// The law that the first of these places has the line and the fault for which a log is refused. There is nothing to
+/// run.
 pub fn first_place_is_of_the_refusal()
     ensures module { (config : Configuration) (text : List ℕ) →
         option_map faulty_log_line (slice_get (log_places config text) 0)

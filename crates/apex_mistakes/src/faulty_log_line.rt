@@ -1,4 +1,4 @@
-//! What is known of a faulty line of a log.
+//! What is known about a faulty line of a log.
 ghost use Rattle.std.specs.Prelude.{◌≤◌, length};
 
 use crate::faulty_lines::{SCRIPT_FRONT, TRACE_FRONT};
@@ -25,7 +25,7 @@ pub(crate) struct FaultyLogLine<'a> {
 }
 
 impl<'a> FaultyLogLine<'a> {
-    /// The faulty word. A word that is missing is none.
+    /// The faulty word; none if it is missing.
     pub(crate) fn faulty_word(&self) -> Option<&'a [u8]> {
         match self.place.part {
             LogPart::Line => word_at(self.line, self.place.word),
@@ -44,7 +44,7 @@ impl<'a> FaultyLogLine<'a> {
         matches!(self.place.fault, LogFault::NoReply)
     }
 
-    /// What the faulty word of a reply should be, by the service that is called.
+    /// What the faulty word of a reply should be, by the service of the call.
     pub(crate) fn reply_word(&self) -> ReplyWord {
         let word = reply_word_at(reply_text(self.line), self.place.word);
         word.of_service(self.service())
@@ -55,7 +55,7 @@ impl<'a> FaultyLogLine<'a> {
         self.as_line().service()
     }
 
-    /// Whether the fault is behind the arguments of a call that may have a time-out there.
+    /// Whether the fault is after the arguments of a call that may have a time-out there.
     pub(crate) fn is_behind_arguments(&self) -> bool {
         matches!(self.place.part, LogPart::Call)
             && matches!(
@@ -65,7 +65,7 @@ impl<'a> FaultyLogLine<'a> {
             && matches!(self.as_line().place.expected, Expected::EndOfLine)
     }
 
-    /// The call of the line, as a faulty line of a trace or a script; the whole line, if no part of it is faulty.
+    /// The call of the line, as a faulty line of a trace or a script; the whole line if no part of it is faulty.
     pub(crate) fn as_line(&self) -> FaultyLine<'a> {
         let line = match self.place.part {
             LogPart::Line => self.line,

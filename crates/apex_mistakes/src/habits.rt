@@ -1,8 +1,8 @@
-//! What is written elsewhere and isn't part of a trace or a script.
+//! Forms of other languages that a trace or a script doesn't have.
 use crate::known::FaultyLine;
 use apex_texts::{Expected, LineFault, Service};
 
-/// What begins a comment elsewhere.
+/// What starts a comment in other languages.
 const COMMENTS: [&str; 5] = ["//", "/*", "--", ";", "%"];
 
 /// The advice for a reply.
@@ -11,7 +11,7 @@ const OF_LOG: &str = "replies stand in logs, which `dekarino judge` reads";
 /// The advice for the line that ends the calls of a log.
 const AFTER_LOG: &str = "`after` ends the calls of a log, which `dekarino judge` reads";
 
-/// The advice for a faulty line that is written as elsewhere, if it is.
+/// The advice for a faulty line that has a form of another language, if it does.
 pub(crate) fn advice_of(faulty: &FaultyLine<'_>) -> Option<&'static str> {
     if let LineFault::NotAscii = faulty.place.fault {
         return advice_on_bytes(faulty);
@@ -77,7 +77,7 @@ fn has_arrow(word: &[u8]) -> bool {
     word.windows(2).any(|pair| pair == b"->".as_slice())
 }
 
-/// Whether a line begins as one of a report does: with the number of a call, its moment, and its partition.
+/// Whether a line begins like one of a report: with the number of a call, its moment and its partition.
 fn is_of_report(faulty: &FaultyLine<'_>, word: &[u8]) -> bool {
     match faulty.next_word() {
         Some(next) => is_number(word) && faulty.config.partition_called(next).is_some(),
@@ -85,7 +85,7 @@ fn is_of_report(faulty: &FaultyLine<'_>, word: &[u8]) -> bool {
     }
 }
 
-/// Whether a word has decimal digits alone.
+/// Whether a word has only decimal digits.
 pub(crate) fn is_number(word: &[u8]) -> bool {
     word.iter().all(|byte| byte.is_ascii_digit())
 }

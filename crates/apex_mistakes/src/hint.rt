@@ -92,7 +92,7 @@ fn word_hint<'a>(
     }
 }
 
-/// The greatest number that may stand where this is expected, for a word that is a number.
+/// The greatest number that is allowed where this is expected, for a word that is a number.
 fn limit_hint<'a>(expected: Expected, word: &[u8]) -> Option<Hint<'a>> {
     if !is_number(word) {
         return None;
@@ -109,7 +109,7 @@ fn limit_hint<'a>(expected: Expected, word: &[u8]) -> Option<Hint<'a>> {
     }
 }
 
-/// Whether a word is a call word, or the name of a service in the standard.
+/// Whether a word is a call word, or the standard's name of a service.
 pub(crate) fn names_service(word: &[u8]) -> bool {
     Service::named(word).is_some() || service_of_standard(word).is_some()
 }
@@ -183,12 +183,12 @@ fn identifier_hint<'a>(faulty: &FaultyLine<'a>, word: &[u8]) -> Option<Hint<'a>>
     }
 }
 
-/// Whether a word begins with `0x`, as hexadecimal numbers do elsewhere.
+/// Whether a word begins with `0x`, like hexadecimal numbers in other languages.
 fn has_prefix(word: &[u8]) -> bool {
     word.starts_with(b"0x") || word.starts_with(b"0X")
 }
 
-/// Whether a word has hexadecimal digits alone.
+/// Whether a word has only hexadecimal digits.
 fn are_digits(word: &[u8]) -> bool {
     word.iter().all(|byte| byte.is_ascii_hexdigit())
 }

@@ -1,4 +1,4 @@
-//! What is known of a faulty line.
+//! What is known about a faulty line.
 ghost use Rattle.std.specs.Prelude.{◌<◌, length, IfSome};
 
 use crate::line_place::LinePlace;
@@ -25,7 +25,7 @@ pub(crate) struct FaultyLine<'a> {
 }
 
 impl<'a> FaultyLine<'a> {
-    /// The faulty word. A word that is missing is none.
+    /// The faulty word; none if it is missing.
     pub(crate) fn faulty_word(&self) -> Option<&'a [u8]> {
         word_at(self.line, self.place.word)
     }

@@ -15,9 +15,9 @@ pub struct LinePlace {
     pub line: usize,
     /// What is wrong with the line.
     pub fault: LineFault,
-    /// The number of the faulty word. A word that is missing comes after the last.
+    /// The number of the faulty word. A missing word comes after the last.
     pub word: usize,
-    /// The column at which that word begins: the end of the line if the word is missing, and the first byte that isn't
+    /// The column at which that word begins: the end of the line if the word is missing, or the first byte that isn't
     /// ASCII if there is one.
     pub column: usize,
     /// What was expected there.
@@ -98,7 +98,7 @@ pub(crate) fn count_words(line: &[u8]) -> usize
     count
 }
 
-// A line from its first word on.
+// A line, starting at its first word.
 fn from_first_word(line: &[u8]) -> &[u8]
     ensures { result.now ≡ from_first_word line.now }
 {
@@ -119,7 +119,7 @@ pub(crate) fn behind_first_word(line: &[u8]) -> &[u8]
     }
 }
 
-// A line from the word that `before` others precede.
+// A line, starting at the word after `before` others.
 pub(crate) fn from_word_at(line: &[u8], before: usize) -> &[u8]
     ensures { result.now ≡ from_word_at before line.now }
 {
@@ -189,7 +189,7 @@ fn words_before(front: &[Expected], fault: LineFault, line: &[u8]) -> usize
     }
 }
 
-// What the word must be that `before` others precede.
+// What the word after `before` others must be.
 fn expected_at(front: &[Expected], line: &[u8], before: usize) -> Expected
     requires { length front.now ≤ 2 }
     ensures { result ≡

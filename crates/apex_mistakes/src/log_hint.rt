@@ -10,7 +10,7 @@ use apex_module::Config;
 use apex_texts::LineFault;
 use std::alloc::{AllocError, Global};
 
-/// Words that stand elsewhere where a log has its arrow.
+/// Words that are used for the arrow in other places.
 const OTHER_ARROWS: [&str; 11] = ["=>", "==>", "<-", ">", ">>", "-", "--", "=", ":", ":=", "|"];
 
 /// What was most likely meant, if the line gives a hint.
@@ -60,7 +60,7 @@ fn arrow_hint<'a>(faulty: &FaultyLogLine<'a>) -> Option<Hint<'a>> {
     }
 }
 
-/// The arrow, if a word stands elsewhere for it.
+/// The arrow, if the word is another form of it.
 fn other_arrow_hint<'a>(word: &[u8]) -> Option<Hint<'a>> {
     if OTHER_ARROWS.iter().any(|arrow| word == arrow.as_bytes()) {
         Some(Hint::Word("->"))
@@ -83,7 +83,7 @@ fn form_hint<'a>(faulty: &FaultyLogLine<'_>, first: &[u8]) -> Option<Hint<'a>> {
     }))
 }
 
-/// Whether a line begins as a call's line of a report does: with a number, a moment and a partition.
+/// Whether a line begins like a call's line of a report: with a number, a moment and a partition.
 fn is_of_report(faulty: &FaultyLogLine<'_>) -> bool {
     match (
         word_at(faulty.line, 1),
@@ -110,7 +110,7 @@ fn call_hint<'a>(
     }
 }
 
-/// What was most likely meant by a faulty word of a call, where a trace would mean something else.
+/// What was most likely meant by a faulty word of a call, if a trace would mean something else.
 fn word_hint<'a>(faulty: &FaultyLogLine<'a>) -> Option<Hint<'a>> {
     let word = faulty.faulty_word()?;
     match faulty.place.fault {
@@ -139,7 +139,7 @@ fn other_log_hint<'a>(faulty: &FaultyLogLine<'a>, word: &[u8]) -> Option<Hint<'a
     }
 }
 
-/// The partition by whose name, in letters of either case, a file is called.
+/// The partition whose name, ignoring case, is that of the file.
 fn partition_in<'a>(config: &'a Config, file: &str) -> Option<&'a str> {
     let stem = stem_of(file).as_bytes();
     for p in 0..config.partitions() {

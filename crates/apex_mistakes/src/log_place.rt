@@ -19,7 +19,7 @@ pub enum LogPart {
     Line,
     /// What is before the arrow.
     Call,
-    /// What is behind the arrow, before a note.
+    /// What is after the arrow, before a note.
     Reply,
     /// The note.
     Note,
@@ -34,15 +34,15 @@ pub struct LogPlace {
     pub fault: LogFault,
     /// The part of the line that is wrong.
     pub part: LogPart,
-    /// The number of the faulty word in its part. A word that is missing comes after the last.
+    /// The number of the faulty word in its part. A missing word comes after the last.
     pub word: usize,
     /// The column of the line at which that word begins: the end of its part if the word is missing, the bracket of an
-    /// open note, and the first byte that isn't ASCII if there is one.
+    /// open note, or the first byte that isn't ASCII if there is one.
     pub column: usize,
 }
 
-/// The place of a fault in the line with this number. `front` says what the words before the call word must be. The only
-/// error is that an allocation was refused.
+/// The place of a fault in the line with this number. `front` says what the words before the call word must be. The
+/// only error is a failed allocation.
 pub(crate) fn log_place_in<F: LogForm>(
     alloc: Global,
     form: &F,
@@ -83,7 +83,7 @@ pub(crate) fn log_place_in<F: LogForm>(
     })
 }
 
-/// What is before the arrow of a line; the line, if it has no arrow.
+/// What is before the arrow of a line; the line if it has no arrow.
 pub(crate) fn call_side(line: &[u8]) -> &[u8]
     ensures { result.now ≡ call_side line.now }
 {
@@ -93,7 +93,7 @@ pub(crate) fn call_side(line: &[u8]) -> &[u8]
     }
 }
 
-/// What is behind the arrow of a line; nothing, if it has no arrow.
+/// What is after the arrow of a line; nothing if it has no arrow.
 fn reply_side(line: &[u8]) -> &[u8]
     ensures { result.now ≡ reply_side line.now }
 {
@@ -103,7 +103,7 @@ fn reply_side(line: &[u8]) -> &[u8]
     }
 }
 
-/// What is behind the arrow of a line, before the note; all of it, if the note is open.
+/// What is after the arrow of a line, before the note; all of it if the note is open.
 pub(crate) fn reply_text(line: &[u8]) -> &[u8]
     ensures { result.now ≡ reply_text line.now }
 {
@@ -180,7 +180,7 @@ fn fitting(text: &[u8]) -> usize
     count
 }
 
-// Whether words are a reply, or lack only further ones.
+// Whether words are a reply, or only lack further ones.
 fn begins_reply(words: &[u8]) -> bool
     ensures { result ≡ begins_reply (words_of words.now) }
 {

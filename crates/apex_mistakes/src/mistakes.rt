@@ -9,8 +9,8 @@ use apex_refusals::{MISTAKE_LIMIT, push_more};
 use apex_texts::{LineFault, next_line};
 use std::alloc::{AllocError, Global};
 
-/// A line for each faulty line of a trace in the file, at most `MISTAKE_LIMIT`, and then one with the number of the others.
-/// A trace without faults has none. The only error is that an allocation was refused.
+/// A line for each faulty line of a trace in the file, at most `MISTAKE_LIMIT`, and then one with the number of the
+/// others. A trace without faults has none. The only error is a failed allocation.
 pub fn trace_mistakes(
     alloc: Global,
     file: &str,

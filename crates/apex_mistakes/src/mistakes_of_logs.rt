@@ -13,8 +13,8 @@ use apex_module::Config;
 use apex_refusals::{MISTAKE_LIMIT, push_more};
 use std::alloc::{AllocError, Global};
 
-/// A line for each faulty line of a module's log in the file, at most `MISTAKE_LIMIT`, and then one with the number of the
-/// others. A log without faults has none. The only error is that an allocation was refused.
+/// A line for each faulty line of a module's log in the file, at most `MISTAKE_LIMIT`, and then one with the number of
+/// the others. A log without faults has none. The only error is a failed allocation.
 pub fn log_mistakes(
     alloc: Global,
     file: &str,
@@ -68,7 +68,7 @@ fn mistakes_at(
     Ok(mistakes)
 }
 
-/// Writes the line of a mistake, as of a trace's.
+/// Writes the line of a mistake, like that for a trace.
 fn push_log_mistake(
     alloc: Global,
     text: &mut String,
@@ -111,7 +111,8 @@ fn push_log_expected(
     }
 }
 
-/// The same at a fault that a trace's line can have too. Behind the arguments of a send or a receive stands a time-out.
+/// The same for a fault that a trace's line can have too. After the arguments of a send or a receive there may be a
+/// time-out.
 fn push_line_expected(
     alloc: Global,
     text: &mut String,

@@ -1,7 +1,7 @@
 //! A word of a line in quotes, as printable ASCII.
 use std::alloc::AllocError;
 
-/// The most bytes of a word that are shown.
+/// The maximum number of bytes of a word that are shown.
 const SHOWN: usize = 64;
 
 /// Writes a word in quotes: its first 64 bytes, with escapes for those that aren't printable ASCII, and `..` after the

@@ -10,13 +10,13 @@ use apex_texts::arguments::NUMBER_LIMIT;
 use apex_texts::text::number_up_to;
 use std::alloc::{AllocError, Global};
 
-/// Words of others for TIMED_OUT, in letters of either case.
+/// Other words for TIMED_OUT, ignoring case.
 const TIME_OUTS: [&str; 4] = ["timeout", "time_out", "time-out", "timedout"];
 
-/// Words of others for NO_ERROR, in letters of either case.
+/// Other words for NO_ERROR, ignoring case.
 const SUCCESSES: [&str; 3] = ["ok", "success", "noerror"];
 
-/// Words of others for `not made`, in letters of either case.
+/// Other words for `not made`, ignoring case.
 const NOT_MADE: [&str; 5] = ["not", "made", "not_made", "not-made", "notmade"];
 
 /// What was most likely meant, if the reply gives a hint.
@@ -43,7 +43,7 @@ pub(crate) fn reply_hint<'a>(
     }
 }
 
-/// The reply that the first word was meant to be.
+/// The reply that the first word most likely means.
 fn first_hint<'a>(alloc: Global, word: &[u8]) -> Result<Option<Hint<'a>>, AllocError> {
     if let Some(known) = other_reply(word) {
         return Ok(Some(Hint::Word(known)));
@@ -51,7 +51,7 @@ fn first_hint<'a>(alloc: Global, word: &[u8]) -> Result<Option<Hint<'a>>, AllocE
     named_hint(alloc, &CODES, word)
 }
 
-/// What a log has for a word of others.
+/// The word of a log for a word of other sources.
 fn other_reply(word: &[u8]) -> Option<&'static str> {
     if is_one_of(&TIME_OUTS, word) {
         Some("TIMED_OUT")
@@ -64,7 +64,7 @@ fn other_reply(word: &[u8]) -> Option<&'static str> {
     }
 }
 
-/// Whether a word is one of these, in letters of either case.
+/// Whether a word is one of these, ignoring case.
 fn is_one_of(words: &[&str], word: &[u8]) -> bool {
     words
         .iter()
@@ -114,7 +114,7 @@ fn limit_hint<'a>(word: &[u8], limit: u64) -> Option<Hint<'a>> {
     }
 }
 
-/// What to do with a word behind a reply.
+/// What to do with a word after a reply.
 fn end_hint<'a>(word: &[u8]) -> Hint<'a> {
     if word.starts_with(b"#") || begins_comment(word) {
         Hint::Advice("a comment has a line of its own, which begins with `#`")

@@ -9,7 +9,7 @@ use std::alloc::{AllocError, Global};
 pub(crate) enum ReplyWord {
     /// `not`, or a return code.
     Reply,
-    /// What the data behind `NO_ERROR` are, or nothing.
+    /// The word for the data after `NO_ERROR`, or nothing.
     Data,
     /// This word.
     Word(&'static str),
@@ -56,7 +56,7 @@ const SAMPLING_STATUS: [ReplyWord; 6] = [
 
 const DATA_WORDS: [&str; 4] = ["id", "message", "waiting", "refresh"];
 
-/// The words that say what the data of a reply are.
+/// The words for the kinds of data in a reply.
 pub(crate) fn data_words<'a>(alloc: Global) -> Result<Vec<&'a str>, AllocError> {
     let mut words = Vec::new(alloc);
     for word in &DATA_WORDS {
@@ -102,7 +102,7 @@ fn is_word(reply: &[u8], number: usize, known: &str) -> bool {
 }
 
 impl ReplyWord {
-    /// The same in a reply to a call of the service, if that is known: no more words where such a reply has none.
+    /// The same in a reply to a call of the service, if that is known: no more words if such a reply has none.
     pub(crate) fn of_service(self, service: Option<Service>) -> ReplyWord {
         match (self, service) {
             (
@@ -148,7 +148,7 @@ pub(crate) fn push_reply_word(
 const REPLIES: &str =
     "a reply: not made, NO_ERROR, NO_ACTION, NOT_AVAILABLE, INVALID_PARAM, INVALID_CONFIG, INVALID_MODE, TIMED_OUT";
 
-/// The words that can follow `NO_ERROR` in a reply to a call of the service, in front of the end of the line.
+/// The words that can follow `NO_ERROR` in a reply to a call of the service, before the end of the line.
 fn data_words_of(service: Option<Service>) -> &'static str {
     match service {
         Some(

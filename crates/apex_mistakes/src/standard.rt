@@ -40,7 +40,7 @@ pub(crate) enum OtherWord {
     Either(Service, Service),
 }
 
-/// Words for services that are no call words.
+/// Words for services that are not call words.
 static OTHER_WORDS: [(&str, OtherWord); 14] = [
     (
         "create",
@@ -79,7 +79,7 @@ static OTHER_WORDS: [(&str, OtherWord); 14] = [
     ("clear-queuing", OtherWord::One(Service::ClearQueuing)),
 ];
 
-/// The services that such a word names, in letters of either case and with `_` for `-`.
+/// The services that such a word names, ignoring case and with `_` for `-`.
 pub(crate) fn services_called(word: &[u8]) -> Option<OtherWord> {
     let (_, services) = OTHER_WORDS
         .iter()
@@ -88,7 +88,7 @@ pub(crate) fn services_called(word: &[u8]) -> Option<OtherWord> {
     Some(services)
 }
 
-/// Whether two words are the same, in letters of either case and with `_` for `-`.
+/// Whether two words are the same, ignoring case and with `_` for `-`.
 fn is_same_word(word: &[u8], known: &[u8]) -> bool {
     word.len() == known.len()
         && word.iter().zip(known.iter()).all(|(one, other)| {
@@ -96,14 +96,14 @@ fn is_same_word(word: &[u8], known: &[u8]) -> bool {
         })
 }
 
-/// The service with this name in the standard, in letters of either case.
+/// The service with this name in the standard, ignoring case.
 pub(crate) fn service_of_standard(word: &[u8]) -> Option<Service> {
     SERVICES.iter().copied().find(|service| standard_name(*service)
         .as_bytes()
         .eq_ignore_ascii_case(word))
 }
 
-/// The entry for this word, in letters of either case.
+/// The entry for this word, ignoring case.
 pub(crate) fn numbered(words: &[Numbered], word: &[u8]) -> Option<Numbered> {
     words
         .iter()

@@ -1,4 +1,4 @@
--- The port of an identifier, which is its index in the partition and one more.
+-- The port with an identifier, which is its index in the partition plus one.
 use Rattle.std.proofs.Common.{◌≡◌, ℕ, suc, ◌-◌, false, eqb, List, arith}
 use Rattle.std.specs.List.{slice_get}
 use Rattle.std.proofs.lemmas.Bool.Decides.{nat_tests}

@@ -1,4 +1,5 @@
--- A configuration as plain data: the partitions with their ports, the channels, and what holds of each configuration that is accepted.
+-- A configuration as plain data: the partitions with their ports, the channels, and what holds for each accepted
+-- configuration.
 use Rattle.std.specs.Prelude.{ℕ, Bool, true, false, ◌≡◌, ◌≤◌, ◌-◌, ◌+◌, ◌==◌, if◌then◌else◌, List, [], length, slice_get, position, Option, Some, None, option_map}
 use Rattle.std.specs.Str.{bytes_eq}
 use Rattle.apex_types.specs.Name.{IsName}
@@ -23,7 +24,7 @@ pub record Configuration : Type 0 where
 
 -- ---- look-ups
 
--- the ports of a partition; none where there is no such partition
+-- the ports of a partition; none if there is no such partition
 abbrev pub ports_of_partition : Option PartitionData → List Port
 ports_of_partition None = []
 ports_of_partition (Some partition) = partition.ports
@@ -31,18 +32,18 @@ ports_of_partition (Some partition) = partition.ports
 abbrev pub ports_of : Configuration → ℕ → List Port
 ports_of config p = ports_of_partition (slice_get config.partitions p)
 
--- the port with an identifier, which is the port's place counted from 1
+-- the port with an identifier, which is the port's index counted from 1
 abbrev pub port_at : List Port → ℕ → Option Port
 port_at ports id = if id == 0 then None else slice_get ports (id - 1)
 
 abbrev pub port_of : Configuration → ℕ → ℕ → Option Port
 port_of config p id = port_at (ports_of config p) id
 
--- the channel of a number
+-- the channel with this number
 abbrev pub channel_of : Configuration → ℕ → Option Channel
 channel_of config c = slice_get config.channels c
 
--- the number of the channel of a name
+-- the number of the channel with this name
 abbrev pub channel_named : Configuration → List ℕ → Option ℕ
 channel_named config name = position (λ channel. bytes_eq channel.name name) config.channels
 
@@ -50,11 +51,11 @@ channel_named config name = position (λ channel. bytes_eq channel.name name) co
 abbrev pub partition_name_of : Configuration → ℕ → Option (List ℕ)
 partition_name_of config p = option_map (λ partition. partition.name) (slice_get config.partitions p)
 
--- the partition of a name
+-- the partition with this name
 abbrev pub partition_named : Configuration → List ℕ → Option ℕ
 partition_named config name = position (λ partition. bytes_eq partition.name name) config.partitions
 
--- the identifier of the partition's port of a name
+-- the identifier of the partition's port with this name
 abbrev pub id_named : Configuration → ℕ → List ℕ → Option ℕ
 id_named config p name = option_map (λ place. place + 1) (position (λ port. bytes_eq port.name name) (ports_of config p))
 
@@ -68,7 +69,7 @@ abbrev pub is_queuing_channel : ChannelKind → Bool
 is_queuing_channel (channel_kind.Queuing depth) = true
 is_queuing_channel channel_kind.Sampling = false
 
--- how many messages can wait on a channel; 0 on a sampling channel
+-- the number of messages that can wait on a channel; 0 for a sampling channel
 abbrev pub depth_of_kind : ChannelKind → ℕ
 depth_of_kind (channel_kind.Queuing depth) = depth
 depth_of_kind channel_kind.Sampling = 0
@@ -78,7 +79,7 @@ abbrev pub refresh_of_kind : PortKind → ℕ
 refresh_of_kind port_kind.Queuing = 0
 refresh_of_kind (port_kind.Sampling refresh) = refresh
 
--- a queuing port lies on a queuing channel, a sampling port on a sampling channel
+-- a queuing port belongs to a queuing channel, a sampling port to a sampling channel
 abbrev pub KindsAgree : Port → Channel → Type 0
 KindsAgree port channel = is_queuing_port port.kind ≡ is_queuing_channel channel.kind
 
@@ -95,7 +96,7 @@ IsDepth channel_kind.Sampling = Unit {0}
 abbrev pub IsSize : ℕ → Type 0
 IsSize size = (1 ≤ size) × (size ≤ SIZE_LIMIT)
 
--- ---- what holds of each configuration that is accepted
+-- ---- what holds for each accepted configuration
 
 pub record IsConfiguration (config : Configuration) : Type 0 where
   -- counts
@@ -114,7 +115,7 @@ pub record IsConfiguration (config : Configuration) : Type 0 where
   pub distinct_partitions : (p q : ℕ) (name : List ℕ) → partition_name_of config p ≡ Some name → partition_name_of config q ≡ Some name → p ≡ q
   pub distinct_ports : (p id jd : ℕ) (port other : Port) → port_of config p id ≡ Some port → port_of config p jd ≡ Some other → port.name ≡ other.name → id ≡ jd
   pub distinct_channels : (c d : ℕ) (channel other : Channel) → channel_of config c ≡ Some channel → channel_of config d ≡ Some other → channel.name ≡ other.name → c ≡ d
-  -- each port lies on a channel of its kind
+  -- each port belongs to a channel of its kind
   pub linked : (p id : ℕ) (port : Port) → port_of config p id ≡ Some port → (channel : Channel) × (channel_of config port.channel ≡ Some channel) × KindsAgree port channel
   -- a channel has one source, a queuing channel one destination, a sampling channel one or more
   pub one_source : (p id : ℕ) (port : Port) (q jd : ℕ) (other : Port) → port_of config p id ≡ Some port → port_of config q jd ≡ Some other

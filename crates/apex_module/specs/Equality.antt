@@ -1,4 +1,4 @@
--- Equality of configurations as a test.
+-- Equality of configurations as a Boolean test.
 use Rattle.std.specs.Prelude.{Bool, true, false, ◌&&◌, ◌==◌}
 use Rattle.std.specs.Cmp.Lexicographic.{pointwise}
 use Rattle.std.specs.Str.{bytes_eq}

@@ -1,4 +1,4 @@
--- The tests of equality say exactly whether two values are equal.
+-- The tests of equality decide exactly whether two values are equal.
 use Rattle.std.proofs.Common.{◌≡◌, Bool, true, false, ◌&&◌, eqb, List, refl, sym, ap, ◌∙◌}
 use Rattle.std.specs.Bool.{Decides}
 use Rattle.std.specs.Cmp.{IsEquivalence}

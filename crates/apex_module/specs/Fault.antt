@@ -3,7 +3,7 @@ use Rattle.std.specs.Prelude.{ℕ, Option, Some, None}
 use Rattle.apex_module.specs.declared.fault.ConfigFault.{ConfigFault}
 use Rattle.apex_module.specs.declared.fault.ConfigFault.TheVariants.{NotToml, Shape, BadName, NameTwice, OutOfRange, UnknownChannel, KindDiffers, Sources, Destinations, Counts, OutOfMemory}
 
--- the pass that finds the fault; none for want of memory
+-- the pass that finds the fault; none if memory ran out
 abbrev pub pass_of : ConfigFault → Option ℕ
 pass_of NotToml = Some 1
 pass_of Shape = Some 2

@@ -6,9 +6,9 @@ use apex_types::Name;
 /// What a channel carries.
 #[derive(Clone, Copy, Debug, PartialEq, Eq)]
 pub enum ChannelKind {
-    /// Messages that wait in a queue, at most `depth` of them (MAX_NB_MESSAGE).
+    /// Messages in a queue, at most `depth` of them (MAX_NB_MESSAGE).
     Queuing { depth: u32 },
-    /// The message that was written last.
+    /// The last message that was written.
     Sampling,
 }
 
@@ -25,7 +25,7 @@ impl ChannelKind {
         }
     }
 
-    /// How many messages can wait on the channel; 0 on a sampling channel.
+    /// The number of messages that can wait on the channel; 0 for a sampling channel.
     pub fn depth(self) -> u32
         ensures { result ≡ depth_of_kind self }
     {
@@ -45,7 +45,7 @@ pub struct Channel {
 }
 
 impl Channel {
-    /// An equal channel.
+    /// A copy of the channel.
     pub fn copy(&self) -> Channel
         ensures { result ≡ self.now }
     {

@@ -12,7 +12,7 @@ use apex_types::{Name, OutOfMemory};
 use std::alloc::{AllocError, Global};
 use std::marker::Model;
 
-/// The partitions and channels of a module. A contract sees the plain data of `Configuration`, of which all of
+/// The partitions and channels of a module. A contract sees the plain data of `Configuration`, for which
 /// `IsConfiguration` holds.
 #[derive(Debug, Drop)]
 pub struct Config {
@@ -39,7 +39,7 @@ impl Model for Config {
 impl Config {
     ghost use Rattle.apex_module.specs.Configuration.{IsConfiguration, port_of, ports_of, channel_of, channel_named, partition_name_of, partition_named, id_named};
 
-    /// The configuration with these partitions and channels.
+    /// Makes a configuration of these partitions and channels.
     pub fn new(partitions: Vec<Partition>, channels: Vec<Channel>) -> Config
         requires { IsConfiguration
             (record { partitions = partitions.items; channels = channels.items }) }
@@ -51,7 +51,7 @@ impl Config {
         }
     }
 
-    /// An equal configuration.
+    /// A copy of the configuration.
     pub fn copy(&self) -> Result<Config, OutOfMemory>
         ensures { IfOk result (λ config. config ≡ self.now) }
     {
@@ -89,7 +89,7 @@ impl Config {
         self.partitions[p].ports().len()
     }
 
-    /// The partition of a name, if there is one.
+    /// The partition with this name, if there is one.
     pub fn partition(&self, name: &Name) -> Option<usize>
         ensures found { result ≡ partition_named self.now name.now }
         ensures valid { IsConfiguration self.now }
@@ -116,7 +116,8 @@ impl Config {
         self.partitions[p].name()
     }
 
-    /// The port of partition `p` with an identifier, which is the port's place in the partition's list, from 1.
+    /// The port of partition `p` with this identifier, which is the port's index in the partition's list, counted from
+    /// 1.
     pub fn port(&self, p: usize, id: u32) -> Option<&Port>
         ensures found { option_copied result ≡ port_of self.now p id }
         ensures valid { IsConfiguration self.now }
@@ -128,7 +129,7 @@ impl Config {
         partition.ports().get(id as usize - 1)
     }
 
-    /// The identifier of a partition's port of a name, if there is one.
+    /// The identifier of the partition's port with this name, if there is one.
     pub fn port_named(&self, p: usize, name: &Name) -> Option<u32>
         requires { p < length self.now.partitions }
         ensures found { result ≡ id_named self.now p name.now }
@@ -150,7 +151,7 @@ impl Config {
         &self.channels[c]
     }
 
-    /// The number of the channel of a name, if there is one.
+    /// The number of the channel with this name, if there is one.
     pub fn channel_named(&self, name: &Name) -> Option<usize>
         ensures found { result ≡ channel_named self.now name.now }
         ensures valid { IsConfiguration self.now }

@@ -10,22 +10,23 @@ use thiserror::Error;
 /// Why a configuration is refused: the first pass that finds a fault in the text.
 #[derive(Clone, Copy, Debug, PartialEq, Eq, Error)]
 pub enum ConfigFault {
-    /// The bytes are no TOML.
+    /// The bytes are not TOML.
     #[error("not TOML")]
     NotToml,
-    /// The document has another form: a key too few or too many, a value of another type, or a word that its key does not take.
+    /// The document has another form: a missing or extra key, a value of another type, or a word that its key doesn't
+    /// take.
     #[error("shape")]
     Shape,
-    /// A partition, a port or a channel has a text for its name that `Name::read` refuses.
+    /// The name of a partition, port or channel is a text that `Name::read` refuses.
     #[error("name")]
     BadName,
-    /// Two partitions, two ports of one partition, or two channels have one name.
+    /// Two partitions, two ports of one partition, or two channels have the same name.
     #[error("name twice")]
     NameTwice,
     /// A size, a depth or a refresh period is out of its limits.
     #[error("number out of range")]
     OutOfRange,
-    /// A port names a channel that isn't there.
+    /// A port names a channel that doesn't exist.
     #[error("unknown channel")]
     UnknownChannel,
     /// A queuing port names a sampling channel, or a sampling port a queuing channel.
@@ -34,19 +35,19 @@ pub enum ConfigFault {
     /// A channel has no source port, or more than one.
     #[error("not exactly one source")]
     Sources,
-    /// A channel has no destination port, or a queuing channel several.
+    /// A channel has no destination port, or a queuing channel has several.
     #[error("destinations")]
     Destinations,
-    /// There is no partition, or there are too many of them, of the ports of one, or of the channels.
+    /// There are no partitions, or there are too many partitions, ports of a partition, or channels.
     #[error("count out of limits")]
     Counts,
-    /// An allocation was refused.
+    /// An allocation failed.
     #[error("out of memory")]
     OutOfMemory,
 }
 
 impl ConfigFault {
-    /// The number of the pass that finds the fault, 1 to 10; none for want of memory.
+    /// The number of the pass that finds the fault, 1 to 10; none if memory ran out.
     pub fn number(self) -> Option<u32>
         ensures { result ≡ pass_of self }
     {

@@ -24,7 +24,7 @@ impl Model for Partition {
 }
 
 impl Partition {
-    /// A partition of this name with these ports.
+    /// Makes a partition with this name and these ports.
     pub fn new(name: Name, ports: Vec<Port>) -> Partition
         ensures name { result.name ≡ name }
         ensures ports { result.ports ≡ ports.items }
@@ -46,7 +46,7 @@ impl Partition {
         self.ports.as_slice()
     }
 
-    /// An equal partition.
+    /// A copy of the partition.
     pub fn copy(&self) -> Result<Partition, AllocError>
         ensures { IfOk result (λ partition. partition ≡ self.now) }
     {

@@ -25,7 +25,7 @@ impl PortKind {
         }
     }
 
-    /// The REFRESH_PERIOD of the port, in nanoseconds; 0 of a queuing port.
+    /// The REFRESH_PERIOD of the port, in nanoseconds; 0 for a queuing port.
     pub fn refresh(self) -> u64
         ensures { result ≡ refresh_of_kind self }
     {
@@ -46,7 +46,7 @@ pub struct Port {
 }
 
 impl Port {
-    /// An equal port.
+    /// A copy of the port.
     pub fn copy(&self) -> Port
         ensures { result ≡ self.now }
     {

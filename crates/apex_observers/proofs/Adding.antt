@@ -1,4 +1,4 @@
--- The step that adds a write keeps the rule of the history.
+-- The step that adds a write keeps the rule for the history.
 use Rattle.std.proofs.Common.{◌≡◌, ℕ, ◌+◌, ◌<◌, ◌==◌, Bool, true, false, List, [], ◌∷◌, ◌++◌, length, refl, ap, sym, subst, arith, inl, length-append, None}
 use Rattle.std.proofs.lemmas.List.{append-nil}
 use Rattle.std.proofs.lemmas.Bool.Decides.{nat_tests}
@@ -42,7 +42,7 @@ adds_goes log known sample count more len next pre false is =
       λ found. absurd (cc (is, found)),
     )
 
--- whatever the history is, the exchange adds the write to all that was known, or finds another count
+-- whatever the history is, the exchange either appends the write to all that was known or finds another count
 pub adds_moves : (known : List Sample) (sample : Sample) (count more : ℕ) → length known ≡ count → more ≡ count + 1
     → Moves IsCounted shown moved 0 (known, (no_nib, None)) (λ n. either (n == count) more n) (Adds (step 0 count more sample) (known, (no_nib, None)))
 adds_moves known sample count more len next cs log kept pre away =

@@ -1,4 +1,4 @@
--- The steps of publishers and observers keep the rule over a channel's versions.
+-- The steps of publishers and observers keep the rule for a channel's versions.
 use Rattle.std.proofs.Common.{◌≡◌, ◌≢◌, ℕ, List, Option, None, Some, slice_set, refl, subst, ap, sym, ◌∙◌, ⊎_elim}
 use mathlib.Core.Option.{some}
 use lib.ListN.{get_elem?}
@@ -8,7 +8,7 @@ use Rattle.logbook.specs.Pages.{Book}
 use Rattle.apex_observers.specs.Published.{Published}
 use Rattle.apex_observers.specs.OneChannel.{IsOf, IsOneChannel, Takes}
 
--- who knows nothing may come at any time
+-- a pass that knows nothing may come at any time
 of_none : (channel : Book) → IsOf channel None
 of_none channel published is = absurd (cc is)
 
@@ -16,7 +16,7 @@ pub admits : Admits IsOneChannel None
 admits version views h pass known at =
     ⊎_elim (h pass known) (λ (e : None ≡ known) published is. absurd (cc (e, is))) (at_snoc views None known pass at)
 
--- a version of the same channel may take the place of the one that is shown
+-- a version of the same channel may replace the one that is shown
 pub turns : (pass : ℕ) (known : Option Published) (old new : Published) → new.channel ≡ old.channel → TurnsAt IsOneChannel pass known old new Takes
 turns pass known old new same views h at = (
   Some new,
@@ -33,7 +33,7 @@ kept_set version views pass known h fits j other e = ⊎_elim
     (λ (t : (j ≢ pass) × (get_elem? views j ≡ some other)). h j other t.1)
     (at_set views pass j known other e)
 
--- what the writer knows may be told
+-- the writer may pass on what it knows
 pub forks : (pass : ℕ) (known : Option Published) → Forks IsOneChannel pass known known known
 forks pass known version views h at j other e = ⊎_elim
     (λ (there : get_elem? (slice_set views pass known) j ≡ some other). kept_set version views pass known h (h pass known at) j other there)
@@ -46,7 +46,7 @@ told_fits version views pass other told h apart there = ⊎_elim
     (λ (t : (other ≢ pass) × (get_elem? views other ≡ some told)). h other told t.1)
     (at_set views pass other told told there)
 
--- who is told knows it in place of what it knew
+-- whoever receives it knows it instead of what it knew
 pub merges : (pass : ℕ) (known : Option Published) (other : ℕ) (told : Option Published) → Merges IsOneChannel pass known other told told None
 merges pass known other told version views h at apart there =
     let fits : IsOf version.channel told = told_fits version views pass other told h apart there in

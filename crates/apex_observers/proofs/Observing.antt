@@ -43,7 +43,7 @@ set_cases (z ∷ xs) (suc i) y (suc k) x at =
     (λ (h : (k ≢ i) × (slice_get xs k ≡ Some x)). inr ((λ e. h.0 (omega arith)), h.1))
     (set_cases xs i y k x at)
 
--- what holds of the observers so far, each beside its channel, holds with one observer more
+-- what holds for the observers so far, each beside its channel, holds with one more observer
 pub one_more : (Holds : Published → Published → Type 0) (channels : Channels) (index : ℕ) (publisher new : Published) (observers : List Published) → slice_get (sampling_of channels) index ≡ Some publisher → Holds publisher new
     → ((k : ℕ) (published known : Published) → k < index → slice_get (sampling_of channels) k ≡ Some published → slice_get observers k ≡ Some known → Holds published known)
     → (k : ℕ) (published known : Published) → k < index + 1 → slice_get (sampling_of channels) k ≡ Some published → slice_get (set observers index new) k ≡ Some known → Holds published known

@@ -10,7 +10,7 @@ one_entry : (entry : Option Published) → sampling_of (entry ∷ []) ≡ option
 one_entry None = refl
 one_entry (Some published) = refl
 
--- one channel more
+-- one more channel
 pub sampling_of-next : (channels : Channels) (c : ℕ) (entry : Option Published) → c < length channels → entry ≡ slice_index_or channels c entry
     → sampling_of (take (c + 1) channels) ≡ sampling_of (take c channels) ++ option_to_list entry
 sampling_of-next channels c entry within is =

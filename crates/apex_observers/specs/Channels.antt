@@ -6,16 +6,16 @@ use Rattle.logbook.specs.Pages.{Book}
 use Rattle.apex_types.specs.declared.sample.Sample.{Sample}
 use Rattle.apex_observers.specs.Published.{Published, with_write}
 
--- for each channel what is published there, and nothing for a queuing channel
+-- what is published on each channel; nothing for a queuing channel
 abbrev pub Channels : Type 0
 Channels = List (Option Published)
 
--- the same, and one write more on the channel
+-- the same, with one more write on the channel
 abbrev pub written_on : ℕ → Sample → Channels → Channels
 written_on channel sample channels =
     slice_set channels channel (option_map (λ published. with_write published sample) (slice_index_or channels channel None))
 
--- which channels they are, whatever is written there
+-- the identities of the channels, whatever is written there
 abbrev pub books_of : Channels → List (Option Book)
 books_of channels = map (option_map (λ published. published.channel)) channels
 
@@ -23,7 +23,7 @@ books_of channels = map (option_map (λ published. published.channel)) channels
 abbrev pub sampling_of : Channels → List Published
 sampling_of channels = filter_map (λ published. published) channels
 
--- these are observers of the sampling channels, in their order
+-- these are observers of the sampling channels, in the channels' order
 abbrev pub AreObservers : Channels → List Published → Type 0
 AreObservers channels observers = map (λ known. known.channel) observers ≡ filter_map (λ book. book) (books_of channels)
 

@@ -3,12 +3,12 @@ use Rattle.std.specs.Prelude.{◌-◌, List, [], ◌∷◌, ◌++◌, length, sl
 use Rattle.logbook.specs.Pages.{Book}
 use Rattle.apex_types.specs.declared.sample.Sample.{Sample}
 
--- writes published on a channel, oldest first. A channel is told from others by its history, of which the writes are a beginning
+-- writes published on a channel, oldest first. The history identifies the channel; the writes are a prefix of it
 pub record Published : Type 0 where
   pub channel : Book
   pub writes : List Sample
 
--- the same, and one write more
+-- the same, with one more write
 abbrev pub with_write : Published → Sample → Published
 with_write published sample = record { channel = published.channel; writes = published.writes ++ sample ∷ [] }
 

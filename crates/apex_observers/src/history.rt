@@ -1,8 +1,8 @@
-//! The history of a channel's writes, which contracts alone see. The program keeps its length.
+//! The history of a channel's writes, which only contracts see. The program keeps its length.
 use apex_types::Sample;
 use logbook::{Gain, Plain, Play, Rule, Word};
 
-/// The rule of a history: its first word counts the writes.
+/// The rule for a history: its first word counts the writes.
 pub struct Counted;
 
 impl Rule<Sample, u64> for Counted {

@@ -1,36 +1,36 @@
-//! Sampling channels that are read outside the board's lock, by observers that never wait.
+//! Sampling channels that observers read outside the board's lock, without ever waiting.
 //!
-//! A `Publisher` is the writing end of one sampling channel: each write that it publishes is at once what observers
-//! show. An `Observer` reads the channel's last sample in any thread. A `Receipt` is a token of the writes that were
-//! published when it was given out; an observer that learned it shows no less. `Publishers` has the publishers of all
+//! A `Publisher` is the writing end of one sampling channel: observers see each write as soon as it is published. An
+//! `Observer` reads the channel's last sample in any thread. A `Receipt` is a token for the writes that were published
+//! when it was made; an observer that learned it shows no earlier state. `Publishers` has the publishers of all
 //! sampling channels of a module.
 //!
-//! | Call | May wait | May be refused |
+//! | Call | May wait | May fail |
 //! |---|---|---|
-//! | `Publisher::new`, `Publishers::add_sampling` | yes | for want of memory |
-//! | `Publisher::publish`, `Publishers::publish` | for reads in progress | for want of memory, which `new` took |
+//! | `Publisher::new`, `Publishers::add_sampling` | yes | out of memory |
+//! | `Publisher::publish`, `Publishers::publish` | for reads in progress | out of memory, which `new` allocates |
 //! | `Publisher::close`, `Publishers::close` | for reads in progress | no |
-//! | `Publisher::observer`, `Publishers::observers` | no | where there are as many observers as there is room for; for want of memory |
+//! | `Publisher::observer`, `Publishers::observers` | no | no room for another observer; out of memory |
 //! | `Publisher::receipt`, `Publishers::receipt`, `Publishers::tell`, `Receipt::copy`, `Observer::learn`, `Observer::read` | no | no |
 //!
 //! # What is published
 //!
-//! A channel has two copies of its last sample (the crate `left_right`): readers take one while the writer changes the
-//! other, and a publication lets them change over. Each copy has a receipt beside the sample, so that a reader knows
-//! which writes came before. What a receipt says is said in contracts alone, by a history in which each write has its
-//! place (the crate `logbook`); in the program a receipt is the number of writes. Two lists of one channel are
-//! beginnings of one history, and so the longer of two is found by their numbers.
+//! A channel has two copies of its last sample (the crate `left_right`): readers read one while the writer changes the
+//! other, and a publication swaps them. Each copy has a receipt beside the sample, so that a reader knows which writes
+//! came before. Only contracts say what a receipt means: a ghost history has each write at its index (the crate
+//! `logbook`). In the program a receipt is the number of writes. Two lists of one channel are prefixes of one history,
+//! so comparing their numbers finds the longer.
 //!
 //! # What is promised
 //!
-//! - A publisher's list of writes grows by just the write that it publishes, and no other call changes it.
+//! - A publisher's list of writes grows by exactly the write that it publishes, and no other call changes it.
 //! - A receipt has the publisher's list.
-//! - An observer shows the last write of some list, with the validity at the moment asked, and `Empty` where the list
-//!   is empty. All that it read or learned before are beginnings of that list. Otherwise it shows `Gone`, and knows
+//! - An observer shows the last write of some list, with the validity at the given moment, or `Empty` if the list is
+//!   empty. Everything that it read or learned before is a prefix of that list. Otherwise it shows `Gone` and keeps
 //!   what it knew.
 //!
-//! No contract says when `Gone` comes, nor that an observer shows a write of which it was not told. Tests show that it
-//! comes where the publisher was closed, and nowhere else, and that what is published is seen.
+//! No contract says when an observer shows `Gone`, or that it shows a write that it hasn't learned. Tests show that it
+//! shows `Gone` if and only if the publisher was closed, and that it sees what is published.
 #![tactic(auto)]
 
 mod history;

@@ -19,10 +19,10 @@ use std::marker::Model;
 
 pub(crate) type ChannelReader<A> = Reader<Version, Option<Receipt>, OneChannel, A>;
 
-/// Reads a sampling channel's last sample outside the board's lock. It never waits and takes no memory.
+/// Reads a sampling channel's last sample outside the board's lock. It never waits and doesn't allocate.
 ///
-/// To a contract it is the longest list of writes that it read or learned. All others that it read or learned are
-/// beginnings of that one.
+/// A contract sees it as the longest list of writes that it read or learned. All others that it read or learned are
+/// prefixes of that one.
 #[derive(Drop)]
 pub struct Observer<A: Allocator = Global> {
     reader: ChannelReader<A>,
@@ -50,7 +50,7 @@ impl<A: Allocator> Observer<A> {
         Observer { reader, receipt }
     }
 
-    /// From now on reads show no less than the receipt has.
+    /// From now on reads show no earlier state than the receipt's.
     pub fn learn(&mut self, receipt: Receipt)
         requires { receipt.channel ≡ self.old.channel }
         ensures channel { self.new.channel ≡ self.old.channel }
@@ -63,7 +63,7 @@ impl<A: Allocator> Observer<A> {
         }
     }
 
-    /// Shows the channel's last sample at a moment, with the refresh period in nanoseconds.
+    /// Shows the channel's last sample at a moment. The refresh period is in nanoseconds.
     pub fn read(&mut self, now: Moment, refresh: u64) -> Sampled
         ensures shown { (result ≡ Gone) ⊎ (result ≡ shown_of now.0 refresh self.new.writes) }
         ensures seen { IsPrefix self.old.writes self.new.writes }
@@ -85,10 +85,10 @@ impl<A: Allocator> Observer<A> {
     }
 }
 
-/// What is published now, and the writes up to it. `None` where the publisher has ended.
+/// What is published now, and the writes up to it. `None` if the publisher has ended.
 ///
-/// It is `None` too where the version lacks writes that are known. Receipts are given out for published writes alone, so
-/// that no such version is met; but nothing ties a receipt to what is published when it is learned.
+/// It is also `None` if the version lacks known writes. Receipts are made only for published writes, so this never
+/// happens; but no contract ties a receipt to what is published when it is learned.
 fn look<A: Allocator>(
     reader: ChannelReader<A>,
     known: &Receipt,

@@ -49,9 +49,9 @@ impl<T: Drop> From<AllocFailed<T>> for ObserverFault {
 
 type ChannelWriter<A> = Writer<Version, Version, Option<Receipt>, OneChannel, A>;
 
-/// Publishes what is written on one sampling channel. To a contract it is the list of the published writes.
+/// Publishes what is written on one sampling channel. A contract sees it as the list of published writes.
 ///
-/// It is not `Drop`: end it by `close`.
+/// It is not `Drop`: end it with `close`.
 pub struct Publisher<A: Allocator = Global> {
     writer: ChannelWriter<A>,
     count: Count,
@@ -74,7 +74,7 @@ impl<A: Allocator> Model for Publisher<A> {
         × (known_by publisher.writer.desk.place ≡ Some publisher.receipt) };
 }
 
-/// Shows observers the version in place of the one that they see. It waits for reads in progress.
+/// Shows observers this version instead of the one that they see. It waits for reads in progress.
 fn show<A: Allocator, R: Wait>(
     rt: &R,
     mut writer: ChannelWriter<A>,
@@ -98,7 +98,7 @@ fn show<A: Allocator, R: Wait>(
     }
 }
 
-/// The version before the first write, shown twice: what later publications need is then there.
+/// The version before the first write, shown twice so that later publications have all that they need.
 fn show_empty<A: Allocator, R: Wait>(
     rt: &R,
     writer: ChannelWriter<A>,
@@ -119,7 +119,7 @@ fn show_empty<A: Allocator, R: Wait>(
 }
 
 impl<A: Allocator> Publisher<A> {
-    /// A channel with no writes, with room for so many observers at a time.
+    /// A channel with no writes, with room for this many observers at a time.
     pub fn new<R: Wait>(rt: &R, alloc: A, observers: usize) -> Result<Publisher<A>, OutOfMemory>
     where
         A: Clone,
@@ -144,9 +144,10 @@ impl<A: Allocator> Publisher<A> {
         }
     }
 
-    /// Publishes a write. It waits for reads in progress. On want of memory nothing is published.
+    /// Publishes a write. It waits for reads in progress. If memory runs out, nothing is published.
     ///
-    /// `new` took the memory that a publication needs. Were one refused all the same, the channel would refuse all later ones.
+    /// `new` allocated all memory that a publication needs. If a publication were refused all the same, the channel
+    /// would refuse all later ones.
     pub fn publish<R: Wait>(
         &mut self,
         rt: &R,
@@ -174,14 +175,14 @@ impl<A: Allocator> Publisher<A> {
         Ok(())
     }
 
-    /// A token of all writes that were published so far.
+    /// A token for all writes published so far.
     pub fn receipt(&self) -> Receipt
         ensures { result ≡ self.now }
     {
         self.receipt.copy()
     }
 
-    /// A new observer, which knows of the writes so far. No contract says when there is no room.
+    /// A new observer, which knows the writes so far. No contract says when there is no room.
     pub fn observer(&mut self) -> Result<Observer<A>, NoPlace>
         ensures observer { IfOk result (λ observer. observer ≡ self.old) }
         ensures unchanged { self.new ≡ self.old }

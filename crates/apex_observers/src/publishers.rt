@@ -12,10 +12,10 @@ use std::alloc::{Allocator, Global};
 use std::marker::Model;
 use std::sync::Wait;
 
-/// The publishers of a module's channels: one for each sampling channel, and none for a queuing channel. To a contract
-/// it is what is published on each.
+/// The publishers of a module's channels: one for each sampling channel, and none for a queuing channel. A contract
+/// sees what is published on each.
 ///
-/// It is not `Drop`: end it by `close`.
+/// It is not `Drop`: end it with `close`.
 pub struct Publishers<A: Allocator = Global> {
     list: Vec<Option<Publisher<A>>, A>,
 }
@@ -68,7 +68,7 @@ impl<A: Allocator> Publishers<A> {
         self.add(rt, None)
     }
 
-    /// Adds a sampling channel on which nothing is published, with room for so many observers at a time.
+    /// Adds a sampling channel without writes, with room for this many observers at a time.
     pub fn add_sampling<R: Wait>(
         &mut self,
         rt: &R,
@@ -101,7 +101,8 @@ impl<A: Allocator> Publishers<A> {
         }
     }
 
-    /// Publishes a write on a sampling channel. It waits for reads in progress. On want of memory nothing is published.
+    /// Publishes a write on a sampling channel. It waits for reads in progress. If memory runs out, nothing is
+    /// published.
     pub fn publish<R: Wait>(
         &mut self,
         rt: &R,
@@ -121,7 +122,7 @@ impl<A: Allocator> Publishers<A> {
         }
     }
 
-    /// A token of all writes that were published on a sampling channel so far.
+    /// A token for all writes published on a sampling channel so far.
     pub fn receipt(&self, channel: usize) -> Receipt
         requires { (published : Published) × (slice_get self.now channel ≡ Some (Some published)) }
         ensures { slice_get self.now channel ≡ Some (Some result) }
@@ -145,7 +146,7 @@ impl<A: Allocator> Publishers<A> {
         Ok(observers)
     }
 
-    /// Each observer learns the receipt of its channel: what it shows from now on is no less.
+    /// Each observer learns the receipt of its channel: from now on it shows no earlier state.
     pub fn tell(&self, observers: &mut [Observer<A>])
         requires { AreObservers self.now observers.old }
         ensures observers { AreObservers self.now observers.new }

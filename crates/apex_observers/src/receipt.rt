@@ -9,7 +9,7 @@ use apex_types::Sample;
 use logbook::{Offer, Seen, Start, Word};
 use std::marker::Model;
 
-/// A token of all writes that were published on a sampling channel when it was given out. It has no sample in it.
+/// A token for all writes that were published on a sampling channel when it was made. It doesn't contain a sample.
 #[derive(Drop)]
 pub struct Receipt {
     count: u64,
@@ -37,7 +37,7 @@ impl Receipt {
         (Word::tracked(0, &mut first), Receipt { count: 0, seen })
     }
 
-    /// An equal receipt.
+    /// A copy of the receipt.
     pub fn copy(&self) -> Receipt
         ensures { result ≡ self.now }
     {
@@ -47,7 +47,8 @@ impl Receipt {
         }
     }
 
-    /// Adds a write to the channel's history. `None` where that has writes that this receipt hasn't, or 2^64 - 1 writes.
+    /// Adds a write to the channel's history. `None` if the history has writes that this receipt lacks, or 2^64 - 1
+    /// writes.
     pub(crate) fn followed_by(&self, count: &Count, sample: &Sample) -> Option<Receipt>
         requires { count.now ≡ count_of self.now.channel }
         ensures { IfSome result (λ receipt. receipt ≡ with_write self.now sample.now) }

@@ -4,7 +4,7 @@ use crate::version::Version;
 use atomic_table::{Join, Split};
 use crossbeam_utils::rule::{Outcome, Protocol};
 
-/// What a reader or the writer knows is of the channel whose versions these are.
+/// What a reader or the writer knows belongs to the channel that these versions are of.
 pub struct OneChannel;
 
 impl Protocol<Version, Option<Receipt>> for OneChannel {
@@ -16,7 +16,7 @@ impl Protocol<Version, Option<Receipt>> for OneChannel {
     ghost first = { None };
 }
 
-/// A publication and a read: the version is known afterwards.
+/// A publication or a read: the version is known afterwards.
 pub struct Taken;
 
 impl Outcome<Version, Option<Receipt>> for Taken {
@@ -25,7 +25,7 @@ impl Outcome<Version, Option<Receipt>> for Taken {
     ghost then = { Takes };
 }
 
-/// What the writer tells a new reader.
+/// What the writer passes on to a new reader.
 pub struct Told;
 
 impl Split<Option<Receipt>> for Told {

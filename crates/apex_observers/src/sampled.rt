@@ -6,7 +6,7 @@ use apex_types::{Message, Moment, Validity};
 pub enum Sampled {
     /// Nothing was written.
     Empty,
-    /// The message written last, when it was written, and its validity at the moment of the read.
+    /// The last message written, when it was written, and its validity at the moment of the read.
     Sample {
         message: Message,
         at: Moment,

@@ -1,4 +1,4 @@
-//! What is published of a channel at a time.
+//! One published state of a channel.
 ghost use Rattle.std.specs.Prelude.{◌≡◌, [], Some};
 ghost use Rattle.apex_observers.specs.Published.{last_of};
 ghost use Rattle.apex_observers.specs.Shown.{shown_of};
@@ -40,7 +40,7 @@ impl Version {
         }
     }
 
-    /// The version of the write that the receipt ends with.
+    /// The version that shows the receipt's last write.
     pub fn new(sample: Sample, receipt: Receipt) -> Version
         requires { last_of receipt.writes ≡ Some sample }
         ensures { result ≡ receipt }
@@ -51,7 +51,7 @@ impl Version {
         }
     }
 
-    /// An equal version.
+    /// A copy of the version.
     fn copy(&self) -> Version
         ensures { result ≡ self.now }
     {
@@ -71,7 +71,7 @@ impl Version {
         &self.receipt
     }
 
-    /// What the version shows at a moment, with the refresh period in nanoseconds.
+    /// What the version shows at a moment. The refresh period is in nanoseconds.
     pub fn shown(&self, now: Moment, refresh: u64) -> Sampled
         ensures { result ≡ shown_of now.0 refresh self.now.writes }
     {

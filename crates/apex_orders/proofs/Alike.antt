@@ -1,4 +1,4 @@
--- Histories of which all that is filtered out is the same go on alike.
+-- Histories with the same filtered parts continue alike.
 use Rattle.std.proofs.Common.{◌≡◌, ◌⊎◌, ⊎_elim, ℕ, ◌-◌, ◌&&◌, ◌||◌, not, Bool, if◌then◌else◌, List, [], ◌∷◌, ◌++◌, length, drop, Option, Some, None, refl, sym, ap, ◌∙◌, subst, append_assoc, append-nil, filter}
 use Rattle.std.specs.List.{slice_get}
 use Rattle.std.specs.Option.{unwrap_or, option_to_list}
@@ -61,7 +61,7 @@ module _ (config : Configuration) (c : ℕ) where
     writes = writes_on-append config c h x ∙ (ap (λ o. writes_on config c h ++ option_to_list o) left.written ∙ append-nil (writes_on config c h));
   }
 
-  -- one of two entries leaves the channel
+  -- one of two entries leaves the channel unchanged
   pub channel_swap : (h : History) (e f : Entry) → LeavesChannel config c e ⊎ LeavesChannel config c f
       → IsChannelAlike config ((h ++ e ∷ []) ++ f ∷ []) ((h ++ f ∷ []) ++ e ∷ []) c
   channel_swap h e f =

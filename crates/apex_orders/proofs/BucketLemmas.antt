@@ -10,7 +10,7 @@ use Rattle.apex_orders.specs.Lists.{Has}
 use Rattle.apex_orders.proofs.Lists.{before_or_last}
 
 module _ (buckets : List (List ℕ)) (b : ℕ) (new : List ℕ) (within : b < length buckets) where
-  -- the bucket of a hash, where one bucket is another
+  -- the bucket of a hash if one bucket is replaced
   own_bucket : (hash : ℕ) → hash % length buckets ≡ b → bucket_for (set buckets b new) hash ≡ new
   own_bucket hash same =
       ap (λ (n : ℕ). get_or (set buckets b new) n []) (ap (λ (n : ℕ). hash % n) (length-set buckets b new) ∙ same)
@@ -32,7 +32,7 @@ module _ (buckets : List (List ℕ)) (b : ℕ) (new : List ℕ) (within : b < le
         (cases_eq (hash % length buckets) b);
   }
 
-  -- so it is where the bucket was read
+  -- this holds for the bucket that was read
   pub stay_with : (was : List ℕ) → was ≡ get_or buckets b was → ((k : ℕ) → Has was k → Has new k) → StayIn buckets (set buckets b new)
   stay_with was at kept =
       let is : get_or buckets b [] ≡ was = get_or_from_slice_get buckets b was [] (slice_get_read buckets (length buckets) b was refl within at) in

@@ -25,7 +25,7 @@ has_script scripts q k timed at = of_script (slice_get scripts q) refl
 pub script_here : (scripts : Scripts) (p : ℕ) (script : List (Moment × Call)) → slice_get scripts p ≡ Some script → script_of scripts p ≡ script
 script_here scripts p script here = ap (λ (o : Option (List (Moment × Call))). unwrap_or o []) here
 
--- the next call, from how many are made
+-- the next call, from the number of calls made
 pub next_at : (scripts : Scripts) (h : History) (p : ℕ) (script : List (Moment × Call)) (index : ℕ) (timed : Moment × Call) → slice_get scripts p ≡ Some script
     → index ≡ count_of (entries_of p h) → index < 2 ^ 64 - 1 → slice_get script index ≡ Some timed → slice_get (script_of scripts p) (length (entries_of p h)) ≡ Some timed
 next_at scripts h p script index timed here is few at =
@@ -81,7 +81,7 @@ module _ (config : Configuration) (scripts : Scripts) (h : History) where
                 absurd (omega (arith, empty, has))
             of_script (Some script) here = slice_get_within scripts q script here
 
--- one index more
+-- one more index
 pub one_more : (P : ℕ → Type 0) (n : ℕ) → ((k : ℕ) → k < n → P k) → P n → (k : ℕ) → k < n + 1 → P k
 one_more P n before here k below =
     ⊎_elim

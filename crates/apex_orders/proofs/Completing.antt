@@ -1,4 +1,4 @@
--- A search that has come to its end has found each reply and each end.
+-- A complete search has found each reply and each end.
 use Rattle.std.proofs.Common.{◌≡◌, ◌⊎◌, inl, inr, ⊎_elim, ℕ, zero, suc, ◌+◌, ◌<◌, ◌≤◌, List, [], ◌∷◌, ◌++◌, length, map, Option, Some, None, refl, sym, ap, ◌∙◌, subst, arith, append_assoc, append-nil, length-append}
 use Rattle.std.specs.List.{slice_get}
 use Rattle.std.specs.Option.{unwrap_or}
@@ -28,7 +28,7 @@ use Rattle.apex_orders.proofs.Swapping.{lawful_start}
 use Rattle.apex_orders.proofs.Walks.{own_entry, other_entry, calls_of-append, replies_of-append, calls_count, replies_count, IsGood, IsDone, IsNext, answered, next_cases, same_history, one_longer, good_next, none_ordered, first_ordered, joined, good_walk, continued-append}
 use Rattle.apex_orders.proofs.Following.{same_self, same_along, same_next, same_count, point_next}
 
--- the call at the index was answered so
+-- the call at the index got this reply
 abbrev pub IsAnswered : History → PossibleReply → Type 0
 IsAnswered h one = slice_get (replies_of one.partition h) one.index ≡ Some one.reply
 
@@ -39,7 +39,7 @@ module _ (config : Configuration) (scripts : Scripts) (valid : IsConfiguration c
   pub good_history : (order : List ℕ) → IsOrder config order → IsGood config scripts (history_of config scripts order)
   good_history order is = good_walk config scripts [] order (good_nil config scripts valid) is
 
-  -- ---- replies of histories that go on
+  -- ---- replies of histories that continue
 
   still_answered : (h more : History) (one : PossibleReply) → IsAnswered h one → IsAnswered (h ++ more) one
   still_answered h more one here =
@@ -50,7 +50,7 @@ module _ (config : Configuration) (scripts : Scripts) (valid : IsConfiguration c
   answered_on h [] one here = here
   answered_on h (p ∷ order) one here = answered_on (h ++ next_entries config scripts h p) order one (still_answered h (next_entries config scripts h p) one here)
 
-  -- the reply that a step gives is there behind it
+  -- the reply that a step gives is in the history after it
   pub made_is_answered : (h : History) (p : ℕ) (one : PossibleReply) → Makes config scripts h p one → IsAnswered (h ++ next_entries config scripts h p) one
   made_is_answered h p one makes =
       let e = entry_of p makes.at makes.call one.reply in
@@ -62,7 +62,7 @@ module _ (config : Configuration) (scripts : Scripts) (valid : IsConfiguration c
       ap (λ (replies : List Reply). slice_get replies one.index) longer
       ∙ (ap (λ (n : ℕ). slice_get (replies_of one.partition h ++ one.reply ∷ []) n) index ∙ at_seam (replies_of one.partition h) one.reply [])
 
-  -- what is answered behind a step was answered before it, or by it
+  -- what is answered after a step was answered before it, or by it
   answered_by : (h : History) (p : ℕ) (one : PossibleReply) → IsAnswered (h ++ next_entries config scripts h p) one → IsAnswered h one ⊎ Makes config scripts h p one
   answered_by h p one here =
       ⊎_elim
@@ -112,7 +112,7 @@ module _ (config : Configuration) (scripts : Scripts) (valid : IsConfiguration c
       let rest = grows (h ++ next_entries config scripts h q) order p in
       omega (arith, longer, rest, length-append (calls_of p h) (calls_of p (next_entries config scripts h q)))
 
-  -- an order behind the history
+  -- an order that completes the history
   pub record Finishes (h : History) (IsFinished : History → Type 0) : Type 0 where
     pub order : List ℕ
     pub is_order : IsOrder config order
@@ -159,7 +159,7 @@ module _ (config : Configuration) (scripts : Scripts) (valid : IsConfiguration c
             (cases_eq p n));
       }
 
-  -- where every partition has made as many calls as its script has, the beginning is a way
+  -- if every partition has made as many calls as its script has, the beginning is a way
   pub way_of : length scripts ≡ length config.partitions → (h : History) → IsGood config scripts h → AreFull (length config.partitions) h → IsWay config scripts h
   way_of count h good full = record {
     lawful = good.sound.lawful;
@@ -182,7 +182,7 @@ module _ (config : Configuration) (scripts : Scripts) (valid : IsConfiguration c
     calls = λ p. way.calls p ∙ sym (take_all (length (calls_of p h)) (script_of scripts p) (let same = ap (λ (calls : List (Moment × Call)). length calls) (way.calls p) in omega (arith, same)));
   }
 
-  -- ---- what a search knows that has come to its end
+  -- ---- what a complete search knows
 
   good_start : (h rest : History) → IsWay config scripts (h ++ rest) → IsGood config scripts h
   good_start h rest is = record {
@@ -190,7 +190,7 @@ module _ (config : Configuration) (scripts : Scripts) (valid : IsConfiguration c
     calls = (begins config scripts h rest is).calls;
   }
 
-  -- what is answered at the end was answered before, or is so later
+  -- what is answered at the end was answered before, or is answered later
   now_or_later : (h more : History) (one : PossibleReply) → IsAnswered (h ++ more) one → IsAnswered h one ⊎ (length (replies_of one.partition h) ≤ one.index)
   now_or_later h more one here = by_item (slice_get (replies_of one.partition h) one.index) refl
     where
@@ -202,7 +202,7 @@ module _ (config : Configuration) (scripts : Scripts) (valid : IsConfiguration c
           ∙ (ap (λ (replies : List Reply). slice_get replies one.index) (sym (replies_of-append one.partition h more)) ∙ here) in
           inl (at ∙ both)
 
-  -- what is answered later is answered so after another history with as many replies
+  -- what is answered later is answered the same way after another history with as many replies
   carried : (h other more : History) (one : PossibleReply) → length (replies_of one.partition h) ≡ length (replies_of one.partition other) → length (replies_of one.partition h) ≤ one.index
       → IsAnswered (h ++ more) one → IsAnswered (other ++ more) one
   carried h other more one as_many past here =
@@ -231,7 +231,7 @@ module _ (config : Configuration) (scripts : Scripts) (valid : IsConfiguration c
           by_script (Some script) here = let within = slice_get_within scripts q script here in omega (arith, within, all)
 
   module _ (orders : List (List ℕ)) (replies : List PossibleReply) (done : IsSearched config scripts orders replies) where
-    -- what goes on from one history to a way goes on so from another that came to the same point
+    -- what continues one history to a way does so for another that led to the same point
     follow : (rest : List Entry) (h other : History) → IsWay config scripts (h ++ rest) → IsGood config scripts h → IsGood config scripts other → IsSamePoint config h other
         → IsGood config scripts (other ++ rest) × IsSamePoint config (h ++ rest) (other ++ rest)
     follow [] h other is good good_too same = (
@@ -350,7 +350,7 @@ module _ (config : Configuration) (scripts : Scripts) (valid : IsConfiguration c
         (λ (found : IsGivenAndFound one). found)
         ((follow_from_start can.way can.is_way).given one (is_partition done.all can.way one can.is_way can.reply) can.reply)
 
-    -- each reply that can occur is given behind one of the orders
+    -- each reply that can occur is given after one of the orders
     pub given_of_occurs : (one : PossibleReply) → CanOccur config scripts one → IsGivenByAnOrder config scripts orders one
     given_of_occurs one can = (found_of_occurs one can).by
 

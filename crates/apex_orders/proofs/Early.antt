@@ -1,4 +1,4 @@
--- Calls that are refused before the channel is looked at.
+-- Calls that are refused before the channel is read.
 use Rattle.std.specs.Prelude.{nat_lt}
 use Rattle.std.proofs.Common.{◌≡◌, ◌≢◌, inr, ℕ, ◌==◌, ◌&&◌, not, Bool, true, false, if◌then◌else◌, List, [], ◌∷◌, ◌++◌, length, Option, Some, None, refl, sym, ap, ◌∙◌}
 use Rattle.apex_types.specs.declared.call.Call.{Call}
@@ -31,7 +31,7 @@ module _ (config : Configuration) (p : ℕ) (s : Seen) (waiting : ℕ → List (
   abbrev refilled : Seen
   refilled = record { mode = s.mode; created = s.created; last = s.last; waiting = waiting; sample = sample }
 
-  -- where the row is early, it is the other too
+  -- if the row is early, both rows are the same
   abbrev Stays : Row → Row → Type 0
   Stays one other = is_early one ≡ true → one ≡ other
 
@@ -169,13 +169,13 @@ module _ (config : Configuration) (h : History) (x : Entry) (p : ℕ) (left : Le
       ap (reply_of config (seen config (h ++ x ∷ []) p) p) (sym same_row)
       ∙ same_early config p (seen config (h ++ x ∷ []) p) (seen config h p) (row_of config (seen config h p) p timed.0 timed.1) early
 
--- an entry that is refused early leaves each channel alone
+-- an entry that is refused early leaves each channel unchanged
 pub leaves_early : (config : Configuration) (h : History) (e : Entry) → e.reply ≡ reply_to config h e.partition e.at e.call → IsRefusedEarly config h e.partition (e.at, e.call) → (c : ℕ) → LeavesChannel config c e
 leaves_early config h e is early c =
     let no = no_success config e.partition (seen config h e.partition) (row_of config (seen config h e.partition) e.partition e.at e.call) early in
     leaves_refused config c e (ap is_code_no_error is ∙ no.0) (ap message_in is ∙ no.1)
 
--- it changes places with the entry before it
+-- it can be swapped with the entry before it
 pub early_may : (config : Configuration) (h : History) (x e : Entry) (other : x.partition ≢ e.partition) → e.reply ≡ reply_to config (h ++ x ∷ []) e.partition e.at e.call
     → IsRefusedEarly config h e.partition (e.at, e.call) → MaySwap config h x e other
 early_may config h x e other is early =

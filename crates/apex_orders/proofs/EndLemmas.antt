@@ -69,7 +69,7 @@ module _ (config : Configuration) (scripts : Scripts) where
   pub made_of_full : AreShort config scripts → (h : History) (p : ℕ) → p < length config.partitions → length (script_of scripts p) ≤ length (calls_of p h) → length (script_of scripts p) ≤ count_of (entries_of p h)
   made_of_full short h p within full = let count = calls_count p h in let limit = short p within in omega (arith, full, count, limit)
 
-  -- ---- how many calls an order names
+  -- ---- the number of calls that an order names
 
   entries_few : (e : Entry) (p : ℕ) → length (entries_of p (e ∷ [])) ≤ cond (e.partition == p) 1 0
   entries_few e p = by_test (e.partition == p)
@@ -122,14 +122,14 @@ module _ (config : Configuration) (scripts : Scripts) where
         (subst (λ (both : History × History). IsSamePoint config both.0 both.1) (λ i. (sym two.2 i, sym one.2 i)) same);
   }
 
--- want of memory gives up nothing
+-- running out of memory gives up nothing
 pub given_up_none : {X : Type 0} (config : Configuration) (scripts : Scripts) (bound : ℕ) (r : Result X OrdersFault) → IsErrAnd r (λ fault. fault ≡ OutOfMemory)
     → IsGivenUp config scripts bound r
 given_up_none config scripts bound (Ok x) is = tt
 given_up_none config scripts bound (Err OutOfMemory) is = tt
 given_up_none config scripts bound (Err TooManyStates) is = absurd (cc)
 
--- where a search is given up, the outcomes are undecided
+-- if a search is given up, the outcomes are undecided
 pub undecided_of : (X Y : Type 0) (config : Configuration) (scripts : Scripts) → IsConfiguration config → (bound : ℕ) (fault : OrdersFault)
     → IsGivenUp {X = X} config scripts bound (Err fault) → IsUndecided {X = Y} config scripts bound (Err fault)
 undecided_of X Y config scripts valid bound TooManyStates given_up = more_points config scripts valid bound given_up

@@ -65,7 +65,7 @@ module _ (tried : ℕ → Bool) where
       ∙ (ap (λ (es : List Entry). es ++ entries_of p rest) (other_entry p x (not_same p x.partition own none.0)) ∙ none_of p rest own none.1)
 
   module _ (config : Configuration) (scripts : Scripts) where
-    -- nothing that is still to come disturbs the call
+    -- no call still to come disturbs this one
     abbrev IsSafe : History → ℕ → Moment × Call → Type 0
     IsSafe h p timed = IsRefusedEarly config h p timed ⊎ IsApartFromRest config scripts h tried p timed.1
 
@@ -159,7 +159,7 @@ module _ (tried : ℕ → Bool) where
 
 -- ---- a whole search
 
--- what a way begins with is a beginning
+-- every prefix of a way is a beginning
 pub begins : (config : Configuration) (scripts : Scripts) (h rest : History) → IsWay config scripts (h ++ rest) → IsBeginning config scripts h
 begins config scripts h rest is = record {
   lawful = lawful_start config h rest is.lawful;

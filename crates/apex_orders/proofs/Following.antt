@@ -1,4 +1,4 @@
--- Histories that come to one point go on alike.
+-- Histories that lead to one point continue alike.
 use Rattle.std.proofs.Common.{◌≡◌, ⊎_elim, ℕ, ◌<◌, ◌≤◌, List, [], ◌∷◌, ◌++◌, length, filter, Option, Some, None, refl, sym, ap, ◌∙◌, subst, arith, length-append, append-nil}
 use Rattle.std.specs.List.{slice_get}
 use Rattle.std.specs.Option.{option_to_list}
@@ -22,7 +22,7 @@ use Rattle.apex_orders.specs.Orders.{Scripts, script_of, AreShort, calls_of, ent
 use Rattle.apex_orders.specs.Points.{IsSameCalls, HasSameCounts, IsSamePoint}
 use Rattle.apex_orders.proofs.Walks.{IsGood, IsDone, IsNext, next_cases, answered, calls_count, entries_of-append, same_history, one_longer}
 
--- ---- one point is the same as itself, either way round, and along a third
+-- ---- being one point is reflexive, symmetric and transitive
 
 pub same_self : (config : Configuration) (h : History) → IsSamePoint config h h
 same_self config h = record {
@@ -57,7 +57,7 @@ same_along config f g h one two = record {
   };
 }
 
--- ---- one entry more
+-- ---- one more entry
 
 count_more : {X : Type 0} (xs ys zs : List X) → count_of xs ≡ count_of ys → count_of (xs ++ zs) ≡ count_of (ys ++ zs)
 count_more xs ys zs same = omega (arith, length-append xs zs, length-append ys zs)

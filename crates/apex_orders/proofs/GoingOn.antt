@@ -21,7 +21,7 @@ lawful_here config h e rest lawful =
 pub push_entry : (config : Configuration) (h : History) (e : Entry) → IsSound config h → IsLawfulEntry config h e → IsSound config (h ++ e ∷ [])
 push_entry config h e sound lawful = sound-push config h e.partition e.at e.call e.reply sound lawful.0 lawful.1
 
--- an entry that is lawful after the one is lawful after the other
+-- an entry that is lawful after one is lawful after the other
 pub lawful_alike : (config : Configuration) (h other : History) (e : Entry) → IsSound config h → IsSameState config h other → IsLawfulEntry config h e → IsLawfulEntry config other e
 lawful_alike config h other e sound same lawful =
     (lawful.0, lawful.1 ∙ same_reply config e.partition sound.valid h other same lawful.0 e.at e.call)

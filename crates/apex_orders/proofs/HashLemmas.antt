@@ -1,4 +1,4 @@
--- Equal points have one hash.
+-- Equal points have the same hash.
 use Rattle.std.proofs.Common.{◌≡◌, ⊎_elim, ℕ, zero, suc, ◌+◌, ◌≤◌, List, [], ◌∷◌, ◌++◌, length, Some, refl, sym, ap, ◌∙◌, arith, length-append}
 use Rattle.std.specs.List.{slice_get}
 use Rattle.apex_types.specs.Validity.{number_of}

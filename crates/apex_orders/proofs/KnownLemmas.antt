@@ -88,7 +88,7 @@ module _ (config : Configuration) (scripts : Scripts) (orders : List (List ℕ))
       let there : old.first + (k - old.first) ≡ k = omega (arith, index) in
       are.each (k - old.first) lent.now order is (ap (λ (n : ℕ). slice_get orders n) there ∙ at)
 
-  -- by what taking out answered
+  -- by the result of taking out
   pub points_after : (k : ℕ) (o : Option PortsView) → MatchOption o (IsLeft old new) (λ ports. IsTaken old new k ports) → ArePoints config scripts orders new
   points_after k None left = points_left left
   points_after k (Some ports) taken = points_taken k ports taken

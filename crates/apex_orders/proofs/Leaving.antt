@@ -1,4 +1,4 @@
--- What a call asks of a channel, and what it leaves alone.
+-- What a call reads of a channel, and what it leaves unchanged.
 use Rattle.std.specs.Prelude.{nat_lt}
 use Rattle.std.proofs.lemmas.Bool.Decides.{nat_tests}
 use Rattle.std.proofs.Common.{not, length, arith, ◌≡◌, ◌≢◌, ◌⊎◌, inl, inr, ℕ, ◌==◌, ◌&&◌, Bool, true, false, if◌then◌else◌, List, [], ◌∷◌, ◌++◌, Option, Some, None, refl, sym, ap, ◌∙◌}
@@ -26,7 +26,7 @@ use Rattle.apex_ports.proofs.Stays.{LeavesPartition, LeavesChannel, IsElsewhere,
 use Rattle.apex_orders.specs.Commuting.{id_in, port_in, is_on, names, is_change, changes, IsApart}
 use Rattle.apex_orders.proofs.Alike.{partition_left}
 
--- ---- channels that a call leaves alone
+-- ---- channels that a call leaves unchanged
 
 lies_elsewhere : (c : ℕ) (port : Option Port) → is_on c port ≡ false → LiesElsewhere c port
 lies_elsewhere c None off = record { source = refl; destination = refl }
@@ -39,11 +39,11 @@ is_elsewhere config c p (call.ClearQueuing id) off = clears_elsewhere config c p
 is_elsewhere config c p (call.WriteSampling id message) off = writes_elsewhere config c p id message (lies_elsewhere c (port_of config p id) off)
 is_elsewhere config c p _ off = record { sends = refl; receives = refl; clears = refl; writes = refl }
 
--- an entry leaves each channel that its call can't change
+-- an entry leaves each channel unchanged that its call can't change
 pub leaves_unchanged : (config : Configuration) (c : ℕ) (e : Entry) → changes config c e.partition e.call ≡ false → LeavesChannel config c e
 leaves_unchanged config c e off = leaves_channel config c e.partition e.at e.call e.reply (is_elsewhere config c e.partition e.call off)
 
--- of two entries whose calls are apart one leaves each channel
+-- if the calls of two entries are apart, one of them leaves each channel unchanged
 pub one_leaves : (config : Configuration) (e f : Entry) → IsApart config e.partition e.call f.partition f.call → (c : ℕ) → LeavesChannel config c e ⊎ LeavesChannel config c f
 one_leaves config e f apart c = by_test (names config c e.partition e.call) refl
   where
@@ -53,7 +53,7 @@ one_leaves config e f apart c = by_test (names config c e.partition e.call) refl
 
 -- ---- what a reply depends on
 
--- of a port's channel, only that of the port that the call names
+-- only the channel of the port that the call names
 abbrev at_id : {X : Type 0} → Option ℕ → (ℕ → X) → X → X
 at_id None f x = x
 at_id (Some id) f x = f id
@@ -69,7 +69,7 @@ module _ (config : Configuration) (p : ℕ) where
   }
 
   module _ (s : Seen) where
-    -- the reply is that to what the named port shows
+    -- the reply depends only on what the named port shows
     abbrev Same : Option ℕ → Row → Row → Type 0
     Same o full narrow = reply_of config s p full ≡ reply_of config (narrowed o s) p narrow
 
@@ -181,7 +181,7 @@ same_number : (n : ℕ) → (n == n) ≡ true
 same_number n = grind (arith, nat_tests)
 
 module _ (config : Configuration) (h : History) (x : Entry) where
-  -- the entry leaves the channel of the port alone
+  -- the entry leaves the channel of the port unchanged
   abbrev pub LeavesPort : Option Port → Type 0
   LeavesPort port = (c : ℕ) → is_on c port ≡ true → LeavesChannel config c x
 

@@ -37,7 +37,7 @@ none_past [] n at = omega arith
 none_past (x ∷ xs) zero at = absurd (cc)
 none_past (x ∷ xs) (suc n) at = let rest = none_past xs n at in omega arith
 
--- behind two lists of one length the same items follow
+-- the same items follow two lists of one length
 pub past_both : {X : Type 0} (xs ys more : List X) (k : ℕ) → length xs ≡ length ys → length xs ≤ k → slice_get (xs ++ more) k ≡ slice_get (ys ++ more) k
 past_both [] [] more k count past = refl
 past_both [] (y ∷ ys) more k count past = absurd (omega arith)

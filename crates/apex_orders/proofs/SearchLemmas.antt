@@ -23,7 +23,7 @@ first_reply reply [] = reply
 first_reply reply (e ∷ es) = e.reply
 
 module _ (config : Configuration) (scripts : Scripts) where
-  -- ---- one order more
+  -- ---- one more order
 
   pub orders_push : (orders : List (List ℕ)) (order : List ℕ) → AreOrders config orders → IsOrder config order → AreOrders config (orders ++ order ∷ [])
   orders_push orders order valid is k other at =
@@ -66,7 +66,7 @@ module _ (config : Configuration) (scripts : Scripts) where
     same = subst (λ (g : History). IsSamePoint config h g) is (same_self config h);
   }
 
-  -- ---- the order of no calls alone
+  -- ---- only the order without calls
 
   pub first_valid : AreOrders config ([] ∷ [])
   first_valid = orders_push [] [] (λ k order at. absurd (cc)) (none_ordered config scripts)
@@ -82,7 +82,7 @@ module _ (config : Configuration) (scripts : Scripts) where
   pub behind : (order : List ℕ) (p : ℕ) → history_of config scripts (order ++ p ∷ []) ≡ history_of config scripts order ++ next_entries config scripts (history_of config scripts order) p
   behind order p = continued-append config scripts [] order (p ∷ [])
 
-  -- the call behind an order, by what ports are that come after the order
+  -- the call after an order, by ports that are those after the order
   pub steps_to : (ports : PortsView) (order : List ℕ) (p : ℕ) (h : History) → IsAfter config scripts order ports → h ≡ ports.history ++ next_entries ports.config scripts ports.history p
       → h ≡ history_of config scripts (order ++ p ∷ [])
   steps_to ports order p h after step =
@@ -145,7 +145,7 @@ module _ (config : Configuration) (scripts : Scripts) where
     reply = λ one makes. includes one (tried.reply one makes);
   }
 
-  -- the order at an index that was there stands there still
+  -- the order at an index stays there
   same_index : (old new : List (List ℕ)) (k : ℕ) (order : List ℕ) → Keeps old new → k < length old → slice_get new k ≡ Some order → slice_get old k ≡ Some order
   same_index old new k order keeps within at =
       let was = slice_get-get_or old k order within in

@@ -1,4 +1,4 @@
--- What a reply depends on: of what a partition sees only what its configured ports show.
+-- A reply depends only on what a partition's configured ports show.
 use Rattle.std.proofs.Common.{◌≡◌, ℕ, ◌<◌, Bool, true, false, if◌then◌else◌, ◌⊎◌, inl, inr, ⊎_elim, List, length, Option, Some, None, refl, sym, ap, ◌∙◌}
 use Rattle.std.specs.Option.{is_some}
 use Rattle.std.proofs.lemmas.Option.{slice_get_within}
@@ -23,7 +23,7 @@ abbrev is_port : Option Port → Bool
 is_port port = is_some port
 
 module _ (config : Configuration) (p : ℕ) where
-  -- what is seen, with nothing of ports that aren't there
+  -- what is seen, without ports that don't exist
   abbrev configured : Seen → Seen
   configured s = record {
     mode = s.mode;
@@ -48,7 +48,7 @@ module _ (config : Configuration) (p : ℕ) where
     sampling_port_same : (id : ℕ) → sampling_port config s p id ≡ sampling_port config (configured s) p id
     sampling_port_same id = ap sampling_only (created_port_same id)
 
-    -- of a configured port that has a name it is the same whether it is created
+    -- both agree on whether a configured port with a name is created
     abbrev IsCreatedAlike : Option NamedPort → Type 0
     IsCreatedAlike None = Unit {0}
     IsCreatedAlike (Some named) = s.created named.id ≡ is_some (created_port config s p named.id)
@@ -150,7 +150,7 @@ module _ (config : Configuration) (p : ℕ) where
         ap (λ o. sampling_status_reply config s id o) (sampling_port_same id) ∙ sampling_status_same id (sampling_port config (configured s) p id) (sym (sampling_port_same id))
     reply_same _ = refl
 
-    -- the reply is that to what the configured ports show
+    -- the reply depends only on what the configured ports show
     reply_to_configured : (now : Moment) (call : Call) → reply_of config s p (row_of config s p now call) ≡ reply_of config (configured s) p (row_of config (configured s) p now call)
     reply_to_configured now call = reply_same (row_of config s p now call) ∙ ap (reply_of config (configured s) p) (row_same now call)
 

@@ -1,4 +1,4 @@
--- One more entry leads two histories with one state to one state.
+-- One more entry keeps two histories with one state in one state.
 use Rattle.std.proofs.Common.{◌≡◌, ℕ, ◌&&◌, ◌||◌, not, Bool, true, false, if◌then◌else◌, List, [], ◌∷◌, ◌++◌, length, drop, Option, Some, None, refl, sym, ap, ◌∙◌, append_assoc, length-append}
 use Rattle.std.specs.Option.{unwrap_or, option_to_list}
 use Rattle.std.proofs.Math.Seq.{drop-append_seam}
@@ -86,7 +86,7 @@ module _ (config : Configuration) (h other : History) (e : Entry) where
 
 -- ---- channels
 
--- what waits after an entry is given by what waited before it
+-- what waits after an entry depends on what waited before it
 pub waiting_step : (config : Configuration) (h : History) (e : Entry) (c : ℕ) → IsConserved config h c
     → waiting_on config c (h ++ e ∷ []) ≡ drop (length (taken_by config c (waiting_on config c h) e)) (waiting_on config c h ++ option_to_list (message_accepted config c e))
 waiting_step config h e c conserved =

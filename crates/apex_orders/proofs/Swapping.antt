@@ -1,4 +1,4 @@
--- Two entries whose calls are apart change places.
+-- Two entries whose calls are apart may be swapped.
 use Rattle.std.proofs.Common.{◌≡◌, ◌≢◌, ◌⊎◌, inl, inr, ⊎_elim, ℕ, List, [], ◌∷◌, ◌++◌, take, sym, ap, ◌∙◌, subst, arith, append_assoc, append-nil}
 use Rattle.std.proofs.lemmas.Bool.{cases_eq}
 use Rattle.std.proofs.lemmas.List.{take-append-le}
@@ -22,7 +22,7 @@ use Rattle.apex_orders.proofs.Leaving.{one_leaves, reply_unchanged}
 pub apart_back : (config : Configuration) (p q : ℕ) (asked other : Call) → IsApart config p asked q other → IsApart config q other p asked
 apart_back config p q asked other apart = record { others = apart.own; own = apart.others }
 
--- a beginning of a lawful history is lawful
+-- a prefix of a lawful history is lawful
 pub lawful_start : (config : Configuration) (h rest : History) → IsLawful config (h ++ rest) → IsLawful config h
 lawful_start config h rest lawful k e at =
     let within = slice_get_within h k e at in
@@ -37,7 +37,7 @@ module _ (config : Configuration) (h : History) (e f : Entry) (other : e.partiti
       (λ (apart : e.partition ≢ p). inl (leaves_others e.partition e.at e.call e.reply p (λ same. apart (sym same))))
       (cases_eq e.partition p)
 
-  -- a partition has one of them at most
+  -- a partition has at most one of them
   own_same : (p : ℕ) → entries_of p (e ∷ []) ++ entries_of p (f ∷ []) ≡ entries_of p (f ∷ []) ++ entries_of p (e ∷ [])
   own_same p =
       ⊎_elim
@@ -54,7 +54,7 @@ module _ (config : Configuration) (h : History) (e f : Entry) (other : e.partiti
       entries_of-append p (h ++ x ∷ []) (y ∷ [])
       ∙ (ap (λ (es : History). es ++ entries_of p (y ∷ [])) (entries_of-append p h (x ∷ [])) ∙ append_assoc (entries_of p h) (entries_of p (x ∷ [])) (entries_of p (y ∷ [])))
 
-  -- each channel is left alone by one of them, and each gets the reply that it gets without the other
+  -- one of them leaves each channel unchanged, and each gets the reply that it gets without the other
   pub record MaySwap : Type 0 where
     pub leaves : (c : ℕ) → LeavesChannel config c e ⊎ LeavesChannel config c f
     pub first : reply_to config (h ++ f ∷ []) e.partition e.at e.call ≡ reply_to config h e.partition e.at e.call

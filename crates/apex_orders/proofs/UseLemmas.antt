@@ -1,4 +1,4 @@
--- What the last uses of channels say of the calls that are left.
+-- What the last uses of channels say about the remaining calls.
 use Rattle.std.proofs.Common.{◌≡◌, ◌≢◌, ⊎_elim, ℕ, ◌+◌, ◌<◌, ◌≤◌, ◌&&◌, Bool, true, false, if◌then◌else◌, List, length, Option, Some, None, refl, sym, ap, ◌∙◌, subst, arith}
 use Rattle.std.specs.List.{slice_get}
 use Rattle.std.proofs.lemmas.Bool.{cases_eq}
@@ -34,7 +34,7 @@ module _ (config : Configuration) where
   unchanged : (c p : ℕ) (call : Call) → names config c p call ≡ false → changes config c p call ≡ false
   unchanged c p call off = (λ i. is_change call && off i) ∙ and_false (is_change call)
 
-  -- ---- one call more
+  -- ---- one more call
 
   module _ (p : ℕ) (script : List (Moment × Call)) (n : ℕ) (timed : Moment × Call) (at : slice_get script n ≡ Some timed) where
     -- before it, or the call itself
@@ -72,7 +72,7 @@ module _ (config : Configuration) where
             (λ k one below here on. let past = was.changed k one below here on in omega (arith, past, reach))
             (λ on. absurd (let never : changes config c p timed.1 ≡ false = λ i. is i && names config c p timed.1 in cc))
 
-  -- ---- the calls that are left
+  -- ---- the remaining calls
 
   pub quiet_from : (p : ℕ) (script : List (Moment × Call)) (c : ℕ) (named : Bool) (made : ℕ) (last : LastUse) → IsLastUseBelow config p script (length script) c last
       → (if named then last.named else last.changed) ≤ made → IsQuietFrom config p script c named made

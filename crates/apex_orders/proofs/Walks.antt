@@ -48,9 +48,9 @@ calls_count p h = length-map (entries_of p h) timed_of
 pub replies_count : (p : ℕ) (h : History) → length (replies_of p h) ≡ length (entries_of p h)
 replies_count p h = length-map (entries_of p h) reply_in
 
--- ---- one call more
+-- ---- one more call
 
--- the calls are a beginning of the partition's script
+-- the calls are a prefix of the partition's script
 abbrev Begins : Scripts → ℕ → List (Moment × Call) → Type 0
 Begins scripts p calls = calls ≡ take (length calls) (script_of scripts p)
 

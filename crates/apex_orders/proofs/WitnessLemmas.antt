@@ -13,7 +13,7 @@ use Rattle.apex_orders.proofs.Completing.{IsAnswered, given_of_occurs, good_hist
 use Rattle.apex_orders.proofs.SearchLemmas.{behind, longer_is_order}
 
 module _ (config : Configuration) (scripts : Scripts) where
-  -- with the call behind it, the order gives the reply
+  -- followed by the call, the order gives the reply
   pub longer_gives : IsConfiguration config → (order : List ℕ) (one : PossibleReply) → IsOrder config order → IsGivenAfter config scripts order one
       → IsGivenBy config scripts one (order ++ one.partition ∷ [])
   longer_gives valid order one is given =
@@ -46,7 +46,7 @@ module _ (config : Configuration) (scripts : Scripts) where
     given = subst (λ (p : ℕ). IsGivenBy config scripts answered.one (order ++ p ∷ [])) answered.answers.partition (longer_gives valid order answered.one is answered.given);
   }
 
-  -- what was answered behind none of the orders of an ended search is answered by no way
+  -- what none of a complete search's orders answers, no way answers
   pub never_answered : IsConfiguration config → (asked : Asked) (orders : List (List ℕ)) (replies : List PossibleReply)
       → IsSearchedInVain config scripts (Some asked) orders replies → CanBeAnswered config scripts asked → ⊥
   never_answered valid asked orders replies ended can =
@@ -56,7 +56,7 @@ module _ (config : Configuration) (scripts : Scripts) where
 
   -- ---- what a search ended with
 
-  -- where nothing is asked, all was searched
+  -- if nothing is asked, everything was searched
   pub searched_all : (orders : List (List ℕ)) (replies : List PossibleReply) (answer : Option (List ℕ)) → HasEnded config scripts None orders replies answer
       → IsSearched config scripts orders replies
   searched_all orders replies None ended = ended.searched

@@ -2,7 +2,7 @@
 use Rattle.std.specs.Prelude.{ℕ, ◌≡◌, ◌<◌, ◌%◌, List, [], length, slice_get, slice_index_or, Some}
 use Rattle.apex_orders.specs.Lists.{Has}
 
--- the hash's bucket; none where there are no buckets
+-- the hash's bucket; empty if there are no buckets
 abbrev pub bucket_for : List (List ℕ) → ℕ → List ℕ
 bucket_for buckets hash = slice_index_or buckets (hash % length buckets) []
 
@@ -10,7 +10,7 @@ bucket_for buckets hash = slice_index_or buckets (hash % length buckets) []
 abbrev pub IsIn : List (List ℕ) → ℕ → ℕ → Type 0
 IsIn buckets hash index = Has (bucket_for buckets hash) index
 
--- there are as many buckets, and each has the indexes that it had
+-- there are as many buckets as before, and each keeps its indexes
 pub record StayIn (old new : List (List ℕ)) : Type 0 where
   pub count : length new ≡ length old
   pub each : (hash index : ℕ) → IsIn old hash index → IsIn new hash index

@@ -19,7 +19,7 @@ is_tried tried p = unwrap_or (slice_get tried p) false
 abbrev pub HasNoChannel : Configuration → History → ℕ → Moment × Call → Type 0
 HasNoChannel config h p timed = IsRefusedEarly config h p timed ⊎ ((c : ℕ) → names config c p timed.1 ≡ false)
 
--- the next call is at hand
+-- the partition has a next call that satisfies this
 pub record IsNextCall (scripts : Scripts) (h : History) (p : ℕ) (IsOne : Moment × Call → Type 0) : Type 0 where
   pub timed : Moment × Call
   pub at : slice_get (script_of scripts p) (length (entries_of p h)) ≡ Some timed
@@ -29,7 +29,7 @@ pub record IsNextCall (scripts : Scripts) (h : History) (p : ℕ) (IsOne : Momen
 abbrev pub IsOnChannel : Configuration → ℕ → ℕ → Bool → Moment × Call → Type 0
 IsOnChannel config p channel change timed = (channel_named config p timed.1 ≡ Some channel) × (is_change timed.1 ≡ change)
 
--- what the partition's next call has to do with others
+-- how the partition's next call concerns others
 abbrev pub IsNextUse : Configuration → Scripts → History → ℕ → NextUse → Type 0
 IsNextUse config scripts h p NoCall = Unit {0}
 IsNextUse config scripts h p NoChannel = IsNextCall scripts h p (HasNoChannel config h p)
@@ -39,13 +39,13 @@ pub record AreNextUses (config : Configuration) (scripts : Scripts) (h : History
   pub count : length nexts ≡ length scripts
   pub each : (p : ℕ) (next : NextUse) → slice_get nexts p ≡ Some next → IsNextUse config scripts h p next
 
--- the partition has a next call, which is refused early or apart from what the others have still to call
+-- the partition has a next call, which is refused early or apart from what the others have yet to call
 pub record IsSafeToTry (config : Configuration) (scripts : Scripts) (h : History) (tried : ℕ → Bool) (p : ℕ) : Type 0 where
   pub some : HasNext scripts h p
   pub local : (timed : Moment × Call) → slice_get (script_of scripts p) (length (entries_of p h)) ≡ Some timed
       → IsRefusedEarly config h p timed ⊎ IsApartFromRest config scripts h tried p timed.1
 
--- no partition outside of the set has still to make a call that can change the channel or, where that is asked, names it
+-- no partition outside the set has yet to make a call that can change the channel or, if `named`, names it
 abbrev pub IsQuietOutside : Configuration → Scripts → History → (ℕ → Bool) → ℕ → Bool → Type 0
 IsQuietOutside config scripts h tried channel named =
     (q : ℕ) → tried q ≡ false → IsQuietFrom config q (script_of scripts q) channel named (length (entries_of q h))

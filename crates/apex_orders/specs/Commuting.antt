@@ -1,4 +1,4 @@
--- Calls of two partitions that may change places.
+-- Calls of two partitions that may be swapped.
 use Rattle.std.specs.Prelude.{ℕ, Bool, true, false, ◌≡◌, ◌≢◌, ◌==◌, ◌&&◌, List, ◌∷◌, ◌++◌, Option, Some, None}
 use Rattle.apex_types.specs.declared.call.Call.{Call}
 use Rattle.apex_types.specs.declared.call.Call.TheVariants.{WriteSampling, ReadSampling, SendQueuing, ReceiveQueuing, QueuingStatus, ClearQueuing}
@@ -9,9 +9,9 @@ use Rattle.apex_ports.specs.History.{History, entries_of}
 use Rattle.apex_ports.specs.Lawful.{IsLawful}
 use Rattle.apex_orders.specs.Points.{IsSamePoint}
 
--- ---- the channel that a call is about
+-- ---- the channel that a call concerns
 
--- the identifier by which a call asks or changes a channel; a creation, a look-up of an identifier,
+-- the identifier by which a call reads or changes a channel; a creation, a look-up of an identifier,
 -- GET_SAMPLING_PORT_STATUS and SET_PARTITION_MODE do neither
 abbrev pub id_in : Call → Option ℕ
 id_in (WriteSampling id message) = Some id
@@ -42,7 +42,7 @@ channel_in (Some port) = Some port.channel
 abbrev pub channel_named : Configuration → ℕ → Call → Option ℕ
 channel_named config p call = channel_in (port_in config p (id_in call))
 
--- the calls that can put something into a channel or take something out
+-- the calls that can put a message into a channel or take one from it
 abbrev pub is_change : Call → Bool
 is_change (WriteSampling id message) = true
 is_change (SendQueuing id message) = true
@@ -54,20 +54,21 @@ is_change _ = false
 abbrev pub changes : Configuration → ℕ → ℕ → Call → Bool
 changes config c p call = is_change call && names config c p call
 
--- ---- changing places
+-- ---- swapping
 
 -- neither call can change a channel that the other names
 pub record IsApart (config : Configuration) (p : ℕ) (call : Call) (q : ℕ) (other : Call) : Type 0 where
   pub others : (c : ℕ) → names config c p call ≡ true → changes config c q other ≡ false
   pub own : (c : ℕ) → names config c q other ≡ true → changes config c p call ≡ false
 
--- the entries may change places: each call keeps its reply, whatever comes behind keeps its replies, and all leads to one point
+-- the entries may be swapped: each call keeps its reply, whatever comes after keeps its replies, and both orders lead
+-- to one point
 pub record Commutes (config : Configuration) (h : History) (e f : Entry) (rest : List Entry) : Type 0 where
   pub lawful : IsLawful config (h ++ f ∷ e ∷ rest)
   pub entries : (p : ℕ) → entries_of p (h ++ f ∷ e ∷ rest) ≡ entries_of p (h ++ e ∷ f ∷ rest)
   pub point : IsSamePoint config (h ++ e ∷ f ∷ rest) (h ++ f ∷ e ∷ rest)
 
--- calls of two partitions that are apart may change places wherever they stand side by side
+-- calls of two partitions that are apart may be swapped wherever they are adjacent
 abbrev pub AlwaysCommutes : Type 0
 AlwaysCommutes = (config : Configuration) (h : History) (e f : Entry) (rest : List Entry)
     → e.partition ≢ f.partition → IsApart config e.partition e.call f.partition f.call

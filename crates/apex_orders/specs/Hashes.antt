@@ -1,4 +1,4 @@
--- HashIndex of points, which are made of counts alone.
+-- Hashes of points, made only of counts.
 use Rattle.std.specs.Prelude.{ℕ, ◌≡◌, zero, suc, ◌+◌, ◌*◌, ◌%◌, ◌^◌, List, length, slice_get, slice_index_or, Option, Some, None}
 use Rattle.apex_types.specs.Validity.{number_of}
 use Rattle.apex_module.specs.Configuration.{Configuration, ports_of}
@@ -8,7 +8,7 @@ use Rattle.apex_ports.specs.History.{History, entries_of}
 use Rattle.apex_orders.specs.States.{last_shown}
 use Rattle.apex_orders.specs.Orders.{Scripts, history_of}
 
--- a hash with one number more
+-- the hash extended by one number
 abbrev pub mix : ℕ → ℕ → ℕ
 mix hash count = ((hash * 1000003) % 2 ^ 64 + count) % 2 ^ 64
 
@@ -20,9 +20,9 @@ calls_below (suc p) history = mix (calls_below p history) (count_of (entries_of 
 abbrev pub calls_hash : Configuration → History → ℕ
 calls_hash config history = calls_below (length config.partitions) history
 
--- ---- what ports show as their last validity
+-- ---- the last validity that ports show
 
--- and that of the partition's first ports
+-- extended by that of the partition's first ports
 abbrev pub shown_below : Configuration → History → ℕ → ℕ → ℕ → ℕ
 shown_below config history p hash zero = hash
 shown_below config history p hash (suc i) =
@@ -31,7 +31,7 @@ shown_below config history p hash (suc i) =
 abbrev pub shown_from : Configuration → History → ℕ → ℕ → ℕ
 shown_from config history p hash = shown_below config history p hash (length (ports_of config p))
 
--- of all ports of the first partitions
+-- extended by that of all ports of the first partitions
 abbrev pub all_shown_below : Configuration → History → ℕ → ℕ
 all_shown_below config history zero = calls_hash config history
 all_shown_below config history (suc p) = shown_from config history p (all_shown_below config history p)
@@ -39,9 +39,9 @@ all_shown_below config history (suc p) = shown_from config history p (all_shown_
 abbrev pub shown_hash : Configuration → History → ℕ
 shown_hash config history = all_shown_below config history (length config.partitions)
 
--- ---- messages that wait
+-- ---- waiting messages
 
--- and the first bytes of a message
+-- extended by the first bytes of a message
 abbrev pub bytes_below : List ℕ → ℕ → ℕ → ℕ
 bytes_below bytes hash zero = hash
 bytes_below bytes hash (suc i) = mix (bytes_below bytes hash i) (slice_index_or bytes i 0)
@@ -53,7 +53,7 @@ abbrev pub message_hash : ℕ → Option (List ℕ) → ℕ
 message_hash hash None = hash
 message_hash hash (Some bytes) = bytes_hash hash bytes
 
--- and the first messages
+-- extended by the first messages
 abbrev pub messages_below : List (List ℕ) → ℕ → ℕ → ℕ
 messages_below messages hash zero = hash
 messages_below messages hash (suc i) = message_hash (messages_below messages hash i) (slice_get messages i)
@@ -63,7 +63,7 @@ messages_hash hash messages = messages_below messages hash (length messages)
 
 -- ---- the whole
 
--- and the counts of messages of the first channels, with the messages that wait on them
+-- extended by the counts of messages of the first channels, with the messages that wait on them
 abbrev pub channels_below : Configuration → ℕ → ℕ → History → ℕ
 channels_below config hash zero history = hash
 channels_below config hash (suc c) history =
@@ -72,7 +72,7 @@ channels_below config hash (suc c) history =
     (count_of (received_on config c history)))
     (waiting_on config c history)
 
--- the hash of the point that a history comes to
+-- the hash of the point that a history leads to
 abbrev pub hash_of : Configuration → History → ℕ
 hash_of config history = channels_below config (shown_hash config history) (length config.channels) history
 

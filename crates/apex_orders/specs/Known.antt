@@ -12,7 +12,7 @@ pub record IsAfter (config : Configuration) (scripts : Scripts) (order : List �
   pub configured : ports.config ≡ config
   pub history : ports.history ≡ history_of config scripts order
 
--- each order has the hash of its point, and of the last orders it is saved what the ports came to
+-- each order has the hash of its point, and the ports that the last orders lead to are saved
 pub record ArePoints (config : Configuration) (scripts : Scripts) (orders : List (List ℕ)) (points : Points) : Type 0 where
   pub hashed : AreHashes config scripts orders points.hashes
   pub count : points.first + length points.saved.items ≡ length orders

@@ -15,11 +15,11 @@ use Rattle.apex_ports.specs.ReplyTable.{reply_to}
 abbrev pub Scripts : Type 0
 Scripts = List (List (Moment × Call))
 
--- the script of a partition; no calls where it has none
+-- the script of a partition; no calls if it has none
 abbrev pub script_of : Scripts → ℕ → List (Moment × Call)
 script_of scripts p = unwrap_or (slice_get scripts p) []
 
--- no script has more calls than are counted
+-- no script has more calls than can be counted
 abbrev pub AreShort : Configuration → Scripts → Type 0
 AreShort config scripts = (p : ℕ) → p < length config.partitions → length (script_of scripts p) ≤ 2 ^ 64 - 1
 
@@ -31,7 +31,7 @@ calls_of p history = map (λ entry. (entry.at, entry.call)) (entries_of p histor
 abbrev pub replies_of : ℕ → History → List Reply
 replies_of p history = map (λ entry. entry.reply) (entries_of p history)
 
--- a lawful history in which each partition made the calls of a beginning of its script
+-- a lawful history in which the calls of each partition are a prefix of its script
 pub record IsBeginning (config : Configuration) (scripts : Scripts) (history : History) : Type 0 where
   pub lawful : IsLawful config history
   pub calls : (p : ℕ) → calls_of p history ≡ take (length (calls_of p history)) (script_of scripts p)
@@ -51,7 +51,7 @@ order_of history = map (λ entry. entry.partition) history
 abbrev pub IsOrder : Configuration → List ℕ → Type 0
 IsOrder config order = (k p : ℕ) → slice_get order k ≡ Some p → p < length config.partitions
 
--- how many of the calls are the partition's
+-- the number of calls that are the partition's
 abbrev pub times : ℕ → List ℕ → ℕ
 times p order = count_by (λ partition. partition == p) order
 
@@ -60,12 +60,12 @@ entries_for config history p None = []
 entries_for config history p (Some timed) =
     entry_of p timed.0 timed.1 (reply_to config history p timed.0 timed.1) ∷ []
 
--- the entry of the partition's next call, if its script has one more
+-- the entry of the partition's next call, if its script has one
 abbrev pub next_entries : Configuration → Scripts → History → ℕ → List Entry
 next_entries config scripts history p =
     entries_for config history p (slice_get (script_of scripts p) (length (entries_of p history)))
 
--- the history that goes on from another by the calls of these partitions
+-- the history that continues another by the calls of these partitions
 abbrev pub continued : Configuration → Scripts → History → List ℕ → History
 continued config scripts history [] = history
 continued config scripts history (p ∷ order) =

@@ -16,7 +16,7 @@ use Rattle.apex_orders.specs.Orders.{Scripts, IsBeginning, IsWay, IsOrder, histo
 use Rattle.apex_orders.specs.Points.{IsSamePoint}
 use Rattle.apex_orders.specs.Lists.{Has}
 
--- some way of all calls gives the partition's call at the index this reply
+-- some way of all calls gives this reply to the partition's call at the index
 pub record CanOccur (config : Configuration) (scripts : Scripts) (one : PossibleReply) : Type 0 where
   pub way : History
   pub is_way : IsWay config scripts way
@@ -31,7 +31,7 @@ pub record EndsWith (history : History) (one : PossibleReply) : Type 0 where
   pub index : one.index ≡ length (entries_of one.partition before)
   pub reply : entry.reply ≡ one.reply
 
--- the calls in this order are a beginning, which ends with the call at the index, and gives it the reply
+-- the calls in this order are a beginning, which ends with the call at the index and gives it the reply
 pub record IsGivenBy (config : Configuration) (scripts : Scripts) (one : PossibleReply) (order : List ℕ) : Type 0 where
   pub valid : IsOrder config order
   pub begins : IsBeginning config scripts (history_of config scripts order)
@@ -40,29 +40,29 @@ pub record IsGivenBy (config : Configuration) (scripts : Scripts) (one : Possibl
 
 -- ---- questions
 
--- what a reply asks for: a code alone stands for every reply with that code
+-- what a reply asks for: a code alone admits every reply with that code
 abbrev pub admitted_by : Reply → Admitted
 admitted_by (reply.Code code) = admitted.Code code
 admitted_by one = admitted.Reply one
 
--- the reply is the one that is admitted, or has the code
+-- the reply is the admitted one, or has the admitted code
 abbrev pub Admits : Admitted → Reply → Type 0
 Admits (admitted.Reply one) given = given ≡ one
 Admits (admitted.Code code) given = code_of given ≡ Some code
 
--- the reply is to the call that is asked of, and admitted
+-- the reply is to the asked call, and admitted
 pub record Answers (asked : Asked) (one : PossibleReply) : Type 0 where
   pub partition : one.partition ≡ asked.partition
   pub index : one.index ≡ asked.index
   pub reply : Admits asked.admitted one.reply
 
--- some way of all calls gives the call that is asked of an admitted reply
+-- some way of all calls gives the asked call an admitted reply
 pub record CanBeAnswered (config : Configuration) (scripts : Scripts) (asked : Asked) : Type 0 where
   pub one : PossibleReply
   pub answers : Answers asked one
   pub occurs : CanOccur config scripts one
 
--- the calls in this order are a beginning, which ends with the call that is asked of, and gives it an admitted reply
+-- the calls in this order are a beginning, which ends with the asked call and gives it an admitted reply
 pub record IsAnsweredBy (config : Configuration) (scripts : Scripts) (asked : Asked) (order : List ℕ) : Type 0 where
   pub one : PossibleReply
   pub answers : Answers asked one
@@ -74,18 +74,18 @@ pub record IsAnsweredBy (config : Configuration) (scripts : Scripts) (asked : As
 abbrev pub AreReplies : Configuration → Scripts → List PossibleReply → Type 0
 AreReplies config scripts replies = (one : PossibleReply) → Has replies one ↔ CanOccur config scripts one
 
--- the way comes to the point of one of the orders
+-- the way leads to the point of one of the orders
 pub record EndsAtOne (config : Configuration) (scripts : Scripts) (ends : List (List ℕ)) (way : History) : Type 0 where
   pub order : List ℕ
   pub here : Has ends order
   pub same : IsSamePoint config way (history_of config scripts order)
 
--- each order listed makes all calls, and each way comes to the point of one of them
+-- each listed order makes all calls, and each way leads to the point of one of them
 pub record AreEnds (config : Configuration) (scripts : Scripts) (ends : List (List ℕ)) : Type 0 where
   pub ways : (order : List ℕ) → Has ends order → IsWay config scripts (history_of config scripts order)
   pub all : (way : History) → IsWay config scripts way → EndsAtOne config scripts ends way
 
--- beginnings come to more points than the bound
+-- beginnings lead to more points than the bound
 pub record HasMorePoints (config : Configuration) (scripts : Scripts) (bound : ℕ) : Type 0 where
   pub histories : List History
   pub many : bound < length histories
@@ -93,7 +93,7 @@ pub record HasMorePoints (config : Configuration) (scripts : Scripts) (bound : �
   pub apart : (j k : ℕ) (history other : History) → j < k → slice_get histories j ≡ Some history
       → slice_get histories k ≡ Some other → ¬ IsSamePoint config other history
 
--- it is undecided only where beginnings come to more points than the bound
+-- it is undecided only if beginnings lead to more points than the bound
 abbrev pub IsUndecided : {X : Type 0} → Configuration → Scripts → ℕ → Result X OrdersFault → Type 0
 IsUndecided config scripts bound (Err TooManyStates) = HasMorePoints config scripts bound
 IsUndecided config scripts bound _ = Unit {0}

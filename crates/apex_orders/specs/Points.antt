@@ -6,7 +6,7 @@ use Rattle.apex_ports.specs.Counts.{count_of}
 use Rattle.apex_ports.specs.History.{History, entries_of}
 use Rattle.apex_orders.specs.States.{IsSameState}
 
--- each partition made as many calls in both
+-- each partition made the same number of calls in both
 abbrev pub IsSameCalls : Configuration → History → History → Type 0
 IsSameCalls config history other =
     (p : ℕ) → p < length config.partitions → count_of (entries_of p history) ≡ count_of (entries_of p other)
@@ -17,12 +17,12 @@ pub record HasSameCounts (config : Configuration) (history other : History) (c :
   pub received : count_of (received_on config c history) ≡ count_of (received_on config c other)
   pub cleared : count_of (cleared_on config c history) ≡ count_of (cleared_on config c other)
 
--- each channel has
+-- this holds for each channel
 abbrev pub IsSameCounts : Configuration → History → History → Type 0
 IsSameCounts config history other =
     (c : ℕ) → c < length config.channels → HasSameCounts config history other c
 
--- both made as many calls of each partition, and came to one state with the same counts
+-- both made the same number of calls of each partition, and led to one state with the same counts
 pub record IsSamePoint (config : Configuration) (history other : History) : Type 0 where
   pub calls : IsSameCalls config history other
   pub counts : IsSameCounts config history other

@@ -23,11 +23,11 @@ pub record Knows (config : Configuration) (scripts : Scripts) (orders : List (Li
   pub here : Has orders order
   pub same : IsSamePoint config history (history_of config scripts order)
 
--- each item of the one list stands at its index in the other
+-- each item of one list is at its index in the other
 abbrev pub Keeps : {X : Type 0} → List X → List X → Type 0
 Keeps {X} old new = (k : ℕ) (x : X) → slice_get old k ≡ Some x → slice_get new k ≡ Some x
 
--- each item of the one list is in the other
+-- each item of one list is in the other
 abbrev pub Includes : {X : Type 0} → List X → List X → Type 0
 Includes {X} old new = (x : X) → Has old x → Has new x
 
@@ -35,7 +35,7 @@ Includes {X} old new = (x : X) → Has old x → Has new x
 abbrev pub AreOrders : Configuration → List (List ℕ) → Type 0
 AreOrders config orders = (k : ℕ) (order : List ℕ) → slice_get orders k ≡ Some order → IsOrder config order
 
--- what the partition's next call after the order leads to is known, and the reply that it gets
+-- the point that the partition's next call after the order leads to is known, and so is the reply that it gets
 pub record IsTried (config : Configuration) (scripts : Scripts) (orders : List (List ℕ)) (replies : List PossibleReply) (order : List ℕ) (p : ℕ) : Type 0 where
   pub point : Knows config scripts orders (history_of config scripts (order ++ p ∷ []))
   pub reply : (one : PossibleReply) → Makes config scripts (history_of config scripts order) p one → Has replies one
@@ -56,7 +56,7 @@ pub record IsGivenAfter (config : Configuration) (scripts : Scripts) (order : Li
   pub within : one.partition < length config.partitions
   pub makes : Makes config scripts (history_of config scripts order) one.partition one
 
--- it is so after one of the orders
+-- this holds after one of the orders
 pub record IsGivenByAnOrder (config : Configuration) (scripts : Scripts) (orders : List (List ℕ)) (one : PossibleReply) : Type 0 where
   pub order : List ℕ
   pub here : Has orders order
@@ -68,7 +68,7 @@ AreApart config scripts orders =
     (j k : ℕ) (order other : List ℕ) → j < k → slice_get orders j ≡ Some order → slice_get orders k ≡ Some other
     → ¬ IsSamePoint config (history_of config scripts other) (history_of config scripts order)
 
--- what is kept along a search
+-- the invariant of a search
 pub record IsSearch (config : Configuration) (scripts : Scripts) (current : Search) : Type 0 where
   pub all : length scripts ≡ length config.partitions
   pub orders : AreOrders config current.orders.items
@@ -89,12 +89,12 @@ pub record HasTriedEnough (config : Configuration) (scripts : Scripts) (orders :
   pub enough : IsEnough config scripts (history_of config scripts order) tried
   pub each : (p : ℕ) → p < length config.partitions → tried p ≡ true → IsTried config scripts orders replies order p
 
--- so it is of the order at the index
+-- this holds for the order at the index
 abbrev pub HasTried : Configuration → Scripts → List (List ℕ) → List PossibleReply → ℕ → Type 0
 HasTried config scripts orders replies k =
     (order : List ℕ) → slice_get orders k ≡ Some order → HasTriedEnough config scripts orders replies order
 
--- the search has come to its end
+-- the search is complete
 pub record IsSearched (config : Configuration) (scripts : Scripts) (orders : List (List ℕ)) (replies : List PossibleReply) : Type 0 where
   pub all : length scripts ≡ length config.partitions
   pub short : AreShort config scripts
@@ -103,13 +103,13 @@ pub record IsSearched (config : Configuration) (scripts : Scripts) (orders : Lis
   pub found : AreFound config scripts replies
   pub tried : (k : ℕ) → k < length orders → HasTried config scripts orders replies k
 
--- after the order, the call that is asked of is its partition's next one, and gets an admitted reply
+-- after the order, the asked call is its partition's next one and gets an admitted reply
 pub record IsAnsweredAfter (config : Configuration) (scripts : Scripts) (asked : Asked) (order : List ℕ) : Type 0 where
   pub one : PossibleReply
   pub answers : Answers asked one
   pub given : IsGivenAfter config scripts order one
 
--- where something is asked, it isn't answered after the order
+-- if something is asked, it isn't answered after the order
 abbrev pub IsUnanswered : Configuration → Scripts → Option Asked → List ℕ → Type 0
 IsUnanswered config scripts asked order = IfSome asked (λ one. ¬ IsAnsweredAfter config scripts one order)
 
@@ -117,17 +117,17 @@ IsUnanswered config scripts asked order = IfSome asked (λ one. ¬ IsAnsweredAft
 abbrev pub IsUnansweredAt : Configuration → Scripts → Option Asked → List (List ℕ) → ℕ → Type 0
 IsUnansweredAt config scripts asked orders k = (order : List ℕ) → slice_get orders k ≡ Some order → IsUnanswered config scripts asked order
 
--- the search has come to its end without an answer
+-- the search is complete without an answer
 pub record IsSearchedInVain (config : Configuration) (scripts : Scripts) (asked : Option Asked) (orders : List (List ℕ)) (replies : List PossibleReply) : Type 0 where
   pub searched : IsSearched config scripts orders replies
   pub unanswered : (k : ℕ) → k < length orders → IsUnansweredAt config scripts asked orders k
 
--- where something is asked, the order answers it; where nothing is, there is no such order
+-- if something is asked, the order answers it; otherwise there is no such order
 abbrev pub IsAnswer : Configuration → Scripts → Option Asked → List ℕ → Type 0
 IsAnswer config scripts None order = ⊥
 IsAnswer config scripts (Some asked) order = IsAnsweredBy config scripts asked order
 
--- the search has an answer, or has come to its end without one
+-- the search has an answer, or is complete without one
 abbrev pub HasEnded : Configuration → Scripts → Option Asked → List (List ℕ) → List PossibleReply → Option (List ℕ) → Type 0
 HasEnded config scripts asked orders replies answer = MatchOption answer (IsSearchedInVain config scripts asked orders replies) (IsAnswer config scripts asked)
 
@@ -141,14 +141,14 @@ pub record AreEndsOf (config : Configuration) (scripts : Scripts) (orders ends :
   pub each : (order : List ℕ) → Has ends order → Has orders order × HasMadeAll config scripts (history_of config scripts order)
   pub every : (order : List ℕ) → Has orders order → HasMadeAll config scripts (history_of config scripts order) → Has ends order
 
--- more orders than the bound lead to points of which no two are one
+-- more orders than the bound lead to points that all differ
 pub record HasMoreOrders (config : Configuration) (scripts : Scripts) (bound : ℕ) : Type 0 where
   pub orders : List (List ℕ)
   pub many : bound < length orders
   pub valid : AreOrders config orders
   pub apart : AreApart config scripts orders
 
--- a search is given up only where there are more points than the bound
+-- a search is given up only if there are more points than the bound
 abbrev pub IsGivenUp : {X : Type 0} → Configuration → Scripts → ℕ → Result X OrdersFault → Type 0
 IsGivenUp config scripts bound (Err TooManyStates) = HasMoreOrders config scripts bound
 IsGivenUp config scripts bound _ = Unit {0}

@@ -1,4 +1,4 @@
--- The state that a history comes to: all that later replies depend on.
+-- The state that a history leads to: all that later replies depend on.
 use Rattle.std.specs.Prelude.{ℕ, ◌≡◌, ◌<◌, length}
 use Rattle.apex_types.specs.declared.validity.Validity.{Validity}
 use Rattle.apex_module.specs.Configuration.{Configuration, ports_of}
@@ -8,12 +8,12 @@ use Rattle.apex_ports.specs.Ports.{IsIdentifier, is_created}
 use Rattle.apex_ports.specs.Channels.{waiting_on, last_write_on}
 use Rattle.apex_ports.specs.Seen.{seen, sampling_port, validity_shown}
 
--- the validity that the partition's port of the identifier shows as its last
+-- the last validity that the partition's port with this identifier shows
 abbrev pub last_shown : Configuration → History → ℕ → ℕ → Validity
 last_shown config history p id =
     validity_shown (seen config history p) id (sampling_port config (seen config history p) p id)
 
--- both histories created the same ports of the partition, and left them the same last validity
+-- both histories created the same ports of the partition, and left them with the same last validity
 pub record IsSamePorts (config : Configuration) (history other : History) (p : ℕ) : Type 0 where
   pub created : (id : ℕ) → IsIdentifier (ports_of config p) id → is_created p id history ≡ is_created p id other
   pub last : (id : ℕ) → IsIdentifier (ports_of config p) id → last_shown config history p id ≡ last_shown config other p id
@@ -28,7 +28,7 @@ pub record IsSameChannel (config : Configuration) (history other : History) (c :
   pub sample : last_write_on config c history ≡ last_write_on config c other
   pub waiting : waiting_on config c history ≡ waiting_on config c other
 
--- both histories come to one state
+-- both histories lead to one state
 pub record IsSameState (config : Configuration) (history other : History) : Type 0 where
   pub partitions : (p : ℕ) → p < length config.partitions → IsSamePartition config history other p
   pub channels : (c : ℕ) → c < length config.channels → IsSameChannel config history other c

@@ -15,7 +15,7 @@ use apex_ports::{Ports, SavedPorts, Script};
 use apex_types::OutOfMemory;
 use std::alloc::Global;
 
-/// The order at the index with the asked call at its end, if that call is the next there and gets an admitted reply.
+/// The order at the index followed by the asked call, if that call is the next there and gets an admitted reply.
 pub(crate) fn answer_after(
     alloc: Global,
     config: &Config,
@@ -51,7 +51,7 @@ pub(crate) fn answer_after(
     Ok(Some(answer))
 }
 
-/// Whether the asked call is its partition's next after the order, and gets an admitted reply.
+/// Whether the asked call is its partition's next after the order and gets an admitted reply.
 fn gives(
     alloc: Global,
     config: &Config,

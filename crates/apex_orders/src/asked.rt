@@ -1,4 +1,4 @@
-//! What is asked of a call of a script.
+//! A question about a call of a script.
 ghost use Rattle.std.specs.Prelude.{◌≡◌, ◌↔◌, IsTrue};
 ghost use Rattle.apex_orders.specs.Outcomes.{Admits, Answers, admitted_by};
 
@@ -8,7 +8,7 @@ use apex_types::{Reply, ReturnCode};
 /// The replies that a question admits.
 #[derive(Debug, Drop, PartialEq, Eq)]
 pub enum Admitted {
-    /// This reply alone.
+    /// Only this reply.
     Reply(Reply),
     /// Every reply with this return code.
     Code(ReturnCode),
@@ -25,7 +25,7 @@ pub struct Asked {
 }
 
 impl Admitted {
-    /// What a reply asks for: a return code alone stands for every reply with that code, and another reply for itself.
+    /// What a reply asks for: a return code alone admits every reply with that code, and any other reply only itself.
     pub fn of(reply: Reply) -> Admitted
         ensures { result ≡ admitted_by reply }
     {
@@ -47,7 +47,7 @@ impl Admitted {
 }
 
 impl Asked {
-    /// Whether the reply is to the call that is asked of, and admitted.
+    /// Whether the reply is to the asked call, and admitted.
     pub(crate) fn is_answered_by(&self, one: &PossibleReply) -> bool
         ensures { IsTrue result ↔ Answers self.now one.now }
     {

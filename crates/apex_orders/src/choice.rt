@@ -12,18 +12,18 @@ use apex_ports::{Ports, Refusal, Row, Script};
 use apex_types::{Call, Moment, OutOfMemory};
 use std::alloc::Global;
 
-/// What a partition's next call has to do with other partitions.
+/// How a partition's next call concerns other partitions.
 #[derive(Clone, Copy)]
 enum NextUse {
     /// There is no next call.
     NoCall,
-    /// Nothing: it names no channel, or is refused before the channel is looked at.
+    /// Not at all: it names no channel, or is refused before the channel is read.
     NoChannel,
-    /// It asks the channel, or changes it.
+    /// It reads the channel, or changes it.
     Channel { channel: usize, is_change: bool },
 }
 
-/// Whether the row is that of a call that is refused, or not made, before the channel is looked at.
+/// Whether the row is that of a call that is refused, or not made, before the channel is read.
 fn is_early(row: Row) -> bool
     ensures { result ≡ is_early row }
 {
@@ -52,7 +52,7 @@ fn next_call<'a>(ports: &Ports, scripts: &'a [Script], p: usize) -> Option<&'a (
     Some(&script.calls[index])
 }
 
-/// The use by the partition's next call.
+/// How the partition's next call uses a channel.
 fn next_use(ports: &Ports, scripts: &[Script], p: usize) -> NextUse
     requires partition { p < length ports.now.config.partitions }
     requires scripts { length scripts.now ≡ length ports.now.config.partitions }
@@ -75,7 +75,7 @@ fn next_use(ports: &Ports, scripts: &[Script], p: usize) -> NextUse
     }
 }
 
-/// The uses by all next calls.
+/// How all next calls use channels.
 fn next_uses(alloc: Global, ports: &Ports, scripts: &[Script]) -> Result<Vec<NextUse>, OutOfMemory>
     requires { length scripts.now ≡ length ports.now.config.partitions }
     ensures { IfOk result (λ nexts.
@@ -146,7 +146,7 @@ fn are_enough(
     some
 }
 
-/// Whether the partition has a next call, which no call that partitions outside of the set still have to make disturbs.
+/// Whether the partition has a next call, and no call that partitions outside the set have yet to make disturbs it.
 fn is_safe(
     ports: &Ports,
     scripts: &[Script],
@@ -170,8 +170,7 @@ fn is_safe(
     }
 }
 
-/// Whether no partition outside of the set has still to make a call that can change the channel or, where that is asked,
-/// names it.
+/// Whether no partition outside the set has yet to make a call that can change the channel or, if `named`, names it.
 fn is_quiet_outside(
     ports: &Ports,
     scripts: &[Script],
@@ -194,8 +193,8 @@ fn is_quiet_outside(
     true
 }
 
-/// The set that grows from this partition's next call, or else the smallest that grows from one. No clause says so: `choose`
-/// asks whether it is enough.
+/// The set that grows from this partition's next call, or else the smallest that grows from one. No clause says so:
+/// `choose` checks whether it is enough.
 fn members(
     alloc: Global,
     ports: &Ports,
@@ -242,7 +241,7 @@ fn has_call(nexts: &[NextUse], p: usize) -> bool {
     }
 }
 
-/// The partition, with those that disturb the next call of one that is in.
+/// The partition, with those that disturb the next call of a member.
 fn grown(
     alloc: Global,
     ports: &Ports,
@@ -266,13 +265,13 @@ fn grown(
     Ok(members)
 }
 
-/// The use by the next call of a member.
+/// How a member's next call uses a channel.
 fn next_of(members: &[usize], i: usize, nexts: &[NextUse]) -> Option<NextUse> {
     let p = members.get(i)?;
     nexts.get(*p).copied()
 }
 
-/// Whether the partition has still to make a call that can't change places with the next one of another.
+/// Whether the partition has yet to make a call that doesn't commute with the next one of another.
 fn disturbs(ports: &Ports, uses: &[LastUses], q: usize, next: NextUse) -> bool
     requires partitions { length uses.now ≡ length ports.now.config.partitions }
     requires partition { q < length uses.now }

@@ -1,11 +1,11 @@
-//! The channel that a call asks or changes.
+//! The channel that a call reads or changes.
 ghost use Rattle.std.specs.Prelude.{◌≡◌};
 ghost use Rattle.apex_orders.specs.Commuting.{channel_named, id_in, is_change};
 
 use apex_module::Config;
 use apex_types::Call;
 
-/// The identifier by which the call asks or changes a channel.
+/// The identifier by which the call reads or changes a channel.
 fn id_in(call: &Call) -> Option<u32>
     ensures { result ≡ id_in call.now }
 {
@@ -20,7 +20,7 @@ fn id_in(call: &Call) -> Option<u32>
     }
 }
 
-/// Whether the call can put something into a channel or take something out.
+/// Whether the call can put a message into a channel or take one from it.
 pub(crate) fn is_change(call: &Call) -> bool
     ensures { result ≡ is_change call.now }
 {

@@ -1,4 +1,4 @@
-//! Hashes of points, by which most points are told apart without a comparison.
+//! Hashes of points, which distinguish most points without a comparison.
 ghost use Rattle.std.specs.Prelude.{◌≡◌, ◌<◌, length};
 ghost use Rattle.std.specs.Option.{option_copied};
 ghost use Rattle.apex_ports.specs.Channels.{waiting_on};
@@ -7,8 +7,8 @@ ghost use Rattle.apex_orders.specs.Hashes.{hash_of, mix, calls_hash, shown_hash,
 
 use apex_ports::Ports;
 
-/// A number made of the counts of calls and of messages, of the messages that wait, and of what ports show as their
-/// last validity. Equal points have one hash.
+/// A hash of the counts of calls and messages, the waiting messages, and the last validity that ports show. Equal
+/// points have the same hash.
 pub(crate) fn hash_of(ports: &Ports) -> u64
     ensures { result ≡ hash_of ports.now.config ports.now.history }
 {
@@ -43,7 +43,7 @@ fn hash_of_shown(ports: &Ports) -> u64
     hash
 }
 
-/// The hash with what the partition's ports show as their last validity.
+/// The hash extended by the last validity that the partition's ports show.
 fn hash_with_shown(ports: &Ports, p: usize, before: u64) -> u64
     requires { p < length ports.now.config.partitions }
     ensures { result ≡ shown_from ports.now.config ports.now.history p before }
@@ -56,7 +56,7 @@ fn hash_with_shown(ports: &Ports, p: usize, before: u64) -> u64
     hash
 }
 
-/// The hash with the messages that wait on the channel.
+/// The hash extended by the messages that wait on the channel.
 fn hash_with_messages(ports: &Ports, c: usize, before: u64) -> u64
     requires { c < length ports.now.config.channels }
     ensures { result ≡ messages_hash before
@@ -88,7 +88,7 @@ fn hash_with_bytes(before: u64, bytes: &[u8]) -> u64
     hash
 }
 
-/// A hash with one number more.
+/// The hash extended by one number.
 fn mix(hash: u64, number: u64) -> u64
     ensures { result ≡ mix hash number }
 {

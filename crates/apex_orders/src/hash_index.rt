@@ -1,4 +1,4 @@
-//! Hashes in the order in which they were found, with an index of where each one is.
+//! Hashes in the order in which they were found, with an index of where each is.
 ghost use Rattle.std.specs.Prelude.{◌≡◌, ◌<◌, ◌++◌, ◌∷◌, [], ◌↔◌, ◌%◌, ℕ, length, slice_get, Some, IfOk, OnOk, IsTrue};
 ghost use Rattle.apex_orders.specs.Buckets.{IsIn, StayIn};
 ghost use Rattle.apex_orders.specs.Lists.{Has};
@@ -7,7 +7,7 @@ use apex_types::OutOfMemory;
 use std::alloc::{AllocError, Global};
 use std::marker::Model;
 
-/// The indexes of the hashes that have one remainder. To a contract it is the list of them.
+/// The indexes of the hashes with one remainder. A contract sees them as a list.
 #[derive(Drop)]
 struct Bucket {
     indexes: Vec<usize>,
@@ -30,7 +30,7 @@ impl Bucket {
         }
     }
 
-    /// One index more.
+    /// Adds an index.
     fn add(&mut self, index: usize) -> Result<(), AllocError>
         ensures kept { (k : ℕ) → Has self.old k → Has self.new k }
         ensures added { OnOk result (Has self.new index) }
@@ -46,7 +46,7 @@ impl Bucket {
     }
 }
 
-/// The hashes of points, in the order in which they were found. To a contract it is the list of them.
+/// The hashes of points, in the order in which they were found. A contract sees them as a list.
 #[derive(Drop)]
 pub(crate) struct HashIndex {
     hashes: Vec<u64>,
@@ -77,7 +77,7 @@ impl HashIndex {
         })
     }
 
-    /// One hash more.
+    /// Adds a hash.
     pub(crate) fn push(&mut self, hash: u64) -> Result<(), OutOfMemory>
         ensures { OnOk result (self.new ≡ self.old ++ hash ∷ []) }
     {
@@ -87,7 +87,7 @@ impl HashIndex {
         Ok(())
     }
 
-    /// Indexes at which the hash may stand; it stands at no others.
+    /// Indexes at which the hash may be; it is at no others.
     pub(crate) fn indexes(&self, hash: u64) -> &[usize]
         ensures { (k : ℕ) → slice_get self.now k ≡ Some hash → Has result.now k }
     {
@@ -95,7 +95,7 @@ impl HashIndex {
         self.buckets[b].indexes()
     }
 
-    /// Whether the hash stands at the index.
+    /// Whether the hash is at the index.
     pub(crate) fn stands_at(&self, hash: u64, k: usize) -> bool
         ensures { IsTrue result ↔ (slice_get self.now k ≡ Some hash) }
     {

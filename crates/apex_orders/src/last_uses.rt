@@ -11,7 +11,7 @@ use apex_ports::Script;
 use apex_types::{Call, OutOfMemory};
 use std::alloc::Global;
 
-/// How many calls of a script there are up to the last that names a channel, and up to the last that can change it.
+/// The number of calls of a script up to the last that names a channel, and up to the last that can change it.
 #[derive(Clone, Copy)]
 pub(crate) struct LastUse {
     pub(crate) named: usize,
@@ -19,7 +19,7 @@ pub(crate) struct LastUse {
 }
 
 impl LastUse {
-    /// With the call before this count, which names the channel.
+    /// Includes the call before this count, which names the channel.
     fn followed_by(self, is_change: bool, count: usize) -> LastUse
         ensures named { result.named ≡ count }
         ensures changed { result.changed ≡ (if is_change then count else self.changed) }
@@ -30,7 +30,7 @@ impl LastUse {
         }
     }
 
-    /// Up to which count there are calls that can change the channel or, where that is asked, name it.
+    /// The count up to which calls can change the channel or, if `named`, name it.
     fn count(self, named: bool) -> usize
         ensures { result ≡ (if named then self.named else self.changed) }
     {
@@ -45,7 +45,7 @@ pub(crate) struct LastUses {
 }
 
 impl LastUses {
-    /// Those of the partition's script.
+    /// The last uses by the partition's script.
     fn new(
         alloc: Global,
         config: &Config,
@@ -69,7 +69,7 @@ impl LastUses {
         Ok(uses)
     }
 
-    /// With the call at an index, which no call before reaches.
+    /// Includes the call at an index, which is beyond all calls so far.
     fn add(&mut self, config: &Config, p: usize, call: &Call, k: usize)
         requires { k < usize.MAX }
         ensures { (script : List (Moment × Call)) (at : Moment)
@@ -86,7 +86,7 @@ impl LastUses {
         self.channels[channel] = last.followed_by(is_change(call), k + 1);
     }
 
-    /// Whether from an index on no call can change the channel or, where that is asked, names it.
+    /// Whether no call from an index on can change the channel or, if `named`, names it.
     pub(crate) fn are_over(&self, channel: usize, named: bool, made: usize) -> bool
         ensures { (config : Configuration) (p : ℕ) (script : List (Moment × Call))
             → AreLastUses config p script self.now → IsTrue result

@@ -1,4 +1,5 @@
-//! All that can happen to the scripts of a module, over every order of their calls; and the states that replies depend on.
+//! All that can happen to the scripts of a module, over every order of their calls; and the states that replies depend
+//! on.
 #![tactic(auto)]
 
 mod answer;

@@ -5,7 +5,7 @@ ghost use Rattle.apex_orders.specs.Orders.{times};
 use std::alloc::{AllocError, Global};
 use std::marker::Model;
 
-/// The partitions that make the calls, first to last. To a contract it is the list of their numbers.
+/// The partitions that make the calls, first to last. A contract sees the list of their numbers.
 #[derive(Debug, Drop)]
 pub struct Order {
     partitions: Vec<usize>,
@@ -35,7 +35,7 @@ impl Order {
     }
 }
 
-/// An order with one byte for each call. To a contract it is the list of the partitions' numbers.
+/// An order with one byte for each call. A contract sees the list of the partitions' numbers.
 #[derive(Drop)]
 pub(crate) struct PackedOrder {
     partitions: Vec<u8>,
@@ -50,7 +50,7 @@ impl Model for PackedOrder {
 }
 
 impl PackedOrder {
-    /// The order of no calls.
+    /// The order without calls.
     pub(crate) fn new(alloc: Global) -> PackedOrder
         ensures { result ≡ [] }
     {
@@ -66,7 +66,7 @@ impl PackedOrder {
         self.partitions.as_slice()
     }
 
-    /// How many of the calls are the partition's.
+    /// The number of the partition's calls.
     pub(crate) fn calls_of(&self, p: usize) -> usize
         ensures { result ≡ times p self.now }
     {
@@ -79,7 +79,7 @@ impl PackedOrder {
         count
     }
 
-    /// An equal order.
+    /// A copy of the order.
     pub(crate) fn copy(&self, alloc: Global) -> Result<PackedOrder, AllocError>
         ensures { IfOk result (λ order. order ≡ self.now) }
     {
@@ -87,7 +87,7 @@ impl PackedOrder {
         Ok(PackedOrder { partitions })
     }
 
-    /// The order with one call more at its end.
+    /// The order followed by one more call.
     pub(crate) fn followed_by(&self, alloc: Global, p: usize) -> Result<PackedOrder, AllocError>
         requires { p < 256 }
         ensures { IfOk result (λ order. order ≡ self.now ++ p ∷ []) }
@@ -98,7 +98,7 @@ impl PackedOrder {
         Ok(PackedOrder { partitions })
     }
 
-    /// The order with whole numbers.
+    /// The order with `usize` numbers.
     pub(crate) fn unpacked(&self, alloc: Global) -> Result<Order, AllocError>
         ensures { IfOk result (λ order. order ≡ self.now) }
     {

@@ -9,7 +9,7 @@ use thiserror::Error;
 /// Why a search of all orders has no answer.
 #[derive(Clone, Copy, Debug, PartialEq, Eq, Error)]
 pub enum OrdersFault {
-    /// An allocation was refused.
+    /// An allocation failed.
     #[error("out of memory")]
     OutOfMemory,
     /// The orders lead to more states than the bound: nothing is claimed.

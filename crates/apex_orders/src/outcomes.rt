@@ -21,14 +21,14 @@ use std::alloc::Global;
 pub struct Outcomes {
     /// The replies that the calls can get, each once.
     pub replies: Vec<PossibleReply>,
-    /// One order to each point that all calls can lead to.
+    /// One order for each point that all calls can lead to.
     pub ends: Vec<Order>,
-    /// How many points there are, with those on the way.
+    /// The number of points, including those on the way.
     pub states: usize,
 }
 
 /// All that can happen to the partitions' scripts on new ports of the configuration, over every order of their calls.
-/// It is undecided if they come to more states than the bound.
+/// It is undecided if they lead to more states than the bound.
 pub fn all_outcomes(
     alloc: Global,
     config: &Config,
@@ -44,7 +44,7 @@ pub fn all_outcomes(
     all_outcomes_with_progress(alloc, config, scripts, bound, &mut NoProgress)
 }
 
-/// The answer of `all_outcomes`. `progress` receives from time to time how far the search is.
+/// Answers like `all_outcomes`. `progress` receives from time to time how far the search is.
 pub fn all_outcomes_with_progress<P: Progress>(
     alloc: Global,
     config: &Config,
@@ -95,7 +95,7 @@ fn ends_of(
     Ok(ends)
 }
 
-/// Whether the order makes all calls. One that names a partition fewer times than it has calls isn't run for that.
+/// Whether the order makes all calls. An order that names a partition fewer times than it has calls isn't run.
 fn is_end(
     alloc: Global,
     config: &Config,

@@ -1,11 +1,11 @@
-//! Comparing the points that two orders lead to.
+//! Compares the points that two orders lead to.
 ghost use Rattle.std.specs.Prelude.{◌≡◌, ◌↔◌, IsTrue};
 ghost use Rattle.apex_orders.specs.Points.{IsSamePoint, IsSameCalls, IsSameCounts};
 
 use crate::same_state::is_same_state;
 use apex_ports::Ports;
 
-/// Whether both made as many calls of each partition and came to one state, with the same counts of messages.
+/// Whether both made the same number of calls of each partition and led to one state, with the same counts of messages.
 pub(crate) fn is_same_point(a: &Ports, b: &Ports) -> bool
     requires { a.now.config ≡ b.now.config }
     ensures { IsTrue result ↔ IsSamePoint a.now.config a.now.history b.now.history }

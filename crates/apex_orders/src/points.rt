@@ -1,4 +1,4 @@
-//! The known points: their hashes, and what the ports were at those that the search has yet to go on from.
+//! The known points: their hashes, and the ports at those from which the search has yet to continue.
 ghost use Rattle.std.specs.Prelude.{◌≡◌, ◌-◌, ◌<◌, ◌≤◌, ◌↔◌, ◌++◌, [], ◌∷◌, ℕ, List, length, IfOk, OnOk, IfSome, MatchOption, IsTrue, slice_get, Some};
 ghost use Rattle.apex_ports.specs.Sound.{IsSound};
 ghost use Rattle.apex_orders.specs.Known.{ArePoints, IsAfter, IsTrialOf, IsLeft, IsTaken};
@@ -19,10 +19,10 @@ use apex_types::OutOfMemory;
 use std::alloc::Global;
 use std::collections::VecDeque;
 
-/// How many buckets the hashes of points have: a prime.
+/// The number of buckets for the hashes of points: a prime.
 const BUCKETS: usize = 131_071;
 
-/// The hashes of all known points, and what the ports were at those from the index `first` on.
+/// The hashes of all known points, and the ports at those from the index `first` on.
 #[derive(Drop)]
 pub(crate) struct Points {
     pub(crate) hashes: HashIndex,
@@ -31,7 +31,7 @@ pub(crate) struct Points {
 }
 
 impl Points {
-    /// The point before the first call alone.
+    /// Only the point before the first call.
     pub(crate) fn new(alloc: Global, config: &Config) -> Result<Points, OutOfMemory>
         ensures first { IfOk result (λ points. points.first ≡ 0) }
         ensures points { IfOk result (λ points. (scripts : Scripts) →
@@ -49,7 +49,7 @@ impl Points {
         })
     }
 
-    /// Takes out what the ports were at the index, where that is the first of which it is saved.
+    /// Takes out the ports saved at the index, if it is the first index with saved ports.
     pub(crate) fn take(&mut self, k: usize) -> Option<SavedPorts>
         requires { k < usize.MAX }
         ensures { MatchOption result (IsLeft self.old self.new)
@@ -67,7 +67,7 @@ impl Points {
         }
     }
 
-    /// One point more.
+    /// Adds a point.
     pub(crate) fn push(
         &mut self,
         alloc: Global,
@@ -84,7 +84,7 @@ impl Points {
         Ok(())
     }
 
-    /// What the ports were at the index, where it is saved.
+    /// The ports saved at the index, if there are any.
     pub(crate) fn saved_at(&self, k: usize) -> Option<&SavedPorts>
         ensures index { IfSome result (λ _. self.now.first ≤ k) }
         ensures ports { IfSome result (λ ports.
@@ -135,7 +135,7 @@ pub(crate) fn is_known(
     Ok(false)
 }
 
-/// Makes the ports what the order leads to: what was saved, or else new ports on which the order is run.
+/// Sets the ports to what the order leads to: the saved ports, or else new ports on which the order is run.
 pub(crate) fn go_to(
     alloc: Global,
     config: &Config,

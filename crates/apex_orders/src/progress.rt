@@ -1,11 +1,11 @@
 //! Reports of how far a search is.
 
-/// How many points of a level a search goes on from before it reports again.
+/// The number of points of a level that a search continues from before it reports again.
 const POINTS_BETWEEN_REPORTS: usize = 4_096;
 
 /// Receives reports of how far a search of all points is. No contract depends on what it does with them.
 pub trait Progress {
-    /// The search goes on from points after `depth` calls, and has found this many states.
+    /// The search continues from points after `depth` calls, and has found this many states.
     fn level(&mut self, depth: usize, states: usize);
 }
 
@@ -17,7 +17,7 @@ impl Progress for NoProgress {
     fn level(&mut self, _depth: usize, _states: usize) {}
 }
 
-/// The points after the same number of calls, which are next to each other among those that are found.
+/// The points after the same number of calls, which are adjacent among those found.
 #[derive(Drop)]
 pub(crate) struct Level {
     depth: usize,
@@ -26,12 +26,13 @@ pub(crate) struct Level {
 }
 
 impl Level {
-    /// The point before the first call alone.
+    /// Only the point before the first call.
     pub(crate) fn new() -> Level {
         Level { depth: 0, end: 1 }
     }
 
-    /// Reports that the search goes on from the point at the index, if a level begins there or enough points have passed.
+    /// Reports that the search continues from the point at the index, if a level begins there or enough points have
+    /// passed.
     pub(crate) fn report<P: Progress>(&mut self, progress: &mut P, index: usize, states: usize) {
         let is_next = index >= self.end;
         if is_next {

@@ -1,4 +1,4 @@
-//! Running an order.
+//! Runs an order.
 ghost use Rattle.std.specs.Prelude.{◌≡◌, length, IfOk};
 ghost use Rattle.apex_ports.specs.Sound.{IsSound};
 ghost use Rattle.apex_orders.specs.Orders.{history_of, IsOrder};

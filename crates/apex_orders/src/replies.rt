@@ -18,10 +18,10 @@ pub struct PossibleReply {
     pub reply: Reply,
 }
 
-/// How many buckets the hashes of replies have: a prime.
+/// The number of buckets for the hashes of replies: a prime.
 const BUCKETS: usize = 1_021;
 
-/// The replies that were found, and hashes by which they are looked up. To a contract it is the list of them.
+/// The replies that were found, and hashes to look them up. A contract sees the list of replies.
 #[derive(Drop)]
 pub(crate) struct Replies {
     pub(crate) found: Vec<PossibleReply>,
@@ -49,7 +49,7 @@ impl Replies {
         })
     }
 
-    /// Adds the reply, unless it is there.
+    /// Adds the reply, unless it is there already.
     pub(crate) fn add(&mut self, one: PossibleReply) -> Result<(), OutOfMemory>
         ensures { OnOk result ((other : PossibleReply) →
             Has self.new other ↔ (Has self.old other ⊎ (other ≡ one))) }

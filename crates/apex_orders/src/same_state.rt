@@ -1,4 +1,4 @@
-//! Comparing the states of the ports of two runs of one configuration.
+//! Compares the states of the ports of two runs of one configuration.
 ghost use Rattle.std.specs.Prelude.{◌≡◌, ◌<◌, ◌↔◌, length, IsTrue};
 ghost use Rattle.std.specs.Option.{option_copied};
 ghost use Rattle.apex_ports.specs.Channels.{waiting_on, last_write_on};
@@ -8,7 +8,7 @@ use apex_ports::Ports;
 use apex_types::Sample;
 use std::alloc::Allocator;
 
-/// Whether the histories of both led to one state. Messages are compared by their bytes, and none is copied.
+/// Whether both histories led to one state. Messages are compared by their bytes, without a copy.
 pub fn is_same_state<A: Allocator>(a: &Ports<A>, b: &Ports<A>) -> bool
     requires { a.now.config ≡ b.now.config }
     ensures { IsTrue result ↔ IsSameState a.now.config a.now.history b.now.history }

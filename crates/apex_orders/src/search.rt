@@ -24,8 +24,8 @@ use apex_ports::{SavedPorts, Script};
 use apex_types::OutOfMemory;
 use std::alloc::Global;
 
-/// What a search has found: one order to each point, and the replies; or the order that answers a question, at which it
-/// ended.
+/// What a search has found: one order to each point, and the replies; or the order that answers a question and ended
+/// the search.
 #[derive(Drop)]
 pub(crate) struct Found {
     pub(crate) orders: Vec<PackedOrder>,
@@ -33,8 +33,8 @@ pub(crate) struct Found {
     pub(crate) answer: Option<PackedOrder>,
 }
 
-/// Searches on from each point, in the order in which they are found, until none is left, or until one order answers
-/// the question.
+/// Continues from each point, in the order in which the points are found, until none is left, or until one order
+/// answers the question.
 pub(crate) fn search_points<P: Progress>(
     alloc: Global,
     config: &Config,
@@ -66,9 +66,9 @@ pub(crate) fn search_points<P: Progress>(
     Ok(current.into_found(None))
 }
 
-/// A search: one order to each point, in the order in which they are found, what is kept of the points, the replies,
-/// ports on which calls are tried, the last uses of channels by the scripts, and the partition that a question is about:
-/// its next call is always tried, so that an order that answers is a short one.
+/// A search: one order to each point, in the order in which they are found; what is kept of the points; the replies;
+/// ports on which calls are tried; the last uses of channels by the scripts; and the partition that a question is
+/// about, whose next call is always tried, so that an order that answers is short.
 #[derive(Drop)]
 pub(crate) struct Search {
     pub(crate) orders: Vec<PackedOrder>,
@@ -80,7 +80,7 @@ pub(crate) struct Search {
 }
 
 impl Search {
-    /// The order of no calls alone.
+    /// Only the order without calls.
     fn new(
         alloc: Global,
         config: &Config,
@@ -213,7 +213,7 @@ impl Search {
         Ok(())
     }
 
-    /// Keeps the order with the partition's call at its end, unless another order leads to the same point.
+    /// Keeps the order followed by the partition's call, unless another order leads to the same point.
     fn learn(
         &mut self,
         alloc: Global,
@@ -267,7 +267,7 @@ impl Search {
     }
 }
 
-/// The order of no calls alone.
+/// Only the order without calls.
 fn first_orders(alloc: Global) -> Result<Vec<PackedOrder>, OutOfMemory>
     ensures { IfOk result (λ orders. orders.items ≡ [] ∷ []) }
 {

@@ -7,7 +7,7 @@ ghost use Rattle.apex_orders.specs.Steps.{MakesNothing, Makes};
 use crate::replies::PossibleReply;
 use apex_ports::{Ports, Script};
 
-/// Makes the next call of the partition's script. Returns `None` if all are made, and then makes no call.
+/// Makes the next call of the partition's script. If all are made, it makes no call and returns `None`.
 pub fn step(ports: &mut Ports, scripts: &[Script], p: usize) -> Option<PossibleReply>
     requires partition { p < length ports.old.config.partitions }
     requires scripts { length scripts.now ≡ length ports.old.config.partitions }
@@ -20,7 +20,7 @@ pub fn step(ports: &mut Ports, scripts: &[Script], p: usize) -> Option<PossibleR
         (MakesNothing ports.old.config scripts.now ports.old.history p)
         (λ one. Makes ports.old.config scripts.now ports.old.history p one) }
 
-    // A script has no more calls than are counted.
+    // No script has more calls than can be counted.
     ensures short { length (script_of scripts.now p) ≤ usize.MAX }
 {
     let script = &scripts[p];

@@ -7,7 +7,7 @@ use apex_ports::Ports;
 use apex_types::OutOfMemory;
 use std::alloc::Global;
 
-/// Ports on which a call is tried, and others with which they are compared.
+/// Ports on which a call is tried, and others to compare them with.
 #[derive(Drop)]
 pub(crate) struct Trial {
     pub(crate) ports: Ports,

@@ -11,9 +11,9 @@ use apex_module::Config;
 use apex_ports::Script;
 use std::alloc::Global;
 
-/// An order in which the asked call gets an admitted reply: the calls up to that one, which is the last. `None` if no order
-/// of all calls gives it such a reply. The first order that gives one ends the search. If none is found, it is undecided if
-/// orders come to more states than the bound.
+/// An order in which the asked call gets an admitted reply: the calls up to that one, which is the last. `None` if no
+/// order of all calls gives it such a reply. The first order that gives one ends the search. If none is found and
+/// orders lead to more states than the bound, the answer is undecided.
 pub fn order_giving(
     alloc: Global,
     config: &Config,
@@ -31,7 +31,7 @@ pub fn order_giving(
     order_giving_with_progress(alloc, config, scripts, asked, bound, &mut NoProgress)
 }
 
-/// The answer of `order_giving`. `progress` receives from time to time how far the search is.
+/// Answers like `order_giving`. `progress` receives from time to time how far the search is.
 pub fn order_giving_with_progress<P: Progress>(
     alloc: Global,
     config: &Config,

@@ -8,7 +8,7 @@ use Rattle.toml.specs.View.{view, items_view, members_view}
 use Rattle.toml.specs.declared.value.Value.{Value}
 use Rattle.apex_config.specs.Values.{list_of, keys_of_table}
 
--- what a function reads of what a reference points to
+-- what a function reads through a reference
 pub read_through : {A B : Type 0} (f : A → B) (o : Option (Bor A)) → option_map (λ (x : Bor A). f x.now) o ≡ option_map f (option_map (λ (x : Bor A). x.now) o)
 read_through f None = refl
 read_through f (Some x) = refl

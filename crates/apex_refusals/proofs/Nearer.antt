@@ -1,4 +1,4 @@
--- The nearest of the known words that were looked at so far.
+-- The nearest of the known words that were compared so far.
 use Rattle.std.proofs.Common.{◌≡◌, ◌≤◌, ◌<◌, ℕ, ◌+◌, Bool, true, false, nat_lt, cond, List, ◌∷◌, length, drop, Option, Some, None, refl, ap, ◌∙◌, arith}
 use Rattle.std.specs.Prelude.{slice_get}
 use Rattle.std.proofs.lemmas.Bool.Decides.{nat_tests}
@@ -6,22 +6,22 @@ use Rattle.std.proofs.lemmas.List.{at_drop_more, at_drop_all}
 use Rattle.std.proofs.lemmas.Option.{slice_get_within, get_or_from_slice_get}
 use Rattle.apex_refusals.specs.Nearest.{edits, most_edits, IsNearest, nearest_from}
 
--- so many edits lead to the word found
+-- this number of edits leads to the word found
 abbrev pub IsFound : List ℕ → ℕ → Option (List ℕ) → Type 0
 IsFound word least None = least ≡ most_edits word + 1
 IsFound word least (Some found) = (edits word found ≡ least) × (least ≤ most_edits word)
 
--- fewer edits than to the word found, or than a mistyped word may have
+-- fewer edits than to the word found are few enough for a mistyped word
 pub few : (word : List ℕ) (least fewer : ℕ) (found : Option (List ℕ)) → IsFound word least found → fewer < least → fewer ≤ most_edits word
 few word least fewer None is less = omega arith
 few word least fewer (Some found) is less = let most = is.1 in omega arith
 
--- at least so many edits lead to each of the first words
+-- each of the first words is at least this number of edits away
 abbrev pub EachBefore : ℕ → ℕ → List ℕ → List (List ℕ) → Type 0
 EachBefore index least word known = (j : ℕ) (other : List ℕ) → j < index → slice_get known j ≡ Some other → least ≤ edits word other
 
 module _ (word : List ℕ) (known : List (List ℕ)) (i least fewer : ℕ) (name : List ℕ) where
-  -- one word more
+  -- one more word
   pub one_more : slice_get known i ≡ Some name → EachBefore i least word known → fewer ≤ least → fewer ≤ edits word name → EachBefore (i + 1) fewer word known
   one_more here before less this j other inside is = by_test (nat_lt j i) refl
     where
@@ -32,7 +32,7 @@ module _ (word : List ℕ) (known : List (List ℕ)) (i least fewer : ℕ) (name
           let same : j ≡ i = grind (arith, nat_tests) in
           grind (arith, same, here, is, this)
 
--- all words were looked at
+-- all words were compared
 pub nearest_of : (word : List ℕ) (known : List (List ℕ)) (index least : ℕ) (found : Option (List ℕ)) → length known ≤ index → IsFound word least found → EachBefore index least word known
     → IsNearest word known found
 nearest_of word known index least None all is each =

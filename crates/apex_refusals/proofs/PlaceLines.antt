@@ -1,4 +1,4 @@
--- Where the lines of a text end.
+-- The ends of a text's lines.
 use Rattle.std.proofs.Common.{◌≡◌, ℕ, suc, ◌+◌, ◌-◌, ◌<◌, ◌≤◌, ◌==◌, Bool, true, false, cond, List, [], ◌∷◌, ◌++◌, length, drop, get_or, sym, ap, ◌∙◌, arith, append_assoc}
 use Rattle.std.proofs.Math.Seq.{drop-cons}
 use Rattle.std.proofs.lemmas.List.{take_all}
@@ -10,7 +10,7 @@ module _ (text : List ℕ) (offset byte : ℕ) (within : offset < length text) (
       drop-cons text offset byte within
       ∙ (ap (λ (b : ℕ). b ∷ drop (suc offset) text) here ∙ ap (λ (n : ℕ). byte ∷ drop n text) (let same : suc offset ≡ offset + 1 = omega arith in same))
 
-  -- the ends so far, and those from a offset on, where a line ends there
+  -- the ends so far, and those from an offset on, if a line ends there
   pub end_here : (ends : List ℕ) → (byte == 10) ≡ true → ends ++ line_ends offset (drop offset text) ≡ line_ends 0 text
       → (ends ++ offset ∷ []) ++ line_ends (offset + 1) (drop (offset + 1) text) ≡ line_ends 0 text
   end_here ends is so_far =
@@ -18,7 +18,7 @@ module _ (text : List ℕ) (offset byte : ℕ) (within : offset < length text) (
       ∙ (ap (λ (b : Bool). ends ++ cond b (offset ∷ line_ends (offset + 1) (drop (offset + 1) text)) (line_ends (offset + 1) (drop (offset + 1) text))) (sym is)
       ∙ (ap (λ (rest : List ℕ). ends ++ line_ends offset rest) (sym next) ∙ so_far))
 
-  -- and where none does
+  -- the same, if no line ends there
   pub no_end_here : (ends : List ℕ) → (byte == 10) ≡ false → ends ++ line_ends offset (drop offset text) ≡ line_ends 0 text
       → ends ++ line_ends (offset + 1) (drop (offset + 1) text) ≡ line_ends 0 text
   no_end_here ends is so_far =

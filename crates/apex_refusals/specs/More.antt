@@ -1,6 +1,6 @@
--- How many mistakes more there are than are told.
+-- The number of mistakes that are not listed.
 use Rattle.std.specs.Prelude.{ℕ, ◌==◌, if◌then◌else◌, List, [], ◌++◌, codes, decimal}
 
--- the line behind those that are told
+-- the line after those that are listed
 abbrev pub more_line : ℕ → List ℕ
 more_line more = if more == 0 then [] else codes "and " ++ (decimal more ++ codes " more\n")

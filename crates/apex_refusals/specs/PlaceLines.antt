@@ -1,4 +1,4 @@
--- The line of a text on which a part of its document begins to stand.
+-- The line of a text on which a part of its document begins.
 use Rattle.std.specs.Prelude.{ℕ, ◌≡◌, ◌≤◌, ◌+◌, ◌-◌, ◌==◌, Bool, true, false, if◌then◌else◌, List, [], ◌∷◌, ◌++◌, length, take, slice_index_or, codes, Option, Some, None}
 use Rattle.std.specs.Option.{option_or}
 use Rattle.toml.specs.Data.{Data}
@@ -10,7 +10,7 @@ use Rattle.apex_refusals.specs.declared.line_of.TheConstants.{LOOKED_THROUGH}
 
 -- ---- lines
 
--- where the lines of a text end whose first byte has this offset: at each newline, and where the text ends
+-- where the lines of a text end if its first byte has this offset: at each newline, and where the text ends
 abbrev pub line_ends : ℕ → List ℕ → List ℕ
 line_ends offset [] = offset ∷ []
 line_ends offset (byte ∷ rest) = if byte == 10 then offset ∷ line_ends (offset + 1) rest else line_ends (offset + 1) rest
@@ -19,9 +19,10 @@ line_ends offset (byte ∷ rest) = if byte == 10 then offset ∷ line_ends (offs
 abbrev pub first_lines : ℕ → List ℕ → List ℕ
 first_lines number text = take (slice_index_or (line_ends 0 text) (number - 1) (length text)) text
 
--- ---- what stands in them
+-- ---- what is in them
 
--- the document that the begin of a text is: as it stands, or with an end to the array of tables that is open, or to one within another
+-- the document of the beginning of a text: as it is, or with the open array of tables closed, or with one inside
+-- another closed
 abbrev pub document_in : List ℕ → Option Data
 document_in begin =
     option_or (document_of begin) (option_or (document_of (begin ++ codes "\n]")) (document_of (begin ++ codes "\n]}]")))
@@ -30,24 +31,24 @@ abbrev pub has_part : Option Data → Part → Option (List ℕ) → Bool
 has_part None part key = false
 has_part (Some document) part key = stands document part key
 
--- whether the begin of a text has the part, or the key in it
+-- whether the beginning of a text has the part, or the key in it
 abbrev pub stands_in : List ℕ → Part → Option (List ℕ) → Bool
 stands_in begin part key = has_part (document_in begin) part key
 
 -- ---- the line of a place
 
--- with this line it stands in the text so far, and without it it doesn't
+-- the text up to this line has the place, and the text before it doesn't
 pub record BeginsOnLine (text : List ℕ) (part : Part) (key : Option (List ℕ)) (number : ℕ) : Type 0 where
   pub from_one : 1 ≤ number
   pub within : number ≤ length (line_ends 0 text)
   pub with : stands_in (first_lines number text) part key ≡ true
   pub without : 2 ≤ number → stands_in (first_lines (number - 1) text) part key ≡ false
 
--- the number that is told is that line's; none is told of a text without the place, or of a long one
+-- the number is that line's; there is none only if the text is too long or lacks the place
 abbrev pub IsLineNumber : List ℕ → Part → Option (List ℕ) → Option ℕ → Type 0
 IsLineNumber text part key None = length text ≤ LOOKED_THROUGH → stands_in text part key ≡ false
 IsLineNumber text part key (Some number) = BeginsOnLine text part key number
 
--- the key of a place where it stands; what is missing has the line of what it is missing in
+-- the key of a place, if it is there; a missing key gets the line of the part that lacks it
 abbrev pub key_there : Data → Place → Option (List ℕ)
 key_there document place = if stands document place.part (key_at document place) then key_at document place else None

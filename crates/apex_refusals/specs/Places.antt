@@ -1,4 +1,4 @@
--- What stands at a place of a document.
+-- What is at a place of a document.
 use Rattle.std.specs.Prelude.{ℕ, Bool, true, false, List, slice_get, is_some, Option, Some, None, option_and_then}
 use Rattle.toml.specs.Data.{Data, get, as_table}
 use Rattle.apex_config.specs.Values.{key_word, items_at, keys_of_table}
@@ -9,7 +9,7 @@ use Rattle.apex_config.specs.declared.place.Place.{Place}
 use Rattle.apex_config.specs.declared.place.Spot.{Spot}
 use Rattle.apex_config.specs.declared.place.Spot.TheVariants as spots
 
--- the value that a part is
+-- the value of a part
 abbrev pub value_of : Data → Part → Option Data
 value_of document parts.Document = Some document
 value_of document (parts.Partition p) = slice_get (items_at key.Partition document) p
@@ -25,7 +25,7 @@ key_of_spot spots.Whole value = None
 key_of_spot (spots.At key) value = Some (key_word key)
 key_of_spot (spots.Unknown number) value = option_and_then (key_numbered number) value
 
--- the word of a key that stands at a place, or must stand there
+-- the word of the key that is at a place, or must be there
 abbrev pub key_at : Data → Place → Option (List ℕ)
 key_at document place = key_of_spot place.spot (value_of document place.part)
 
@@ -34,6 +34,6 @@ has_key None key = false
 has_key (Some value) None = true
 has_key (Some value) (Some key) = is_some (get key value)
 
--- whether a document has something at a key of a part, or the part itself where no key is named
+-- whether a document has something at a key of a part, or has the part itself if there is no key
 abbrev pub stands : Data → Part → Option (List ℕ) → Bool
 stands document part key = has_key (value_of document part) key

@@ -1,4 +1,4 @@
-//! What is wrong at a place of a configuration: what stands there, and what is expected.
+//! What is wrong at a place of a configuration: what is there, and what is expected.
 
 use crate::printed::{Quoted, QuotedKey};
 use apex_config::key::Key;
@@ -14,7 +14,7 @@ pub enum Found<'a> {
     Number(i64),
     Truth(bool),
     Table,
-    /// A value of another type, by the words for that type.
+    /// A value of another type, with the words for that type.
     Other(&'static str),
 }
 
@@ -85,7 +85,7 @@ impl fmt::Display for Wanted<'_> {
 /// What is wrong at a place.
 #[derive(Clone, Copy)]
 pub enum Finding<'a> {
-    /// A key that must stand there is missing.
+    /// A required key is missing.
     Missing {
         key: Key,
         wanted: Wanted<'a>,
@@ -96,16 +96,16 @@ pub enum Finding<'a> {
         found: Found<'a>,
         wanted: Wanted<'a>,
     },
-    /// What must be a table is none.
+    /// A value that must be a table is not one.
     NoTable(Found<'a>),
-    /// A key stands there that the table of this part doesn't take. `keys` says which it takes.
+    /// A key that the table of this part doesn't take. `keys` lists those that it takes.
     UnknownKey {
         key: &'a str,
         keys: &'static str,
         part: Part,
         table: &'a Value,
     },
-    /// The name stood before. `first` is the number of the first that has it, from 1.
+    /// The name occurred before. `first` is the number of the first that has it, from 1.
     NameTwice {
         name: &'a str,
         first: usize,
@@ -115,7 +115,7 @@ pub enum Finding<'a> {
         direction: Direction,
         wanted: &'static str,
     },
-    /// A port is one of several ports of this direction, where the channel must have exactly one.
+    /// A port is one of several ports of this direction, but the channel must have exactly one.
     OneOfEnds {
         direction: Direction,
         channel: &'a str,

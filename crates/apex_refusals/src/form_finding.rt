@@ -45,7 +45,7 @@ fn known_keys(part: Part, value: &Value) -> &'static str {
     }
 }
 
-/// A key that is missing, or what stands there.
+/// A missing key, or what is there instead.
 fn finding_at_key<'a>(value: &'a Value, part: Part, key: Key) -> Finding<'a> {
     let wanted = wanted_at(part, key);
     match value_at(value, key) {

@@ -10,7 +10,7 @@ pub fn header_of(key: Key) -> &'static str {
     }
 }
 
-/// The header of each table of the array to which the header at an offset of a text adds one, however it is written.
+/// The header that adds a table to the same array as the header at an offset of a text, however that is written.
 pub fn header_at(text: &[u8], offset: usize) -> Option<&'static str> {
     let rest = text.get(offset..)?;
     if !rest.starts_with(b"[") {

@@ -16,11 +16,11 @@ use toml::Value;
 pub enum Hint<'a> {
     /// This known word.
     Near(&'a str),
-    /// This key, which stands at other parts only.
+    /// This key, which only other parts take.
     Elsewhere(&'a str),
-    /// A text, which stands in quotes.
+    /// A text, which must be in quotes.
     InQuotes,
-    /// A number, which stands without quotes.
+    /// A number, which must be without quotes.
     WithoutQuotes,
     /// An array of tables.
     Tables(Key),
@@ -70,7 +70,7 @@ const KINDS: [&'static str; 2] = ["queuing", "sampling"];
 
 const DIRECTIONS: [&'static str; 2] = ["source", "destination"];
 
-/// What was most likely meant, if something can be said of it. The channels are those of the text.
+/// What was most likely meant, if there is a guess. The channels are those of the text.
 pub fn hint_of<'a>(
     alloc: Global,
     finding: &Finding<'a>,
@@ -132,7 +132,7 @@ fn near<'a>(alloc: Global, text: &str, words: &[&'a str]) -> Result<Option<Hint<
     }
 }
 
-/// The nearest of words that are known whatever the text.
+/// The nearest of the words that are known for every text.
 fn near_known<'a>(
     alloc: Global,
     text: &str,
@@ -149,7 +149,7 @@ fn nearest_key(alloc: Global, word: &str) -> Result<Option<&'static str>, AllocE
     nearest(alloc, word.as_bytes(), &KEYS)
 }
 
-/// What was most likely meant by a key that a part doesn't take: one that the part takes and that is free there, or one
+/// What was most likely meant by a key that its part doesn't take: one that the part takes and doesn't have yet, or one
 /// that other parts take.
 fn unknown_hint<'a>(
     alloc: Global,
@@ -180,7 +180,7 @@ fn keys_of(part: Part, table: &Value) -> &'static [Key] {
     }
 }
 
-/// Whether a key that a part takes is an array of tables, to which a header adds one.
+/// Whether a key that a part takes is an array of tables, to which a header adds a table.
 fn is_list(part: Part, word: &str) -> bool {
     match part {
         Part::Document => true,

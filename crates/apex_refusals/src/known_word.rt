@@ -5,10 +5,10 @@ ghost use Rattle.apex_refusals.specs.Nearest.{edits, most_edits, IsNearest, near
 use std::alloc::{AllocError, Global};
 use strsim::generic_levenshtein;
 
-/// The most bytes of a word for which a known one is looked for.
+/// The maximum length in bytes of a word for which a known one is suggested.
 pub const WORD_LIMIT: usize = 64;
 
-/// How many letters have to be put in, taken out or exchanged to make one word of the other, whatever the case.
+/// The number of letters to insert, remove or replace to turn one word into the other, ignoring case.
 #[tactic(auto, unfolding(crate::specs::Nearest::edits))]
 fn edits_between(alloc: Global, word: &[u8], known: &[u8]) -> Result<usize, AllocError>
     ensures { IfOk result (λ count. count ≡ edits word.now known.now) }
@@ -18,7 +18,7 @@ fn edits_between(alloc: Global, word: &[u8], known: &[u8]) -> Result<usize, Allo
     generic_levenshtein(alloc, word.as_slice(), known.as_slice())
 }
 
-/// How many edits a mistyped word may be away from what was meant.
+/// The maximum number of edits between a mistyped word and what was meant.
 fn most_edits(word: &[u8]) -> usize
     ensures exact { result ≡ most_edits word.now }
     ensures few { result ≤ 2 }
@@ -26,9 +26,8 @@ fn most_edits(word: &[u8]) -> usize
     if word.len() <= 3 { 1 } else { 2 }
 }
 
-/// The first of the known words to which the fewest edits lead, whatever the case: at most one in a word of up to three
-/// bytes, and two in a longer one. Of a word with more than `WORD_LIMIT` bytes there is none. The only error is that an
-/// allocation was refused.
+/// The first of the known words with the fewest edits, ignoring case: at most one for a word of up to three bytes, and
+/// two for a longer one. A word of more than `WORD_LIMIT` bytes has none. The only error is a failed allocation.
 pub fn nearest<'a>(
     alloc: Global,
     word: &[u8],

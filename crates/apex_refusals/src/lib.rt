@@ -1,5 +1,6 @@
-//! Why a configuration is refused: what is at each place of its fault, and what must be there. Beside it what the mistakes
-//! of every text share: the known word that a mistyped one was most likely meant to be, and how many mistakes more there are.
+//! Why a configuration is refused: what is at each place of its fault, and what must be there. It also has what the
+//! mistakes of every text share: the known word that a mistyped one most likely was, and the number of further
+//! mistakes.
 #![tactic(auto)]
 
 mod finding;

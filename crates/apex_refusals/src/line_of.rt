@@ -1,4 +1,4 @@
-//! The line of a text on which a part of its document begins to stand.
+//! The line of a text on which a part of its document begins.
 ghost use Rattle.std.specs.Prelude.{◌≡◌, ◌≤◌, ◌<◌, ◌+◌, ◌++◌, option_map, length, IfOk};
 ghost use Rattle.std.specs.Option.{option_copied};
 ghost use Rattle.toml.specs.View.{view};
@@ -11,10 +11,10 @@ use apex_config::reading::document_of;
 use std::alloc::{AllocError, Global};
 use toml::Value;
 
-/// The most bytes of a text in which the lines of places are looked for, since each look reads the text up to a line.
+/// The maximum length in bytes of a text in which lines are looked for, since each look reads the text up to a line.
 const LOOKED_THROUGH: usize = 65_536;
 
-/// The document that a text is; none of one that is no TOML.
+/// The document of a text; none if it is not TOML.
 fn document_in_text(alloc: Global, text: &[u8]) -> Result<Option<Value>, AllocError>
     ensures { IfOk result (λ found. option_map view found ≡ document_of text.now) }
 {
@@ -24,7 +24,7 @@ fn document_in_text(alloc: Global, text: &[u8]) -> Result<Option<Value>, AllocEr
     }
 }
 
-/// The document that the begin of a text is with this ending.
+/// The document of the beginning of a text with this ending.
 fn document_ended(alloc: Global, begin: &[u8], ending: &[u8]) -> Result<Option<Value>, AllocError>
     ensures { IfOk result (λ found.
         option_map view found ≡ document_of (begin.now ++ ending.now)) }
@@ -35,7 +35,7 @@ fn document_ended(alloc: Global, begin: &[u8], ending: &[u8]) -> Result<Option<V
     document_in_text(alloc, text.as_slice())
 }
 
-/// The document that the begin of a text is: as it stands, or with an end to the arrays that are open.
+/// The document of the beginning of a text: as it is, or with the open arrays closed.
 fn document_in(alloc: Global, begin: &[u8]) -> Result<Option<Value>, AllocError>
     ensures { IfOk result (λ found. option_map view found ≡ document_in begin.now) }
 {
@@ -48,7 +48,7 @@ fn document_in(alloc: Global, begin: &[u8]) -> Result<Option<Value>, AllocError>
     document_ended(alloc, begin, b"\n]}]")
 }
 
-/// Whether the begin of a text has the part, or the key in it.
+/// Whether the beginning of a text has the part, or the key in it.
 fn stands_in(alloc: Global, begin: &[u8], part: Part, key: Option<&str>) -> Result<bool, AllocError>
     ensures { IfOk result (λ there.
         there ≡ stands_in begin.now part (option_copied key.entry)) }
@@ -83,7 +83,7 @@ fn first_lines<'a>(text: &'a [u8], ends: &[usize], number: usize) -> &'a [u8]
     text.get(..end).unwrap_or(text)
 }
 
-/// The line that is looked at next, of those between two: this one, if it is one of them, and otherwise the middle.
+/// The next line to look at, of those between two: this one, if it is one of them, and otherwise the middle.
 fn between(look: usize, without: usize, with: usize) -> usize
     requires apart { without + 1 < with }
     ensures behind { without < result }
@@ -96,9 +96,9 @@ fn between(look: usize, without: usize, with: usize) -> usize
     }
 }
 
-/// The line of a part or of a key in it, from 1: with it the place stands in the lines so far, and without it it doesn't.
-/// None in a text that is too long, or without the place. It is looked for from the line `near` on, by steps that double,
-/// and then by halves; `near` becomes the line that is found, so that places one after the other need few looks.
+/// The line of a part or of a key in it, from 1: the text up to this line has the place, and the text before it
+/// doesn't. None if the text is too long or lacks the place. The search starts at line `near`, with steps that double,
+/// and then bisects; `near` becomes the line that is found, so that consecutive places need few looks.
 pub(crate) fn line_of(
     alloc: Global,
     text: &[u8],

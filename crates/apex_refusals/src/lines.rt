@@ -1,4 +1,4 @@
-//! The lines of a refusal, one for each of its first places.
+//! The lines of a refusal, one for each of the first places.
 ghost use Rattle.std.specs.Prelude.{◌≡◌, take};
 ghost use Rattle.apex_refusals.specs.declared.more.TheConstants.{MISTAKE_LIMIT};
 
@@ -32,7 +32,7 @@ pub enum Form<'f> {
     File { name: &'f str, text: &'f [u8] },
 }
 
-/// The lines so far of a document that is refused.
+/// The lines so far for a refused document.
 #[derive(Drop)]
 struct Lines<'d> {
     alloc: Global,
@@ -40,7 +40,7 @@ struct Lines<'d> {
     fault: ConfigFault,
     form: Form<'d>,
     text: String,
-    /// The line of the file at which the last place was found.
+    /// The line of the file on which the last place was found.
     near: usize,
 }
 
@@ -119,7 +119,7 @@ impl<'d> Lines<'d> {
     }
 }
 
-/// The places that have lines: the first ones.
+/// The places that get lines: the first ones.
 fn first_of(places: &[Place]) -> &[Place]
     ensures { result.now ≡ take MISTAKE_LIMIT places.now }
 {
@@ -130,7 +130,7 @@ fn first_of(places: &[Place]) -> &[Place]
     }
 }
 
-/// The lines of the first places of a refused document, and one that says how many more there are.
+/// The lines for the first places of a refused document, and one with the number of further ones.
 pub fn lines_of(
     alloc: Global,
     document: &Value,

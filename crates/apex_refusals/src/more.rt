@@ -1,13 +1,13 @@
-//! How many mistakes more there are than are told.
+//! The number of mistakes that are not listed.
 ghost use Rattle.std.specs.Prelude.{◌≡◌, ◌++◌, string_bytes, OnOk};
 ghost use Rattle.apex_refusals.specs.More.{more_line};
 
 use std::alloc::AllocError;
 
-/// The most mistakes of a text that are told.
+/// The maximum number of mistakes that are listed for a text.
 pub const MISTAKE_LIMIT: usize = 20;
 
-/// Adds the line that says how many more there are, where there are more. The only error is that an allocation was refused.
+/// Adds the line with the number of further mistakes, if there are any. The only error is a failed allocation.
 pub fn push_more(told: &mut String, more: usize) -> Result<(), AllocError>
     ensures { OnOk result (string_bytes told.new ≡ string_bytes told.old ++ more_line more) }
 {

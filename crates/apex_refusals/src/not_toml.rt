@@ -1,4 +1,4 @@
-//! The line of a text that is no TOML: where its reader stopped, and why.
+//! The line for a text that is not TOML: where its reader stopped, and why.
 use crate::header::header_at;
 use std::alloc::{AllocError, Global};
 use std::str;
@@ -19,7 +19,7 @@ fn line_and_column(text: &[u8], offset: usize) -> (usize, usize) {
     (line, column)
 }
 
-/// The line of a text that is no TOML.
+/// The line for a text that is not TOML.
 pub fn not_toml(alloc: Global, text: &[u8], error: &Error) -> Result<String, AllocError> {
     let Some(span) = error.span() else {
         return Err(AllocError);
@@ -28,7 +28,7 @@ pub fn not_toml(alloc: Global, text: &[u8], error: &Error) -> Result<String, All
     format!(in alloc; "line {line}, column {column}: {}\n", error.message())
 }
 
-/// The line of a file's text that is no TOML, with what was most likely meant.
+/// The line for a file whose text is not TOML, with what was most likely meant.
 pub fn not_toml_in_file(
     alloc: Global,
     file: &str,
@@ -69,7 +69,7 @@ fn advice(text: &[u8], offset: usize) -> Option<&'static str> {
     }
 }
 
-/// Whether a text begins with what begins a comment elsewhere.
+/// Whether a text begins with what starts a comment in other languages.
 fn begins_comment(text: &[u8]) -> bool {
     COMMENTS.iter().any(|mark| text.starts_with(mark))
 }
@@ -107,7 +107,7 @@ fn other_form(text: &[u8]) -> Option<&'static str> {
     }
 }
 
-/// Whether a text begins with a byte order mark of UTF-16, or as an ASCII character does in it.
+/// Whether a text begins with a byte order mark of UTF-16, or like an ASCII character in UTF-16.
 fn is_utf16(text: &[u8]) -> bool {
     if text.starts_with(b"\xFF\xFE") || text.starts_with(b"\xFE\xFF") {
         return true;

@@ -1,4 +1,4 @@
-//! How a line calls the part of a configuration that holds a fault.
+//! How a line names the part of a configuration that holds a fault.
 
 use crate::places::value_of;
 use crate::printed::Named;
@@ -9,7 +9,7 @@ use apex_module::ConfigFault;
 use std::fmt;
 use toml::Value;
 
-/// An entry of a list, by its name, or by its number from 1 where it has none.
+/// An entry of a list, by its name, or by its number from 1 if it has none.
 #[derive(Clone, Copy)]
 struct Label<'a> {
     index: usize,
@@ -25,7 +25,7 @@ impl fmt::Display for Label<'_> {
     }
 }
 
-/// A part, with the name of its partition and its own, where it is to be called by them.
+/// A part, with the name of its partition and its own, if the line uses them.
 #[derive(Clone, Copy)]
 pub struct Owner<'a> {
     part: Part,
@@ -33,13 +33,13 @@ pub struct Owner<'a> {
     name: Option<&'a str>,
 }
 
-/// The name that a part of a document has.
+/// The name of a part of a document.
 fn name_of(document: &Value, part: Part) -> Option<&str> {
     text_at(value_of(document, part)?, Key::Name)
 }
 
 impl<'a> Owner<'a> {
-    /// A part of a document. A name that another part had before doesn't name its part.
+    /// A part of a document. A name that another part had before doesn't identify its part.
     pub fn new(document: &'a Value, fault: ConfigFault, part: Part) -> Owner<'a> {
         let partition = match part {
             Part::Port { partition, .. } => name_of(document, Part::Partition { partition }),

@@ -1,4 +1,4 @@
-//! What stands at a place of a document.
+//! What is at a place of a document.
 ghost use Rattle.std.specs.Prelude.{◌≡◌, slice_get, option_map};
 ghost use Rattle.std.specs.Option.{option_copied};
 ghost use Rattle.toml.specs.View.{view, table_view};
@@ -26,7 +26,7 @@ fn item_at(value: &Value, key: Key, index: usize) -> Option<&Value>
     nth_item(items_at(value, key), index)
 }
 
-/// The value that a part of a document is.
+/// The value of a part of a document.
 pub fn value_of(document: &Value, part: Part) -> Option<&Value>
     ensures { option_map (λ found. view found.now) result ≡ value_of (view document.now) part }
 {
@@ -41,7 +41,7 @@ pub fn value_of(document: &Value, part: Part) -> Option<&Value>
     }
 }
 
-/// A key of a table by its number, in the order of the keys.
+/// The key of a table with a number, in the order of the keys.
 fn nth_key(table: &Table, number: usize) -> Option<&str>
     ensures { option_copied result ≡ slice_get (keys_of_table (table_view table.now)) number }
 {
@@ -51,14 +51,14 @@ fn nth_key(table: &Table, number: usize) -> Option<&str>
     }
 }
 
-/// The key of a number in a table.
+/// The key with a number in a table.
 pub fn key_numbered(value: &Value, number: usize) -> Option<&str>
     ensures { option_copied result ≡ key_numbered number (view value.now) }
 {
     nth_key(value.as_table()?, number)
 }
 
-/// The word of a key that stands at a place, or must stand there.
+/// The word of the key that is at a place, or must be there.
 pub fn key_at<'a>(document: &'a Value, place: Place) -> Option<&'a str>
     ensures { option_copied result ≡ key_at (view document.now) place }
 {
@@ -69,7 +69,7 @@ pub fn key_at<'a>(document: &'a Value, place: Place) -> Option<&'a str>
     }
 }
 
-/// Whether a document has something at a key of a part, or the part itself where no key is named.
+/// Whether a document has something at a key of a part, or has the part itself if there is no key.
 pub fn stands(document: &Value, part: Part, key: Option<&str>) -> bool
     ensures { result ≡ stands (view document.now) part (option_copied key.entry) }
 {
@@ -80,7 +80,7 @@ pub fn stands(document: &Value, part: Part, key: Option<&str>) -> bool
     }
 }
 
-/// The key of a place if it is there; what is missing has the line of what it is missing in.
+/// The key of a place, if it is there. A missing key gets the line of the part that lacks it.
 pub fn key_there<'a>(document: &'a Value, place: Place) -> Option<&'a str>
     ensures { option_copied result ≡ key_there (view document.now) place }
 {

@@ -3,11 +3,11 @@
 use apex_types::Name;
 use std::fmt;
 
-/// The most characters of a text that are printed.
+/// The maximum number of characters of a text that are printed.
 const SHOWN: usize = 64;
 
-/// A text in quotes: its first 64 characters, those that are no printable ASCII as escapes, and `..` after the quotes
-/// where the text goes on.
+/// A text in quotes: its first 64 characters, with escapes for those that are not printable ASCII, and `..` after the
+/// quotes if the text goes on.
 #[derive(Clone, Copy)]
 pub struct Quoted<'a>(pub &'a str);
 
@@ -37,7 +37,7 @@ fn write_escaped<W: fmt::Write>(f: &mut fmt::Formatter<W>, character: char) -> f
     }
 }
 
-/// A name as it stands, and another text in quotes.
+/// A name as it is, and another text in quotes.
 #[derive(Clone, Copy)]
 pub struct Named<'a>(pub &'a str);
 
@@ -51,7 +51,7 @@ impl fmt::Display for Named<'_> {
     }
 }
 
-/// A key in backquotes, where it is a name, and otherwise in quotes.
+/// A key: in backquotes if it is a name, and otherwise in quotes.
 #[derive(Clone, Copy)]
 pub struct QuotedKey<'a>(pub &'a str);
 

@@ -9,17 +9,17 @@ use apex_config::{Part, Refusal};
 use apex_module::{Config, ConfigFault};
 use std::alloc::{AllocError, Global};
 
-/// Why a text is refused: its fault with its places, and the lines that tell people where and why.
+/// Why a text is refused: its fault with its places, and the lines that explain to people where and why.
 #[derive(Drop)]
 pub struct Refused {
     pub refusal: Refusal,
     pub lines: String,
 }
 
-/// Reads a configuration. If it is refused, there is a line for each place of the fault, at most `MISTAKE_LIMIT`, and one
-/// that says how many more there are: the names of what holds the place, what is there, and what must be there. In the text
-/// of a file each line begins with the file, the line if it is known, and the path, and ends with what was most likely
-/// meant. The only error is that an allocation was refused.
+/// Reads a configuration. If it is refused, there is a line for each place of the fault, at most `MISTAKE_LIMIT`, and
+/// one with the number of further ones. A line names what holds the place, what is there, and what must be there. For
+/// the text of a file each line begins with the file, the line if it is known, and the path, and ends with what was
+/// most likely meant. The only error is a failed allocation.
 #[tactic(auto, unfolding(apex_config::specs::Meaning::read_of))]
 pub fn read_config(
     alloc: Global,
@@ -55,7 +55,7 @@ pub fn read_config(
     }
 }
 
-/// The refusal of a text that is no TOML.
+/// The refusal of a text that is not TOML.
 fn no_document(alloc: Global) -> Result<Refusal, AllocError>
     ensures { IfOk result (λ refusal. refusal ≡ not_toml) }
 {

@@ -23,7 +23,7 @@ fn text_finding<'a>(value: &'a Value, key: Key, wanted: Wanted<'a>) -> Finding<'
     }
 }
 
-/// The greatest number that a key takes.
+/// The greatest number that a key allows.
 fn greatest(key: Key) -> u64 {
     match key {
         Key::Size => SIZE_LIMIT as u64,
@@ -49,7 +49,7 @@ fn partition_at<'t, 'a>(config: &'t ConfigText<'a>, index: usize) -> Option<&'t 
     config.partitions.get(index)
 }
 
-/// The index of the first entry that has a name, in the list of the part.
+/// The index of the first entry with a name, in the list of the part.
 fn first_of_name(config: &ConfigText, part: Part, name: &str) -> Option<usize> {
     match part {
         Part::Document => None,
@@ -65,7 +65,7 @@ fn first_of_name(config: &ConfigText, part: Part, name: &str) -> Option<usize> {
     }
 }
 
-/// What is wrong with a name that stood before.
+/// What is wrong with a name that occurred before.
 fn repeated_finding<'a>(config: &ConfigText<'a>, part: Part, name: &'a str) -> Option<Finding<'a>> {
     let first = first_of_name(config, part, name)?.saturating_add(1);
     Some(Finding::NameTwice { name, first })
@@ -75,7 +75,7 @@ fn kind_word(is_queuing: bool) -> &'static str {
     if is_queuing { "queuing" } else { "sampling" }
 }
 
-/// What a port's kind is, and its channel's.
+/// The kinds of a port and of its channel.
 fn kind_finding<'a>(channels: &ChannelIndex<'_, 'a>, port: &PortText<'a>) -> Option<Finding<'a>> {
     let is_queuing = port.refresh.is_none();
     let channel = channels.channel_of(port)?;
@@ -89,7 +89,7 @@ fn kind_finding<'a>(channels: &ChannelIndex<'_, 'a>, port: &PortText<'a>) -> Opt
     })
 }
 
-/// How many things are counted at a key, and within which limits.
+/// The number of things at a key, and its limits.
 fn counted<'a>(key: Key, count: usize) -> Finding<'a> {
     let (things, least, most) = match key {
         Key::Partition => ("partitions", 1, PARTITION_LIMIT),
@@ -104,7 +104,7 @@ fn counted<'a>(key: Key, count: usize) -> Finding<'a> {
     }
 }
 
-/// What is counted at a key.
+/// What the count at a key finds.
 fn count_finding<'a>(value: &Value, spot: Spot) -> Option<Finding<'a>> {
     match spot {
         Spot::At { key } => Some(counted(key, items_at(value, key).len())),
@@ -122,7 +122,7 @@ fn no_end_finding<'a>(direction: Direction, channel: &ChannelText) -> Finding<'a
     Finding::NoEnd { direction, wanted }
 }
 
-/// A refused text whose form is right, with what the words of its faults need.
+/// A refused text whose form is right, with what the words for its faults need.
 #[derive(Drop)]
 pub struct ReadText<'t, 'a> {
     pub config: &'t ConfigText<'a>,
@@ -133,7 +133,7 @@ pub struct ReadText<'t, 'a> {
 }
 
 impl<'t, 'a> ReadText<'t, 'a> {
-    /// The port that a part is.
+    /// The port of a part.
     fn port(&self, part: Part) -> Option<&'t PortText<'a>> {
         match part {
             Part::Port { partition, port } => {

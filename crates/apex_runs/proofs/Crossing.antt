@@ -1,4 +1,4 @@
--- The shared ports of a run may be shared by threads where their allocator may.
+-- Threads may share the ports of a run if they may share their allocator.
 use denote.RattleType.{RattleType}
 use denote.Param.Send.{IsSend, IsSync, sendable, view_send}
 use denote.Param.SendFields.{declared_send, declared_sync, as_row_send}

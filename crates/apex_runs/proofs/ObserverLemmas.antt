@@ -58,7 +58,7 @@ module _ (config : Configuration) where
           let apart : d ≢ c = grind (arith, nat_tests) in
           shown d known (omega arith) sampling at
 
-  -- one observer more shows its channel's sample
+  -- one more observer shows its channel's sample
   pub shown_past_sampling : (history : History) (observers : List Published) (c index : ℕ) (now : Published) → Shown history observers c → is_queuing config c ≡ false → index ≡ sampling_before config c
       → last_of now.writes ≡ last_write_on config c history → Shown history (set observers index now) (c + 1)
   shown_past_sampling history observers c index now shown kind here is d known before sampling at = by_test (d == c) refl

@@ -9,13 +9,13 @@ use Rattle.apex_texts.specs.declared.fault.Fault.{Fault}
 use Rattle.apex_texts.specs.declared.fault.Fault.TheVariants as faults
 use Rattle.apex_ports.specs.declared.run_fault.RunFault.TheVariants as run_faults
 
--- how many sampling channels come before a channel
+-- the number of sampling channels before a channel
 abbrev pub sampling_before : Configuration → ℕ → ℕ
 sampling_before config zero = 0
 sampling_before config (suc c) = if is_queuing config c then sampling_before config c else (sampling_before config c + 1)
 
--- the observer of each sampling channel shows the last write that the history has on the channel; the observers are in the
--- channels' order
+-- the observer of each sampling channel shows the last write that the history has on the channel; the observers are in
+-- the channels' order
 abbrev pub ShowSamples : Configuration → History → List Published → Type 0
 ShowSamples config history observers =
     (c : ℕ) (known : Published) → c < length config.channels → is_queuing config c ≡ false → slice_get observers (sampling_before config c) ≡ Some known

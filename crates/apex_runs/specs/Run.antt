@@ -1,5 +1,5 @@
--- What a run of scripts gives: the report of a lawful history in which each partition made the calls of its
--- script, or why there is none.
+-- What a run of scripts gives: the report of a lawful history in which each partition made the calls of its script, or
+-- why there is none.
 use Rattle.std.specs.Prelude.{◌≡◌, ◌⊎◌, ℕ, List, Result, Ok, Err, String, string_bytes, Some, map}
 use Rattle.std.specs.declared.alloc.Global.{Global}
 use Rattle.apex_types.specs.declared.call.Call.{Call}
@@ -27,8 +27,8 @@ abbrev pub IsRunOrder : Configuration → List (List (Moment × Call)) → List 
 IsRunOrder config scripts order =
     (history : History) × IsLawful config history × HasScripts history scripts × (order ≡ map (λ entry. entry.partition) history)
 
--- the text reports a lawful history in which each partition made the calls of its script and got the replies that its worker
--- was answered, and the observers show the samples that the sampling channels have after it
+-- the text reports a lawful history in which each partition made the calls of its script and got the replies that its
+-- worker got, and the observers show the samples that the sampling channels have after it
 pub record IsReported (config : Configuration) (scripts : List (List (Moment × Call))) (replies : List (List Reply)) (observers : List Published) (text : List ℕ) : Type 0 where
   pub history : History
   pub lawful : IsLawful config history
@@ -49,7 +49,7 @@ IsPortsFault fault = (fault ≡ run_faults.OutOfMemory) ⊎ (fault ≡ run_fault
 abbrev pub IsReportFault : Fault → Type 0
 IsReportFault fault = IsReadFault fault ⊎ (fault ≡ faults.Memory)
 
--- what a run answers, where the gate may refuse at those calls
+-- what a run returns, if the gate may refuse at those calls
 abbrev pub IsRun : (ℕ → ℕ → Type 0) → Configuration → List (List (Moment × Call)) → Result (String Global) Fault → Type 0
 IsRun may_refuse config scripts (Ok text) = IsRunReport config scripts (string_bytes text)
 IsRun may_refuse config scripts (Err (faults.Held name n)) = IsNamedHeld may_refuse config scripts name n

@@ -1,6 +1,6 @@
-//! The text of a run: its workers make the calls of their scripts on ports behind a lock, which note nothing but whose turn
-//! it was. Once all workers have ended the calls are served again on new ports, in that order, and each reply has to be what
-//! its worker was answered. That second run is the report.
+//! The text of a run: its workers make the calls of their scripts on ports behind a lock. The ports record only whose
+//! turn it was. After all workers have ended, the calls are served again on new ports in that order, and each reply
+//! must be the one that its worker got. That second run is the report.
 #![tactic(auto)]
 
 mod observers;

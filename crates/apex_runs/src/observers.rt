@@ -1,4 +1,4 @@
-//! What the observers of a run show, beside the samples of a run on ports.
+//! Compares what the observers of a run show with the samples of a run on ports.
 ghost use Rattle.std.specs.Prelude.{◌≡◌, map, IfOk, IfErr};
 ghost use Rattle.std.specs.Option.{option_copied};
 ghost use Rattle.apex_observers.specs.Published.{last_of};

@@ -12,8 +12,9 @@ use apex_threads::{PackedReplies, PackedScript, are_complete};
 use apex_types::{ANY_CALL, Call, Moment, Reply};
 use std::alloc::AllocError;
 
-/// Serves the calls of all scripts on new ports, the next one of the partition that the order names, and writes a line for
-/// each. The order has to name each partition as often as it has calls, and each reply has to be its worker's.
+/// Serves the calls of all scripts on new ports, each time the next one of the partition that the order names, and
+/// writes a line for each. The order must name each partition as many times as it has calls, and each reply must be its
+/// worker's.
 ///
 /// It counts each partition's calls in `counts`, which are 0 before.
 pub(crate) fn push_calls(

@@ -1,4 +1,4 @@
-//! A run: one script for each partition in, a report out.
+//! A run: it takes one script for each partition and gives a report.
 ghost use Rattle.std.specs.Prelude.{◌≡◌, Err, length, vec_len, IfOk, IfErr, string_bytes};
 ghost use Rattle.std.specs.Thread.{IsSync, IsSend};
 ghost use Rattle.apex_runs.specs.Run.{IsRun, IsRunOrder, IsRunReport, IsReported, IsReportFault};
@@ -14,10 +14,10 @@ use std::alloc::{Allocator, Global};
 use std::sync::Wait;
 use std::thread::Threads;
 
-/// The bytes that are reserved for each line of the report.
+/// The number of bytes that are reserved for each line of the report.
 const LINE_BYTES: usize = 64;
 
-/// The report of `run_packed_text`, of scripts that are packed first.
+/// The report of `run_packed_text` for scripts that are packed first.
 pub fn run_text<R: Threads + Wait + Sync, G: Gate>(
     rt: &R,
     alloc: Global,
@@ -32,11 +32,12 @@ pub fn run_text<R: Threads + Wait + Sync, G: Gate>(
     run_packed_text(rt, alloc, config, packed.as_slice(), gate)
 }
 
-/// The report of a run on new ports of the configuration, in which a worker for each partition makes the
-/// calls of its script. It waits for all workers.
+/// The report of a run on new ports of the configuration, in which a worker for each partition makes the calls of its
+/// script. It waits for all workers.
 ///
-/// Before the report each observer of the run learns all that was written on its channel and is read. `Fault::Gone` says
-/// that one shows the end of its channel; `RunFault::ResultsDiffer` is the answer too where one shows another sample than the report.
+/// Before the report, each observer of the run learns all that was written on its channel and is read. `Fault::Gone`
+/// means that one shows the end of its channel; `RunFault::ResultsDiffer` is also the answer if one shows another
+/// sample than the report.
 pub fn run_packed_text<R: Threads + Wait + Sync, G: Gate>(
     rt: &R,
     alloc: Global,
@@ -51,7 +52,7 @@ pub fn run_packed_text<R: Threads + Wait + Sync, G: Gate>(
     Ok(text)
 }
 
-/// The order of the calls of a run that is reported: the partition of each call.
+/// The order of the calls of a run that has a report: the partition of each call.
 pub fn run_order<R: Threads + Wait + Sync, G: Gate>(
     rt: &R,
     alloc: Global,
@@ -96,7 +97,8 @@ fn run_reported<R: Threads + Wait + Sync, G: Gate>(
     }
 }
 
-/// Runs the workers to their ends, and answers their ports and what each was answered. On a fault the ports are closed.
+/// Runs the workers to their ends, and returns their ports and the replies that each got. On a fault the ports are
+/// closed.
 fn run_workers<R: Threads + Wait + Sync, G: Gate, A: Allocator + Copy + Send + Sync>(
     rt: &R,
     alloc: A,
@@ -120,7 +122,7 @@ fn run_workers<R: Threads + Wait + Sync, G: Gate, A: Allocator + Copy + Send + S
     }
 }
 
-/// How many calls the scripts have; no more than the greatest number.
+/// The number of calls that the scripts have; at most `usize::MAX`.
 fn calls_in<A: Allocator>(scripts: &[PackedScript<A>]) -> usize {
     let mut calls: usize = 0;
     for script in scripts {

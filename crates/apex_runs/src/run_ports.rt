@@ -19,7 +19,7 @@ use std::sync::{Mutex, MutexGuard, Wait};
 /// The ports of a run, what is published on their sampling channels, an observer of each, and which partition made each
 /// call, in the order of the calls.
 ///
-/// It is not `Drop`: end it by `close`.
+/// It is not `Drop`: end it with `close`.
 pub(crate) struct RunPorts<A: Allocator> {
     ports: Ports<A>,
     publishers: Publishers<A>,
@@ -48,7 +48,7 @@ impl<A: Allocator> Model for RunPorts<A> {
 }
 
 impl<A: Allocator + Copy> RunPorts<A> {
-    /// New ports, with observers that have seen nothing, and room for the order of so many calls.
+    /// New ports, with observers that have seen nothing, and room for the order of this many calls.
     pub(crate) fn new<R: Wait>(
         rt: &R,
         alloc: A,
@@ -80,15 +80,15 @@ impl<A: Allocator + Copy> RunPorts<A> {
 impl<A: Allocator> RunPorts<A> {
     ghost use Rattle.apex_runs.specs.Observers.{ShowSamples, IsReadFault};
 
-    /// Takes out which partition made each call, in the order of the calls. What it says no contract promises.
+    /// Takes out which partition made each call, in the order of the calls. No contract says what it contains.
     pub(crate) fn take_order(&mut self, alloc: A) -> Vec<u8, A>
         ensures { self.new ≡ self.old }
     {
         mem::replace(&mut self.order, Vec::new(alloc))
     }
 
-    /// Lets each observer learn the last receipt of its channel, and compares what it shows with the sample that the channel
-    /// has in other ports.
+    /// Lets each observer learn the last receipt of its channel, and compares what it shows with the sample that the
+    /// channel has in other ports.
     pub(crate) fn compare<B: Allocator>(&mut self, ports: &Ports<B>) -> Result<(), Fault>
         ensures config { self.new.config ≡ self.old.config }
         ensures published { self.new.published ≡ self.old.published }
@@ -100,7 +100,7 @@ impl<A: Allocator> RunPorts<A> {
         compare(ports, self.observers.as_mut_slice())
     }
 
-    /// One call of a partition, with its reply in `reply`. A refusal changes no more than that.
+    /// Answers one call of a partition, with its reply in `reply`. A refusal changes only `reply`.
     fn ask_into<R: Wait>(
         &mut self,
         rt: &R,
@@ -109,7 +109,7 @@ impl<A: Allocator> RunPorts<A> {
         call: &Call,
         reply: &mut Reply,
     ) -> Result<(), AskFault>
-        // The reply is the reply table's, and the history gains just that entry.
+        // The reply is the reply table's, and the history gains exactly this entry.
         ensures reply { OnOk result
             (reply.new ≡ reply_to self.old.config self.old.history partition at call.now) }
         ensures entry { OnOk result (self.new.history
@@ -153,14 +153,14 @@ pub(crate) struct SharedPorts<A: Allocator> {
 }
 
 impl<A: Allocator> SharedPorts<A> {
-    /// The ports behind a lock that is free.
+    /// The ports behind a free lock.
     pub(crate) fn new(ports: RunPorts<A>) -> SharedPorts<A> {
         SharedPorts {
             ports: Mutex::new(ports),
         }
     }
 
-    /// Gives the ports back. Which calls they have answered by then no contract says.
+    /// Returns the ports. No contract says which calls they have answered by then.
     pub(crate) fn into_ports(self) -> RunPorts<A> {
         let SharedPorts { ports } = self;
         ports.into_inner()
@@ -180,7 +180,7 @@ impl<A: Allocator + Send + Sync> SharedBoard for SharedPorts<A> {
         Ok(reply)
     }
 
-    /// Holds the lock for this one call.
+    /// Holds the lock only for this call.
     fn ask_into<R: Wait>(
         &self,
         rt: &R,

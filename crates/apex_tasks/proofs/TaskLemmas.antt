@@ -1,4 +1,4 @@
--- What a replay and a run of files give, where their bytes are known.
+-- What a replay and a run of files give if their bytes are known.
 use Rattle.std.proofs.Common.{◌≡◌, ℕ, List, take, Bor, Option, Some, None, Result, Ok, Err, subst, String, Global}
 use Rattle.std.specs.Prelude.{IfSome, MatchOption}
 use Rattle.apex_types.specs.declared.call.Call.{Call}
@@ -74,7 +74,7 @@ known_run files arguments config scripts (Err (faults.Config fault)) configurati
 known_run files arguments config scripts (Err (faults.Trace fault)) configuration read named run = absurd run
 known_run files arguments config scripts (Err (faults.Script name fault)) configuration read named run = absurd run
 
--- scripts are run under the open gate
+-- scripts run under the open gate
 pub file_run : (files : FileBytes) (arguments : Arguments) (config : Option (List ℕ)) (scripts : List (List (Moment × Call))) (answer : Result (String Global) Fault) (configuration : Configuration)
     → IfSome config (λ known. config_of known ≡ Ok configuration) → AreScripts files configuration arguments scripts → IsRun (λ p n. ⊥) configuration scripts answer
     → IfSome config (IsFileRun files arguments (as_refused answer))

@@ -1,4 +1,4 @@
--- What a task gives, where the bytes of its files are known: the text to print, or the fault of a text that is refused.
+-- What a task gives if the bytes of its files are known: the text to print, or the fault of a refused text.
 use Rattle.std.specs.Prelude.{◌≡◌, ℕ, List, Result, Ok, Err, String, string_bytes}
 use Rattle.std.specs.declared.alloc.Global.{Global}
 use Rattle.apex_types.specs.declared.call.Call.{Call}
@@ -15,7 +15,7 @@ use Rattle.apex_files.specs.Reading.{FileBytes}
 use Rattle.apex_files.specs.Arguments.{Arguments}
 use Rattle.apex_files.specs.Scripts.{AreScripts, AreArgumentsRefused}
 
--- the line of the configuration that the bytes are, or the fault of the bytes
+-- the line for the configuration that the bytes give, or the fault of the bytes
 abbrev pub IsCheck : Result (String Global) Refusal → List ℕ → Type 0
 IsCheck (Ok text) config = (configuration : Configuration) × (config_of config ≡ Ok configuration) × (string_bytes text ≡ check_line configuration)
 IsCheck (Err (Text (faults.Config fault))) config = config_of config ≡ Err fault
@@ -30,7 +30,8 @@ IsFileReplay (Err (Text fault)) config trace = IsReplay (Err fault) config trace
 IsFileReplay (Err (File path obstacle)) config trace = Unit {0}
 IsFileReplay (Err refusal) config trace = ⊥
 
--- the run of the scripts that the arguments name, on the configuration that the bytes are: no call is held, since the gate is open
+-- the run of the scripts that the arguments name, on the configuration that the bytes give: no call is held, since the
+-- gate is open
 abbrev pub IsFileRun : FileBytes → Arguments → Result (String Global) Refusal → List ℕ → Type 0
 IsFileRun files arguments (Ok text) config =
     (configuration : Configuration) × (config_of config ≡ Ok configuration)

@@ -1,5 +1,5 @@
-//! The tasks of the program `apexports`: the files that its words name are read, the answer is printed, and a
-//! refusal is told by its line and its status.
+//! The tasks of the program `apexports`: it reads the files that its words name and prints the answer; a refusal gives
+//! one line and a status.
 #![tactic(auto)]
 
 pub mod tasks;

@@ -13,8 +13,8 @@ use std::io::Write;
 use std::sync::Wait;
 use std::thread::Threads;
 
-/// Does what the words ask for, and answers the status. A refusal writes one line to `errors`, and
-/// nothing to `output` unless it is `output` that fails. A run waits for its workers.
+/// Does what the words ask for, and returns the status. A refusal writes one line to `errors`, and nothing to `output`
+/// unless `output` itself fails. A run waits for its workers.
 pub fn program<R: Threads + Wait + Sync, S: AsStr, O: Opener, W: Write, E: Write>(
     rt: &R,
     alloc: Global,
@@ -44,7 +44,7 @@ fn perform<'a, R: Threads + Wait + Sync, S: AsStr, O: Opener, W: Write>(
     print(output, text.as_bytes())
 }
 
-/// The line of the configuration in a file.
+/// The line for the configuration in a file.
 fn check<'a, O: Opener>(alloc: Global, opener: &O, path: &'a str) -> Result<String, Refusal<'a>>
     ensures { IfSome (O.bytes_at opener.now path.now) (IsCheck result) }
 {
@@ -52,7 +52,7 @@ fn check<'a, O: Opener>(alloc: Global, opener: &O, path: &'a str) -> Result<Stri
     Ok(check_line(alloc, &config)?)
 }
 
-/// The report of the trace in a file on the configuration in a file.
+/// The report of replaying the trace in a file on the configuration in a file.
 fn replay_files<'a, O: Opener>(
     alloc: Global,
     opener: &O,

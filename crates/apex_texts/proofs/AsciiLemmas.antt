@@ -1,4 +1,4 @@
--- Names and messages are ASCII, so bytes that are no UTF-8 are neither.
+-- Names and messages are ASCII, so bytes that are not UTF-8 are neither.
 use Rattle.std.proofs.Common.{◌≡◌, ℕ, List, None, Result, Ok, Err, refl}
 use Rattle.std.specs.Str.{IsUtf8}
 use Rattle.std.proofs.lemmas.Str.{IsUtf8-from_ascii}

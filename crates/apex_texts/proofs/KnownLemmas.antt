@@ -15,7 +15,7 @@ use Rattle.apex_texts.specs.Lines.{FaultyLine, line_words, item_of_words, item_o
 use Rattle.apex_texts.specs.Trace.{HavePartitions, partition_of, request_at, trace_of, IsTraceRead}
 use Rattle.apex_texts.proofs.TextLemmas.{position_found}
 
--- a fact of what was read, if anything was
+-- a fact about what was read, if anything was
 abbrev OfRead : {A E : Type 0} → (A → Type 0) → Result A E → Type 0
 OfRead P (Ok x) = P x
 OfRead P (Err e) = Unit {0}
@@ -86,7 +86,7 @@ lines-known config number (line ∷ rest) =
 pub index-known : (config : Configuration) (word : List ℕ) (p : ℕ) → Ok p ≡ partition_of config word → p < length config.partitions
 index-known config word p is = of_ok (IsPartition config) (partition_of config word) p (partition-known config word) (sym is)
 
--- each request that a reader of a trace answered has a partition
+-- each request that a reader of a trace returned has a partition
 pub trace-known : (config : Configuration) (text : List ℕ) (answer : Result (Vec Request) TraceFault) → IsTraceRead answer (trace_of config text) → IfOk answer (λ requests. HavePartitions config requests.items)
 trace-known config text (Ok requests) read = of_ok (HavePartitions config) (trace_of config text) requests.items (lines-known config 1 (lines text)) read
 trace-known config text (Err fault) read = tt

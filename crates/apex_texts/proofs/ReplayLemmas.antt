@@ -23,7 +23,7 @@ use Rattle.apex_texts.proofs.LineLemmas.{with_front, with_front-nil}
 pub fresh_front : (config : Configuration) (history : History) (trace : List ℕ) → history ≡ [] → with_front (requests_of history) (items_from (request_at config) (0 + 1) (lines trace)) ≡ trace_of config trace
 fresh_front config history trace none = rw none (with_front-nil (items_from (request_at config) 1 (lines trace)))
 
--- one request more
+-- one more request
 pub requests_of-push : (history : History) (entry : Entry) → requests_of (history ++ entry ∷ []) ≡ requests_of history ++ request_of entry ∷ []
 requests_of-push [] entry = refl
 requests_of-push (x ∷ history) entry = ap (λ requests. request_of x ∷ requests) (requests_of-push history entry)

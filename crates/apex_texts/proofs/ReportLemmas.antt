@@ -16,11 +16,11 @@ use Rattle.apex_ports.specs.Channels.{accepted_on, received_on, cleared_on, mess
 use Rattle.apex_ports.specs.Counts.{count_of}
 use Rattle.apex_texts.specs.Report.{line_of, entry_lines, partition_line, partition_lines, messages_text, channel_text, channel_lines}
 
--- a text that grew by the line that comes next
+-- a text that grew by the next line
 pub grows : {X : Type 0} (old new line rest all total : List X) → new ≡ old ++ line → all ≡ line ++ rest → old ++ all ≡ total → new ++ rest ≡ total
 grows old new line rest all total grown cut so_far = rw (grown, append_assoc, ← cut) so_far
 
--- a text to which nothing more comes
+-- a complete text
 pub complete : {X : Type 0} (text rest total : List X) → rest ≡ [] → text ++ rest ≡ total → text ≡ total
 complete {X} text rest total none so_far = sym (append-nil text) ∙ ap (λ (more : List X). text ++ more) (sym none) ∙ so_far
 
@@ -29,7 +29,7 @@ drop_at xs i x is = rw add-one (drop-cons xs i x (slice_get_within xs i x is) �
 
 -- ---- the log
 
--- a log that is one entry longer
+-- a log with one more entry
 entry_last : (config : Configuration) (first : ℕ) (log : History) (entry : Entry) (number : ℕ) → number ≡ first + length log → entry_lines config first (log ++ entry ∷ []) ≡ entry_lines config first log ++ line_of config number entry
 unfolding entry_lines
 entry_last config first [] entry number is =
@@ -38,7 +38,7 @@ entry_last config first [] entry number is =
 entry_last config first (x ∷ log) entry number is =
     ap (λ lines. line_of config first x ++ lines) (entry_last config (first + 1) log entry number (omega arith)) ∙ sym (append_assoc (line_of config first x) (entry_lines config (first + 1) log) (line_of config number entry))
 
--- a text to which the line of the last entry is written
+-- a text to which the line of the last entry was appended
 pub entry_pushed : (config : Configuration) (log new : History) (entry : Entry) (number : ℕ) (before old text : List ℕ) → number ≡ 1 + length log → new ≡ log ++ entry ∷ []
     → old ≡ before ++ entry_lines config 1 log → text ≡ old ++ line_of config number entry → text ≡ before ++ entry_lines config 1 new
 entry_pushed config log new entry number before old text is grown so_far written =
@@ -60,7 +60,7 @@ length-filter_map-le {X} {Y} f (x ∷ xs) = by_item (f x) refl (length-filter_ma
     by_item None is rest = rw is (omega arith)
     by_item (Some y) is rest = rw is (omega arith)
 
--- a count is the length, as a history that a program holds is shorter than the greatest number
+-- a count is the length, since a history that a program holds is shorter than the greatest number
 exact : {X : Type 0} (xs : List X) (history : History) (count : ℕ) → length xs ≤ length history → length history < 2 ^ 64 → count ≡ count_of xs → count ≡ length xs
 exact xs history count within short is = omega arith
 

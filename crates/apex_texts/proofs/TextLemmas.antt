@@ -1,4 +1,4 @@
--- Lines and words of a text, cut off at the front one by one.
+-- Lines and words of a text, taken from the front one by one.
 use Rattle.std.proofs.Common.{◌≡◌, ℕ, suc, ◌+◌, ◌<◌, ◌≤◌, Bool, true, false, not, eqb, List, [], ◌∷◌, length, take, drop, get_or, Some, None, refl, sym, ap, ◌∙◌, arith, add-one, add-zero}
 use Rattle.std.proofs.Math.Seq.{drop-cons}
 use Rattle.std.proofs.Math.ListN.{drop_of_length-le}
@@ -10,7 +10,7 @@ use Rattle.std.proofs.lemmas.List.Sums.{fails_before_first, passes_at_first}
 use Rattle.std.proofs.lemmas.List.Splits.{slice_split-cons_yes, slice_split_none, slice_split_first, length-slice_split}
 use Rattle.apex_texts.specs.Text.{is_line_feed, is_blank, words_of}
 
--- where `position` finds an index, it is that of the first element that passes
+-- if `position` finds an index, it is that of the first element that passes
 pub position_found : {X : Type 0} (p : X → Bool) (xs : List X) (i : ℕ) → position p xs ≡ Some i → (position_or_len p xs < length xs) × (i ≡ position_or_len p xs)
 position_found p xs i found = grind (arith, found)
 
@@ -38,7 +38,7 @@ lines_last text some missed =
 
 -- ---- words
 
--- blanks in front hold no word
+-- leading blanks contain no word
 words-blank : (byte : ℕ) (rest : List ℕ) → is_blank byte ≡ true → words_of (byte ∷ rest) ≡ words_of rest
 words-blank byte rest blank = rw (slice_split-cons_yes is_blank byte rest blank) refl
 

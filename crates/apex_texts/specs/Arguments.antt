@@ -1,4 +1,5 @@
--- The arguments of a call, from the words of a line: they are read from left to right, and the first fault counts.
+-- The arguments of a call, from the words of a line: they are read from left to right, and reading stops at the first
+-- fault.
 use Rattle.std.specs.Prelude.{◌≡◌, ℕ, zero, suc, List, [], ◌∷◌, Option, Some, None, Result, Ok, Err}
 use Rattle.apex_types.specs.Name.{name_of}
 use Rattle.apex_types.specs.Message.{message_of_hex}
@@ -18,12 +19,12 @@ abbrev pub ◌>>=◌ : {A B E : Type 0} → Result A E → (A → Result B E) �
 (Ok x) >>= f = f x
 (Err e) >>= f = Err e
 
--- what a function returned, seen by view, is what reading gives
+-- what a function returned, seen through `view`, is what reading gives
 abbrev pub Gives : {X Y : Type 0} → (X → Y) → Result X LineFault → Result Y LineFault → Type 0
 Gives view (Ok x) read = read ≡ Ok (view x)
 Gives view (Err fault) read = read ≡ Err fault
 
--- a value, or the fault where there is none
+-- a value, or the fault if there is none
 abbrev pub or_fault : {A : Type 0} → LineFault → Option A → Result A LineFault
 or_fault fault None = Err fault
 or_fault fault (Some x) = Ok x
@@ -33,11 +34,11 @@ abbrev pub value_of : {A E : Type 0} → Result A E → Option A
 value_of (Ok x) = Some x
 value_of (Err e) = None
 
--- the name that a word is
+-- the name that a word gives
 abbrev pub name_in : List ℕ → Option (List ℕ)
 name_in word = value_of (name_of word)
 
--- the message that a word of hexadecimal digits is
+-- the message that a word of hexadecimal digits gives
 abbrev pub message_in : List ℕ → Option (List ℕ)
 message_in word = value_of (message_of_hex word)
 
@@ -46,7 +47,7 @@ abbrev pub word_at : List (List ℕ) → Result (List ℕ × List (List ℕ)) Li
 word_at [] = Err faults.TooFewWords
 word_at (word ∷ words) = Ok (word, words)
 
--- the first word by the way it is read, and the words after it
+-- the first word as `read` gives it, and the words after it
 abbrev pub argument_at : {A : Type 0} → (List ℕ → Option A) → LineFault → List (List ℕ) → Result (A × List (List ℕ)) LineFault
 argument_at read fault words = do
   word ← word_at words
@@ -65,7 +66,7 @@ name_at words = argument_at name_in faults.Name words
 abbrev pub message_at : List (List ℕ) → Result (List ℕ × List (List ℕ)) LineFault
 message_at words = argument_at message_in faults.Message words
 
--- the call to a service with the arguments that the words are
+-- the call to a service with these words as arguments
 unfoldable pub call_at : Service → List (List ℕ) → Result Call LineFault
 call_at services.CreateSampling words = do
   name ← name_at words
@@ -113,7 +114,7 @@ call_at services.SetMode words = do
   mode ← number_at words
   Ok (calls.SetMode mode.0)
 
--- as many words as there have to be, and no more
+-- exactly this number of words
 abbrev pub exactly : ℕ → List (List ℕ) → Result (List (List ℕ)) LineFault
 exactly zero [] = Ok []
 exactly zero (word ∷ words) = Err faults.TooManyWords
@@ -122,14 +123,14 @@ exactly (suc count) (word ∷ words) = do
   rest ← exactly count words
   Ok (word ∷ rest)
 
--- the identifier that is the only word
+-- the identifier, from the only word
 abbrev pub id_in : List (List ℕ) → Result ℕ LineFault
 id_in words = do
   arguments ← exactly 1 words
   id ← number_at arguments
   Ok id.0
 
--- ARGUMENTS: as many words as the service takes, and then what each of them is
+-- ARGUMENTS: the number of words that the service takes, and then what each of them is
 unfoldable pub call_with : Service → List (List ℕ) → Result Call LineFault
 call_with service words = do
   arguments ← exactly (arguments_of service) words

@@ -2,7 +2,7 @@
 use Rattle.std.specs.Prelude.{ℕ, List, ◌++◌, length, codes, decimal, sum_by}
 use Rattle.apex_module.specs.Configuration.{Configuration}
 
--- the ports of all partitions
+-- the number of ports of all partitions
 abbrev pub port_count : Configuration → ℕ
 port_count config = sum_by (λ partition. length partition.ports) config.partitions
 
@@ -11,6 +11,6 @@ abbrev pub counts_line : ℕ → ℕ → ℕ → List ℕ
 counts_line partitions ports channels =
     codes "ok partitions " ++ decimal partitions ++ codes " ports " ++ decimal ports ++ codes " channels " ++ decimal channels ++ codes "\n"
 
--- the line of a configuration
+-- the line for a configuration
 abbrev pub check_line : Configuration → List ℕ
 check_line config = counts_line (length config.partitions) (port_count config) (length config.channels)

@@ -1,4 +1,4 @@
--- The printed lines of refused texts.
+-- The printed lines for refused texts.
 use Rattle.std.specs.Prelude.{ℕ, List, [], ◌++◌, codes, decimal, Option, Some, None}
 use Rattle.apex_module.specs.Fault.{pass_of}
 use Rattle.apex_module.specs.declared.fault.ConfigFault.{ConfigFault}
@@ -12,11 +12,11 @@ use Rattle.apex_texts.specs.declared.fault.Fault.{Fault}
 use Rattle.apex_texts.specs.declared.fault.Fault.TheVariants as faults
 use Rattle.apex_texts.specs.LineFault.{fault_numbered, fault_words}
 
--- want of memory, wherever it came
+-- out of memory, wherever it happened
 abbrev pub memory_line : List ℕ
 memory_line = codes "out of memory"
 
--- the words of a configuration's fault
+-- the words for a configuration's fault
 abbrev pub config_words : ConfigFault → List ℕ
 config_words config_faults.NotToml = codes "not TOML"
 config_words config_faults.Shape = codes "shape"
@@ -30,7 +30,7 @@ config_words config_faults.Destinations = codes "destinations"
 config_words config_faults.Counts = codes "count out of limits"
 config_words config_faults.OutOfMemory = memory_line
 
--- `config fault N: WORDS`; the words alone where the fault has no number
+-- `config fault N: WORDS`; only the words if the fault has no number
 abbrev pub numbered_line : Option ℕ → List ℕ → List ℕ
 numbered_line (Some number) words = codes "config fault " ++ decimal number ++ codes ": " ++ words
 numbered_line None words = words
@@ -38,7 +38,7 @@ numbered_line None words = words
 abbrev pub config_line : ConfigFault → List ℕ
 config_line fault = numbered_line (pass_of fault) (config_words fault)
 
--- `: WORDS`, where a fault has the number
+-- `: WORDS`, if a fault has the number
 abbrev pub words_after : Option LineFault → List ℕ
 words_after (Some fault) = codes ": " ++ fault_words fault
 words_after None = []
@@ -57,7 +57,7 @@ text_line text fault = text ++ trace_words fault
 abbrev pub held_line : List ℕ → ℕ → List ℕ
 held_line partition n = codes "run fault 2: partition " ++ (partition ++ (codes " held at call " ++ decimal n))
 
--- the line of a run's fault, which tells a partition by its number
+-- the line for a run's fault, which gives a partition by its number
 abbrev pub run_line : RunFault → List ℕ
 run_line run_faults.OutOfMemory = memory_line
 run_line (run_faults.Held partition n) = held_line (decimal partition) n
@@ -65,7 +65,7 @@ run_line run_faults.WorkerNotStarted = codes "run fault 3: worker not started"
 run_line run_faults.ResultsDiffer = codes "run fault 4: collected results do not match"
 run_line run_faults.NoObserver = codes "run fault 5: no observer"
 
--- the line of a fault of a replay or a run
+-- the line for a fault of a replay or a run
 abbrev pub fault_line : Fault → List ℕ
 fault_line (faults.Config fault) = config_line fault
 fault_line (faults.Trace fault) = text_line (codes "trace ") fault

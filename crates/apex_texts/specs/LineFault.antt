@@ -15,7 +15,7 @@ number_of Number = 7
 number_of Name = 8
 number_of Message = 9
 
--- the fault that has the number
+-- the fault with this number
 abbrev pub fault_numbered : ℕ → Option LineFault
 fault_numbered number =
     if number == 1 then Some NotAscii
@@ -29,7 +29,7 @@ fault_numbered number =
     else if number == 9 then Some Message
     else None
 
--- the printed words of a fault
+-- the printed words for a fault
 abbrev pub fault_words : LineFault → List ℕ
 fault_words NotAscii = codes "not ASCII"
 fault_words TooFewWords = codes "too few words"

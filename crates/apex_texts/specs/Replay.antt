@@ -18,7 +18,7 @@ use Rattle.apex_texts.specs.Lines.{FaultyLine}
 use Rattle.apex_texts.specs.Trace.{trace_of}
 use Rattle.apex_texts.specs.Report.{report_of}
 
--- ---- want of memory is one fault, wherever it came
+-- ---- out of memory is one fault, wherever it happened
 
 abbrev pub config_fault : ConfigFault → Fault
 config_fault config_faults.OutOfMemory = faults.Memory
@@ -48,14 +48,14 @@ abbrev pub IsRefused : Result (List Request) FaultyLine → TraceFault → Type 
 IsRefused meaning (trace_faults.Line line fault) = meaning ≡ Err (record { line = line; fault = fault })
 IsRefused meaning trace_faults.OutOfMemory = ⊥
 
--- what a replay of a trace's text on a configuration answers
+-- what replaying a trace's text on a configuration returns
 abbrev pub IsTraceReplay : Result (String Global) Fault → Configuration → List ℕ → Type 0
 IsTraceReplay (Ok text) config trace = (requests : List Request) × (trace_of config trace ≡ Ok requests) × IsReportOf config requests (string_bytes text)
 IsTraceReplay (Err (faults.Trace fault)) config trace = IsRefused (trace_of config trace) fault
 IsTraceReplay (Err faults.Memory) config trace = Unit {0}
 IsTraceReplay (Err fault) config trace = ⊥
 
--- what a replay of two texts answers
+-- what a replay of two texts returns
 abbrev pub IsReplay : Result (String Global) Fault → List ℕ → List ℕ → Type 0
 IsReplay (Ok text) config trace = (configuration : Configuration) × (config_of config ≡ Ok configuration) × IsTraceReplay (Ok text) configuration trace
 IsReplay (Err (faults.Config fault)) config trace = config_of config ≡ Err fault

@@ -54,23 +54,23 @@ unfoldable pub entry_line : ℕ → List ℕ → Moment → Call → Reply → L
 entry_line number name at call reply =
     decimal number ++ codes " " ++ decimal at.0 ++ codes " " ++ name ++ codes " " ++ word_of (service_of call) ++ codes " " ++ reply_text reply ++ codes "\n"
 
--- the line of an entry with this number
+-- the line of the entry with this number
 abbrev pub line_of : Configuration → ℕ → Entry → List ℕ
 line_of config number entry = entry_line number (name_of_partition config entry.partition) entry.at entry.call entry.reply
 
--- the lines of entries of which the first has this number
+-- the lines of entries, the first of which has this number
 unfoldable pub entry_lines : Configuration → ℕ → History → List ℕ
 entry_lines config number [] = []
 entry_lines config number (entry ∷ rest) = line_of config number entry ++ entry_lines config (number + 1) rest
 
 -- ---- partitions
 
--- `partition NAME mode MODE calls N`, where the calls that were not made count too
+-- `partition NAME mode MODE calls N`; the calls that were not made count too
 unfoldable pub partition_line : History → ℕ → List ℕ → List ℕ
 partition_line history p name =
     codes "partition " ++ name ++ codes " mode " ++ mode_word (mode_of p history) ++ codes " calls " ++ decimal (length (entries_of p history)) ++ codes "\n"
 
--- the lines of partitions of which the first has this number
+-- the lines of partitions, the first of which has this number
 unfoldable pub partition_lines : History → ℕ → List PartitionData → List ℕ
 partition_lines history p [] = []
 partition_lines history p (partition ∷ rest) = partition_line history p partition.name ++ partition_lines history (p + 1) rest
@@ -82,11 +82,11 @@ unfoldable pub messages_text : List (List ℕ) → List ℕ
 messages_text [] = []
 messages_text (message ∷ rest) = codes " " ++ hex_text_of message ++ messages_text rest
 
--- how many messages were cleared, where some were
+-- the number of cleared messages, if there are any
 unfoldable pub cleared_text : ℕ → List ℕ
 cleared_text count = if count == 0 then [] else codes " cleared " ++ decimal count
 
--- the counts of a queuing channel, and the messages that wait, oldest first
+-- the counts of a queuing channel, and the waiting messages, oldest first
 unfoldable pub queue_text : Configuration → ℕ → History → List ℕ
 queue_text config c history =
     codes " accepted " ++ decimal (length (accepted_on config c history)) ++ codes " received " ++ decimal (length (received_on config c history)) ++ cleared_text (length (cleared_on config c history)) ++ codes " waiting " ++ decimal (length (waiting_on config c history)) ++ messages_text (waiting_on config c history)
@@ -100,7 +100,7 @@ unfoldable pub channel_text : Configuration → History → ℕ → List ℕ →
 channel_text config history c name (kinds.Queuing depth) = codes "queuing " ++ name ++ queue_text config c history
 channel_text config history c name kinds.Sampling = codes "sampling " ++ name ++ sample_text (last_write_on config c history)
 
--- the lines of channels of which the first has this number
+-- the lines of channels, the first of which has this number
 unfoldable pub channel_lines : Configuration → History → ℕ → List Channel → List ℕ
 channel_lines config history c [] = []
 channel_lines config history c (channel ∷ rest) = channel_text config history c channel.name channel.kind ++ codes "\n" ++ channel_lines config history (c + 1) rest

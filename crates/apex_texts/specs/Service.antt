@@ -31,7 +31,7 @@ services =
 abbrev pub service_named : List ℕ → Option Service
 service_named word = find (λ service. bytes_eq (word_of service) word) services
 
--- the service that a call asks for
+-- the service of a call
 abbrev pub service_of : Call → Service
 service_of (calls.CreateSampling name size direction refresh) = CreateSampling
 service_of (calls.WriteSampling id message) = WriteSampling
@@ -46,7 +46,7 @@ service_of (calls.QueuingStatus id) = QueuingStatus
 service_of (calls.ClearQueuing id) = ClearQueuing
 service_of (calls.SetMode mode) = SetMode
 
--- what each argument of a service has to be
+-- what each argument of a service must be
 abbrev pub parameters_of : Service → List Expected
 parameters_of CreateSampling = Name ∷ Size ∷ Direction ∷ Refresh ∷ []
 parameters_of WriteSampling = Identifier ∷ Message ∷ []
@@ -61,6 +61,6 @@ parameters_of QueuingStatus = Identifier ∷ []
 parameters_of ClearQueuing = Identifier ∷ []
 parameters_of SetMode = Mode ∷ []
 
--- how many arguments a service takes
+-- the number of arguments of a service
 abbrev pub arguments_of : Service → ℕ
 arguments_of service = length (parameters_of service)

@@ -1,4 +1,4 @@
--- What a trace stands for: the requests of its lines in order, or its first faulty line.
+-- The meaning of a trace: the requests of its lines in order, or its first faulty line.
 use Rattle.std.specs.Prelude.{ℕ, ◌<◌, List, length, All, Result, Ok}
 use Rattle.std.specs.Global.{Vec}
 use Rattle.apex_module.specs.Configuration.{Configuration, partition_named}
@@ -9,11 +9,11 @@ use Rattle.apex_texts.specs.declared.fault.TraceFault.{TraceFault}
 use Rattle.apex_texts.specs.Arguments.{◌>>=◌, or_fault, word_at, moment_of, call_of}
 use Rattle.apex_texts.specs.Lines.{FaultyLine, items_of, IsRead}
 
--- PARTITION: the index of the partition whose name the word is
+-- PARTITION: the index of the partition with this word as its name
 abbrev pub partition_of : Configuration → List ℕ → Result ℕ LineFault
 partition_of config word = or_fault faults.Partition (partition_named config word)
 
--- MOMENT PARTITION CALL ARGUMENTS, with the faults in the order in which a line is looked at
+-- MOMENT PARTITION CALL ARGUMENTS, with the faults in the order in which a line is read
 unfoldable pub request_at : Configuration → List ℕ → List (List ℕ) → Result Request LineFault
 request_at config moment words = do
   partition ← word_at words
@@ -27,7 +27,7 @@ request_at config moment words = do
 abbrev pub trace_of : Configuration → List ℕ → Result (List Request) FaultyLine
 trace_of config text = items_of (request_at config) text
 
--- what a reader answered is what the trace stands for, unless memory was refused
+-- what a reader returned is the meaning of the trace, unless memory ran out
 abbrev pub IsTraceRead : Result (Vec Request) TraceFault → Result (List Request) FaultyLine → Type 0
 IsTraceRead answer meaning = IsRead (λ requests. requests.items) answer meaning
 

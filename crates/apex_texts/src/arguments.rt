@@ -10,13 +10,13 @@ use crate::text::{next_word, number_up_to};
 use apex_types::{Call, Message, Moment, Name};
 use std::str;
 
-/// The greatest moment and the greatest refresh period of a text, in nanoseconds.
+/// The greatest moment and the longest refresh period in a text, in nanoseconds.
 pub const MOMENT_LIMIT: u64 = 9_223_372_036_854_775_807;
 
-/// The greatest of the other numbers of a text.
+/// The greatest value of all other numbers in a text.
 pub const NUMBER_LIMIT: u64 = 4_294_967_295;
 
-/// The moment that a word is.
+/// The moment that a word gives.
 pub fn moment_of(word: &[u8]) -> Result<Moment, LineFault>
     ensures { result ≡ moment_of word.now }
 {
@@ -24,7 +24,7 @@ pub fn moment_of(word: &[u8]) -> Result<Moment, LineFault>
     Ok(Moment(nanoseconds))
 }
 
-/// The name that a word is.
+/// The name that a word gives.
 pub fn name_in(word: &[u8]) -> Option<Name>
     ensures { result ≡ name_in word.now }
 {
@@ -96,7 +96,7 @@ fn name_of(word: &[u8]) -> Result<Name, LineFault>
     name_in(word).ok_or(LineFault::Name)
 }
 
-// Reads the message that a word is into `message`.
+// Reads the message of a word into `message`.
 pub(crate) fn read_message(word: &[u8], message: &mut Message) -> Result<(), LineFault>
     ensures { Gives (λ _. message.new) result
         (or_fault LineFault.Message (message_in word.now)) }
@@ -114,10 +114,10 @@ pub fn service_at(word: &[u8]) -> Result<Service, LineFault>
     Service::named(word).ok_or(LineFault::UnknownCall)
 }
 
-/// Reads the call to a service, with the arguments that the words are, into `call`. The words
-/// are walked once. After a fault any call may stand there.
-// A function clears the room of its values where it begins, those of functions inlined into it too. So each
-// function that makes a call with a message or a name isn't inlined.
+/// Reads the call to a service, with the arguments in these words, into `call`. It goes through the words once. After a
+/// fault `call` is unspecified.
+// A function clears the stack room of its values when it begins, including those of functions inlined into it. So no
+// function that makes a call with a message or a name is inlined.
 #[tactic(auto, unfolding(crate::specs::Arguments::call_with, crate::specs::Arguments::call_at))]
 pub fn read_call(service: Service, words: &[u8], call: &mut Call) -> Result<(), LineFault>
     ensures { Gives (λ _. call.new) result (call_with service (words_of words.now)) }
@@ -149,7 +149,7 @@ fn id_in(words: &[u8]) -> Result<u32, LineFault>
     number_of(one_word(words)?)
 }
 
-// The identifier that the first of two words is; the message that the second is goes into `message`.
+// Returns the identifier in the first of two words; the message in the second goes to `message`.
 #[tactic(auto, unfolding(crate::specs::Arguments::id_and_message))]
 fn id_and_message(words: &[u8], message: &mut Message) -> Result<u32, LineFault>
     ensures { Gives (λ id. (id, message.new)) result (id_and_message (words_of words.now)) }

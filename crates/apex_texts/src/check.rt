@@ -1,11 +1,11 @@
-//! The line that tells what an accepted configuration has.
+//! The line that says what an accepted configuration has.
 ghost use Rattle.std.specs.Prelude.{◌≡◌, string_bytes, IfOk};
 ghost use Rattle.apex_texts.specs.Check.{port_count, counts_line, check_line};
 
 use apex_module::Config;
 use std::alloc::{AllocError, Global};
 
-/// `ok partitions P ports Q channels C` of a configuration, as a line.
+/// `ok partitions P ports Q channels C` for a configuration, as a line.
 pub fn check_line(alloc: Global, config: &Config) -> Result<String, AllocError>
     ensures { IfOk result (λ text. string_bytes text ≡ check_line config.now) }
 {
@@ -28,7 +28,7 @@ fn counts_line(
     format!(in alloc; "ok partitions {partitions} ports {ports} channels {channels}\n")
 }
 
-/// The ports of all partitions.
+/// The number of ports of all partitions.
 fn count_ports(config: &Config) -> usize
     ensures { result ≡ port_count config.now }
 {

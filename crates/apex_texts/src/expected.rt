@@ -1,4 +1,4 @@
-//! What a word of a line has to be.
+//! What a word of a line must be.
 ghost use Rattle.std.specs.Prelude.{◌≡◌};
 ghost use Rattle.apex_texts.specs.Expected.{is_argument};
 
@@ -6,7 +6,7 @@ use crate::arguments::{MOMENT_LIMIT, NUMBER_LIMIT, name_in, read_message};
 use crate::text::number_up_to;
 use apex_types::Message;
 
-/// What was expected where the fault of a line stands.
+/// What was expected at the fault of a line.
 #[derive(Clone, Copy, Debug, PartialEq, Eq)]
 pub enum Expected {
     /// A byte up to 0x7F.
@@ -19,9 +19,9 @@ pub enum Expected {
     Service,
     /// A port's name.
     Name,
-    /// The size of a port's messages, as the other numbers at most `NUMBER_LIMIT`.
+    /// The size of a port's messages, at most `NUMBER_LIMIT` like the other numbers.
     Size,
-    /// How many messages a queue holds.
+    /// The number of messages that a queue holds.
     Depth,
     /// The number of a direction.
     Direction,
@@ -40,7 +40,7 @@ pub enum Expected {
 }
 
 impl Expected {
-    /// Whether a word is what was expected of it as an argument.
+    /// Whether a word is valid as this argument.
     pub fn is_argument(self, word: &[u8]) -> bool
         ensures { result ≡ is_argument self word.now }
     {

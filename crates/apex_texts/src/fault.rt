@@ -14,17 +14,17 @@ use std::alloc::{AllocError, AllocFailed};
 use std::error::Error;
 use std::fmt;
 
-/// Why a trace or a script was not read.
+/// Why a trace or a script was refused.
 #[derive(Clone, Copy, Debug, PartialEq, Eq)]
 pub enum TraceFault {
     /// The first faulty line, from 1, and the number of its fault.
     Line { line: usize, fault: u32 },
-    /// A growth of memory was refused.
+    /// An allocation failed.
     OutOfMemory,
 }
 
 impl TraceFault {
-    /// The fault of a line, which is numbered from 1.
+    /// The fault of a line, whose number counts from 1.
     pub(crate) fn at(line: usize, fault: LineFault) -> TraceFault
         ensures { result ≡ TraceFault.Line line (number_of fault) }
     {
@@ -67,7 +67,7 @@ impl From<AllocError> for TraceFault {
     }
 }
 
-/// Why a replay or a run gave no report. Want of memory is always `Memory`.
+/// Why a replay or a run gave no report. If memory ran out, it is always `Memory`.
 #[derive(Debug, Drop, PartialEq, Eq)]
 pub enum Fault {
     /// The configuration is refused.
@@ -82,7 +82,7 @@ pub enum Fault {
     Run(RunFault),
     /// An observer of a finished run shows that its board has ended.
     Gone,
-    /// A growth of memory was refused.
+    /// An allocation failed.
     Memory,
 }
 
@@ -127,7 +127,7 @@ impl fmt::Display for Fault {
     }
 }
 
-/// The words of a configuration's fault.
+/// The words for a configuration's fault.
 fn config_words(fault: ConfigFault) -> &'static str
     ensures { result.now ≡ config_words fault }
 {

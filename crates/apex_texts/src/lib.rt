@@ -1,4 +1,4 @@
-//! The texts of the simulator: traces and scripts are read, the lines of reports and of faults are written, and a replay
+//! The texts of the simulator: it reads traces and scripts, writes the lines of reports and of faults, and a replay
 //! does both.
 #![tactic(auto)]
 

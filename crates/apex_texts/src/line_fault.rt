@@ -14,17 +14,17 @@ pub enum LineFault {
     TooFewWords,
     /// The line has more arguments than its call.
     TooManyWords,
-    /// The moment is no number, or too great.
+    /// The moment is not a number, or too great.
     Moment,
-    /// No partition has the name.
+    /// No partition has this name.
     Partition,
     /// The call word is unknown.
     UnknownCall,
-    /// An argument is no number, or too great.
+    /// An argument is not a number, or too great.
     Number,
-    /// An argument is no name.
+    /// An argument is not a name.
     Name,
-    /// An argument is no message.
+    /// An argument is not a message.
     Message,
 }
 
@@ -46,7 +46,7 @@ impl LineFault {
         }
     }
 
-    /// The fault that has the number.
+    /// The fault with this number.
     pub fn numbered(number: u32) -> Option<LineFault>
         ensures { result ≡ fault_numbered number }
     {
@@ -64,7 +64,7 @@ impl LineFault {
         })
     }
 
-    /// The printed words of the fault.
+    /// The printed words for the fault.
     pub fn words(self) -> &'static str
         ensures { result.now ≡ fault_words self }
     {

@@ -1,5 +1,5 @@
-//! Reading a text line by line: the items of its lines, or its first faulty line. Traces and scripts
-//! are such texts, and differ in how the words of a line are read.
+//! Reads a text line by line: the items of its lines, or its first faulty line. Traces and scripts are such texts; they
+//! differ in how the words of a line are read.
 ghost use Rattle.std.specs.Prelude.{◌≡◌};
 ghost use Rattle.std.specs.List.{list_all};
 ghost use Rattle.std.specs.Option.{option_map};
@@ -19,7 +19,7 @@ pub trait LineForm {
 
     type Item: Drop;
 
-    // What a first word and the words after it are read as.
+    // The item that a first word and the words after it give.
     ghost item_at: { Self → List ℕ → List (List ℕ) → Result Self.Item LineFault };
 
     /// The item of a first word and the words after it.
@@ -50,7 +50,7 @@ pub fn read_lines<F: LineForm>(
     Ok(items)
 }
 
-/// The item of a line; none where the line has no words or is a comment.
+/// The item of a line; none if the line has no words or is a comment.
 #[tactic(auto, unfolding(crate::specs::Lines::item_of_line))]
 pub fn item_of_line<F: LineForm>(form: &F, line: &[u8]) -> Result<Option<F::Item>, LineFault>
     ensures { result ≡ item_of_line (F.item_at form.now) line.now }
@@ -61,7 +61,7 @@ pub fn item_of_line<F: LineForm>(form: &F, line: &[u8]) -> Result<Option<F::Item
     }
 }
 
-/// The first word of a line and the words after it; none where the line has no word or is a comment.
+/// The first word of a line and the words after it; none if the line has no words or is a comment.
 #[tactic(auto, unfolding(crate::specs::Lines::line_words))]
 pub fn line_words(line: &[u8]) -> Result<Option<(&[u8], &[u8])>, LineFault>
     ensures { Gives (option_map (λ x. (x.0.now, words_of x.1.now))) result (line_words line.now) }

@@ -1,4 +1,4 @@
-//! A replay: a configuration and a trace in, a report out.
+//! A replay: it reads a configuration and a trace, and writes a report.
 ghost use Rattle.std.specs.Prelude.{◌≡◌, ◌<◌, ◌^◌, ◌∷◌, ◌++◌, [], length, string_bytes, OnOk, IfErr};
 ghost use Rattle.apex_ports.specs.Sound.{IsSound};
 ghost use Rattle.apex_texts.specs.Replay.{entry_after, IsServed, IsTraceReplay, IsReplay};
@@ -25,8 +25,8 @@ pub fn replay_text(alloc: Global, config: &[u8], trace: &[u8]) -> Result<String,
 
 /// The report of a trace's calls on new ports of a configuration, from the trace's text.
 ///
-/// Each line is read, served and written before the next one. A faulty line drops the ports and the
-/// text so far, so that nothing of them shows.
+/// Each line is read, served and written before the next one. At a faulty line the ports and the text so far are
+/// dropped, so that none of it is visible.
 pub fn replay_trace(alloc: Global, config: Config, trace: &[u8]) -> Result<String, Fault>
     ensures { IsTraceReplay result config trace.now }
 {

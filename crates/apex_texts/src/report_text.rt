@@ -46,7 +46,7 @@ fn push_number(text: &mut String, number: u64) -> Result<(), AllocError>
     push_word(text, buffer.format(number))
 }
 
-/// A word, and a number after it.
+/// A word followed by a number.
 fn push_count(text: &mut String, word: &str, number: u64) -> Result<(), AllocError>
     ensures { OnOk result (string_bytes text.new
         ≡ string_bytes text.old ++ word.now ++ decimal number) }
@@ -63,7 +63,7 @@ fn push_message(text: &mut String, message: &Message) -> Result<(), AllocError>
     push_word(text, message.hex_in(&mut digits))
 }
 
-/// A message by its bytes.
+/// A message, given by its bytes.
 fn push_bytes(text: &mut String, bytes: &[u8]) -> Result<(), AllocError>
     requires { length bytes.now ≤ MESSAGE_LIMIT }
     ensures { OnOk result (string_bytes text.new
@@ -201,7 +201,7 @@ fn push_partition(text: &mut String, ports: &Ports, p: usize, name: &str) -> Res
     push_word(text, "\n")
 }
 
-// How many calls the partition made: the count is the number, as no program holds more calls.
+// The number of calls that the partition made: the count is exact, since no program holds more calls.
 fn calls_of(ports: &Ports, p: usize) -> u64
     requires partition { p < length ports.now.config.partitions }
     requires short { length ports.now.history < 2 ^ 64 }
@@ -210,7 +210,7 @@ fn calls_of(ports: &Ports, p: usize) -> u64
     ports.calls(p)
 }
 
-// How many messages the channel accepted.
+// The number of messages that the channel accepted.
 fn accepted_by(ports: &Ports, c: usize) -> u64
     requires channel { c < length ports.now.config.channels }
     requires short { length ports.now.history < 2 ^ 64 }
@@ -219,7 +219,7 @@ fn accepted_by(ports: &Ports, c: usize) -> u64
     ports.accepted_count(c)
 }
 
-// How many messages were received from the channel.
+// The number of messages received from the channel.
 fn received_from(ports: &Ports, c: usize) -> u64
     requires channel { c < length ports.now.config.channels }
     requires short { length ports.now.history < 2 ^ 64 }
@@ -228,7 +228,7 @@ fn received_from(ports: &Ports, c: usize) -> u64
     ports.received_count(c)
 }
 
-// How many messages of the channel were cleared.
+// The number of messages of the channel that were cleared.
 fn cleared_from(ports: &Ports, c: usize) -> u64
     requires channel { c < length ports.now.config.channels }
     requires short { length ports.now.history < 2 ^ 64 }
@@ -279,7 +279,7 @@ fn push_channel(
     }
 }
 
-/// ` cleared C`, where some messages were cleared.
+/// ` cleared C`, if messages were cleared.
 #[tactic(auto, unfolding(crate::specs::Report::cleared_text))]
 fn push_cleared(text: &mut String, count: u64) -> Result<(), AllocError>
     ensures { OnOk result (string_bytes text.new ≡ string_bytes text.old ++ cleared_text count) }
@@ -290,7 +290,7 @@ fn push_cleared(text: &mut String, count: u64) -> Result<(), AllocError>
     push_count(text, " cleared ", count)
 }
 
-/// ` accepted A received B cleared C waiting W`, and the messages that wait, oldest first.
+/// ` accepted A received B cleared C waiting W`, and the waiting messages, oldest first.
 #[tactic(auto, unfolding(crate::specs::Report::queue_text))]
 fn push_queue(text: &mut String, ports: &Ports, c: usize) -> Result<(), AllocError>
     requires channel { c < length ports.now.config.channels }
@@ -305,7 +305,7 @@ fn push_queue(text: &mut String, ports: &Ports, c: usize) -> Result<(), AllocErr
     push_waiting(text, ports, c)
 }
 
-/// The messages that wait, each after a space.
+/// The waiting messages, each after a space.
 #[tactic(auto, unfolding(crate::specs::Report::messages_text))]
 fn push_waiting(text: &mut String, ports: &Ports, c: usize) -> Result<(), AllocError>
     requires { c < length ports.now.config.channels }

@@ -38,7 +38,7 @@ impl LineForm for ScriptLine {
     }
 }
 
-/// The call of a moment and the words after it.
+/// The call with a moment and the words after it.
 fn timed_call_at(moment: &[u8], words: &[u8]) -> Result<(Moment, Call), LineFault>
     ensures { result ≡ timed_call_at moment.now (words_of words.now) }
 {
@@ -47,8 +47,8 @@ fn timed_call_at(moment: &[u8], words: &[u8]) -> Result<(Moment, Call), LineFaul
     Ok((at, call))
 }
 
-/// Reads the call of a moment and the words after it into `call`, and answers the moment. After a
-/// fault any call may stand there.
+/// Reads the call with a moment and the words after it into `call`, and returns the moment. After a fault `call` is
+/// unspecified.
 #[tactic(auto, unfolding(crate::specs::Script::timed_call_at, crate::specs::Arguments::call_of))]
 fn read_timed_call(moment: &[u8], words: &[u8], call: &mut Call) -> Result<Moment, LineFault>
     ensures { Gives (λ at. (at, call.new)) result
@@ -60,8 +60,8 @@ fn read_timed_call(moment: &[u8], words: &[u8], call: &mut Call) -> Result<Momen
     Ok(at)
 }
 
-/// Reads the call of a line into `call`, and answers its moment; none where the line has no words or
-/// is a comment. After a fault any call may stand there.
+/// Reads the call of a line into `call`, and returns its moment; none if the line has no words or is a comment. After a
+/// fault `call` is unspecified.
 #[tactic(auto, unfolding(crate::specs::Lines::item_of_line))]
 pub fn read_script_line(line: &[u8], call: &mut Call) -> Result<Option<Moment>, LineFault>
     ensures { Gives (option_map (λ at. (at, call.new))) result

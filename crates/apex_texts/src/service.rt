@@ -61,7 +61,7 @@ impl Service {
             .find(|service| service.word().as_bytes() == word)
     }
 
-    /// The service that a call asks for.
+    /// The service of a call.
     pub fn of(call: &Call) -> Service
         ensures { result ≡ service_of call.now }
     {
@@ -101,7 +101,7 @@ impl Service {
         }
     }
 
-    /// What each argument of the service has to be.
+    /// What each argument of the service must be.
     pub fn parameters(self) -> &'static [Expected]
         ensures { result.now ≡ parameters_of self }
     {

@@ -6,8 +6,8 @@ ghost use Rattle.apex_texts.specs.Text.{is_line_feed, is_blank, words_of, number
 
 use memchr::{memchr, memchr2};
 
-/// The first line of a text, and the text after it. A line ends with a line feed or where the text
-/// ends; one carriage return just before a line feed is dropped.
+/// The first line of a text, and the text after it. A line ends at a line feed or at the end of the text; one carriage
+/// return directly before a line feed is dropped.
 pub fn next_line(text: &[u8]) -> Option<(&[u8], &[u8])>
     ensures line { MatchOption result (lines text.now ≡ [])
         (λ x. lines text.now ≡ x.0.now ∷ lines x.1.now) }
@@ -57,7 +57,7 @@ pub fn word_in(line: &[u8]) -> Option<usize>
     line.iter().position(|byte| !is_blank(*byte))
 }
 
-/// The first word of a line, and the line after it. Words are parted by spaces and tabs.
+/// The first word of a line, and the line after it. Spaces and tabs separate words.
 pub fn next_word(line: &[u8]) -> Option<(&[u8], &[u8])>
     ensures word { MatchOption result (words_of line.now ≡ [])
         (λ x. words_of line.now ≡ x.0.now ∷ words_of x.1.now) }
@@ -73,7 +73,7 @@ pub fn next_word(line: &[u8]) -> Option<(&[u8], &[u8])>
     }
 }
 
-/// The number that a word of decimal digits is, where it is at most the limit.
+/// The number that a word of decimal digits gives, if it is at most the limit.
 pub fn number_up_to(limit: u64, word: &[u8]) -> Option<u64>
     ensures { result ≡ number_up_to limit word.now }
 {

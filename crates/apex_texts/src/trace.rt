@@ -1,4 +1,4 @@
-//! Reading a trace: the requests of its lines, or its first faulty line.
+//! Reads a trace: the requests of its lines, or its first faulty line.
 ghost use Rattle.std.specs.Prelude.{◌≡◌, ◌<◌, if◌then◌else◌, length, Some, None, IsTrue, IfOk, OnOk};
 ghost use Rattle.apex_texts.specs.Arguments.{Gives};
 ghost use Rattle.apex_texts.specs.Lines.{item_of_line};
@@ -38,14 +38,14 @@ impl LineForm for TraceLine<'_> {
     }
 }
 
-/// A request that others are read into.
+/// A placeholder to read requests into.
 pub const ANY_REQUEST: Request = Request {
     partition: 0,
     at: Moment(0),
     call: ANY_CALL,
 };
 
-/// The request of a moment and the words after it.
+/// The request with a moment and the words after it.
 fn request_at(config: &Config, moment: &[u8], words: &[u8]) -> Result<Request, LineFault>
     ensures { result ≡ request_at config.now moment.now (words_of words.now) }
 {
@@ -54,8 +54,7 @@ fn request_at(config: &Config, moment: &[u8], words: &[u8]) -> Result<Request, L
     Ok(request)
 }
 
-/// Reads the request of a moment and the words after it into `request`. After a fault any request
-/// may stand there.
+/// Reads the request with a moment and the words after it into `request`. After a fault `request` is unspecified.
 #[tactic(auto, unfolding(crate::specs::Trace::request_at, crate::specs::Arguments::call_of))]
 fn read_request(
     config: &Config,
@@ -74,8 +73,8 @@ fn read_request(
     read_call(service_at(call)?, words, &mut request.call)
 }
 
-/// Reads the request of a line into `request`, and answers whether the line has one: a line without
-/// words and a comment have none. After a fault any request may stand there.
+/// Reads the request of a line into `request`, and returns whether the line has one: a line without words and a comment
+/// have none. After a fault `request` is unspecified.
 #[tactic(auto, unfolding(crate::specs::Lines::item_of_line))]
 pub fn read_trace_line(
     config: &Config,

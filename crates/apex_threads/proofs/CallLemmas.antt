@@ -1,4 +1,4 @@
--- Calls that are packed stay what they are while bytes and named calls come behind.
+-- Packed calls stay the same while bytes and named calls are appended.
 use Rattle.std.proofs.Common.{◌≡◌, ◌≢◌, ℕ, suc, ◌<◌, ◌==◌, Bool, true, false, List, [], ◌∷◌, ◌++◌, length, map, Some, refl, sym, ap, ◌∙◌, subst, arith, length-append}
 use Rattle.std.specs.Prelude.{unwrap_or}
 use Rattle.std.specs.List.{slice_get}
@@ -37,7 +37,7 @@ module _ (bytes more : List ℕ) (named others : List Call) where
   call_still (packed.SetMode mode) is = tt
   call_still (packed.Named index) is = omega (arith, length-append named others)
 
-  -- the calls are those of before
+  -- the calls are the same as before
   pub same_calls : (all : List (Moment × PackedCall)) → ArePackedCalls (length bytes) (length named) all → map (timed_in (bytes ++ more) (named ++ others)) all ≡ map (timed_in bytes named) all
   same_calls [] are = refl
   same_calls (one ∷ all) are =
@@ -47,14 +47,14 @@ module _ (bytes more : List ℕ) (named others : List Call) where
   pub still_packed_calls : (all : List (Moment × PackedCall)) → ArePackedCalls (length bytes) (length named) all → ArePackedCalls (length (bytes ++ more)) (length (named ++ others)) all
   still_packed_calls all are k one here = call_still one.1 (are k one here)
 
-  -- one call more
+  -- one more call
   pub pushed_call : (all : List (Moment × PackedCall)) (at : Moment) (one : PackedCall) (given : Call) → ArePackedCalls (length bytes) (length named) all → call_in (bytes ++ more) (named ++ others) one ≡ given
       → map (timed_in (bytes ++ more) (named ++ others)) (all ++ (at, one) ∷ []) ≡ map (timed_in bytes named) all ++ (at, given) ∷ []
   pushed_call all at one given are is =
       map-append (timed_in (bytes ++ more) (named ++ others)) all ((at, one) ∷ [])
       ∙ (ap (λ front. front ++ (at, call_in (bytes ++ more) (named ++ others) one) ∷ []) (same_calls all are) ∙ ap (λ (last : Call). map (timed_in bytes named) all ++ (at, last) ∷ []) is)
 
--- one more that is packed
+-- one more packed call
 pub one_more_packed_call : (len count : ℕ) (all : List (Moment × PackedCall)) (at : Moment) (one : PackedCall) → ArePackedCalls len count all → IsPackedCall len count one → ArePackedCalls len count (all ++ (at, one) ∷ [])
 one_more_packed_call len count all at one are is k other here = by_test (k == length all) refl
   where

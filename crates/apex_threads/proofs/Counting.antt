@@ -67,7 +67,7 @@ served_still h e p script own done other served = record {
 
 -- ---- all partitions
 
--- nothing of an empty log is counted
+-- nothing is counted for an empty log
 pub counted_none : (scripts : List (List (Moment × Call))) (replies : List (List Reply)) (n : ℕ) (counts : List ℕ) → counts ≡ replicate n 0 → length counts ≡ length scripts → n ≡ length scripts → AreCounted [] scripts replies counts
 counted_none scripts replies n counts none same all = record {
   all = same;
@@ -157,7 +157,7 @@ has_replies h scripts replies counts each counted complete p own here =
     let served = counted.each p script.0 own script.1 here in
     whole _ _ (get_or counts p 0) served.replies (complete p script.0 own script.1 here).1
 
--- ---- a log that is collected was counted
+-- ---- a collected log was counted
 
 slice_get_middle : {X : Type 0} (xs ys : List X) (x : X) → slice_get (xs ++ x ∷ ys) (length xs) ≡ Some x
 slice_get_middle [] ys x = refl

@@ -1,4 +1,4 @@
--- The derived comparisons of calls and replies say exactly whether two are equal.
+-- The derived comparisons of calls and replies decide exactly whether two are equal.
 use Rattle.std.proofs.Common.{◌≡◌, ℕ, true, ◌&&◌, ◌==◌, List, refl, subst}
 use Rattle.std.specs.Bool.{Decides}
 use Rattle.std.specs.Str.{bytes_eq}

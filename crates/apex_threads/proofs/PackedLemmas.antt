@@ -1,4 +1,4 @@
--- Replies that are packed stay what they are while bytes come behind those of their messages.
+-- Packed replies stay the same while bytes are appended to those of their messages.
 use Rattle.std.proofs.Common.{◌≡◌, ◌≢◌, ℕ, suc, ◌<◌, ◌==◌, Bool, true, false, List, [], ◌∷◌, ◌++◌, length, map, Some, refl, sym, ap, ◌∙◌, subst, arith, length-append}
 use Rattle.std.specs.List.{slice_get}
 use Rattle.std.proofs.lemmas.Bool.Decides.{nat_tests}
@@ -31,7 +31,7 @@ module _ (bytes more : List ℕ) where
   packed_still (packed.QueuingStatus waiting depth size direction) is = tt
   packed_still (packed.SamplingStatus refresh size direction last) is = tt
 
-  -- the replies are those of before
+  -- the replies are the same as before
   pub same_replies : (all : List Packed) → ArePacked (length bytes) all → map (reply_in (bytes ++ more)) all ≡ map (reply_in bytes) all
   same_replies [] are = refl
   same_replies (one ∷ all) are =
@@ -41,13 +41,13 @@ module _ (bytes more : List ℕ) where
   pub still_packed : (all : List Packed) → ArePacked (length bytes) all → ArePacked (length (bytes ++ more)) all
   still_packed all are k one here = packed_still one (are k one here)
 
-  -- one reply more
+  -- one more reply
   pub pushed : (all : List Packed) (one : Packed) (given : Reply) → ArePacked (length bytes) all → reply_in (bytes ++ more) one ≡ given
       → map (reply_in (bytes ++ more)) (all ++ one ∷ []) ≡ map (reply_in bytes) all ++ given ∷ []
   pushed all one given are is =
       map-append (reply_in (bytes ++ more)) all (one ∷ []) ∙ (ap (λ front. front ++ reply_in (bytes ++ more) one ∷ []) (same_replies all are) ∙ ap (λ last. map (reply_in bytes) all ++ last ∷ []) is)
 
--- one more that is packed
+-- one more packed reply
 pub one_more_packed : (len : ℕ) (all : List Packed) (one : Packed) → ArePacked len all → IsPacked len one → ArePacked len (all ++ one ∷ [])
 one_more_packed len all one are is k other here = by_test (k == length all) refl
   where

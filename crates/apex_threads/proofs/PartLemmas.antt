@@ -1,4 +1,4 @@
--- Messages stay where they are while bytes come behind.
+-- Messages stay where they are while bytes are appended.
 use Rattle.std.proofs.Common.{◌≡◌, ℕ, ◌-◌, List, ◌++◌, length, take, drop, ap, ◌∙◌, arith, length-append}
 use Rattle.std.proofs.lemmas.List.{take-append-le, drop-append-le, length-drop}
 use Rattle.apex_threads.specs.Parts.{between, IsPart}

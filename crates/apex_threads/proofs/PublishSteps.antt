@@ -1,4 +1,4 @@
--- What is published stays the writes of the history, call by call.
+-- What is published remains equal to the writes of the history, call by call.
 use Rattle.std.proofs.Common.{◌≡◌, ℕ, ◌<◌, false, List, [], ◌∷◌, ◌++◌, length, slice_get, slice_index_or, get_or, option_map, Option, None, Some, Result, Ok, Err, refl, ap, sym, subst, ◌∙◌, arith}
 use Rattle.std.specs.Option.{option_to_list}
 use Rattle.std.specs.Result.{MatchResult, OnOk}
@@ -71,7 +71,7 @@ module _ (config : Configuration) (h : History) (p : ℕ) (at : Moment) (call : 
             (subst (IsPublished config (h ++ e ∷ []) channel) (sym new) (grows config h e channel published sample (writes.there at) (are.each channel (Some published) found.1)));
       }
 
--- what holds of the published writes holds where the publication wasn't refused
+-- what holds for the published writes holds if the publication wasn't refused
 pub on_published : {T E : Type 0} (result : Result T E) (P : Channels → Type 0) (new written old : Channels) → MatchResult result (λ _. new ≡ written) (λ _. new ≡ old) → P written → OnOk result (P new)
 on_published (Ok x) P new written old is holds = subst P (sym is) holds
 on_published (Err e) P new written old is holds = tt
@@ -80,7 +80,7 @@ on_published (Err e) P new written old is holds = tt
 pub published_writes : (config : Configuration) (h : History) (channels : Channels) (c : ℕ) (published : Published) → ArePublished config h channels → slice_get channels c ≡ Some (Some published) → published.writes ≡ writes_on config c h
 published_writes config h channels c published are at = (are.each c (Some published) at).1
 
--- a write changes the writes of a channel, and not which channel it is
+-- a write changes the writes of a channel, but not which channel it is
 pub same_channels : (channel : ℕ) (sample : Sample) (channels : Channels) → books_of (written_on channel sample channels) ≡ books_of channels
 same_channels channel sample channels =
     map-set_same (option_map (λ published. published.channel)) channels channel _ None (at (slice_index_or channels channel None))

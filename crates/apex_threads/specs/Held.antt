@@ -14,7 +14,7 @@ pub record IsHeldCall (may_refuse : ℕ → ℕ → Type 0) (scripts : List (Lis
   pub within : n ≤ length script
   pub allowed : may_refuse partition n
 
--- a fault that says that a worker was held names such a call
+-- a fault that reports a held worker names such a call
 abbrev pub NamesHeldCall : (ℕ → ℕ → Type 0) → List (List (Moment × Call)) → RunFault → Type 0
 NamesHeldCall may_refuse scripts (Held partition n) = IsHeldCall may_refuse scripts partition n
 NamesHeldCall may_refuse scripts _ = Unit {0}

@@ -8,7 +8,7 @@ use Rattle.apex_ports.specs.History.{History}
 use Rattle.apex_ports.specs.Kept.{EachAt}
 use Rattle.apex_ports.specs.Ports.{is_queuing}
 
--- on a sampling channel the writes of the history are published, and nothing on a queuing channel
+-- the writes of the history are published on a sampling channel, and nothing on a queuing channel
 abbrev pub IsPublished : Configuration → History → ℕ → Option Published → Type 0
 IsPublished config history channel None = is_queuing config channel ≡ true
 IsPublished config history channel (Some published) =
@@ -18,7 +18,7 @@ pub record ArePublished (config : Configuration) (history : History) (channels :
   pub all : length channels ≡ length config.channels
   pub each : EachAt (IsPublished config history) channels
 
--- one channel more, on which nothing is published
+-- one more channel, on which nothing is published
 abbrev pub AddsChannel : Configuration → ℕ → Channels → Channels → Type 0
 AddsChannel config channel old new =
     (entry : Option Published) × IsPublished config [] channel entry × (new ≡ old ++ entry ∷ [])

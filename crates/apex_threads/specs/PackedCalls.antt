@@ -7,7 +7,7 @@ use Rattle.apex_threads.specs.declared.packed_script.PackedCall.{PackedCall}
 use Rattle.apex_threads.specs.declared.packed_script.PackedCall.TheVariants as packed
 use Rattle.apex_threads.specs.Parts.{between, IsPart}
 
--- the call, with its message out of these bytes; one that names a port is among the named ones
+-- the call, with its message from these bytes; one that names a port is among the named calls
 abbrev pub call_in : List ℕ → List Call → PackedCall → Call
 call_in bytes named (packed.WriteSampling id from to) = call.WriteSampling id (between from to bytes)
 call_in bytes named (packed.ReadSampling id) = call.ReadSampling id
@@ -22,13 +22,13 @@ call_in bytes named (packed.Named index) = unwrap_or (slice_get named index) (ca
 abbrev pub timed_in : List ℕ → List Call → Moment × PackedCall → Moment × Call
 timed_in bytes named timed = (timed.0, call_in bytes named timed.1)
 
--- the call's message lies within so many bytes, or it is one of so many named ones
+-- the call's message lies within this number of bytes, or the call is one of this number of named ones
 abbrev pub IsPackedCall : ℕ → ℕ → PackedCall → Type 0
 IsPackedCall len count (packed.WriteSampling id from to) = IsPart len from to
 IsPackedCall len count (packed.SendQueuing id from to) = IsPart len from to
 IsPackedCall len count (packed.Named index) = index < count
 IsPackedCall len count other = Unit {0}
 
--- so it is of all calls
+-- this holds for all calls
 abbrev pub ArePackedCalls : ℕ → ℕ → List (Moment × PackedCall) → Type 0
 ArePackedCalls len count calls = (k : ℕ) (timed : Moment × PackedCall) → slice_get calls k ≡ Some timed → IsPackedCall len count timed.1

@@ -6,7 +6,7 @@ use Rattle.apex_threads.specs.declared.packed.Packed.{Packed}
 use Rattle.apex_threads.specs.declared.packed.Packed.TheVariants as packed
 use Rattle.apex_threads.specs.Parts.{between, IsPart}
 
--- the reply, with its message out of these bytes
+-- the reply, with its message from these bytes
 abbrev pub reply_in : List ℕ → Packed → Reply
 reply_in bytes packed.NotMade = reply.NotMade
 reply_in bytes (packed.Code code) = reply.Code code
@@ -16,12 +16,12 @@ reply_in bytes (packed.Read from to validity) = reply.Read (between from to byte
 reply_in bytes (packed.QueuingStatus waiting depth size direction) = reply.QueuingStatus waiting depth size direction
 reply_in bytes (packed.SamplingStatus refresh size direction last) = reply.SamplingStatus refresh size direction last
 
--- the reply's message lies within so many bytes
+-- the reply's message lies within this number of bytes
 abbrev pub IsPacked : ℕ → Packed → Type 0
 IsPacked len (packed.Received from to) = IsPart len from to
 IsPacked len (packed.Read from to validity) = IsPart len from to
 IsPacked len reply = Unit {0}
 
--- the messages of all replies lie within so many bytes
+-- the messages of all replies lie within this number of bytes
 abbrev pub ArePacked : ℕ → List Packed → Type 0
 ArePacked len replies = (k : ℕ) (reply : Packed) → slice_get replies k ≡ Some reply → IsPacked len reply

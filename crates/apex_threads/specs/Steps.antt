@@ -2,7 +2,7 @@
 use Rattle.std.specs.Prelude.{ℕ, ◌≡◌}
 use Rattle.apex_threads.specs.declared.steps.Steps.{Steps}
 
--- the gate let so many calls through, as many were asked, and the gate heard of each
+-- the gate let this number of calls through, the board was asked for as many, and each was reported to the gate
 pub record IsBetweenCalls {S G : Type 0} (steps : Steps S G) (calls : ℕ) : Type 0 where
   pub passed : steps.passed ≡ calls
   pub asked : steps.asked ≡ calls

@@ -1,4 +1,4 @@
-//! What the workers were answered, beside what a log or another run of the calls says.
+//! Compares the workers' replies with a log or with those of another run of the calls.
 ghost use Rattle.std.specs.Prelude.{◌≡◌, ◌↔◌, length, IsTrue};
 ghost use Rattle.apex_threads.specs.Collected.{AreComplete};
 
@@ -25,7 +25,7 @@ pub fn are_complete<A: Allocator>(
     true
 }
 
-/// Whether so many calls and so many replies are all of them.
+/// Whether these numbers of calls and replies are all of them.
 fn is_complete<A: Allocator>(
     script: &PackedScript<A>,
     replies: &PackedReplies<A>,

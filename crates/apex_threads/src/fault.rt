@@ -1,4 +1,4 @@
-//! The fault of a run in which a worker, or the making of the observers, was refused.
+//! The fault of a run, if a worker was refused or the observers couldn't be made.
 ghost use Rattle.std.specs.Prelude.{◌≡◌};
 ghost use Rattle.apex_threads.specs.Fault.{fault_of, fault_without};
 
@@ -6,7 +6,7 @@ use crate::shared::AskFault;
 use apex_observers::ObserverFault;
 use apex_ports::RunFault;
 
-/// A board without the worker's partition isn't the one that was handed out.
+/// A board that lacks the worker's partition isn't the one that was handed out.
 impl From<AskFault> for RunFault {
     ghost from_gives = { λ refused given. given ≡ fault_of refused };
 

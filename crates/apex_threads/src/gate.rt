@@ -8,16 +8,17 @@ use thiserror::Error;
 #[error("held")]
 pub struct Held;
 
-/// What a worker passes before each call. Calls are counted from 1.
+/// A gate that a worker passes before each call. Calls are counted from 1.
 pub trait Gate: Sync {
     /// The partitions and calls at which the gate may refuse.
     ghost may_refuse: { Self → ℕ → ℕ → Type 0 };
 
-    /// Lets the worker of a partition make its `n`-th call, or refuses it. The worker comes here before it takes the lock.
+    /// Lets the worker of a partition make its `n`-th call, or refuses it. The worker calls this before it takes the
+    /// lock.
     fn pass(&self, partition: usize, n: usize) -> Result<(), Held>
         ensures { OnErr result (may_refuse self.now partition n) };
 
-    /// Hears that the `n`-th call of a partition was asked of the board. The worker comes here after it gave the lock back.
+    /// Notes that the board was asked for a partition's `n`-th call. The worker calls this after it released the lock.
     fn answered(&self, partition: usize, n: usize);
 }
 

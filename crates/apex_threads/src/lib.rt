@@ -1,6 +1,6 @@
-//! Workers: each partition's script is run by a thread of its own, and all ask one board that they share. What that board
-//! is, its caller says; what each worker was answered comes back packed. Beside them the publishers of a module's sampling
-//! channels, and the publication of what a call writes.
+//! Workers: each partition's script runs in a thread of its own, and all threads share one board. The caller chooses
+//! the board. Each worker's replies are returned packed. The crate also makes the publishers of a module's sampling
+//! channels, and publishes what a call writes.
 #![tactic(auto)]
 
 pub mod comparison;

@@ -8,7 +8,7 @@ use apex_types::{Direction, Reply, ReturnCode, Validity};
 use std::alloc::{AllocError, Allocator, Global};
 use std::marker::Model;
 
-/// A reply without the bytes of its message: these stand elsewhere, from one index to before another.
+/// A reply without the bytes of its message, which are elsewhere, from one index up to another.
 #[derive(Clone, Copy, Debug)]
 pub(crate) enum Packed {
     NotMade,
@@ -37,8 +37,8 @@ pub(crate) enum Packed {
     },
 }
 
-/// The replies to the calls of one partition, in order. A message takes as many bytes as it has, and not the room of the
-/// longest one. A contract sees them as a list.
+/// The replies to the calls of one partition, in order. A message takes only as many bytes as it has. A contract sees
+/// the replies as a list.
 #[derive(Debug, Drop)]
 pub struct PackedReplies<A: Allocator = Global> {
     replies: Vec<Packed, A>,
@@ -58,7 +58,7 @@ impl<A: Allocator> Model for PackedReplies<A> {
 }
 
 impl<A: Allocator + Copy> PackedReplies<A> {
-    /// No replies, with room for so many. Their messages take memory when they come.
+    /// No replies, with room for this many. Their messages are allocated when they are added.
     pub fn with_room(alloc: A, replies: usize) -> Result<PackedReplies<A>, AllocError>
         ensures { IfOk result (λ packed. packed ≡ []) }
     {
@@ -70,14 +70,14 @@ impl<A: Allocator + Copy> PackedReplies<A> {
 }
 
 impl<A: Allocator> PackedReplies<A> {
-    /// How many replies there are.
+    /// The number of replies.
     pub fn len(&self) -> usize
         ensures { result ≡ length self.now }
     {
         self.replies.len()
     }
 
-    /// Adds a reply. On want of memory the replies are those of before.
+    /// Adds a reply. If memory runs out, the replies are unchanged.
     pub fn push(&mut self, reply: &Reply) -> Result<(), AllocError>
         ensures pushed { OnOk result (self.new ≡ self.old ++ reply.now ∷ []) }
         ensures refused { OnErr result (self.new ≡ self.old) }
@@ -98,7 +98,7 @@ impl<A: Allocator> PackedReplies<A> {
         }
     }
 
-    /// Whether the reply at an index is this one.
+    /// Whether the reply at an index equals this one.
     pub fn is_at(&self, index: usize, reply: &Reply) -> bool
         ensures { IsTrue result ↔ (slice_get self.now index ≡ Some reply.now) }
     {
@@ -109,7 +109,7 @@ impl<A: Allocator> PackedReplies<A> {
     }
 }
 
-/// Whether the reply that is packed is this one. A received message is compared where it stands.
+/// Whether the packed reply equals this one. A received message is compared in place.
 fn is_packed(bytes: &[u8], packed: &Packed, reply: &Reply) -> bool
     requires { IsPacked (length bytes.now) packed.now }
     ensures { IsTrue result ↔ (reply_in bytes.now packed.now ≡ reply.now) }
@@ -123,7 +123,7 @@ fn is_packed(bytes: &[u8], packed: &Packed, reply: &Reply) -> bool
     }
 }
 
-// Not inlined, since the room of an unpacked reply is cleared where a function begins.
+// Not inlined, since a function clears the stack room of an unpacked reply when it begins.
 #[inline(never)]
 fn is_unpacked(bytes: &[u8], packed: Packed, reply: &Reply) -> bool
     requires { IsPacked (length bytes.now) packed }
@@ -132,7 +132,7 @@ fn is_unpacked(bytes: &[u8], packed: Packed, reply: &Reply) -> bool
     is_same_reply(&unpack(bytes, packed), reply)
 }
 
-/// The reply without its message, which is put behind the bytes.
+/// The reply without its message, whose bytes are appended.
 fn pack<A: Allocator>(bytes: &mut Vec<u8, A>, reply: &Reply) -> Result<Packed, AllocError>
     ensures packed { IfOk result (λ packed. reply_in bytes.new.items packed ≡ reply.now) }
     ensures within { IfOk result (λ packed. IsPacked (length bytes.new.items) packed) }
@@ -179,7 +179,7 @@ fn pack<A: Allocator>(bytes: &mut Vec<u8, A>, reply: &Reply) -> Result<Packed, A
     })
 }
 
-/// The reply, with its message out of the bytes.
+/// The reply, with its message taken from the bytes.
 fn unpack(bytes: &[u8], packed: Packed) -> Reply
     requires { IsPacked (length bytes.now) packed }
     ensures { result ≡ reply_in bytes.now packed }

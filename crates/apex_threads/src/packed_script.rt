@@ -11,8 +11,8 @@ use apex_types::{ANY_CALL, Call, Message, Moment};
 use std::alloc::{AllocError, Allocator, Global};
 use std::marker::Model;
 
-/// A call without the bytes of its message: these stand elsewhere, from one index to before another. A call that names a
-/// port stands elsewhere whole.
+/// A call without the bytes of its message, which are elsewhere, from one index up to another. A call that names a port
+/// is elsewhere as a whole.
 #[derive(Clone, Copy, Debug)]
 pub(crate) enum PackedCall {
     WriteSampling { id: u32, from: usize, to: usize },
@@ -26,8 +26,8 @@ pub(crate) enum PackedCall {
     Named { index: usize },
 }
 
-/// The calls of one partition, in order, each with its moment. A message takes as many bytes as it has, and not the room of
-/// the longest one. A contract sees them as a list.
+/// The calls of one partition, in order, each with its moment. A message takes only as many bytes as it has. A contract
+/// sees the calls as a list.
 #[derive(Debug, Drop)]
 pub struct PackedScript<A: Allocator = Global> {
     calls: Vec<(Moment, PackedCall), A>,
@@ -75,14 +75,14 @@ impl<A: Allocator + Copy> PackedScript<A> {
 }
 
 impl<A: Allocator> PackedScript<A> {
-    /// How many calls there are.
+    /// The number of calls.
     pub fn len(&self) -> usize
         ensures { result ≡ length self.now }
     {
         self.calls.len()
     }
 
-    /// Adds a call. On want of memory the calls are those of before.
+    /// Adds a call. If memory runs out, the calls are unchanged.
     pub fn push(&mut self, at: Moment, call: &Call) -> Result<(), AllocError>
         ensures pushed { OnOk result (self.new ≡ self.old ++ (at, call.now) ∷ []) }
         ensures refused { OnErr result (self.new ≡ self.old) }
@@ -102,7 +102,7 @@ impl<A: Allocator> PackedScript<A> {
         Some((at, call))
     }
 
-    /// Reads the call at an index into `call`, and answers its moment. Where there is none, any call may stand there.
+    /// Reads the call at an index into `call` and returns its moment. If there is none, `call` is unspecified.
     pub fn read(&self, index: usize, call: &mut Call) -> Option<Moment>
         ensures call { MatchOption result (slice_get self.now index ≡ None)
             (λ at. slice_get self.now index ≡ Some (at, call.new)) }
@@ -147,7 +147,7 @@ pub fn pack_all<A: Allocator + Copy>(
     Ok(all)
 }
 
-/// Each as a script.
+/// Each packed script as a script.
 pub fn unpack_all<A: Allocator>(
     alloc: Global,
     packed: &[PackedScript<A>],
@@ -162,7 +162,7 @@ pub fn unpack_all<A: Allocator>(
     Ok(all)
 }
 
-/// The call without its message, which is put behind the bytes; a call that names a port is put behind the named ones.
+/// The call without its message, whose bytes are appended; a call that names a port is appended to the named ones.
 fn pack_call<A: Allocator>(
     bytes: &mut Vec<u8, A>,
     named: &mut Vec<Call, A>,
@@ -201,9 +201,9 @@ fn pack_call<A: Allocator>(
     })
 }
 
-/// Reads the call into `call`, with its message out of the bytes, or out of the named ones.
-// A function clears the room of its values where it begins, those of functions inlined into it too. So each function that
-// makes a call with a message isn't inlined, and a call of the same service keeps its room.
+/// Reads the call into `call`, with its message from the bytes, or from the named calls.
+// A function clears the stack room of its values when it begins, including those of functions inlined into it. So no
+// function that makes a call with a message is inlined, and a call of the same service keeps its room.
 fn unpack_call(bytes: &[u8], named: &[Call], packed: PackedCall, call: &mut Call)
     requires { IsPackedCall (length bytes.now) (length named.now) packed }
     ensures { call.new ≡ call_in bytes.now named.now packed }

@@ -1,11 +1,11 @@
-//! Messages that stand one behind the other in one list of bytes.
+//! Messages one after the other in one list of bytes.
 ghost use Rattle.std.specs.Prelude.{◌≡◌, ◌++◌, length, IfOk, OnOk, OnErr};
 ghost use Rattle.apex_threads.specs.Parts.{between, IsPart};
 
 use apex_types::Message;
 use std::alloc::{AllocError, Allocator};
 
-/// Puts a message behind the bytes, and answers between which indexes it stands.
+/// Appends a message to the bytes and returns the indexes between which it is.
 pub(crate) fn push_message<A: Allocator>(
     bytes: &mut Vec<u8, A>,
     message: &Message,

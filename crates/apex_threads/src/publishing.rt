@@ -13,7 +13,7 @@ use apex_types::{Call, Moment, OutOfMemory};
 use std::alloc::Allocator;
 use std::sync::Wait;
 
-/// The room for observers of a channel.
+/// The number of observers that a channel has room for.
 const OBSERVERS: usize = 1;
 
 /// The publishers of a board with the empty log.
@@ -37,7 +37,7 @@ pub fn new_publishers<A: Allocator + Copy, R: Wait>(
     Ok(publishers)
 }
 
-/// Adds the publisher of a channel, where it is a sampling channel.
+/// Adds the publisher of a channel, if it is a sampling channel.
 fn add_channel<A: Allocator + Copy, R: Wait>(
     rt: &R,
     alloc: A,
@@ -55,7 +55,7 @@ fn add_channel<A: Allocator + Copy, R: Wait>(
     }
 }
 
-/// Publishes what a call writes, before the ports answer it. On want of memory nothing is published.
+/// Publishes what a call writes, before the ports answer the call. If memory runs out, nothing is published.
 pub fn publish<A: Allocator, B: Allocator, R: Wait>(
     rt: &R,
     publishers: &mut Publishers<A>,

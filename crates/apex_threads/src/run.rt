@@ -1,4 +1,4 @@
-//! A run over a board that its workers share: one worker for each partition.
+//! A run over a board that its workers share, with one worker for each partition.
 ghost use Rattle.std.specs.Prelude.{◌≡◌, ◌≤◌, [], length, vec_len, vec_capacity, IfOk, IfErr};
 ghost use Rattle.std.specs.Thread.{IsSync, IsSend};
 ghost use Rattle.apex_threads.specs.Held.{NamesHeldCall};
@@ -15,11 +15,11 @@ use std::sync::Wait;
 use std::thread;
 use std::thread::Threads;
 
-/// Runs each partition's script by a worker of its own, over a board of the caller's that all of them share, and answers
-/// the replies of each partition's worker, in the partitions' order. All workers are started before any is joined.
+/// Runs each partition's script in a worker of its own, over the caller's board, which all workers share. Returns the
+/// replies of each partition's worker, in the partitions' order. All workers are started before any is joined.
 ///
-/// A worker stops at its first refusal, and the others go on. A worker that couldn't be started goes before every other
-/// fault, and then the fault of the lowest partition goes first.
+/// A worker stops at its first refusal, and the others go on. That a worker couldn't be started takes precedence over
+/// all other faults; after that the fault of the lowest partition does.
 pub fn run_over<
     R: Threads + Wait + Sync,
     S: SharedBoard,

@@ -6,7 +6,7 @@ use thiserror::Error;
 /// Why a shared board gives no reply.
 #[derive(Clone, Copy, Debug, PartialEq, Eq, Error)]
 pub enum AskFault {
-    /// An allocation was refused.
+    /// An allocation failed.
     #[error("out of memory")]
     OutOfMemory,
     /// The board has no such partition.
@@ -14,9 +14,9 @@ pub enum AskFault {
     NoPartition,
 }
 
-/// A board that several threads ask.
+/// A board that several threads share.
 pub trait SharedBoard: Sync {
-    /// One call of the partition at the moment. A refused call changes nothing.
+    /// Answers one call of the partition at the moment. A refused call changes nothing.
     fn ask<R: Wait>(
         &self,
         rt: &R,
@@ -25,7 +25,8 @@ pub trait SharedBoard: Sync {
         call: &Call,
     ) -> Result<Reply, AskFault>;
 
-    /// The call of `ask`, with its reply in `reply`. A board that can answers there without moving a reply.
+    /// Answers the call as `ask` does, with the reply in `reply`. A board that can do so writes the reply there without
+    /// moving it.
     fn ask_into<R: Wait>(
         &self,
         rt: &R,

@@ -1,4 +1,4 @@
-//! The steps of a worker: before each call it passes its gate, then it asks the board, and then the gate hears of it.
+//! The steps of a worker for each call: it passes its gate, asks the board, and then reports to the gate.
 ghost use Rattle.std.specs.Prelude.{◌≡◌, ◌+◌, ◌<◌, OnOk, OnErr};
 
 use crate::gate::{Gate, Held};
@@ -6,8 +6,8 @@ use crate::shared::{AskFault, SharedBoard};
 use apex_types::{Call, Moment, Reply};
 use std::sync::Wait;
 
-/// The one way of a worker to its gate and to the board. It counts the calls that the gate let through, those that were
-/// asked of the board, and those of which the gate heard; no step can be taken out of turn.
+/// The only way from a worker to its gate and the board. It counts the calls that the gate let through, those that the
+/// board was asked for, and those reported to the gate, so no step can be taken out of turn.
 pub(crate) struct Steps<'a, S, G> {
     board: &'a S,
     gate: &'a G,
@@ -49,7 +49,7 @@ impl<'a, S: SharedBoard, G: Gate> Steps<'a, S, G> {
         }
     }
 
-    /// Passes the gate before the next call, once the gate has heard of each earlier one.
+    /// Passes the gate before the next call, after each earlier one was reported to the gate.
     pub(crate) fn pass(&mut self) -> Result<(), Held>
         requires turn { IsBetweenCalls self.old self.old.passed }
         requires room { self.old.passed < usize.MAX }
@@ -84,7 +84,7 @@ impl<'a, S: SharedBoard, G: Gate> Steps<'a, S, G> {
         self.board.ask_into(rt, self.partition, at, call, reply)
     }
 
-    /// Lets the gate hear of the call that was asked.
+    /// Reports to the gate the call that the board was asked for.
     pub(crate) fn tell(&mut self)
         requires turn { self.old.asked ≡ self.old.heard + 1 }
         ensures heard { self.new.heard ≡ self.old.heard + 1 }

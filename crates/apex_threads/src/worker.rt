@@ -1,4 +1,4 @@
-//! One worker: it makes the calls of its partition's script, one after the other.
+//! One worker, which makes the calls of its partition's script one after the other.
 ghost use Rattle.std.specs.Prelude.{◌≡◌, ◌<◌, [], length, IfOk, IfErr, OnOk};
 ghost use Rattle.apex_threads.specs.Held.{NamesHeldCall};
 ghost use Rattle.apex_threads.specs.Room.{AnswersAll};
@@ -32,8 +32,8 @@ pub(crate) fn run_script<R: Wait, S: SharedBoard, G: Gate, A: Allocator>(
     make_calls(rt, &mut steps, scripts, partition, replies)
 }
 
-/// Makes the calls by a worker's steps: between two calls it has passed its gate for each earlier one, asked it, and let
-/// the gate hear of it.
+/// Makes the calls by a worker's steps: for each earlier call it has passed its gate, asked the board and reported to
+/// the gate.
 fn make_calls<R: Wait, S: SharedBoard, G: Gate, A: Allocator>(
     rt: &R,
     steps: &mut Steps<'_, S, G>,

@@ -1,4 +1,4 @@
-//! The workers of all partitions: they are started, and joined once all run.
+//! The workers of all partitions: all are started before any is joined.
 ghost use Rattle.std.specs.Prelude.{◌≡◌, ◌+◌, ◌<◌, ◌≤◌, [], length, vec_len, vec_capacity, Some, None, IfOk, IfErr};
 ghost use Rattle.std.specs.Result.{ForOk};
 ghost use Rattle.std.specs.Thread.{IsSync, IsSend};
@@ -16,7 +16,7 @@ use std::alloc::Allocator;
 use std::sync::Wait;
 use std::thread::{Promise, Scope, Threads};
 
-/// What a worker promises: where it says that it was held, the gate may refuse the call that it names.
+/// What a worker promises: if it says that it was held, the gate may refuse the call that it names.
 struct NamesItsCall<'a, G, A: Allocator> {
     gate: &'a G,
     scripts: &'a [PackedScript<A>],
@@ -37,7 +37,8 @@ impl<'a, G: Gate, A: Allocator> Promise<Result<PackedReplies<A>, RunFault>>
         (NamesHeldCall (G.may_refuse promise.gate.now) promise.scripts.now) };
 }
 
-/// Starts a worker for each partition that has a list for its replies, the highest first, and joins them once all were started.
+/// Starts a worker for each partition that has a list for its replies, the highest first, and joins them after all are
+/// started.
 pub(crate) fn run_workers<
     's,
     E,
@@ -82,7 +83,7 @@ pub(crate) fn run_workers<
     with_next(lower, next)
 }
 
-/// The replies of the lower partitions with those of the next one, or the fault that goes first.
+/// The replies of the lower partitions with those of the next one, or the fault that takes precedence.
 fn with_next<A: Allocator>(
     lower: Result<Vec<PackedReplies<A>, A>, RunFault>,
     next: Result<PackedReplies<A>, RunFault>,

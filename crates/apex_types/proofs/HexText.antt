@@ -14,9 +14,9 @@ use Rattle.apex_types.specs.Message.{empty_word, hex_text_of, message_of_digits,
 use Rattle.apex_types.specs.declared.message.HexFault.TheVariants.{BadDigit, TooLong}
 use Rattle.apex_types.specs.declared.message.TheConstants.{MESSAGE_LIMIT}
 
--- ---- what the digits stand for
+-- ---- what the digits encode
 
--- a message's worth of bytes
+-- no more bytes than a message holds
 short_is_read : (bytes : List ℕ) → length bytes ≤ MESSAGE_LIMIT → message_of_digits (Ok bytes) ≡ Ok bytes
 short_is_read bytes short = grind (arith, nat_tests)
 
@@ -24,7 +24,7 @@ short_is_read bytes short = grind (arith, nat_tests)
 long_is_refused : (bytes : List ℕ) → MESSAGE_LIMIT < length bytes → message_of_digits (Ok bytes) ≡ Err TooLong
 long_is_refused bytes long = grind (arith, nat_tests)
 
--- an even number of digits that do not read has a bad one
+-- an even number of characters that can't be read has a bad digit
 pub bad_digit : (text : List ℕ) (e : FromHexError) → length text % 2 ≡ 0 → decode_of text ≡ Err e → message_of_digits (decode_of text) ≡ Err BadDigit
 bad_digit text e even refused =
     elim (decode_of-err text e refused) [
@@ -34,7 +34,7 @@ bad_digit text e even refused =
       | inr bad ↦ rw (refused, bad.1) refl
     ]
 
--- good digits that are no more than a message has
+-- good digits, at most as many as a message has
 pub good_digits : (text bytes : List ℕ) → length text ≤ 2 * MESSAGE_LIMIT → decode_of text ≡ Ok bytes → message_of_digits (decode_of text) ≡ Ok bytes
 good_digits text bytes short read =
     let twice = (decode_of-ok text bytes read).2 in
@@ -51,13 +51,13 @@ fault_of_result : (text : List ℕ) (r : Result (List ℕ) FromHexError) → dec
 fault_of_result text (Ok bytes) read even bad = cc (list_all-from_AllPass is_hex_digit text (decode_of-ok text bytes read).1)
 fault_of_result text (Err e) refused even bad = bad_digit text e even refused
 
--- digits of which one is bad
+-- digits, one of which is bad
 pub some_bad_digit : (text : List ℕ) → length text % 2 ≡ 0 → list_all is_hex_digit text ≡ false → message_of_digits (decode_of text) ≡ Err BadDigit
 some_bad_digit text even bad = fault_of_result text (decode_of text) refl even bad
 
--- ---- reading into room for the bytes
+-- ---- reading into a buffer
 
--- what was decoded into room for as many bytes as there are pairs
+-- what was decoded into a buffer with one byte for each pair of digits
 decoded_in : (digits room out : List ℕ) (decoded : Result (List ℕ) FromHexError) (answer : Result Unit FromHexError) → decode_of digits ≡ decoded → length digits % 2 ≡ 0 → length digits ≤ 2 * MESSAGE_LIMIT → length digits ≡ 2 * length room → MatchResult decoded (λ bytes. (answer ≡ Ok tt) × (out ≡ bytes)) (λ e. answer ≡ Err e) → MatchResult answer (λ _. message_of_digits (decode_of digits) ≡ Ok (refill (length room) room out)) (λ _. message_of_digits (decode_of digits) ≡ Err BadDigit)
 decoded_in digits room out (Ok bytes) answer read even short twice is =
     let bytes_twice = (decode_of-ok digits bytes read).2 in
@@ -69,19 +69,19 @@ pub read_in_place : (digits room out : List ℕ) (answer : Result Unit FromHexEr
 read_in_place digits room out answer even short twice is =
     decoded_in digits room out (decode_of digits) answer refl even short twice (rw (decode_sized-twice digits (length room) twice) at is)
 
--- ---- the word `-`
+-- ---- the text `-`
 
 and_false : (b : Bool) → (b && false) ≡ false
 and_false true = refl
 and_false false = refl
 
--- an even number of digits is not the word
+-- a text of an even number of digits is not `-`
 not_the_word : (text : List ℕ) → length text % 2 ≡ 0 → bytes_eq text empty_word ≡ false
 not_the_word [] even = refl
 not_the_word (a ∷ []) even = absurd (omega arith)
 not_the_word (a ∷ b ∷ rest) even = and_false _
 
--- an even number of digits is read by what they stand for
+-- a text of an even number of digits is read as the message that they encode
 pub read_by_digits : (text : List ℕ) → length text % 2 ≡ 0 → message_of_hex text ≡ message_of_digits (decode_of text)
 read_by_digits text even = rw (not_the_word text even) refl
 

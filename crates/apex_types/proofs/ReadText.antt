@@ -1,4 +1,4 @@
--- What is read as a name or as a message is ASCII.
+-- Any text that is read as a name or as a message is ASCII.
 use Rattle.std.proofs.Common.{◌≡◌, ◌<◌, ℕ, Bool, true, false, cond, List, [], length, get_or, Result, Ok, Err, refl, sym, subst, arith, lit<, eqb, ltb}
 use Rattle.std.specs.List.{list_all}
 use Rattle.std.specs.Str.{IsAscii, bytes_eq}

@@ -3,10 +3,10 @@ use Rattle.std.proofs.Common.{◌≡◌, refl}
 use Rattle.apex_types.specs.declared.name.TheConstants.{NAME_LIMIT}
 use Rattle.apex_types.specs.declared.message.TheConstants.{MESSAGE_LIMIT}
 
--- bytes of a name
+-- maximum length of a name, in bytes
 pub NAME_LIMIT-is : NAME_LIMIT ≡ 30
 NAME_LIMIT-is = refl
 
--- bytes of a message
+-- maximum length of a message, in bytes
 pub MESSAGE_LIMIT-is : MESSAGE_LIMIT ≡ 1024
 MESSAGE_LIMIT-is = refl

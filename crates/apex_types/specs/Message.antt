@@ -7,17 +7,17 @@ use Rattle.apex_types.specs.declared.message.TheConstants.{MESSAGE_LIMIT}
 use Rattle.apex_types.specs.declared.message.HexFault.{HexFault}
 use Rattle.apex_types.specs.declared.message.HexFault.TheVariants.{OddLength, BadDigit, TooLong}
 
--- the word for the message without a byte: `-`
+-- the text of the empty message: `-`
 abbrev pub empty_word : List ℕ
 empty_word = codes "-"
 
--- the message that the digits stand for, or the first fault
+-- the message that the digits encode, or the first fault
 abbrev pub message_of_digits : Result (List ℕ) FromHexError → Result (List ℕ) HexFault
 message_of_digits (Ok bytes) = if nat_lt MESSAGE_LIMIT (length bytes) then Err TooLong else Ok bytes
 message_of_digits (Err hex.OddLength) = Err OddLength
 message_of_digits (Err _) = Err BadDigit
 
--- the message that a hexadecimal text is, or its first fault
+-- the message that a hexadecimal text encodes, or its first fault
 abbrev pub message_of_hex : List ℕ → Result (List ℕ) HexFault
 message_of_hex text = if bytes_eq text empty_word then Ok [] else message_of_digits (decode_of text)
 

@@ -15,7 +15,7 @@ pub record IsName (bytes : List ℕ) : Type 0 where
   pub short : length bytes ≤ NAME_LIMIT
   pub characters : list_all is_name_byte bytes ≡ true
 
--- the name that a text is, or its first fault
+-- the name that a text gives, or its first fault
 abbrev pub name_of : List ℕ → Result (List ℕ) NameFault
 name_of text =
     if length text == 0 then Err Empty

@@ -5,7 +5,7 @@ use Rattle.apex_types.specs.declared.reply.Reply.TheVariants.{NotMade, Code}
 use Rattle.apex_types.specs.declared.return_code.ReturnCode.{ReturnCode}
 use Rattle.apex_types.specs.declared.return_code.ReturnCode.TheVariants.{NoError}
 
--- the return code: none where the call wasn't made, NO_ERROR where there are data
+-- the return code: none if the call wasn't made, NO_ERROR if there are data
 abbrev pub code_of : Reply → Option ReturnCode
 code_of NotMade = None
 code_of (Code code) = Some code

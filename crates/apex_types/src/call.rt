@@ -4,7 +4,8 @@ ghost use Rattle.std.specs.Prelude.{◌≡◌};
 use crate::message::Message;
 use crate::name::Name;
 
-/// A call of a service. A direction, a discipline or a mode is the number that the caller gave, and may be one that stands for nothing.
+/// A call of a service. A direction, discipline or mode is the number that the caller gave, even if the standard
+/// doesn't define it.
 #[derive(Debug, Drop, PartialEq, Eq)]
 pub enum Call {
     /// CREATE_SAMPLING_PORT. The size is in bytes, the refresh period in nanoseconds.
@@ -66,11 +67,11 @@ pub enum Call {
     },
 }
 
-/// A call that others are read into.
+/// A placeholder to read calls into.
 pub const ANY_CALL: Call = Call::SetMode { mode: 0 };
 
 impl Call {
-    /// An equal call.
+    /// A copy of the call.
     pub fn copy(&self) -> Call
         ensures { result ≡ self.now }
     {

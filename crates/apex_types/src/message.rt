@@ -9,16 +9,16 @@ use std::marker::Model;
 use std::str;
 use thiserror::Error;
 
-/// The most bytes of a message.
+/// The maximum length of a message, in bytes.
 pub const MESSAGE_LIMIT: usize = 1024;
 
-/// The bytes of the longest message's hexadecimal text: two digits a byte.
+/// The length of the longest message's hexadecimal text, in bytes: two digits a byte.
 pub const HEX_LIMIT: usize = 2 * MESSAGE_LIMIT;
 
-// The room that a text is read into.
+// The initial contents of the buffer that a text is read into.
 static BLANK: [u8; MESSAGE_LIMIT] = [0; MESSAGE_LIMIT];
 
-/// A message of at most `MESSAGE_LIMIT` bytes. To a contract it is the list of its bytes.
+/// A message of at most `MESSAGE_LIMIT` bytes. A contract sees it as the list of its bytes.
 #[derive(Debug, Drop, PartialEq, Eq)]
 pub struct Message {
     bytes: ArrayVec<u8, MESSAGE_LIMIT>,
@@ -37,27 +37,27 @@ impl Model for Message {
     ghost inverse = { λ bytes. record { bytes = record { items = bytes } } };
 }
 
-/// More bytes than a message holds.
+/// The bytes are more than a message holds.
 #[derive(Clone, Copy, Debug, PartialEq, Eq, Error)]
 #[error("too long")]
 pub struct TooLong;
 
-/// Why a text is no message.
+/// Why a text is not a message.
 #[derive(Clone, Copy, Debug, PartialEq, Eq, Error)]
 pub enum HexFault {
     /// The text has an odd number of bytes.
     #[error("odd length")]
     OddLength,
-    /// A byte is no hexadecimal digit.
+    /// A byte is not a hexadecimal digit.
     #[error("bad digit")]
     BadDigit,
-    /// The text stands for more than `MESSAGE_LIMIT` bytes.
+    /// The text has digits for more than `MESSAGE_LIMIT` bytes.
     #[error("too long")]
     TooLong,
 }
 
 impl Message {
-    /// The message of no bytes.
+    /// The empty message.
     pub fn empty() -> Message
         ensures { result ≡ [] }
     {
@@ -77,7 +77,7 @@ impl Message {
         Ok(message)
     }
 
-    /// Makes the message one of these bytes; it takes no more time than they need. After a fault any message may stand there.
+    /// Replaces the message by these bytes, in no more time than they need. After a fault the message is unspecified.
     pub fn read_bytes(&mut self, bytes: &[u8]) -> Result<(), TooLong>
         ensures { MatchResult result
             (λ _. (self.new ≡ bytes.now) × (length bytes.now ≤ MESSAGE_LIMIT))
@@ -90,7 +90,8 @@ impl Message {
         }
     }
 
-    /// Reads hexadecimal digits of either case. `-` and the empty text are the empty message. The first fault counts, in the order of `HexFault`.
+    /// Reads hexadecimal digits of either case. `-` and the empty text are the empty message. If there are several
+    /// faults, it returns the first in the order of `HexFault`.
     pub fn from_hex(text: &str) -> Result<Message, HexFault>
         ensures { result ≡ message_of_hex text.now }
     {
@@ -99,7 +100,7 @@ impl Message {
         Ok(message)
     }
 
-    /// Reads as `from_hex` does, into this message. After a fault any message may stand there.
+    /// Reads as `from_hex` does, into this message. After a fault the message is unspecified.
     pub fn read_hex(&mut self, text: &str) -> Result<(), HexFault>
         ensures { MatchResult result (λ _. message_of_hex text.now ≡ Ok self.new)
             (λ fault. message_of_hex text.now ≡ Err fault) }
@@ -122,7 +123,7 @@ impl Message {
         self.read_in_place(digits)
     }
 
-    // Reads an even number of digits that are no more than a message has.
+    // Reads an even number of digits, at most as many as the longest message has.
     fn read_in_place(&mut self, digits: &[u8]) -> Result<(), HexFault>
         requires even { length digits.now % 2 ≡ 0 }
         requires short { length digits.now ≤ HEX_LIMIT }
@@ -140,7 +141,7 @@ impl Message {
         }
     }
 
-    /// The lower-case hexadecimal text of the message, `-` for the empty message. `from_hex` gives the message back.
+    /// The lower-case hexadecimal text of the message, `-` for the empty message. `from_hex` reads it back.
     pub fn to_hex(&self) -> ArrayString<HEX_LIMIT>
         ensures text { result.bytes ≡ hex_text_of self.now }
         ensures reads_back { message_of_hex (hex_text_of self.now) ≡ Ok self.now }
@@ -166,7 +167,7 @@ impl Message {
         self.bytes.as_slice()
     }
 
-    /// An equal message.
+    /// A copy of the message.
     pub fn copy(&self) -> Message
         ensures { result ≡ self.now }
     {
@@ -175,7 +176,7 @@ impl Message {
         message
     }
 
-    /// Makes the message equal to another. Only the other's bytes are copied, and not the room of the longest message.
+    /// Makes the message equal to another. It copies only the other's bytes, not its whole buffer.
     pub fn copy_from(&mut self, other: &Message)
         ensures { self.new ≡ other.now }
     {

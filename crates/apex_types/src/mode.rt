@@ -16,7 +16,7 @@ pub enum Mode {
 }
 
 impl Mode {
-    /// The mode that has this number; none where the number is no mode's.
+    /// The mode that has this number, or `None` if no mode has it.
     pub fn from_number(number: u32) -> Option<Mode>
         ensures { result ≡ mode_numbered number }
     {

@@ -1,5 +1,5 @@
-//! Moments of the simulated time.
+//! Moments of simulated time.
 
-/// A moment of the simulated time, in nanoseconds. A call may have an earlier moment than the call before it.
+/// A moment of simulated time, in nanoseconds. A call may have an earlier moment than the call before it.
 #[derive(Clone, Copy, Debug, PartialEq, Eq, PartialOrd, Ord, Drop)]
 pub struct Moment(pub u64);

@@ -8,10 +8,10 @@ use std::marker::Model;
 use std::str;
 use thiserror::Error;
 
-/// The most bytes of a name.
+/// The maximum length of a name, in bytes.
 pub const NAME_LIMIT: usize = 30;
 
-/// A name: ASCII letters, digits and `_`, at least one and at most `NAME_LIMIT`. Case counts. To a contract it is the list of its bytes.
+/// A name: 1 to `NAME_LIMIT` ASCII letters, digits and `_`. Case counts. A contract sees it as the list of its bytes.
 #[derive(Debug, Drop, PartialEq, Eq)]
 pub struct Name {
     bytes: ArrayVec<u8, NAME_LIMIT>,
@@ -30,29 +30,30 @@ impl Model for Name {
     ghost inverse = { λ bytes. record { bytes = record { items = bytes } } };
 }
 
-/// Why a text is no name.
+/// Why a text is not a name.
 #[derive(Clone, Copy, Debug, PartialEq, Eq, Error)]
 pub enum NameFault {
-    /// The text has no byte.
+    /// The text is empty.
     #[error("empty")]
     Empty,
     /// The text has more than `NAME_LIMIT` bytes.
     #[error("too long")]
     TooLong,
-    /// A byte is no ASCII letter, digit or `_`.
+    /// A byte is not an ASCII letter, digit or `_`.
     #[error("bad character")]
     BadCharacter,
 }
 
 impl Name {
-    /// Reads a name. The first fault counts, in the order of `NameFault`.
+    /// Reads a name. If there are several faults, it returns the first in the order of `NameFault`.
     pub fn read(text: &str) -> Result<Name, NameFault>
         ensures { result ≡ name_of text.now }
     {
         Name::from_bytes(text.as_bytes())
     }
 
-    /// Reads a name from the bytes of its text, which need not be UTF-8. The first fault counts, in the order of `NameFault`.
+    /// Reads a name from bytes, which need not be UTF-8. If there are several faults, it returns the first in the order
+    /// of `NameFault`.
     pub fn from_bytes(text: &[u8]) -> Result<Name, NameFault>
         ensures { result ≡ name_of text.now }
     {
@@ -88,7 +89,7 @@ impl Name {
         self.bytes.as_slice()
     }
 
-    /// An equal name.
+    /// A copy of the name.
     pub fn copy(&self) -> Name
         ensures { result ≡ self.now }
     {

@@ -12,7 +12,7 @@ use crate::validity::Validity;
 pub enum Reply {
     /// The partition is in IDLE: the call wasn't made, and there is no return code.
     NotMade,
-    /// A return code without data. To a receive or a read it stands for length 0, and to a read for validity INVALID.
+    /// A return code without data. For a receive or a read it means length 0, and for a read validity INVALID.
     Code(ReturnCode),
     /// NO_ERROR with a port's identifier.
     Id(u32),
@@ -23,14 +23,16 @@ pub enum Reply {
         message: Message,
         validity: Validity,
     },
-    /// NO_ERROR with a queuing port's status: the messages that wait, the depth, the size in bytes and the direction.
+    /// NO_ERROR with a queuing port's status: the number of waiting messages, the depth, the size in bytes and the
+    /// direction.
     QueuingStatus {
         waiting: u32,
         depth: u32,
         size: u32,
         direction: Direction,
     },
-    /// NO_ERROR with a sampling port's status: the refresh period in nanoseconds, the size in bytes, the direction and the validity of its last read.
+    /// NO_ERROR with a sampling port's status: the refresh period in nanoseconds, the size in bytes, the direction and
+    /// the validity of its last read.
     SamplingStatus {
         refresh: u64,
         size: u32,
@@ -40,7 +42,7 @@ pub enum Reply {
 }
 
 impl Reply {
-    /// The return code, where the call was made.
+    /// The return code, if the call was made.
     pub fn code(&self) -> Option<ReturnCode>
         ensures { result ≡ code_of self.now }
     {
@@ -51,7 +53,7 @@ impl Reply {
         }
     }
 
-    /// An equal reply.
+    /// A copy of the reply.
     pub fn copy(&self) -> Reply
         ensures { result ≡ self.now }
     {

@@ -14,7 +14,7 @@ pub struct Sample {
 }
 
 impl Sample {
-    /// VALID up to `refresh` nanoseconds after the write, that moment included, over unbounded numbers.
+    /// VALID until `refresh` nanoseconds after the write, that moment included, computed without overflow.
     pub fn validity(&self, now: Moment, refresh: u64) -> Validity
         ensures { result ≡ validity_at now.0 self.now.at.0 refresh }
     {
@@ -25,7 +25,7 @@ impl Sample {
         }
     }
 
-    /// An equal sample.
+    /// A copy of the sample.
     pub fn copy(&self) -> Sample
         ensures { result ≡ self.now }
     {

@@ -29,7 +29,7 @@ use Rattle.apex_texts.specs.declared.service.Service.{Service}
 use Rattle.apex_texts.specs.declared.service.Service.TheVariants as service
 use Rattle.apex_words.specs.Replies.{can_give, can_give_code, gives_alone, RepliesAreGiven}
 
--- what holds of both rows holds of the one that a check gives
+-- what holds for both rows holds for the one that a check gives
 either : (P : Row → Type 0) (test : Bool) (here there : Row) → P here → P there → P (if test then here else there)
 either P true here there of_here of_there = of_here
 either P false here there of_here of_there = of_there

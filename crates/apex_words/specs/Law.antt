@@ -1,4 +1,4 @@
--- The law of the table as text: a call is refused by a check that its service lists.
+-- The law of the table as text: only a check that its service lists refuses a call.
 use Rattle.std.specs.Prelude.{ℕ, Contains}
 use Rattle.apex_types.specs.declared.call.Call.{Call}
 use Rattle.apex_types.specs.declared.moment.Moment.{Moment}
@@ -11,7 +11,7 @@ use Rattle.apex_texts.specs.Service.{service_of}
 use Rattle.apex_texts.specs.declared.service.Service.{Service}
 use Rattle.apex_words.specs.Services.{refusals_of}
 
--- the row is none of a refusal, or that of a check of the service
+-- the row isn't a refusal, or it is that of a check of the service
 abbrev pub IsRowOf : Service → Row → Type 0
 IsRowOf service (Refused refusal) = Contains (refusals_of service) refusal
 IsRowOf service _ = Unit {0}

@@ -18,9 +18,9 @@ use Rattle.apex_texts.specs.declared.service.Service.{Service}
 use Rattle.apex_texts.specs.declared.service.Service.TheVariants as service
 use Rattle.apex_words.specs.Services.{refusals_of}
 
--- ---- what an accepted call is answered
+-- ---- the reply to an accepted call
 
--- NO_ERROR alone
+-- only NO_ERROR
 abbrev pub gives_code_alone : Service → Bool
 gives_code_alone service.WriteSampling = true
 gives_code_alone service.SendQueuing = true
@@ -56,11 +56,11 @@ gives_sampling_status _ = false
 
 -- ---- what a row gives
 
--- a check of the service is told by the code
+-- a check of the service refuses with this code
 abbrev pub refuses_with : Service → ReturnCode → Bool
 refuses_with service code = list_any (λ refusal. number_of (code_of refusal) == number_of code) (refusals_of service)
 
--- an accepted call is told by NO_ERROR, and each other by its refusal's code
+-- NO_ERROR for an accepted call, and the code of its refusal for any other
 abbrev pub can_give_code : Service → ReturnCode → Bool
 can_give_code service NoError = true
 can_give_code service code = refuses_with service code

@@ -1,4 +1,4 @@
-//! Calls in the words of a trace's line, and with their replies in the words of a log's line.
+//! Calls as words of a trace's line, and with their replies as words of a log's line.
 ghost use Rattle.std.specs.Prelude.{◌<◌, length};
 
 use apex_module::Config;

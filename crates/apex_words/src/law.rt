@@ -2,12 +2,12 @@
 ghost use Rattle.apex_words.specs.Law.{RefusalsAreListed};
 ghost use Rattle.apex_words.specs.Replies.{RepliesAreGiven};
 
-/// Outside of IDLE, a call is refused only by a check that its service lists. There is nothing to run.
+/// Outside of IDLE, only a check that its service lists refuses a call. There is nothing to run.
 pub fn refusals_are_listed()
     ensures { RefusalsAreListed }
 {}
 
-/// `can_give` and `can_give_code` hold of each reply to a call of the service. There is nothing to run.
+/// `can_give` and `can_give_code` hold for each reply to a call of the service. There is nothing to run.
 pub fn replies_are_given()
     ensures { RepliesAreGiven }
 {}

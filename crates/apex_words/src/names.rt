@@ -1,7 +1,7 @@
 //! The names of the rows of the reply table.
 use apex_ports::{Refusal, Row};
 
-/// The name of a row in a few words, as "message too long" or "sent".
+/// The name of a row in a few words, like "message too long" or "sent".
 pub fn row_name(row: Row) -> &'static str {
     match row {
         Row::Idle => "in IDLE",

@@ -7,7 +7,7 @@ use apex_texts::Service;
 use apex_types::{Reply, ReturnCode};
 
 /// Whether a row of the service gives such a reply: the same code, or data of the same kind with any values. By the law
-/// `replies_are_given`, some row gives each reply to a call of the service.
+/// `replies_are_given`, every reply to a call of the service is given by some row.
 pub fn can_give(service: Service, reply: &Reply) -> bool
     ensures { result ≡ can_give service reply.now }
 {
@@ -42,7 +42,7 @@ fn refuses_with(service: Service, code: ReturnCode) -> bool
         .any(|refusal| refusal.code().number() == code.number())
 }
 
-/// Whether the reply to an accepted call of the service is NO_ERROR alone.
+/// Whether the reply to an accepted call of the service is only NO_ERROR.
 fn gives_code_alone(service: Service) -> bool
     ensures { result ≡ gives_code_alone service }
 {

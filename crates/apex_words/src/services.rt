@@ -1,11 +1,11 @@
-//! The services of the standard: their names, their checks, and what an accepted call is answered.
+//! The services of the standard: their names, their checks, and the reply to an accepted call.
 ghost use Rattle.std.specs.Prelude.{◌≡◌};
 ghost use Rattle.apex_words.specs.Services.{refusals_of};
 
 use apex_ports::Refusal;
 use apex_texts::Service;
 
-/// The standard's name of a service, as "SEND_QUEUING_MESSAGE".
+/// The standard's name of a service, like "SEND_QUEUING_MESSAGE".
 pub fn standard_name(service: Service) -> &'static str {
     match service {
         Service::CreateSampling => "CREATE_SAMPLING_PORT",

@@ -1,4 +1,4 @@
-//! The reply table as text: the heading of each service, and below it a line for each of its rows.
+//! The reply table as text: a heading for each service, and below it a line for each of its rows.
 use crate::services::{accepted_words, refusals_of, standard_name};
 use crate::values::{Values, kind_of};
 use crate::words::RowWords;
@@ -15,8 +15,8 @@ pub fn push_rows(text: &mut String) -> Result<(), AllocError> {
     Ok(())
 }
 
-/// Writes the rows of a service: its heading, `NAME (CALLWORD)`, and a line `  CONDITION -> REPLY (WORDS)` for each row, in
-/// the order of the table. Words in upper case take the place of values.
+/// Writes the rows of a service: its heading, `NAME (CALLWORD)`, and a line `  CONDITION -> REPLY (WORDS)` for each
+/// row, in the order of the table. Upper-case words replace the values.
 pub fn push_service_rows(text: &mut String, service: Service) -> Result<(), AllocError> {
     writeln!(text, "{} ({})", standard_name(service), service.word())?;
     write!(text, "  the partition is in IDLE -> not made (")?;
@@ -46,7 +46,7 @@ pub fn push_condition(
     write!(text, "{}", Condition { refusal, kind })
 }
 
-/// Writes the words of a row of a service. An accepted call has none. Words in upper case take the place of values.
+/// Writes the words of a row of a service. An accepted call has none. Upper-case words replace the values.
 pub fn push_row_pattern(text: &mut String, service: Service, row: Row) -> Result<(), AllocError> {
     let values = Values::placeholders(service);
     write!(text, "{}", RowWords { row, values })

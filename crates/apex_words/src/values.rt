@@ -66,7 +66,7 @@ impl<'a> Values<'a> {
         }
     }
 
-    /// Words in upper case in place of the values, for any call of the service.
+    /// Upper-case words instead of the values, for any call of the service.
     pub(crate) fn placeholders(service: Service) -> Values<'a> {
         Values {
             partition: "PARTITION",
@@ -194,7 +194,7 @@ pub(crate) struct PortValues<'a> {
     pub(crate) channel: Value<'a>,
     pub(crate) size: Value<'a>,
     pub(crate) depth: Value<'a>,
-    /// The messages that wait if the queue is full.
+    /// The number of messages that wait if the queue is full.
     pub(crate) waiting: Value<'a>,
     pub(crate) direction: Value<'a>,
     pub(crate) refresh: Value<'a>,

@@ -8,8 +8,8 @@ use apex_types::Call;
 use std::alloc::AllocError;
 use std::fmt;
 
-/// Writes the words of a row for a call of the partition: why the call isn't made or is refused. An accepted call has no
-/// words, and a value that the call or the configuration doesn't have is left out.
+/// Writes the words of a row for a call of the partition: why the call isn't made or is refused. An accepted call has
+/// no words. A value that the call or the configuration doesn't have is left out.
 pub fn push_words(
     text: &mut String,
     config: &Config,
@@ -67,7 +67,7 @@ impl fmt::Display for RowWords<'_> {
     }
 }
 
-/// Of a port that isn't there for the service: that the port with this name or number is of the other kind.
+/// For a port that the service can't use: that the port with this name or number is of the other kind.
 fn write_other_kind<W: fmt::Write>(
     f: &mut fmt::Formatter<W>,
     refusal: Refusal,
@@ -128,7 +128,7 @@ fn write_refusal<W: fmt::Write>(
     }
 }
 
-/// A value of a creation that is not the configured one.
+/// A value of a creation that differs from the configured one.
 fn write_difference<W: fmt::Write>(
     f: &mut fmt::Formatter<W>,
     what: &str,
@@ -138,7 +138,7 @@ fn write_difference<W: fmt::Write>(
     write!(f, "{what} {called}, configured {configured}")
 }
 
-/// A message that is longer than its channel takes.
+/// The excess of a message that is longer than its channel allows.
 fn write_excess<W: fmt::Write>(
     f: &mut fmt::Formatter<W>,
     length: Value<'_>,

@@ -1,4 +1,4 @@
--- A run shows of partitions that share no channel with the others what their scripts alone can show.
+-- What a run shows for partitions that share no channel with the others is what their scripts alone can show.
 use Rattle.std.proofs.Common.{◌≡◌, ◌≢◌, ℕ, ◌==◌, Bool, true, false, cond, List, [], ◌∷◌, map, refl, sym, ap, ◌∙◌, arith}
 use Rattle.std.proofs.lemmas.Bool.Decides.{nat_tests}
 use Rattle.apex_types.specs.declared.call.Call.{Call}
@@ -11,7 +11,7 @@ use Rattle.apex_ports.specs.Interference.{entries_inside, IsFreeFromInterference
 use Rattle.apex_workers.specs.Alone.{ShowsScriptsAlone}
 use Rattle.apex_threads.specs.Collected.{HasScripts, HasReplies}
 
--- partitions of which one alone is inside
+-- partitions, only one of which is inside
 apart : (inside : ℕ → Bool) (p q : ℕ) → inside q ≢ inside p → (q == p) ≡ false
 apart inside p q differ = by_test (q == p) refl
   where

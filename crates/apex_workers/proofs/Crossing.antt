@@ -1,4 +1,4 @@
--- A locked board with its observers may be shared by threads where its allocator may.
+-- Threads may share a locked board with its observers if they may share its allocator.
 use denote.RattleType.{RattleType}
 use denote.Param.Send.{IsSend, IsSync, view_send}
 use denote.Param.SendFields.{declared_send, declared_sync, as_row_send}

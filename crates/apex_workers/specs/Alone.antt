@@ -1,4 +1,4 @@
--- What a run shows of partitions that share no channel with the others.
+-- What a run shows for partitions that share no channel with the others.
 use Rattle.std.specs.Prelude.{ℕ, Bool, true, false, ◌≡◌, List, [], slice_get, Some}
 use Rattle.apex_types.specs.declared.call.Call.{Call}
 use Rattle.apex_types.specs.declared.moment.Moment.{Moment}
@@ -16,7 +16,7 @@ pub record IsRunInside (config : Configuration) (inside : ℕ → Bool) (scripts
   pub answers : (p : ℕ) (own : List Reply) → inside p ≡ true → slice_get replies p ≡ Some own → replies_of p history ≡ own
   pub others : (p : ℕ) → inside p ≡ false → entries_of p history ≡ []
 
--- what the log shows of a set of partitions that is closed under channels is what the set's scripts alone can show
+-- what the log shows for a set of partitions that is closed under channels is what the set's scripts alone can show
 abbrev pub ShowsScriptsAlone : Configuration → List (List (Moment × Call)) → List (List Reply) → History → Type 0
 ShowsScriptsAlone config scripts replies history =
     (inside : ℕ → Bool) → IsClosed config inside → IsRunInside config inside scripts replies (entries_inside inside history)

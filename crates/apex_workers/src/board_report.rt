@@ -7,7 +7,7 @@ use apex_texts::{push_entry, push_totals};
 use apex_types::OutOfMemory;
 use std::alloc::{AllocError, Global};
 
-/// The bytes that are reserved for each line of the log.
+/// The number of bytes that are reserved for each line of the log.
 const LINE_BYTES: usize = 64;
 
 /// The report of a board.

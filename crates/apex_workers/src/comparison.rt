@@ -1,4 +1,4 @@
-//! What the workers left, beside what was handed out to them.
+//! Compares what the workers left with what was handed out to them.
 ghost use Rattle.std.specs.Prelude.{◌≡◌, ◌↔◌, ◌+◌, ◌^◌, ◌<◌, length, replicate, IsTrue};
 ghost use Rattle.std.specs.Bool.{OnTrue, OnFalse};
 ghost use Rattle.apex_threads.specs.Collected.{IsNext, AreCounted, IsCollected, IsCollectedFor};
@@ -9,7 +9,8 @@ use apex_threads::{PackedReplies, PackedScript, are_complete};
 use apex_types::{ANY_CALL, Call, Moment};
 use std::alloc::Allocator;
 
-/// Whether the board has the configuration, and its log the calls of each partition's script with the replies to them.
+/// Whether the board has the configuration, and its log has the calls of each partition's script with the replies to
+/// them.
 pub(crate) fn is_collected_for<A: Allocator>(
     config: &Config,
     scripts: &[PackedScript<A>],
@@ -68,7 +69,7 @@ fn count_entries<A: Allocator>(
     true
 }
 
-/// Whether the two moments are one.
+/// Whether the two moments are equal.
 fn is_same_moment(at: Moment, other: Moment) -> bool
     ensures { IsTrue result ↔ (at ≡ other) }
 {
@@ -82,8 +83,8 @@ fn is_same_call(call: &Call, other: &Call) -> bool
     call == other
 }
 
-/// Whether the call at an index of the script, with the reply at the same index, is the entry's. The script's call is read
-/// into `call`.
+/// Whether the call at an index of the script, with the reply at the same index, is the entry's. The script's call is
+/// read into `call`.
 fn is_next<A: Allocator>(
     entry: &Entry,
     script: &PackedScript<A>,

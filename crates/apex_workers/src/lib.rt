@@ -1,5 +1,5 @@
-//! Workers over one board behind a lock: each partition's script is run by a thread of its own, and the board's log is
-//! compared with what was handed out. Beside them the report of a board, from its log.
+//! Workers over one board behind a lock: each partition's script runs in a thread of its own, and the board's log is
+//! compared with what was handed out. The crate also writes the report of a board, from its log.
 #![tactic(auto)]
 
 pub mod board_report;

@@ -11,7 +11,7 @@ use std::sync::{Mutex, MutexGuard, Wait};
 
 /// A board that one thread at a time holds.
 ///
-/// It is not `Drop`, as the board isn't: take the board back by `into_board`, and end that.
+/// Like the board, it is not `Drop`: take the board back with `into_board`, and close that.
 pub struct LockedBoard<A: Allocator = Global> {
     board: Mutex<Board<A>>,
 }
@@ -19,14 +19,14 @@ pub struct LockedBoard<A: Allocator = Global> {
 impl<A: Allocator> LockedBoard<A> {
     ghost use Rattle.apex_workers.specs.Facts.{HasBoardFacts};
 
-    /// The board behind a lock that is free.
+    /// The board behind a free lock.
     pub fn new(board: Board<A>) -> LockedBoard<A> {
         LockedBoard {
             board: Mutex::new(board),
         }
     }
 
-    /// Lends the board, once no other thread has it. Which log it has by then no contract says.
+    /// Lends the board, once no other thread has it. No contract says which log it has by then.
     pub fn lock<R: Wait>(&self, rt: &R) -> MutexGuard<'_, Board<A>>
         ensures { HasBoardFacts (mutex_guard_value result) }
     {
@@ -35,7 +35,7 @@ impl<A: Allocator> LockedBoard<A> {
         guard
     }
 
-    /// Gives the board back. Which log it has by then no contract says.
+    /// Returns the board. No contract says which log it has by then.
     pub fn into_board(self) -> Board<A>
         ensures { HasBoardFacts result }
     {
@@ -47,7 +47,7 @@ impl<A: Allocator> LockedBoard<A> {
 }
 
 impl<A: Allocator + Send + Sync> SharedBoard for LockedBoard<A> {
-    /// Holds the lock for this one call.
+    /// Holds the lock only for this call.
     fn ask<R: Wait>(
         &self,
         rt: &R,
@@ -69,7 +69,7 @@ ghost use Rattle.apex_ports.specs.Writes.{WritesNothing};
 ghost use Rattle.apex_workers.specs.Facts.{HasBoardFacts};
 ghost use Rattle.apex_threads.specs.declared.shared.AskFault.TheVariants as fault;
 
-/// One call on the board that is lent.
+/// Makes one call on the lent board.
 pub(crate) fn ask_lent<A: Allocator, R: Wait>(
     rt: &R,
     board: &mut Board<A>,
@@ -77,7 +77,7 @@ pub(crate) fn ask_lent<A: Allocator, R: Wait>(
     at: Moment,
     call: &Call,
 ) -> Result<Reply, AskFault>
-    // The reply is the reply table's, and the log gains just that entry.
+    // The reply is the reply table's, and the log gains exactly this entry.
     ensures reply { IfOk result (λ reply.
         reply ≡ reply_to board.old.config board.old.log partition at call.now) }
     ensures entry { IfOk result (λ reply.
@@ -85,7 +85,8 @@ pub(crate) fn ask_lent<A: Allocator, R: Wait>(
     ensures config { board.new.config ≡ board.old.config }
     ensures channels { books_of board.new.published ≡ books_of board.old.published }
 
-    // A refusal changes nothing. It is for the partition, or for memory where there is no room or a write is to be published.
+    // A refusal changes nothing. Its reason is the partition, or memory if there is no room or a write is to be
+    // published.
     ensures partition { IsErrOf result fault.NoPartition
         ↔ (length board.old.config.partitions ≤ partition) }
     ensures succeeds { partition < length board.old.config.partitions
@@ -102,7 +103,7 @@ pub(crate) fn ask_lent<A: Allocator, R: Wait>(
         .map_err(|_refused| AskFault::OutOfMemory)
 }
 
-/// Brings in what holds of every board. There is nothing to run.
+/// Brings in what holds for every board. There is nothing to run.
 pub(crate) fn board_facts<A: Allocator>(board: &Board<A>)
     ensures { HasBoardFacts board.now }
 {

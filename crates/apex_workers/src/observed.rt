@@ -75,14 +75,14 @@ pub(crate) struct LockedObservedBoard<A: Allocator> {
 }
 
 impl<A: Allocator> LockedObservedBoard<A> {
-    /// The board behind a lock that is free.
+    /// The board behind a free lock.
     pub(crate) fn new(observed: ObservedBoard<A>) -> LockedObservedBoard<A> {
         LockedObservedBoard {
             observed: Mutex::new(observed),
         }
     }
 
-    /// Gives the board with its observers back. Which log it has by then no contract says.
+    /// Returns the board with its observers. No contract says which log it has by then.
     pub(crate) fn into_observed(self) -> ObservedBoard<A> {
         let LockedObservedBoard { observed } = self;
         observed.into_inner()
@@ -90,7 +90,7 @@ impl<A: Allocator> LockedObservedBoard<A> {
 }
 
 impl<A: Allocator + Send + Sync> SharedBoard for LockedObservedBoard<A> {
-    /// Holds the lock for this one call.
+    /// Holds the lock only for this call.
     fn ask<R: Wait>(
         &self,
         rt: &R,

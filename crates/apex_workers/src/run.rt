@@ -1,4 +1,4 @@
-//! A run: one worker for each partition.
+//! A run, with one worker for each partition.
 ghost use Rattle.std.specs.Prelude.{◌≡◌, ◌⊎◌, length, replicate, vec_len, Ok, Err, IfOk, IfErr, IsOk};
 ghost use Rattle.std.specs.Thread.{IsSync, IsSend};
 ghost use Rattle.apex_observers.specs.Channels.{AreObservers};
@@ -19,20 +19,21 @@ use std::alloc::{Allocator, Global};
 use std::sync::Wait;
 use std::thread::Threads;
 
-/// What a run leaves: the board, the replies of each partition's worker, in the partitions' order, and an observer of each
-/// sampling channel, in the channels' order.
+/// What a run leaves: the board, the replies of each partition's worker, in the partitions' order, and an observer of
+/// each sampling channel, in the channels' order.
 ///
-/// The board is not `Drop`: end it by `Board::close`.
+/// The board is not `Drop`: end it with `Board::close`.
 pub struct Finished<A: Allocator = Global> {
     pub board: Board<A>,
     pub replies: Vec<Replies<A>, A>,
     pub observers: Vec<Observer<A>, A>,
 }
 
-/// Runs each partition's script by a worker of its own. All workers share one board, and all are started before any is joined.
+/// Runs each partition's script in a worker of its own. All workers share one board, and all are started before any is
+/// joined.
 ///
-/// A worker stops at its first refusal, and the others go on. A worker that couldn't be started goes before every other
-/// fault, and then the fault of the lowest partition goes first. On a fault the board is ended.
+/// A worker stops at its first refusal, and the others go on. That a worker couldn't be started takes precedence over
+/// all other faults; after that the fault of the lowest partition does. On a fault the board is closed.
 pub fn run_scripts<R: Threads + Wait + Sync, A: Allocator + Copy + Send + Sync, G: Gate>(
     rt: &R,
     alloc: A,
@@ -59,7 +60,7 @@ pub fn run_scripts<R: Threads + Wait + Sync, A: Allocator + Copy + Send + Sync, 
     ensures isolated { IfOk result (λ finished. ShowsScriptsAlone
         config.now scripts.now finished.replies.items finished.board.log) }
 
-    // Where a worker was held, the gate may refuse the call that the fault names.
+    // If a worker was held, the gate may refuse the call that the fault names.
     ensures held { IfErr result (NamesHeldCall (G.may_refuse gate.now) scripts.now) }
 {
     let counts = vec![in alloc; 0usize; scripts.len()]?;
@@ -85,7 +86,7 @@ pub fn run_scripts<R: Threads + Wait + Sync, A: Allocator + Copy + Send + Sync, 
     }
 }
 
-/// What the workers were answered, and each one's replies as a list of its own.
+/// The finished run, with each worker's replies as a list of its own.
 fn with_lists<A: Allocator + Copy>(
     alloc: A,
     answered: Result<Vec<PackedReplies<A>, A>, RunFault>,
@@ -100,7 +101,7 @@ fn with_lists<A: Allocator + Copy>(
     Ok((packed, replies))
 }
 
-/// The board with the replies, where they are what was handed out to the workers.
+/// The board with the replies, if they are what was handed out to the workers.
 fn collected<A: Allocator, R: Wait>(
     rt: &R,
     config: &Config,
@@ -125,7 +126,7 @@ fn collected<A: Allocator, R: Wait>(
         config.now scripts.now finished.replies.items finished.board.log) }
     ensures stranger { IfErr result (λ fault. fault ≡ RunFault.ResultsDiffer) }
 
-    // It is refused only where something differs.
+    // It is refused only if something differs.
     ensures same { let board = observed.board in
         IsCollectedFor config.now scripts.now board.config board.log answers.now
         → IsOk result }

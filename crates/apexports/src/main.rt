@@ -1,5 +1,5 @@
-//! The simulator of the APEX port services: a configuration and a trace of calls, or a script for each
-//! partition, go in, the reply to each call and a report come out.
+//! The simulator of the APEX port services. It reads a configuration and a trace of calls, or a script for each
+//! partition, and prints the reply to each call and a report.
 #![tactic(auto)]
 
 use apex_command_line::words_given;

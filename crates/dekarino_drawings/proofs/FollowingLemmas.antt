@@ -1,4 +1,4 @@
--- What is kept of each channel, before and after one more entry.
+-- What is kept for each channel, before and after one more entry.
 use Rattle.std.proofs.Common.{◌≡◌, ◌≢◌, ℕ, suc, ◌+◌, ◌-◌, ◌^◌, ◌<◌, ◌≤◌, min, max, Bool, true, false, if◌then◌else◌, List, [], ◌∷◌, ◌++◌, length, length-append, length-set, set, drop, arith, Option, Some, None, is_some, refl, sym, ap, ◌∙◌, subst, append_assoc, append-nil}
 use Rattle.std.specs.Prelude.{slice_get, option_map}
 use Rattle.std.specs.List.{cons_option, filter_map, flat_map}
@@ -135,7 +135,7 @@ follows config before e c index old new more size small was is few taken last se
       few_taken = omega arith;
     }
 
--- an entry that leaves it alone
+-- an entry that leaves it unchanged
 stays : (config : Configuration) (before : History) (e : Entry) (c : ℕ) (calls : ChannelCalls) → LeavesChannel config c e → IsFollowed config before c calls → IsFollowed config (before ++ e ∷ []) c calls
 stays config before e c calls left was =
     let longer = length-append before (e ∷ []) in
@@ -194,7 +194,7 @@ pub read_origin : (config : Configuration) (before : History) (p id : ℕ) (call
 read_origin config before p id call reply message validity port is shows found =
     sym ((λ i. origin_of config before p (is i) (shows i)) ∙ ap (on_channel_of (last_write config before)) found)
 
--- ---- what waits in the end
+-- ---- what waits at the end
 
 waits_from : (config : Configuration) (h : History) (n : ℕ) (kept : List ChannelCalls) (channels : List Channel) → length kept ≡ length channels
     → ((k : ℕ) (calls : ChannelCalls) → slice_get kept k ≡ Some calls → IsFollowed config h (n + k) calls) → flat_map waits_in kept ≡ waiting_from config h n channels

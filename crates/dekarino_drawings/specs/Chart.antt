@@ -1,4 +1,4 @@
--- What is read of a trace to be drawn, and when it isn't drawn.
+-- What is read from a trace to be drawn, and when it isn't drawn.
 use Rattle.std.specs.Prelude.{◌≡◌, ℕ, ◌≤◌, ◌<◌, List, length, Ok}
 use Rattle.apex_module.specs.Configuration.{Configuration}
 use Rattle.apex_ports.specs.declared.history.Request.{Request}
@@ -26,7 +26,7 @@ pub record IsChart (config : Configuration) (trace : List ℕ) (chart : Chart) :
   pub arrows : chart.arrows.items ≡ arrows_of config chart.calls.items
   pub waiting : chart.waiting.items ≡ waiting_of config chart.calls.items
 
--- why no chart is read of a trace: its first faulty line; want of memory says nothing of it
+-- why no chart is read from a trace: its first faulty line; nothing is claimed if memory runs out
 abbrev pub IsNotRead : Configuration → List ℕ → Fault → Type 0
 IsNotRead config trace (faults.Trace fault) = IsRefused (trace_of config trace) fault
 IsNotRead config trace faults.Memory = Unit {0}
@@ -38,14 +38,14 @@ pub record IsDrawn (config : Configuration) (trace : List ℕ) : Type 0 where
   pub read : trace_of config trace ≡ Ok requests
   pub few : length requests ≤ CALL_LIMIT
 
--- the trace has so many calls, more than are drawn
+-- the trace has this number of calls, more than are drawn
 pub record HasTooMany (config : Configuration) (trace : List ℕ) (calls : ℕ) : Type 0 where
   pub requests : List Request
   pub read : trace_of config trace ≡ Ok requests
   pub count : calls ≡ length requests
   pub many : CALL_LIMIT < calls
 
--- why a trace is not drawn: its first faulty line, or else too many calls; want of memory says nothing of it
+-- why a trace is not drawn: its first faulty line, or else too many calls; nothing is claimed if memory runs out
 abbrev pub IsNotDrawn : Configuration → List ℕ → DrawingFault → Type 0
 IsNotDrawn config trace (drawing.Text fault) = IsNotRead config trace fault
 IsNotDrawn config trace (drawing.TooManyCalls calls) = HasTooMany config trace calls

@@ -4,7 +4,7 @@ use Rattle.std.specs.Char.{encode_utf8}
 use Rattle.std.specs.List.{flat_map}
 use Rattle.std.specs.Str.{chars}
 
--- a character, or what stands for it: `&`, `<`, `>` and `"` would end the text or begin something else
+-- a character, or its escape: `&`, `<`, `>` and `"` would end the text or begin something else
 abbrev pub escaped_char : ℕ → List ℕ
 escaped_char character =
     if character == 38 then codes "&amp;"
@@ -13,6 +13,6 @@ escaped_char character =
     else if character == 34 then codes "&quot;"
     else encode_utf8 character
 
--- a text by its characters
+-- a text, character by character
 abbrev pub escaped : List ℕ → List ℕ
 escaped text = flat_map escaped_char (chars text)

@@ -10,8 +10,8 @@ use apex_module::Config;
 use apex_ports::Entry;
 use std::alloc::{AllocError, Global};
 
-/// The arrows of these calls, in the order of the calls that they lead to, and the calls that sent what waits in the
-/// end: channel by channel, oldest first.
+/// The arrows of these calls, in the order of the calls that they lead to, and the calls that sent the messages still
+/// waiting at the end: channel by channel, oldest first.
 pub(crate) fn arrows_and_waiting(
     alloc: Global,
     config: &Config,
@@ -46,7 +46,7 @@ fn arrows_of(
     Ok(arrows)
 }
 
-/// Adds the arrow to a call, where there is a call from which it leads.
+/// Adds the arrow to a call from its origin, if it has one.
 fn push_arrow(arrows: &mut Vec<Arrow>, from: Option<usize>, to: usize) -> Result<(), AllocError>
     ensures { OnOk result (arrows.new.items ≡ arrows.old.items ++ arrow_from from to) }
 {

@@ -5,10 +5,11 @@ use apex_texts::Service;
 use apex_types::{Call, Message, Reply};
 use std::alloc::{AllocError, Global};
 
-/// The longest message that is shown by its bytes.
+/// The maximum length of a message that is shown by its bytes.
 const SHOWN_BYTES: usize = 8;
 
-/// The text beside a call: its partition, its service with the port or the message, its reply, and the words of its row.
+/// The text beside a call: its partition, its service with the port or the message, its reply, and the words of its
+/// row.
 pub(crate) fn call_text(
     alloc: Global,
     config: &Config,
@@ -30,7 +31,7 @@ pub(crate) fn call_text(
     Ok(text)
 }
 
-/// The name of partition `p`; empty where there is none.
+/// The name of partition `p`; empty if there is none.
 fn partition_name(config: &Config, p: usize) -> &str {
     if p < config.partitions() {
         config.partition_name(p).text()
@@ -78,7 +79,7 @@ fn push_reply(text: &mut String, reply: &Reply) -> Result<(), AllocError> {
     }
 }
 
-/// A message by its bytes, or by their number where there are many.
+/// A message by its bytes, or by their number if there are many.
 fn push_message(text: &mut String, message: &Message) -> Result<(), AllocError> {
     let length = message.bytes().len();
     if length <= SHOWN_BYTES {

@@ -13,12 +13,12 @@ use apex_ports::Entry;
 use apex_types::{Call, Direction, Reply, ReturnCode};
 use std::alloc::{AllocError, Global};
 
-/// What calls did to a channel. Calls are told by their indexes, from 0.
+/// What calls did to a channel. Calls are given by their indexes, from 0.
 #[derive(Debug, Drop)]
 pub(crate) struct ChannelCalls {
     /// The calls that sent a message into it, oldest first.
     pub sends: Vec<usize>,
-    /// How many messages were taken out of it, received or cleared.
+    /// The number of messages taken from it, received or cleared.
     pub taken: usize,
     /// The call that wrote the last sample into it.
     pub last_write: Option<usize>,
@@ -36,14 +36,14 @@ impl ChannelCalls {
         }
     }
 
-    /// The call that sent the message which is received next.
+    /// The call that sent the message that is received next.
     pub(crate) fn next_send(&self) -> Option<usize>
         ensures { result ≡ slice_get self.now.sends.items self.now.taken }
     {
         self.sends.get(self.taken).copied()
     }
 
-    /// Adds the calls that sent what waits, oldest first.
+    /// Adds the calls that sent the waiting messages, oldest first.
     pub(crate) fn push_waiting(&self, waiting: &mut Vec<usize>) -> Result<(), AllocError>
         ensures { OnOk result (waiting.new.items ≡ waiting.old.items ++ waits_in self.now) }
     {
@@ -51,7 +51,7 @@ impl ChannelCalls {
         waiting.extend_from_slice(&self.sends[first..])
     }
 
-    /// Adds a call on channel `c`, of this index.
+    /// Adds a call on channel `c` with this index.
     pub(crate) fn follow(
         &mut self,
         config: &Config,
@@ -71,7 +71,7 @@ impl ChannelCalls {
     }
 }
 
-/// Adds a call of this index, if it sent a message into channel `c`.
+/// Adds a call with this index, if it sent a message into channel `c`.
 fn push_send(
     sends: &mut Vec<usize>,
     config: &Config,
@@ -88,7 +88,7 @@ fn push_send(
     Ok(())
 }
 
-/// The last write into channel `c` after a call of this index.
+/// The last write into channel `c` after a call with this index.
 fn last_write_after(
     last: Option<usize>,
     config: &Config,
@@ -106,7 +106,7 @@ fn last_write_after(
     }
 }
 
-/// How many messages a call takes out of channel `c`, where so many wait.
+/// The number of messages that a call takes from channel `c` if `waiting` messages wait.
 fn taken_by(config: &Config, c: usize, waiting: usize, call: &Entry) -> usize
     ensures count { (messages : List (List ℕ)) → length messages ≡ waiting →
         result ≡ length (taken_by config.now c messages call.now) }
@@ -176,7 +176,7 @@ fn is_no_error(reply: &Reply) -> bool
     }
 }
 
-/// Whether the port of the identifier is channel `c`'s source.
+/// Whether the port with this identifier is channel `c`'s source.
 fn is_source(config: &Config, c: usize, p: usize, id: u32) -> bool
     ensures { result ≡ is_source_of c (port_of config.now p id) }
 {
@@ -186,7 +186,7 @@ fn is_source(config: &Config, c: usize, p: usize, id: u32) -> bool
     }
 }
 
-/// Whether the port of the identifier is a destination of channel `c`.
+/// Whether the port with this identifier is a destination of channel `c`.
 fn is_destination(config: &Config, c: usize, p: usize, id: u32) -> bool
     ensures { result ≡ is_destination_of c (port_of config.now p id) }
 {

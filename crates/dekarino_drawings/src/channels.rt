@@ -22,7 +22,7 @@ pub(crate) fn new_channels(alloc: Global, config: &Config) -> Result<Vec<Channel
     Ok(channels)
 }
 
-/// Adds a call of this index to its channel.
+/// Adds a call with this index to its channel.
 pub(crate) fn follow(
     channels: &mut Vec<ChannelCalls>,
     config: &Config,
@@ -56,7 +56,7 @@ fn channel_changed(config: &Config, entry: &Entry) -> Option<usize>
     Some(config.port(entry.partition, id)?.channel)
 }
 
-/// The call whose message a call showed, after the calls that were added.
+/// The call whose message this call showed, after the calls added so far.
 pub(crate) fn origin_of(channels: &[ChannelCalls], config: &Config, entry: &Entry) -> Option<usize>
     ensures { (before : History) → AreFollowed config.now before channels.now →
         let one = entry.now in
@@ -75,7 +75,7 @@ pub(crate) fn origin_of(channels: &[ChannelCalls], config: &Config, entry: &Entr
     }
 }
 
-/// The calls that sent what waits on all channels.
+/// The calls that sent the messages waiting on all channels.
 pub(crate) fn waiting_of(alloc: Global, channels: &[ChannelCalls]) -> Result<Vec<usize>, AllocError>
     ensures { (config : Configuration) (calls : History) → AreFollowed config calls channels.now
         → IfOk result (λ waiting. waiting.items ≡ waiting_of config calls) }

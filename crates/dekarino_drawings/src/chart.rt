@@ -2,10 +2,10 @@
 use crate::arrow::Arrow;
 use apex_ports::{Entry, Row};
 
-/// The most calls that are drawn.
+/// The maximum number of calls that are drawn.
 pub const CALL_LIMIT: usize = 2000;
 
-/// The calls of a trace, and what became of their messages.
+/// The calls of a trace, and what happened to their messages.
 #[derive(Debug, Drop)]
 pub struct Chart {
     /// The calls with their replies, in the trace's order.
@@ -14,6 +14,6 @@ pub struct Chart {
     pub rows: Vec<Row>,
     /// The arrows, in the order of the calls that they lead to.
     pub arrows: Vec<Arrow>,
-    /// The indexes of the sends whose messages wait in the end: channel by channel, oldest first.
+    /// The indexes of the sends whose messages wait at the end: channel by channel, oldest first.
     pub waiting: Vec<usize>,
 }

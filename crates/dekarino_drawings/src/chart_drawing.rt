@@ -1,5 +1,5 @@
-//! The drawing of a trace's calls: a text for each call at the left, and at the right a life line for each partition with
-//! the calls downward on them, and an arrow to each call that showed a message from the one that sent it.
+//! The drawing of a trace's calls: at the left a text for each call, at the right a lifeline for each partition with
+//! its calls from top to bottom, and an arrow to each call that showed a message from the one that sent it.
 ghost use Rattle.std.specs.Prelude.{MatchResult};
 ghost use Rattle.dekarino_drawings.specs.Chart.{IsDrawn, IsNotDrawn};
 
@@ -53,7 +53,7 @@ fn chart_text(alloc: Global, config: &Config, chart: &Chart) -> Result<String, A
     Ok(svg)
 }
 
-/// The words of the row that a call got; of an accepted call there are none.
+/// The words of the row that a call got; an accepted call has none.
 fn row_words(
     alloc: Global,
     config: &Config,
@@ -81,7 +81,7 @@ fn texts_of(alloc: Global, config: &Config, chart: &Chart) -> Result<Vec<String>
     Ok(texts)
 }
 
-/// The life lines with the names of their partitions.
+/// The lifelines with the names of their partitions.
 fn push_life_lines(
     svg: &mut String,
     config: &Config,
@@ -97,7 +97,7 @@ fn push_life_lines(
     Ok(())
 }
 
-/// The name above a life line.
+/// The name above a lifeline.
 fn push_partition_name(
     svg: &mut String,
     frame: Frame,
@@ -114,7 +114,7 @@ fn push_partition_name(
     }
 }
 
-/// What stands above the columns of numbers and moments.
+/// The headings of the columns of numbers and moments.
 fn push_headings(svg: &mut String, frame: Frame) -> Result<(), AllocError> {
     let y = frame.top.saturating_sub(10);
     push_text(
@@ -165,7 +165,7 @@ fn push_call_text(
     push_text(svg, frame.texts, y, "", text)
 }
 
-/// An arrow, with the numbers of its calls as they are printed.
+/// An arrow, with the printed numbers of its calls.
 fn push_arrow(
     svg: &mut String,
     frame: Frame,
@@ -200,7 +200,7 @@ fn push_arrow(
     writeln!(svg, "\"/>")
 }
 
-/// A line from a call to a later one; a bow where both stand on one life line.
+/// A line from a call to a later one; a bow if both are on one lifeline.
 fn push_course(
     svg: &mut String,
     x: usize,
@@ -216,8 +216,8 @@ fn push_course(
     }
 }
 
-/// A circle where a call was answered NO_ERROR, a square where a read showed an INVALID sample, and a ring where a message
-/// waits in the end; a cross, with the words of the row, where the call was refused or not made.
+/// A circle if the call got NO_ERROR, a square if a read showed an INVALID sample, and a ring if a message waits at the
+/// end; a cross, with the words of the row, if the call was refused or not made.
 fn push_mark(
     svg: &mut String,
     frame: Frame,

@@ -14,7 +14,7 @@ use std::fmt;
 /// Why a trace is not drawn.
 #[derive(Debug, Drop, PartialEq, Eq)]
 pub enum DrawingFault {
-    /// The trace is refused, or memory was.
+    /// The trace is refused, or memory ran out.
     Text(Fault),
     /// The trace has more calls than are drawn.
     TooManyCalls { calls: usize },

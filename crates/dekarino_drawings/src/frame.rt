@@ -1,4 +1,4 @@
-//! Where the parts of a chart stand.
+//! The positions of a chart's parts.
 use crate::chart::Chart;
 use crate::svg::offset;
 use apex_module::Config;
@@ -15,22 +15,22 @@ const CHARACTER: usize = 7;
 /// The greatest width of a character of a partition's name.
 const NAME_CHARACTER: usize = 8;
 
-/// The width of all life lines, where there are more than can be far apart.
+/// The width of all lifelines, if there are too many to be far apart.
 const LINES: usize = 690;
 
-/// The least distance between life lines that have room.
+/// The minimum distance between lifelines that have room.
 const LINE: usize = 140;
 
-/// Sideways offset of an arrow that starts and ends on one life line.
+/// Sideways offset of an arrow that starts and ends on one lifeline.
 pub(crate) const BOW: usize = 40;
 
 /// The height of what follows the calls.
 const LEGEND: usize = 148;
 
-/// The width of the least drawing.
+/// The minimum width of a drawing.
 const LEAST_WIDTH: usize = 480;
 
-/// The places of a chart's parts.
+/// The positions of a chart's parts.
 #[derive(Clone, Copy)]
 pub(crate) struct Frame {
     /// Where the calls' numbers end.
@@ -39,11 +39,11 @@ pub(crate) struct Frame {
     pub(crate) moments: usize,
     /// Where the calls' texts begin.
     pub(crate) texts: usize,
-    /// The first life line.
+    /// The first lifeline.
     first: usize,
-    /// How far apart life lines are.
+    /// The distance between lifelines.
     line: usize,
-    /// Where life lines begin.
+    /// Where lifelines begin.
     pub(crate) top: usize,
     /// Whether the names of the partitions are slanted.
     pub(crate) is_slanted: bool,
@@ -99,10 +99,10 @@ pub(crate) fn frame_of(config: &Config, chart: &Chart, texts: &[String]) -> Fram
     }
 }
 
-/// What stands above the calls' numbers and above their moments.
+/// The headings above the calls' numbers and their moments.
 pub(crate) const HEADINGS: (&str, &str) = ("call", "moment");
 
-/// The end of a call's text that has this length and begins here.
+/// The end of a call's text with this length that begins here.
 pub(crate) fn end_of(begin: usize, length: usize) -> usize {
     offset(begin.saturating_add(MARGIN / 2), CHARACTER, length)
 }
@@ -137,7 +137,7 @@ fn longest_name(config: &Config) -> usize {
     longest
 }
 
-/// The life line of partition `p`.
+/// The lifeline of partition `p`.
 pub(crate) fn line_of(frame: Frame, p: usize) -> usize {
     offset(frame.first, frame.line, p)
 }

@@ -2,7 +2,7 @@
 use crate::svg::{offset, push_cross, push_square, push_text};
 use std::alloc::AllocError;
 
-/// How far apart the lines of the legend are.
+/// The distance between the lines of the legend.
 const LINE: usize = 18;
 
 /// The middle of a mark.
@@ -11,7 +11,7 @@ const MARK: usize = 38;
 /// Where the words begin.
 const WORDS: usize = 76;
 
-/// The legend, of which the first line has this height.
+/// The legend, whose first line is at this height.
 pub(crate) fn push_legend(svg: &mut String, y: usize) -> Result<(), AllocError> {
     writeln!(
         svg,

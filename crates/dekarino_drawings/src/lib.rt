@@ -1,5 +1,5 @@
-//! The drawings: a module with its channels, and the calls of a trace in their order, with an arrow from each message's
-//! sending to the call that showed it. The arrows are proved; how a drawing is laid out isn't.
+//! The drawings: a module with its channels, and the calls of a trace in their order, with an arrow from the sending of
+//! each message to the call that showed it. The arrows are proved; the layout of a drawing isn't.
 #![tactic(auto)]
 
 pub mod arrow;

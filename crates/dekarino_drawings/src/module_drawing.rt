@@ -1,6 +1,6 @@
 //! The drawing of a module: the partitions in two columns with their ports, and a lane for each channel between the
-//! columns. A row of a column is a partition's name, a port or a gap. The right column stands half a row lower than the
-//! left one, so that no two lines lie on one another.
+//! columns. A row of a column is a partition's name, a port or a gap. The right column is half a row lower than the
+//! left one, so that no two lines coincide.
 ghost use Rattle.std.specs.Prelude.{◌<◌, length};
 
 use crate::svg::{offset, push_end, push_start, push_text};
@@ -8,7 +8,7 @@ use apex_module::{Channel, ChannelKind, Config, Port, PortKind};
 use apex_types::Direction;
 use std::alloc::{AllocError, Global};
 
-/// How far apart rows are.
+/// The distance between rows.
 const ROW: usize = 36;
 
 /// The width around a drawing.
@@ -20,21 +20,21 @@ const BOX: usize = 252;
 /// The width beside a box in which a line has its channel's name.
 const LABELS: usize = 212;
 
-/// How far beside a box a channel's name begins or ends.
+/// The distance from a box to where a channel's name begins or ends.
 const LABEL: usize = 13;
 
-/// How far apart lanes are.
+/// The distance between lanes.
 const LANE: usize = 16;
 
-/// How wide all lanes are at most.
+/// The maximum width of all lanes.
 const LANES: usize = 304;
 
-/// Where a drawing's parts stand from left to right.
+/// The positions of a drawing's parts from left to right.
 #[derive(Clone, Copy)]
 struct Columns {
     /// The first lane.
     first_lane: usize,
-    /// How far apart lanes are.
+    /// The distance between lanes.
     lane: usize,
     /// The inner side of the right boxes.
     right: usize,
@@ -77,7 +77,7 @@ fn columns_of(config: &Config) -> Columns {
     }
 }
 
-/// How many rows the partitions of a column below number `p` have. Column 0 is the left one.
+/// The number of rows of the partitions of a column below number `p`. Column 0 is the left one.
 fn rows_above(config: &Config, column: usize, p: usize) -> usize {
     let mut rows: usize = 0;
     for other in 0..config.partitions() {
@@ -88,7 +88,7 @@ fn rows_above(config: &Config, column: usize, p: usize) -> usize {
     rows
 }
 
-/// Where the line of a port of partition `p` begins or ends. The port is told by its index, from 0.
+/// Where the line of a port of partition `p` begins or ends. The port is given by its index, from 0.
 fn end_of(config: &Config, columns: Columns, p: usize, index: usize) -> End {
     let is_left = p % 2 == 0;
     let top = if is_left { MARGIN } else { MARGIN + ROW / 2 };
@@ -169,8 +169,8 @@ fn word_of(direction: Direction) -> &'static str {
     }
 }
 
-/// The channel's name at a port's line; at the source what the channel carries, and at a destination
-/// the arrow from the source.
+/// The channel's name at a port's line; at the source also what the channel carries, and at a destination the arrow
+/// from the source.
 fn push_channel(
     svg: &mut String,
     config: &Config,
@@ -253,7 +253,7 @@ fn source_of(config: &Config, columns: Columns, c: usize) -> Option<End> {
     None
 }
 
-/// An arrow by a channel's lane.
+/// An arrow along a channel's lane.
 fn push_arrow(
     svg: &mut String,
     kind: ChannelKind,

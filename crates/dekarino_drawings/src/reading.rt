@@ -1,4 +1,4 @@
-//! Reading what a trace's chart shows.
+//! Reads what a trace's chart shows.
 ghost use Rattle.std.specs.Prelude.{◌≡◌, ◌<◌, ◌++◌, [], ◌∷◌, length, IfOk, MatchResult};
 ghost use Rattle.apex_ports.specs.History.{request_of};
 ghost use Rattle.apex_ports.specs.Lawful.{Answers};
@@ -16,8 +16,8 @@ use apex_texts::trace::read_trace;
 use apex_types::OutOfMemory;
 use std::alloc::{AllocError, Global};
 
-/// What a trace's chart shows: its calls on new ports of the configuration with their replies, and
-/// what became of their messages.
+/// What a trace's chart shows: its calls on new ports of the configuration with their replies, and what happened to
+/// their messages.
 pub fn read_chart(alloc: Global, config: Config, trace: &[u8]) -> Result<Chart, Fault>
     ensures { MatchResult result
         (IsChart config trace.now) (IsNotRead config trace.now) }
@@ -26,7 +26,7 @@ pub fn read_chart(alloc: Global, config: Config, trace: &[u8]) -> Result<Chart, 
     Ok(chart_of(alloc, config, requests.as_slice())?)
 }
 
-/// The same, of a trace with no more calls than are drawn.
+/// The same, for a trace with no more calls than are drawn.
 pub(crate) fn read_drawn_chart(
     alloc: Global,
     config: Config,

@@ -4,7 +4,7 @@ ghost use Rattle.dekarino_drawings.specs.Escaping.{escaped, escaped_char};
 
 use std::alloc::{AllocError, Global};
 
-/// The colours by day and by night. A stroke's colour is that of its arrow's head.
+/// The colours for light and dark mode. A stroke has the colour of its arrow's head.
 static STYLE: [&str; 20] = [
     "<style>\n",
     ".paper{fill:#fff}.box{fill:#f6f8fa;stroke:#57606a}\n",
@@ -28,7 +28,7 @@ static STYLE: [&str; 20] = [
     "}</style>\n",
 ];
 
-/// The text with `&amp;`, `&lt;`, `&gt;` and `&quot;` in place of the characters that they stand for.
+/// The text with `&amp;`, `&lt;`, `&gt;` and `&quot;` instead of the characters that they encode.
 pub fn escaped(alloc: Global, text: &str) -> Result<String, AllocError>
     ensures { IfOk result (λ made. string_bytes made ≡ escaped text.now) }
 {
@@ -39,7 +39,7 @@ pub fn escaped(alloc: Global, text: &str) -> Result<String, AllocError>
     Ok(made)
 }
 
-/// Adds a character, or what stands for it.
+/// Adds a character, or its escape.
 fn push_escaped(made: &mut String, character: char) -> Result<(), AllocError>
     ensures { OnOk result
         (string_bytes made.new ≡ string_bytes made.old ++ escaped_char character) }
@@ -53,7 +53,7 @@ fn push_escaped(made: &mut String, character: char) -> Result<(), AllocError>
     }
 }
 
-/// The offset of the item of this number, from 0, where items are so far apart.
+/// The offset of the item with this number, from 0, if items are this far apart.
 pub(crate) fn offset(first: usize, apart: usize, number: usize) -> usize {
     first.saturating_add(apart.saturating_mul(number))
 }
@@ -70,8 +70,8 @@ pub(crate) fn push_text(
     writeln!(svg, "<text x=\"{x}\" y=\"{y}\"{attributes}>{text}</text>")
 }
 
-/// The beginning of a drawing: its size, its style and the heads of its arrows, whose points lie so far before the ends of
-/// their lines.
+/// The beginning of a drawing: its size, its style and the heads of its arrows, whose points lie this far before the
+/// ends of their lines.
 pub(crate) fn push_start(
     svg: &mut String,
     width: usize,
@@ -120,7 +120,7 @@ pub(crate) fn push_end(svg: &mut String) -> Result<(), AllocError> {
     svg.push_str("</svg>\n")
 }
 
-/// The ring about a call whose message waits.
+/// The ring around a call whose message waits.
 pub(crate) fn push_ring(
     svg: &mut String,
     x: usize,
@@ -133,7 +133,7 @@ pub(crate) fn push_ring(
     )
 }
 
-/// The course of a cross about a point.
+/// The path of a cross around a point.
 pub(crate) fn push_cross(svg: &mut String, x: usize, y: usize) -> Result<(), AllocError> {
     let (left, right) = (x.saturating_sub(4), x.saturating_add(4));
     let (top, bottom) = (y.saturating_sub(4), y.saturating_add(4));
@@ -141,7 +141,7 @@ pub(crate) fn push_cross(svg: &mut String, x: usize, y: usize) -> Result<(), All
     write!(svg, "M{left} {bottom} L{right} {top}\"")
 }
 
-/// A square about a point.
+/// A square around a point.
 pub(crate) fn push_square(svg: &mut String, x: usize, y: usize) -> Result<(), AllocError> {
     let (left, top) = (x.saturating_sub(4), y.saturating_sub(4));
     write!(

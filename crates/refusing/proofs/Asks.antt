@@ -1,4 +1,4 @@
--- `Plan::refuses_next` at a call: what it is handed, and what a caller has of it. Assumes `Logic`.
+-- `Plan::refuses_next` at a call: its arguments, and what a caller gets from it. Assumes `Logic`.
 use Rattle.std.proofs.Common.{◌≡◌, ℕ, Bool, List, [], ◌∷◌, refl, ap}
 use seplogic.Ra.Ura.{Ura}
 use mir.Val.{Val, vbool, vptr}

@@ -4,10 +4,10 @@ ghost use Rattle.refusing.specs.Plan.{IsRefused};
 
 use std::sync::atomic::{AtomicU64, Ordering};
 
-/// Which requests for memory are refused, and how many were asked and refused so far.
+/// Which requests for memory are refused, and how many requests were made and refused so far.
 ///
-/// The words can be read and changed from several threads. Whoever changes the plan sees to it
-/// that no other thread asks for memory meanwhile.
+/// Several threads can read and change the words. Whoever changes the plan must make sure that no other thread requests
+/// memory meanwhile.
 #[derive(Drop)]
 pub struct Plan {
     pass: AtomicU64,
@@ -27,7 +27,7 @@ impl Plan {
         }
     }
 
-    /// Starts a plan from here on: `pass` requests are let through, the next `refuse` are refused.
+    /// Starts a plan: the next `pass` requests are let through, and the `refuse` after them are refused.
     pub fn start(&self, pass: u64, refuse: u64) {
         self.pass.store(pass, Ordering::SeqCst);
         self.refuse.store(refuse, Ordering::SeqCst);
@@ -35,7 +35,7 @@ impl Plan {
         self.refused.store(0, Ordering::SeqCst);
     }
 
-    /// Counts one request, and answers whether it is refused.
+    /// Counts one request and returns whether it is refused.
     pub fn refuses_next(&self) -> bool {
         let request = self.requests.fetch_add(1, Ordering::SeqCst);
         let pass = self.pass.load(Ordering::SeqCst);
@@ -47,18 +47,18 @@ impl Plan {
         is_refused
     }
 
-    /// The requests since the plan was started.
+    /// The number of requests since the plan was started.
     pub fn requests(&self) -> u64 {
         self.requests.load(Ordering::SeqCst)
     }
 
-    /// The refused requests since the plan was started.
+    /// The number of refused requests since the plan was started.
     pub fn refused(&self) -> u64 {
         self.refused.load(Ordering::SeqCst)
     }
 }
 
-/// Whether the request of the number `request`, counted from 0, is refused by the plan.
+/// Whether the plan refuses request number `request`, counted from 0.
 pub fn is_refused(request: u64, pass: u64, refuse: u64) -> bool
     ensures { IsTrue result ↔ IsRefused pass refuse request }
 {

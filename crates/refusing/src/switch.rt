@@ -1,18 +1,18 @@
-//! The allocator that follows a plan.
+//! An allocator that follows a plan.
 use crate::plan::Plan;
 use std::alloc::{AllocError, Allocator};
 
-/// An allocator that asks another for memory, except for the requests that its plan refuses.
+/// An allocator that forwards requests to another, except those that its plan refuses.
 ///
-/// Collections hold a `&Switch<B>`, which is an allocator and `Copy`. Giving memory back is never
-/// refused. Each growth of a block is one request.
+/// Collections hold a `&Switch<B>`, which is an allocator and `Copy`. Freeing memory is never refused. Each growth of a
+/// block is one request.
 pub struct Switch<B: Allocator> {
     inner: B,
     plan: Plan,
 }
 
 impl<B: Allocator> Switch<B> {
-    /// An allocator that so far refuses nothing.
+    /// An allocator that refuses nothing so far.
     pub fn new(inner: B) -> Switch<B> {
         Switch {
             inner,
@@ -20,28 +20,28 @@ impl<B: Allocator> Switch<B> {
         }
     }
 
-    /// Lets the next `pass` requests through, refuses the `refuse` after them, and lets all that
-    /// come later through. The counts begin anew.
+    /// Lets the next `pass` requests through, refuses the `refuse` after them, and lets all later ones through. The
+    /// counts start again at 0.
     pub fn refuse_after(&self, pass: u64, refuse: u64) {
         self.plan.start(pass, refuse);
     }
 
-    /// Refuses every request from here on. The counts begin anew.
+    /// Refuses every request from now on. The counts start again at 0.
     pub fn refuse_all(&self) {
         self.plan.start(0, u64::MAX);
     }
 
-    /// Refuses nothing from here on. The counts begin anew.
+    /// Refuses nothing from now on. The counts start again at 0.
     pub fn allow_all(&self) {
         self.plan.start(0, 0);
     }
 
-    /// The requests for memory since the plan was last changed.
+    /// The number of requests for memory since the plan was last changed.
     pub fn requests(&self) -> u64 {
         self.plan.requests()
     }
 
-    /// The refused requests since the plan was last changed.
+    /// The number of refused requests since the plan was last changed.
     pub fn refused(&self) -> u64 {
         self.plan.refused()
     }

@@ -1,4 +1,4 @@
-//! What a board shows. No reader takes memory.
+//! What a board shows. No reader allocates.
 ghost use Rattle.std.specs.Prelude.{◌≡◌, [], ◌++◌, ◌<◌, ◌≤◌, true, false, length, None, slice_get};
 ghost use Rattle.std.specs.Option.{option_copied};
 
@@ -19,7 +19,7 @@ impl<A: Allocator> Board<A> {
     ghost use Rattle.apex_ports.specs.ReplyTable.{depth_of};
     ghost use Rattle.apex_ports.specs.Seen.{seen, sampling_port, validity_shown};
 
-    /// The ports alone: the configuration, and the history that the log has.
+    /// The ports alone: the configuration and the log's history.
     pub fn ports(&self) -> &Ports<A>
         ensures config { result.now.config ≡ self.now.config }
         ensures history { result.now.history ≡ self.now.log }
@@ -34,8 +34,8 @@ impl<A: Allocator> Board<A> {
         self.ports.config()
     }
 
-    /// All calls with their replies, oldest first. What they write into sampling channels is published there.
-    /// Partitions that share no channel with the others got the replies that they would get without them.
+    /// All calls with their replies, oldest first. What they write to sampling channels is published there. Partitions
+    /// that share no channel with the others got the replies that they would get without them.
     pub fn log(&self) -> &[Entry]
         ensures log { result.now ≡ self.now.log }
         ensures lawful { IsLawful self.now.config self.now.log }
@@ -46,7 +46,7 @@ impl<A: Allocator> Board<A> {
         self.records.log.as_slice()
     }
 
-    /// The messages that channel `c` accepted, oldest first; none on a sampling channel.
+    /// The messages that channel `c` accepted, oldest first; none for a sampling channel.
     pub fn accepted(&self, c: usize) -> &[Message]
         requires { c < length self.now.config.channels }
         ensures messages { result.now ≡ accepted_on self.now.config c self.now.log }
@@ -58,7 +58,7 @@ impl<A: Allocator> Board<A> {
         }
     }
 
-    /// The messages that were received from channel `c` or cleared, oldest first; none on a sampling channel.
+    /// The messages that were received from channel `c` or cleared, oldest first; none for a sampling channel.
     pub fn taken(&self, c: usize) -> &[Taken]
         requires { c < length self.now.config.channels }
         ensures messages { result.now ≡ taken_on self.now.config c self.now.log }
@@ -70,13 +70,13 @@ impl<A: Allocator> Board<A> {
         }
     }
 
-    /// How many messages wait on channel `c`.
+    /// The number of messages that wait on channel `c`.
     pub fn waiting_count(&self, c: usize) -> usize
         requires { c < length self.now.config.channels }
         ensures count { result ≡ length (waiting_on self.now.config c self.now.log) }
 
-        // Never more than the depth wait, and the messages received or cleared, followed by those that wait, are the
-        // accepted ones, in order.
+        // At most the depth wait, and the messages received or cleared, followed by those that wait, are the accepted
+        // ones, in order.
         ensures depth { result ≤ depth_of self.now.config c }
         ensures conserved { messages_of (taken_on self.now.config c self.now.log)
             ++ waiting_on self.now.config c self.now.log
@@ -99,7 +99,8 @@ impl<A: Allocator> Board<A> {
         self.accepted(c).get(self.taken(c).len() + i)
     }
 
-    /// The message that channel `c` holds, with the moment of its writing; none on a queuing channel, or before the first write.
+    /// The message that channel `c` holds, with the moment it was written; none for a queuing channel, or before the
+    /// first write.
     pub fn last_sample(&self, c: usize) -> Option<&Sample>
         requires { c < length self.now.config.channels }
         ensures sample { option_copied result ≡ last_write_on self.now.config c self.now.log }
@@ -116,7 +117,7 @@ impl<A: Allocator> Board<A> {
         self.ports.mode(p)
     }
 
-    /// Whether partition `p` has created the port of the identifier since its last restart.
+    /// Whether partition `p` has created the port with this identifier since its last restart.
     pub fn created(&self, p: usize, id: u32) -> bool
         requires { p < length self.now.config.partitions }
         ensures { result ≡ is_created p id self.now.log }
@@ -124,7 +125,8 @@ impl<A: Allocator> Board<A> {
         self.ports.created(p, id)
     }
 
-    /// What the last read of a created sampling port showed since the port's creation; INVALID for any other identifier.
+    /// What the last read of a created sampling port showed since the port's creation; INVALID for any other
+    /// identifier.
     pub fn last_validity(&self, p: usize, id: u32) -> Validity
         requires { p < length self.now.config.partitions }
         ensures { let here = seen self.now.config self.now.log p in
@@ -133,15 +135,15 @@ impl<A: Allocator> Board<A> {
         self.ports.last_validity(p, id)
     }
 
-    /// How many calls are answered without memory at least.
+    /// At least this many calls can be answered without allocating.
     pub fn room(&self) -> usize
         ensures { result ≡ self.now.room }
     {
         self.records.room()
     }
 
-    /// For how many entries there is room in the log alone: as many calls that are no sends are answered
-    /// without memory.
+    /// The number of entries that the log alone has room for: this many calls that aren't sends are answered without
+    /// allocating.
     pub fn log_room(&self) -> usize
         ensures { result ≡ self.now.log_room }
     {

@@ -13,12 +13,12 @@ use std::process::Abort;
 use std::sync::Wait;
 use std::test::Fail;
 
-/// What is so; the number says of which case.
+/// Fails unless `is_so` holds; the number identifies the case.
 pub(crate) fn holds(rt: &impl Abort, is_so: bool, case: u64) {
     assert!(rt; is_so, "case {case}");
 }
 
-/// The message of a few bytes.
+/// The message of these bytes.
 pub(crate) fn message(bytes: &[u8]) -> Message {
     match Message::from_bytes(bytes) {
         Ok(message) => message,
@@ -96,7 +96,7 @@ pub(crate) fn makes<R: AllocGlobal + Abort + Wait, A: Allocator>(
     Ok(run(rt, board, &requests)?)
 }
 
-// The lines of these entries.
+// These entries have these lines.
 fn are_lines<R: AllocGlobal + Abort, A: Allocator>(
     rt: &R,
     board: &Board<A>,
@@ -108,7 +108,7 @@ fn are_lines<R: AllocGlobal + Abort, A: Allocator>(
     Ok(())
 }
 
-/// The board answers the calls of the trace as the lines say.
+/// The board answers the calls of the trace with these lines.
 pub(crate) fn answers<R: AllocGlobal + Abort + Wait, A: Allocator>(
     rt: &R,
     board: &mut Board<A>,

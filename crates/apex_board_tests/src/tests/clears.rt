@@ -8,7 +8,7 @@ use std::process::Abort;
 use std::sync::Wait;
 use std::test::Fail;
 
-// The messages taken from NAV are these, each of one byte and with whether it was cleared, and none waits.
+// The messages taken from NAV are these, each of one byte and marked if it was cleared, and none waits.
 fn has_taken<A: Allocator>(rt: &impl Abort, board: &Board<A>, wanted: &[(u8, bool)]) {
     assert!(rt; NAV < board.config().channels());
     holds(rt, board.waiting_count(NAV) == 0, 0);

@@ -1,5 +1,4 @@
-//! A board that is closed, or that is refused for want of memory, has given back every block of the heap that it was
-//! made in.
+//! A board that is closed, or that isn't made because memory runs out, returns every block to its heap.
 use crate::tests::boards;
 use crate::tests::boards::holds;
 use crate::tests::limits::answers;
@@ -18,7 +17,7 @@ const HEAP: usize = 268_435_456;
 /// The rounds of calls before a board is closed, with all their messages in the queues.
 const ROUNDS: u32 = 9;
 
-/// Heaps of so many times 256 bytes have room for the board of the smallest example.
+/// Heaps of up to this number times 256 bytes have room for the board of the smallest example.
 const SIZES: usize = 1000;
 
 fn serves_rounds<A: Allocator, R: Abort + Wait>(
@@ -51,7 +50,7 @@ fn closed_boards_at_the_limits(rt: HostRuntime) -> Result<(), Fail> {
     Ok(())
 }
 
-// Whether a board is made in a heap of this size; it is closed, and nothing is left of it.
+// Whether a board is made in a heap of this size; it is then closed, and nothing is left of it.
 fn is_made_in<R: AllocGlobal + Abort + Wait>(rt: &R, size: usize) -> Result<bool, Fail> {
     let heap = LocalHeap::new(rt.alloc(), size)?;
     let is_made = match Board::with_observers(rt, &heap, boards::config_of(rt)?) {

@@ -1,5 +1,4 @@
-//! Boards, lists and ports of modules at the limits, with histories of more than 200,000 calls in which every channel is
-//! used.
+//! Boards, lists and ports of modules at the limits, with histories of more than 200,000 calls that use every channel.
 use crate::tests::boards::{ask, holds, run};
 use crate::tests::module::{Module, config_of};
 use crate::tests::records::{are_gone, are_logged, are_shown, are_whole};
@@ -30,7 +29,7 @@ pub(crate) fn answers<A: Allocator, R: Abort + Wait>(
     Ok(())
 }
 
-// The whole history. The observers read in each round in which every channel is used, or in the last of them alone.
+// The whole history. The observers read in each round that uses every channel, or only in the last of these.
 fn serves<A: Allocator, R: Abort + Wait>(
     rt: &R,
     board: &mut Board<A>,
@@ -86,8 +85,8 @@ fn channels_of_both_kinds(rt: HostRuntime) -> Result<(), Fail> {
     board_serves(&rt, module, true, 214_592)
 }
 
-// Makes a call on the board, where every tenth request for memory is refused; whether this call was. It is answered the
-// second time.
+// Makes a call on the board while every tenth request for memory is refused, and repeats it if it was refused. Returns
+// whether it was.
 fn answers_in_the_end<A: Allocator, B: Allocator, R: Abort + Wait>(
     rt: &R,
     switch: &Switch<B>,
@@ -111,7 +110,7 @@ fn answers_in_the_end<A: Allocator, B: Allocator, R: Abort + Wait>(
     Ok(true)
 }
 
-// The whole history, with every tenth request for memory refused; how many calls were.
+// The whole history, with every tenth request for memory refused. Returns the number of refused calls.
 fn serves_refused<A: Allocator, B: Allocator, R: Abort + Wait>(
     rt: &R,
     switch: &Switch<B>,
@@ -203,7 +202,7 @@ fn list_within_room(rt: HostRuntime) -> Result<(), Fail> {
     answered
 }
 
-// The ports answer the whole history; how many calls they have then.
+// The ports answer the whole history. Returns the number of their calls.
 fn ports_answer<A: Allocator>(rt: &impl Abort, ports: &mut Ports<A>, module: Module) -> u64 {
     let mut calls = 0u64;
     for round in 0..ROUNDS {
@@ -220,7 +219,7 @@ fn ports_answer<A: Allocator>(rt: &impl Abort, ports: &mut Ports<A>, module: Mod
     calls
 }
 
-// How many calls all partitions made.
+// The number of calls that all partitions made.
 fn calls_in_all<A: Allocator>(ports: &Ports<A>) -> u64 {
     let mut calls = 0u64;
     for p in 0..ports.config().partitions() {
@@ -229,7 +228,7 @@ fn calls_in_all<A: Allocator>(ports: &Ports<A>) -> u64 {
     calls
 }
 
-// A queuing channel's counts of accepted, received and cleared messages; each is 0 on a sampling channel.
+// A queuing channel's counts of accepted, received and cleared messages; all are 0 for a sampling channel.
 fn counts_of(module: Module, channel: u32) -> [u64; 3] {
     let sent = u64::from(SENDING);
     if !module.is_queuing(channel) {

@@ -6,7 +6,7 @@ use std::alloc::{AllocError, AllocGlobal, Global};
 use std::test::Fail;
 
 /// A module at the limits. Its queuing channels come first, and the others are sampling channels. With 32 queuing
-/// channels or fewer each partition has 32 ports, and with 64 of them it has 4.
+/// channels or fewer each partition has 32 ports; with 64 of them it has 4.
 #[derive(Clone, Copy)]
 pub(crate) struct Module {
     pub(crate) queuing: u32,
@@ -19,7 +19,7 @@ impl Module {
         channel < self.queuing
     }
 
-    /// How many ports each partition has.
+    /// The number of ports of each partition.
     pub(crate) fn ports(self) -> u32 {
         if self.queuing <= 32 { 32 } else { 4 }
     }

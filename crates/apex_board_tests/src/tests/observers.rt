@@ -14,7 +14,7 @@ use std::process::Abort;
 use std::sync::Wait;
 use std::test::Fail;
 
-/// More allocations than a board with its observers asks for.
+/// More allocations than a board with its observers makes.
 const ALLOCATION_LIMIT: u64 = 60;
 
 /// The source of SPD is created.
@@ -31,7 +31,7 @@ fn writing(at: u64, bytes: &[u8]) -> Request {
     }
 }
 
-// There is one observer, and this is what it shows at the moment, with a refresh period of 50.
+// There is one observer, and it shows this at the moment, with a refresh period of 50.
 fn shows<A: Allocator, R: Abort>(rt: &R, observers: &mut [Observer<A>], now: u64, wanted: &Sampled)
     ensures { map (λ known. known.channel) observers.new
         ≡ map (λ known. known.channel) observers.old }
@@ -64,7 +64,7 @@ fn shows_write<A: Allocator, R: Abort>(
     holds(rt, shown == wanted, now);
 }
 
-// Writes the message, and hands the receipt to the observers.
+// Writes the message, and gives the observers the receipt.
 fn write_and_tell<A: Allocator, R: Abort + Wait>(
     rt: &R,
     board: &mut Board<A>,
@@ -81,7 +81,7 @@ fn write_and_tell<A: Allocator, R: Abort + Wait>(
     Ok(())
 }
 
-// Observers learn of each write, and show it from then on.
+// Observers learn each write, and show it from then on.
 fn shows_each_write<A: Allocator, R: Abort + Wait>(
     rt: &R,
     board: &mut Board<A>,
@@ -121,7 +121,7 @@ fn observer_learns_receipts_in_turn(rt: HostRuntime) -> Result<(), Fail> {
     shown
 }
 
-/// Calls that publish nothing: writes that are refused, and calls of other services.
+/// Calls that publish nothing: refused writes, and calls of other services.
 const OTHER_CALLS: &str = "1 FMS create-queuing NAV_OUT 4 2 0 0
 2 DSP create-queuing NAV_IN 4 2 1 0
 10 AIR write 1 -
@@ -194,8 +194,8 @@ fn fill_log<A: Allocator, R: AllocGlobal + Abort + Wait>(
     Ok(())
 }
 
-// A write for which there is no memory: the observers learn of it, and show the write of the moment before, if there was
-// one. With memory it is repeated.
+// Memory runs out for a write: afterwards the observers still show the write before it, if there was one. With memory
+// the write is repeated.
 fn refused_write<A: Allocator, B: Allocator, R: Abort + Wait>(
     rt: &R,
     switch: &Switch<B>,
@@ -245,8 +245,8 @@ fn refused_write_is_not_shown(rt: HostRuntime) -> Result<(), Fail> {
     shown
 }
 
-// Whether a board with observers is made with one allocation refused after `granted` others. It shows that nothing was
-// written, and ends without memory.
+// Whether a board with observers is made if one allocation is refused after `granted` others. A board that is made
+// shows that nothing was written, and closes without allocating.
 fn is_made<R: AllocGlobal + Abort + Wait>(rt: &R, granted: u64) -> Result<bool, Fail> {
     let config = config_of(rt)?;
     let switch = Switch::new(rt.alloc());

@@ -8,7 +8,7 @@ use apex_types::{Message, Moment, Taken, Validity};
 use std::alloc::Allocator;
 use std::process::Abort;
 
-// The last of so many rounds in which a queue keeps its messages.
+// When sending ends, a queue has the messages of the rounds after this one.
 const KEPT: u32 = SENDING - DEPTH;
 
 // These are the messages of the rounds in which messages are sent.
@@ -21,7 +21,7 @@ fn are_accepted(rt: &impl Abort, channel: u32, accepted: &[Message]) {
     holds(rt, round == SENDING, u64::from(channel));
 }
 
-// All of them were received in order; from an odd channel the last 512 were cleared.
+// All of them were received in order; the last 512 of an odd channel were cleared.
 fn are_taken(rt: &impl Abort, channel: u32, taken: &[Taken]) {
     let mut round = 0u32;
     for one in taken {
@@ -37,7 +37,7 @@ fn are_taken(rt: &impl Abort, channel: u32, taken: &[Taken]) {
     holds(rt, round == SENDING, u64::from(channel));
 }
 
-// A sampling channel holds the message of the last round in which it was used.
+// A sampling channel holds the message of the last round that used it.
 fn holds_last<A: Allocator>(board: &Board<A>, module: Module, channel: u32) -> bool {
     let c = channel as usize;
     if c >= board.config().channels() {
@@ -51,7 +51,7 @@ fn holds_last<A: Allocator>(board: &Board<A>, module: Module, channel: u32) -> b
     }
 }
 
-/// What the board of the module has recorded of the whole history.
+/// The board of the module has recorded the whole history.
 pub(crate) fn are_whole<A: Allocator>(rt: &impl Abort, board: &Board<A>, module: Module) {
     for channel in 0..CHANNELS {
         let c = channel as usize;

@@ -1,4 +1,4 @@
-//! Refused memory, of lists of requests: those before the stop are answered and no other.
+//! Refused memory for lists of requests: exactly those before the stop are answered.
 use crate::tests::boards::{answers, config_of, holds, requests_of, run};
 use crate::tests::refused_memory::ALLOCATION_LIMIT;
 use crate::tests::same::shows_same_after;
@@ -10,8 +10,8 @@ use std::process::Abort;
 use std::sync::Wait;
 use std::test::Fail;
 
-// The board answers the list until memory is wanting, and just the requests before the stop; with memory again it answers
-// the rest. How many it answered, and how many allocations were refused.
+// The board answers the requests before the stop until memory runs out, and no others; with memory again it answers the
+// rest. Returns how many it answered, and how many allocations were refused.
 fn answers_list<R: AllocGlobal + Abort + Wait, A: Allocator, B: Allocator>(
     rt: &R,
     switch: &Switch<B>,
@@ -28,7 +28,7 @@ fn answers_list<R: AllocGlobal + Abort + Wait, A: Allocator, B: Allocator>(
     Ok((done, refused))
 }
 
-// The board has answered just the first `done` requests, and answers the rest.
+// The board has answered exactly the first `done` requests, and answers the rest.
 fn goes_on<R: AllocGlobal + Abort + Wait, A: Allocator>(
     rt: &R,
     board: &mut Board<A>,
@@ -57,8 +57,8 @@ fn list_refused_after<R: AllocGlobal + Abort + Wait>(
     answered
 }
 
-// The list on a new board, with `refuse` allocations refused after each number of granted ones. Once memory is wanting
-// for good it stops; one refusal alone it may do without.
+// The list on a new board, with `refuse` allocations refused after each number of granted ones. It stops if all later
+// allocations fail; after a single refusal it may complete.
 fn list_refused_in_turn<R: AllocGlobal + Abort + Wait>(rt: &R, refuse: u64) -> Result<(), Fail> {
     let requests = requests_of(rt, FULL_QUEUE)?;
     for granted in 0..ALLOCATION_LIMIT {

@@ -1,4 +1,5 @@
-//! Refused memory, call by call: a refusal changes nothing that a reader shows, and a call within the room never meets one.
+//! Refused memory, call by call: a refusal changes nothing that a reader shows, and never happens to a call within the
+//! room.
 use crate::tests::boards::{answers, ask, config_of, holds, makes, requests_of, run};
 use crate::tests::same::{shows_same_after, shows_same_as};
 use crate::tests::texts::{FULL_QUEUE, NAV, ONE_SAMPLE};
@@ -9,7 +10,7 @@ use std::process::Abort;
 use std::sync::Wait;
 use std::test::Fail;
 
-/// More allocations than any call of these examples asks for.
+/// More allocations than any call of these examples makes.
 pub(crate) const ALLOCATION_LIMIT: u64 = 40;
 
 /// FMS creates its port and sends a message, and DSP creates its port.
@@ -55,7 +56,7 @@ fn room_serves_without_memory(rt: HostRuntime) -> Result<(), Fail> {
     served
 }
 
-// Whether a board is made with one allocation refused after `granted` others.
+// Whether a board is made if one allocation is refused after `granted` others.
 fn is_made<R: AllocGlobal + Abort + Wait>(rt: &R, granted: u64) -> Result<bool, Fail> {
     let config = config_of(rt)?;
     let switch = Switch::new(rt.alloc());
@@ -82,7 +83,7 @@ fn new_board_refused_in_turn(rt: HostRuntime) -> Result<(), Fail> {
     panic!(rt; "the sweep does not end");
 }
 
-// `reserve` with one allocation refused after `granted` others; whether it was.
+// Calls `reserve` with one allocation refused after `granted` others. Returns whether it was refused.
 fn reserves<R: AllocGlobal + Abort + Wait, A: Allocator, B: Allocator>(
     rt: &R,
     switch: &Switch<B>,
@@ -123,7 +124,8 @@ fn reserve_refused_in_turn(rt: HostRuntime) -> Result<(), Fail> {
     panic!(rt; "the sweep does not end");
 }
 
-// The last request after those before it, with one allocation refused after `granted` others; whether it was.
+// Makes the last request after those before it, with one allocation refused after `granted` others. Returns whether the
+// request was refused.
 fn answers_last<R: AllocGlobal + Abort + Wait, A: Allocator, B: Allocator>(
     rt: &R,
     switch: &Switch<B>,
@@ -144,7 +146,7 @@ fn answers_last<R: AllocGlobal + Abort + Wait, A: Allocator, B: Allocator>(
     Ok(is_refused)
 }
 
-// Whether the board refuses the request with one allocation refused after `granted` others.
+// Whether the board refuses the request if one allocation is refused after `granted` others.
 fn refuses<A: Allocator, B: Allocator, R: Abort + Wait>(
     rt: &R,
     switch: &Switch<B>,
@@ -173,7 +175,8 @@ fn call_refused_after<R: AllocGlobal + Abort + Wait>(
     refused
 }
 
-// The last request after those before it, with each of its allocations refused in turn; whether there was one.
+// Makes the last request after those before it, with each of its allocations refused in turn. Returns whether there was
+// one.
 fn call_refused_in_turn<R: AllocGlobal + Abort + Wait>(
     rt: &R,
     requests: &[Request],
@@ -186,7 +189,7 @@ fn call_refused_in_turn<R: AllocGlobal + Abort + Wait>(
     panic!(rt; "the sweep does not end");
 }
 
-// Each call of the trace after those before it, with each of its allocations refused in turn.
+// Makes each call of the trace after those before it, with each of its allocations refused in turn.
 fn calls_refused_in_turn<R: AllocGlobal + Abort + Wait>(rt: &R, trace: &str) -> Result<(), Fail> {
     let requests = requests_of(rt, trace)?;
     let mut is_met = false;

@@ -1,11 +1,11 @@
 //! A long history of a module at the limits, by rounds.
 //!
-//! In the first round each partition creates its ports and goes into NORMAL. In each of the next 1,725 rounds every
-//! channel is used. For 1,213 of them each source sends or writes. From the 513th on, when the queues are full, a send is
-//! refused, the destination receives the oldest message, and the send is repeated. In 512 more rounds the queues are
-//! emptied: of an even channel by receiving, and of an odd channel by one clearing. In the last round every further
-//! destination reads, at another moment than that of the writes, and each port tells its status and its identifier. Then
-//! every partition goes into IDLE.
+//! In the first round each partition creates its ports and goes to NORMAL. In each of the next 1,725 rounds every
+//! channel is used. For 1,213 of them each source sends or writes. From the 513th on, when the queues are full, a send
+//! is refused, the destination receives the oldest message, and the send is repeated. In 512 more rounds the queues are
+//! emptied: an even channel by receiving, and an odd channel by one clearing. In the last round every further
+//! destination reads, at another moment than the writes, and each port reports its status and its identifier. Then
+//! every partition goes to IDLE.
 use crate::tests::module::Module;
 use apex_board::Request;
 use apex_types::{Call, Direction, Message, Moment, Name, Reply, ReturnCode, Validity};
@@ -26,7 +26,7 @@ pub(crate) const SENDING: u32 = 1213;
 /// The rounds in which every channel is used.
 pub(crate) const USING: u32 = 1725;
 
-/// All rounds.
+/// The number of all rounds.
 pub(crate) const ROUNDS: u32 = 1727;
 
 /// The places of a round. Not all of them have a call.
@@ -36,7 +36,7 @@ const NO_ERROR: Reply = Reply::Code(ReturnCode::NoError);
 
 const NOT_AVAILABLE: Reply = Reply::Code(ReturnCode::NotAvailable);
 
-/// A call, and what it is answered.
+/// A call and its reply.
 #[derive(Drop)]
 pub(crate) struct Row {
     pub(crate) request: Request,
@@ -54,7 +54,7 @@ fn row_of(partition: u32, at: u64, call: Call, reply: Reply) -> Option<Row> {
     })
 }
 
-/// Which channel a port has, by its index from 0. Indexes 0 and 1 are the sources of two channels, 2 and 3 the
+/// The channel of a port, by the port's index from 0. Indexes 0 and 1 are the sources of two channels, 2 and 3 the
 /// destinations of the next partition's two, and the others further destinations of the last 32 channels.
 pub(crate) fn channel_at(partition: u32, index: u32) -> u32 {
     let (partition, index) = (partition % 32, index % 32);
@@ -75,7 +75,7 @@ fn source_id(channel: u32) -> u32 {
     1 + channel % 2
 }
 
-// The partition before the source's has the channel's destination, or the one destination of many.
+// The partition before the source's has the channel's destination, or one destination of many.
 fn destination_of(channel: u32) -> u32 {
     (channel / 2 + 31) % PARTITIONS
 }
@@ -85,7 +85,7 @@ fn destination_id(channel: u32) -> u32 {
     3 + channel % 2
 }
 
-/// The message of a channel's round: both numbers in four bytes each, and what fills it to 1,024 bytes.
+/// The message of a channel's round: both numbers in four bytes each, and padding to 1,024 bytes.
 pub(crate) fn message_of(channel: u32, round: u32) -> Message {
     let mut bytes = [b'M'; 1024];
     bytes[..4].copy_from_slice(&channel.to_be_bytes());
@@ -122,7 +122,7 @@ fn port_name(index: u32) -> Option<Name> {
 }
 
 impl Module {
-    /// The call at a place of a round, if it has one, and what it is answered.
+    /// The call at a place of a round, if it has one, and its reply.
     pub(crate) fn row(self, round: u32, place: u32) -> Option<Row> {
         if round == 0 {
             return self.first_row(place / 33, place % 33);
@@ -193,7 +193,7 @@ impl Module {
         )
     }
 
-    // The oldest message is received, once the queue is full.
+    // The oldest message is received once the queue is full.
     fn oldest_received(self, channel: u32, round: u32) -> Option<Row> {
         let message = message_of(channel, round.saturating_sub(DEPTH));
         self.received(channel, Reply::Received(message))
@@ -276,7 +276,7 @@ impl Module {
         }
     }
 
-    // A port tells the identifier of its name.
+    // A port reports the identifier of its name.
     fn identifier(self, partition: u32, index: u32) -> Option<Row> {
         let id = index.saturating_add(1);
         let name = port_name(index)?;
@@ -299,8 +299,8 @@ impl Module {
         )
     }
 
-    // The history is written at the moment 0, and read at the greatest; or the other way round, where a message is never
-    // too old.
+    // The history is written at moment 0 and read at the greatest moment; or the other way round, so that a message is
+    // never too old.
     fn last_validity(self, index: u32) -> Validity {
         if index < 2 || self.at == 0 {
             Validity::Invalid

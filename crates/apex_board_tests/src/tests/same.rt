@@ -8,7 +8,7 @@ use std::process::Abort;
 use std::sync::Wait;
 use std::test::Fail;
 
-// Whether both boards show the same of a partition.
+// Whether both boards show the same for a partition.
 fn is_same_partition<A: Allocator, B: Allocator>(one: &Board<A>, other: &Board<B>, p: usize) -> bool
     requires one { p < length one.now.config.partitions }
     requires other { p < length other.now.config.partitions }
@@ -21,7 +21,7 @@ fn is_same_partition<A: Allocator, B: Allocator>(one: &Board<A>, other: &Board<B
     is_same
 }
 
-// Whether both boards show the same of what a channel accepted and gave away, and of its sample.
+// Whether both boards show the same accepted and taken messages of a channel, and the same sample.
 fn is_same_past<A: Allocator, B: Allocator>(one: &Board<A>, other: &Board<B>, c: usize) -> bool
     requires one { c < length one.now.config.channels }
     requires other { c < length other.now.config.channels }
@@ -31,7 +31,7 @@ fn is_same_past<A: Allocator, B: Allocator>(one: &Board<A>, other: &Board<B>, c:
         && one.last_sample(c) == other.last_sample(c)
 }
 
-// Whether both boards show the same of what waits on a channel.
+// Whether both boards show the same waiting messages on a channel.
 fn is_same_queue<A: Allocator, B: Allocator>(one: &Board<A>, other: &Board<B>, c: usize) -> bool
     requires one { c < length one.now.config.channels }
     requires other { c < length other.now.config.channels }
@@ -43,7 +43,7 @@ fn is_same_queue<A: Allocator, B: Allocator>(one: &Board<A>, other: &Board<B>, c
     is_same
 }
 
-/// Both boards show the same, their rooms excepted.
+/// Both boards show the same, except for their rooms.
 pub(crate) fn shows_same<A: Allocator, B: Allocator>(
     rt: &impl Abort,
     one: &Board<A>,

@@ -39,7 +39,7 @@ pub(crate) const FULL_QUEUE: &str = "1 FMS create-queuing NAV_OUT 4 2 0 0
 11 DSP receive 1
 ";
 
-/// What a log has of them.
+/// The log of these calls.
 pub(crate) const FULL_QUEUE_LOG: &str = "1 1 FMS create-queuing NO_ERROR id 1
 2 2 DSP create-queuing NO_ERROR id 1
 3 3 FMS mode NO_ERROR

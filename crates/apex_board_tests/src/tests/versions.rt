@@ -1,4 +1,4 @@
-//! Observers of one channel, from outside; beside them those of all channels, and an allocator that refuses.
+//! Observers of one channel, from outside; also those of all channels, and an allocator that refuses.
 ghost use Rattle.std.specs.Prelude.{◌≡◌};
 
 mod channels;
@@ -14,18 +14,18 @@ use std::process::Abort;
 use std::sync::Wait;
 use std::test::Fail;
 
-/// More allocations than a publisher asks for.
+/// More allocations than a publisher makes.
 const ALLOCATION_LIMIT: u64 = 40;
 
-/// The writes of the longest history, at the moments from 0 on.
+/// The number of writes of the longest history, at the moments from 0 on.
 const WRITES: u64 = 100_000;
 
-// What is so; the number says of which case.
+// Fails unless `is_so` holds; the number identifies the case.
 fn holds(rt: &impl Abort, is_so: bool, case: u64) {
     assert!(rt; is_so, "case {case}");
 }
 
-// The message of a number has its eight bytes.
+// The message of a number is its eight bytes.
 fn message(number: u64) -> Message {
     match Message::from_bytes(&number.to_be_bytes()) {
         Ok(message) => message,
@@ -149,7 +149,7 @@ fn places_are_given_back(rt: HostRuntime) -> Result<(), Fail> {
     Ok(())
 }
 
-// One observer reads after each write, and the other after the last alone.
+// One observer reads after each write, and the other only after the last.
 fn writes_without_memory<A: Allocator, R: Wait + Abort>(
     rt: &R,
     publisher: &mut Publisher<A>,
@@ -167,7 +167,7 @@ fn writes_without_memory<A: Allocator, R: Wait + Abort>(
     Ok(())
 }
 
-// Whether a publisher is made with one request refused after `pass` others. A made one asks for no more.
+// Whether a publisher is made if one request is refused after `pass` others. Once made, it requests no more.
 fn is_made<R: AllocGlobal + Wait + Abort>(rt: &R, pass: u64) -> Result<bool, NoPlace> {
     let switch = Switch::new(rt.alloc());
     switch.refuse_after(pass, 1);

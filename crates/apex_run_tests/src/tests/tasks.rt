@@ -1,5 +1,5 @@
-//! Tests from outside: what the program does with files and outputs that stand in for the system's, the text of a run under
-//! gates, the line of a search, and what no program asks of a configuration or a board.
+//! Tests from outside: what the program does with files and outputs that replace the system's, the text of a run under
+//! gates, the line of a search, and public calls for a configuration or a board that no program makes.
 mod board_reports;
 mod outputs;
 mod program;

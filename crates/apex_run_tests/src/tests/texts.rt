@@ -23,7 +23,7 @@ kind = \"sampling\"
 size = 4
 ";
 
-/// The queuing channel NAV from FMS to DSP alone.
+/// Only the queuing channel NAV from FMS to DSP.
 pub(crate) const REDUCED: &str = "[[partition]]
 name = \"FMS\"
 port = [{ name = \"NAV_OUT\", kind = \"queuing\", direction = \"source\", channel = \"NAV\" }]
@@ -60,7 +60,7 @@ kind = \"sampling\"
 size = 4
 ";
 
-/// So many partitions P0, P1 and so on, without ports.
+/// This number of partitions P0, P1 and so on, without ports.
 pub(crate) fn without_ports(alloc: Global, partitions: usize) -> Result<String, AllocError> {
     let mut text = String::new(alloc);
     for number in 0..partitions {
@@ -70,7 +70,7 @@ pub(crate) fn without_ports(alloc: Global, partitions: usize) -> Result<String, 
     Ok(text)
 }
 
-/// So many partitions, each with a queuing channel to the next, of depth 4.
+/// This number of partitions, each with a queuing channel to the next, of depth 4.
 pub(crate) fn ring_text(alloc: Global, partitions: usize) -> Result<String, AllocError> {
     let mut text = String::new(alloc);
     let mut before = partitions.saturating_sub(1);
@@ -92,7 +92,7 @@ depth = 4
     Ok(text)
 }
 
-/// FMS and DSP create their ports of NAV and go into NORMAL, and FMS sends a message.
+/// FMS and DSP create their ports of NAV and go to NORMAL, and FMS sends a message.
 pub(crate) const SENDER: &str = "1 create-queuing NAV_OUT 4 2 0 0
 2 mode 3
 3 send 1 01

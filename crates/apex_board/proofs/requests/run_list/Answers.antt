@@ -10,12 +10,12 @@ use Rattle.apex_ports.proofs.Stays.{none_or_none}
 use Rattle.apex_board.specs.OnRequests.{is_write}
 use Rattle.apex_board.proofs.requests.run_list.Goals as goal
 
--- a call that is no write writes nothing
+-- a call that isn't a write writes nothing
 no_write : (config : Configuration) (h : History) (p : ℕ) (call : Call) → is_write call ≡ false → WritesNothing config h p call
 no_write config h p (WriteSampling id message) other = absurd (cc)
 no_write config h p _ other = λ at channel. none_or_none _
 
--- without room for one more no room is left
+-- if there is no room for one more, no room is left
 used_up : (room before done : ℕ) → (1 ≤ room → false ≡ true) → before ≤ room + done → before ≤ done
 used_up zero before done none at_most = omega arith
 used_up (suc room) before done none at_most = absurd (let some = none (omega arith) in cc)

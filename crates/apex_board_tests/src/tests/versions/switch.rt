@@ -14,7 +14,7 @@ fn three_vectors<A: Allocator + Copy>(alloc: A) -> Result<u8, AllocError> {
     Ok(sum)
 }
 
-// Three requests by the plan: whether they are granted, how many are asked then, and how many are refused.
+// Makes three requests by the plan: whether they are granted, and how many are then asked for and refused.
 fn is_planned<A: Allocator>(switch: &Switch<A>, sum: Option<u8>, asked: u64, refused: u64) -> bool {
     three_vectors(switch).ok() == sum && switch.requests() == asked && switch.refused() == refused
 }
@@ -48,7 +48,7 @@ fn sent<T: Send>(value: T) -> T {
     value
 }
 
-// A vector of a switch may go to another thread; this is a test of the types.
+// A vector of a switch may go to another thread. This tests the types.
 #[test]
 fn vector_is_send(rt: HostRuntime) -> Result<(), AllocError> {
     let switch = Switch::new(rt.alloc());

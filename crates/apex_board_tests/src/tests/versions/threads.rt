@@ -8,13 +8,13 @@ use std::test::Fail;
 use std::thread;
 use std::thread::Threads;
 
-/// How often each observer reads.
+/// The number of reads of each observer.
 const READS: u64 = 100_000;
 
-/// How many samples are written, at the moments from 1 on.
+/// The number of samples that are written, at the moments from 1 on.
 const WRITES: u64 = 10_000;
 
-// The moment of the sample that is shown, which is one that was written with the bytes of its moment.
+// The moment of the sample that is shown, which was written with the bytes of its moment.
 fn moment_shown<R: Abort>(rt: &R, observer: &mut Observer) -> u64 {
     let Sampled::Sample {
         message: shown,

@@ -5,7 +5,7 @@ use Rattle.apex_ports.specs.Ports.{is_created}
 use Rattle.apex_orders.specs.States.{IsSamePorts, last_shown}
 use Rattle.apex_orders.proofs.same_state.has_same_ports.Goals as goal
 
--- what holds at each index, counted from 0, holds of each identifier
+-- what holds at each index, counted from 0, holds for each identifier
 of_indexes : (config : Configuration) (h other : History) (p i : ℕ) → length (ports_of config p) ≡ i
     → ((k : ℕ) → k < i → is_created p (k + 1) h ≡ is_created p (k + 1) other)
     → ((k : ℕ) → k < i → last_shown config h p (k + 1) ≡ last_shown config other p (k + 1))

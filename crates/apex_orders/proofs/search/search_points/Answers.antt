@@ -8,7 +8,7 @@ use Rattle.apex_orders.proofs.EndLemmas.{given_up_none}
 use Rattle.apex_orders.proofs.SearchLemmas.{has_tried_kept, keeps_within, unanswered_kept}
 use Rattle.apex_orders.proofs.search.search_points.Goals as goal
 
--- what is said where there is no order
+-- what holds if there is no order
 without : (o : Option (List ℕ)) (P : Type 0) (R : List ℕ → Type 0) → ((order : List ℕ) → o ≡ Some order → ⊥) → MatchOption o P R → P
 without None P R never is = is
 without (Some order) P R never is = absurd (never order refl)

@@ -1,5 +1,5 @@
-//! What the tests compare. Each test calls these, since the prover takes a call in a tenth of the time of an assertion in
-//! place.
+//! What the tests compare. Each test calls these functions, since the prover takes a tenth of the time for a call that
+//! it takes for an assertion in place.
 use std::fmt::{Debug, Display};
 use std::process::Abort;
 use std::test::Fail;
@@ -9,7 +9,7 @@ pub fn same<T: Debug + PartialEq + Copy>(rt: &impl Abort, found: T, wanted: T) {
     assert_eq!(rt; found, wanted);
 }
 
-/// This is so.
+/// Fails unless `is` holds.
 pub fn holds(rt: &impl Abort, is: bool) {
     assert!(rt; is);
 }

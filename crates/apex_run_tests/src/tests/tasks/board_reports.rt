@@ -1,4 +1,4 @@
-//! The report of a board: its lines are those of the calls that it answered, and then those of its partitions and channels.
+//! The report of a board: first the lines of the calls that it answered, and then those of its partitions and channels.
 use crate::tests::texts::REDUCED;
 use apex_board::Board;
 use apex_config::ReadConfig;

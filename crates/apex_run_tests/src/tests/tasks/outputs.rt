@@ -13,13 +13,13 @@ use std::thread::Threads;
 enum Failure {
     /// It doesn't.
     Never,
-    /// It takes no more than so many bytes.
+    /// It takes at most this many bytes.
     After(usize),
-    /// It takes all, and can't hand it on.
+    /// It takes everything, but can't flush it.
     AtFlush,
 }
 
-/// An output that takes a byte a write, and is interrupted before each.
+/// An output that takes one byte per write, and is interrupted before each.
 #[derive(Drop)]
 struct Output {
     taken: Vec<u8>,
@@ -61,7 +61,8 @@ impl Write for Output {
     }
 }
 
-/// The program gives these bytes to an output that fails so, ends with the status, and tells the line.
+/// The program writes these bytes to an output that fails like this, exits with the status, and writes the line to
+/// standard error.
 fn gives<R: Abort + AllocGlobal + Threads + Wait + Sync>(
     rt: &R,
     failure: Failure,

@@ -1,4 +1,4 @@
-//! The whole program on files that stand in for the system's: reads that fail, are interrupted or give a byte each.
+//! The whole program on files that replace the system's: reads that fail, are interrupted or give one byte each.
 ghost use Rattle.std.specs.Prelude.{◌≤◌, length};
 
 use apex_tasks::{Opener, program};
@@ -12,27 +12,27 @@ use std::thread::Threads;
 /// A configuration of one partition.
 const MODULE: &str = "[[partition]]\nname = \"FMS\"\n";
 
-/// What `check` answers of it.
+/// The answer of `check` for it.
 pub const COUNTED: &str = "ok partitions 1 ports 0 channels 0\n";
 
-/// What lies at a path.
+/// What is at a path.
 #[derive(Clone, Copy, Debug, PartialEq, Eq)]
 pub enum Content {
     /// A text.
     Text(&'static str),
-    /// A read of it fails once so many bytes were given.
+    /// A read of it fails after this many bytes.
     FailsAfter(usize),
-    /// So many spaces, one a read.
+    /// This number of spaces, one per read.
     Slow(usize),
-    /// A text in pieces of seven bytes, with an interrupted read before each, and before the end.
+    /// A text in pieces of seven bytes, with an interrupted read before each and before the end.
     Interrupted(&'static str),
-    /// So many interrupted reads, and then the end.
+    /// This number of interrupted reads, and then the end.
     Interrupts(usize),
-    /// A read of it wants memory.
+    /// A read of it runs out of memory.
     WantsMemory,
 }
 
-/// A reader of some content, of which so many bytes were given in so many reads.
+/// A reader of some content, which has given this many bytes in this many reads.
 #[derive(Clone, Copy, Drop)]
 pub struct FakeFile {
     content: Content,
@@ -41,7 +41,7 @@ pub struct FakeFile {
 }
 
 impl FakeFile {
-    /// Gives what is left of a text, at most so many bytes.
+    /// Gives the rest of a text, at most `most` bytes.
     fn give(&mut self, text: &str, most: usize, buf: &mut [u8]) -> usize
         ensures { result ≤ length buf.new }
     {
@@ -52,7 +52,7 @@ impl FakeFile {
         count
     }
 
-    /// Gives so many spaces.
+    /// Gives `count` spaces.
     fn give_spaces(&mut self, count: usize, buf: &mut [u8]) -> usize
         ensures { result ≤ length buf.new }
     {

@@ -1,4 +1,4 @@
-//! The line of a search on a clock and an output that stand in for the system's.
+//! The line of a search on a clock and an output that replace the system's.
 use dekarino_search::{Progress, ProgressLine, Reached};
 use std::cell::Cell;
 use std::io;
@@ -6,7 +6,7 @@ use std::io::{IsTerminal, Write};
 use std::test::Fail;
 use std::time::{Clock, Duration};
 
-/// A clock that stands still until it is set.
+/// A clock that doesn't advance until it is set.
 #[derive(Drop)]
 struct FakeClock {
     millis: Cell<u64>,
@@ -46,7 +46,7 @@ impl IsTerminal for Screen<'_> {
     }
 }
 
-/// Shows on the screen how far searches are, from half a second after it is there, and wipes it.
+/// Shows on the screen how far searches are, from half a second after it was made, and wipes it.
 fn search_on(screen: Screen<'_>) {
     let clock = FakeClock {
         millis: Cell::new(7_000),

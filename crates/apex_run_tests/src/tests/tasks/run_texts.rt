@@ -30,10 +30,10 @@ fn text_of<R: Threads + Wait + Sync + Abort + AllocGlobal, G: Gate>(
     Ok(run_text(rt, rt.alloc(), &config, &scripts, gate))
 }
 
-/// How often a gate looks for a flag before it gives up.
+/// The number of times that a gate looks for a flag before it gives up.
 const TURNS: u32 = 10_000_000;
 
-/// The receiver makes its first call once the sender's last was answered.
+/// The receiver makes its first call after the sender's last was answered.
 #[derive(Drop)]
 struct InTurn {
     is_sent: AtomicBool,

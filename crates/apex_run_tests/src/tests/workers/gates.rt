@@ -6,10 +6,10 @@ use std::alloc::{AllocError, Global};
 use std::sync::atomic::{AtomicBool, Ordering};
 use std::thread;
 
-/// How often a gate looks for a flag before it gives up.
+/// The number of times that a gate looks for a flag before it gives up.
 const TURNS: u32 = 10_000_000;
 
-/// Looks for the flag, and gives way to other threads each turn.
+/// Looks for the flag, and yields to other threads each turn.
 pub(crate) fn look_for(flag: &AtomicBool) -> Result<(), Held> {
     for _ in 0..TURNS {
         if flag.load(Ordering::SeqCst) {
@@ -26,8 +26,8 @@ pub(crate) fn raise(flag: Option<&AtomicBool>) {
     }
 }
 
-/// The flags of two partitions: each raises its own before its first call and after it, and each looks for the other's
-/// before its first call and before its second.
+/// The flags of two partitions: each raises its own before and after its first call, and looks for the other's before
+/// its first call and before its second.
 #[derive(Drop)]
 pub(crate) struct TwoFlags {
     came: [AtomicBool; 2],

@@ -10,7 +10,7 @@ use std::test::Fail;
 
 const GO_NORMAL: Call = Call::SetMode { mode: 3 };
 
-// The board is lent and makes a call; how many entries it had before.
+// Lends the board, which makes a call. Returns the number of entries that it had before.
 fn entries_when_lent<R: Wait + Abort>(rt: &R, shared: &LockedBoard) -> Result<usize, OutOfMemory> {
     let mut board = shared.lock(rt);
     let entries = board.log().len();
@@ -37,7 +37,7 @@ fn is_asked_and_lent<R: Wait + Abort>(
     Ok(())
 }
 
-// The lock is free again after each call, and whoever holds it has the board for itself. A call of no partition changes
+// The lock is free again after each call, and its holder has exclusive use of the board. A call of no partition changes
 // nothing.
 #[test]
 fn the_lock_lends_the_board(rt: HostRuntime) -> Result<(), Fail> {

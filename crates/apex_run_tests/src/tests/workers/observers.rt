@@ -14,7 +14,7 @@ use std::test::Fail;
 use std::thread;
 use std::thread::Threads;
 
-/// The turns that a thread waits for another at most.
+/// The maximum number of turns that a thread waits for another.
 const TURNS: u64 = 10_000_000;
 
 fn sample(bytes: &[u8], at: u64, validity: Validity) -> Sampled {
@@ -88,7 +88,7 @@ fn an_observer_reads_while_the_lock_is_held(rt: HostRuntime) -> Result<(), Fail>
     Ok(shown?)
 }
 
-// Reads until the sample shows, in so many turns at most. What shows until then is what showed before.
+// Reads until the sample shows, in at most `TURNS` turns. Until then it shows the same as before.
 fn waits_for(observer: &mut Observer, before: &Sampled, wanted: &Sampled) -> bool {
     for _ in 0..TURNS {
         let shown = observer.read(Moment(2), 50);
@@ -106,7 +106,7 @@ fn sees_both(mut observer: Observer, first: &Sampled, second: &Sampled, seen: &A
     one && waits_for(&mut observer, first, second)
 }
 
-// Waits until the flag is raised, in so many turns at most.
+// Waits until the flag is raised, in at most `TURNS` turns.
 fn waits_until(seen: &AtomicBool) {
     for _ in 0..TURNS {
         if seen.load(Ordering::SeqCst) {
@@ -158,14 +158,14 @@ fn an_observer_without_a_receipt_sees_both_writes(rt: HostRuntime) -> Result<(),
     Ok(())
 }
 
-// What both observers show at the moment 55, with a refresh period of 50.
+// What both observers show at moment 55, with a refresh period of 50.
 fn both_show(rt: &impl Abort, observers: &mut [Observer], first: &Sampled, second: &Sampled) {
     assert!(rt; observers.len() == 2);
     holds(rt, observers[0].read(Moment(55), 50) == *first, 1);
     holds(rt, observers[1].read(Moment(55), 50) == *second, 2);
 }
 
-// The observers of a run show this, and are gone after it.
+// The observers of a run show this, and show `Gone` after it ends.
 fn run_shows<R: Threads + Wait + Sync + Abort + AllocGlobal>(
     rt: &R,
     script: &str,

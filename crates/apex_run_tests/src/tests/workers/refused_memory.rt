@@ -1,5 +1,5 @@
-//! Every allocation of a run refused in turn: it ends in want of memory, in a worker that wasn't started, or as with ample
-//! memory. The configuration is copied with memory of its own, which this sweep doesn't reach.
+//! Every allocation of a run refused in turn: the run ends because memory ran out or a worker wasn't started, or it
+//! ends as with ample memory. The configuration is copied with memory of its own, which this sweep doesn't reach.
 use crate::tests::texts::{BASE, THREE};
 use crate::tests::workers::runs_left::{config_of, end, holds, is_left_by_three, run, scripts_of};
 use apex_module::Config;
@@ -11,10 +11,10 @@ use std::sync::Wait;
 use std::test::Fail;
 use std::thread::Threads;
 
-/// More allocations than a run of these scripts asks for.
+/// More allocations than a run of these scripts makes.
 const ALLOCATION_LIMIT: u64 = 200;
 
-// A run with `refuse` allocations refused after `granted` others; whether one was.
+// A run with `refuse` allocations refused after `granted` others. Returns whether one was refused.
 fn run_refused_after<R: Threads + Wait + Sync + Abort + AllocGlobal>(
     rt: &R,
     config: &Config,

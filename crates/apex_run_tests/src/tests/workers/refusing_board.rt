@@ -66,7 +66,8 @@ const WANTING: Option<AskFault> = Some(AskFault::OutOfMemory);
 
 const FOREIGN: Option<AskFault> = Some(AskFault::NoPartition);
 
-/// The refusals of two workers' second calls, how often each worker asks then, and the fault that it comes to.
+/// The refusals of two workers' second calls, the number of requests that each worker then makes, and the resulting
+/// fault.
 const CASES: [([Option<AskFault>; 2], [u64; 2], Option<RunFault>); 6] = [
     ([None, None], [4, 4], None),
     ([WANTING, None], [2, 4], Some(RunFault::OutOfMemory)),

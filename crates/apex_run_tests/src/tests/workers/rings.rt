@@ -1,5 +1,5 @@
-//! Runs of workers in a ring: many runs of eight workers, and one of thirty-two with five thousand calls each. The log of
-//! each has the calls of the scripts with the replies of the ports, in its order.
+//! Runs of workers in a ring: many runs of eight workers, and one of thirty-two with five thousand calls each. The log
+//! of each has the calls of the scripts with the replies of the ports, in the log's order.
 use crate::tests::texts::ring_text;
 use crate::tests::workers::runs_left::{config_of, end, holds, is_collected, run};
 use apex_board::Entry;
@@ -13,8 +13,8 @@ use std::sync::Wait;
 use std::test::Fail;
 use std::thread::Threads;
 
-/// So many partitions, each with a queuing channel to the next, and with so many calls. After the first three a
-/// partition makes one receive and two sends in each period of calls, and asks its port for its status otherwise.
+/// A ring of partitions, each with a queuing channel to the next, and each with `calls` calls. After the first three
+/// calls a partition makes one receive and two sends in each period of calls, and requests its port's status otherwise.
 #[derive(Clone, Copy)]
 struct Ring {
     partitions: usize,
@@ -22,7 +22,7 @@ struct Ring {
     period: u32,
 }
 
-/// Each partition creates its ports and goes into NORMAL.
+/// Each partition creates its ports and goes to NORMAL.
 const FIRST_CALLS: &str = "9223372036854775807 create-queuing OUT 4 4 0 0
 9223372036854775806 create-queuing IN 4 4 1 0
 9223372036854775805 mode 3
@@ -59,7 +59,7 @@ fn scripts_of(alloc: Global, ring: Ring) -> Result<Vec<Script>, Fail> {
     Ok(scripts)
 }
 
-// The ports answer the calls of the log as it says.
+// The ports answer the calls of the log with the replies of the log.
 fn is_answered(rt: &impl Abort, ports: &mut Ports, log: &[Entry]) {
     for entry in log {
         assert!(rt; entry.partition < ports.config().partitions());
@@ -82,7 +82,7 @@ fn is_run<R: Threads + Wait + Sync + Abort + AllocGlobal>(
     collected
 }
 
-// So many runs of the ring.
+// Makes this number of runs of the ring.
 fn runs_of<R: Threads + Wait + Sync + Abort + AllocGlobal>(
     rt: &R,
     ring: Ring,

@@ -12,7 +12,7 @@ use std::sync::Wait;
 use std::test::Fail;
 use std::thread::Threads;
 
-// Each of the two workers comes to its first call before the other makes it, and to its second once the other's first was
+// Each of the two workers reaches its first call before the other makes it, and its second after the other's first was
 // answered. So both run at the same time.
 #[test]
 fn two_workers_between_two_flags(rt: HostRuntime) -> Result<(), Fail> {
@@ -29,7 +29,7 @@ queuing NAV accepted 1 received 0 waiting 1 01
     run_leaves(&rt, REDUCED, &[SENDER, RECEIVER], &TwoFlags::new(), left)
 }
 
-// A worker that runs alone doesn't pass the flags.
+// A worker that runs alone doesn't get past the flags.
 #[test]
 fn a_worker_alone_is_held(rt: HostRuntime) {
     holds(&rt, TwoFlags::new().pass(FMS, 1).is_err(), 0);
@@ -41,7 +41,7 @@ fn three_workers_under_the_open_gate(rt: HostRuntime) -> Result<(), Fail> {
     run_leaves(&rt, BASE, THREE, &OpenGate, LEFT_BY_THREE)
 }
 
-/// Each of the workers that wait for each other goes into NORMAL twice.
+/// Each of the workers that wait for each other goes to NORMAL twice.
 const TWICE: &str = "1 mode 3\n2 mode 3\n";
 
 const NORMAL_ONCE: &str = "NO_ERROR\nNO_ACTION\n";
@@ -91,7 +91,7 @@ fn one_worker_with_an_empty_script(rt: HostRuntime) -> Result<(), Fail> {
     )
 }
 
-// A run, whose board is ended.
+// Makes a run and closes its board.
 fn run_and_end<R: Threads + Wait + Sync + Abort + AllocGlobal, G: Gate>(
     rt: &R,
     config: &Config,
@@ -103,16 +103,17 @@ fn run_and_end<R: Threads + Wait + Sync + Abort + AllocGlobal, G: Gate>(
     Ok(())
 }
 
-/// The calls that a gate refuses, each a partition and the number of a call, and the one at which a worker is held then.
+/// The calls that a gate refuses, each a partition and the number of a call, and the one at which a worker is then
+/// held.
 const REFUSED: &[((usize, usize), (usize, usize), Option<(usize, usize)>)] = &[
     ((DSP, 2), (2, 1), Some((DSP, 2))),
     ((FMS, 3), (DSP, 1), Some((FMS, 3))),
     ((DSP, 2), (DSP, 1), Some((DSP, 1))),
-    // No worker comes to these calls.
+    // No worker reaches these calls.
     ((FMS, 4), (DSP, 3), None),
 ];
 
-// The run ended so.
+// The run ended like this.
 fn is_held(ended: Result<(), RunFault>, wanted: Option<(usize, usize)>) -> bool {
     match (ended, wanted) {
         (Ok(()), None) => true,

@@ -18,12 +18,12 @@ pub(crate) const DSP: usize = 1;
 
 pub(crate) const AIR: usize = 2;
 
-/// What is so; the number says of which case.
+/// Fails unless `is_so` holds; the number identifies the case.
 pub(crate) fn holds(rt: &impl Abort, is_so: bool, case: usize) {
     assert!(rt; is_so, "case {case}");
 }
 
-/// The script of so many changes of mode, at the moments from 1 on.
+/// The script of this number of mode changes, at the moments from 1 on.
 pub(crate) fn mode_changes(alloc: Global, calls: u32) -> Result<Script, AllocError> {
     let mut script = Vec::with_capacity(alloc, calls as usize)?;
     for mode in 0..calls {
@@ -32,7 +32,7 @@ pub(crate) fn mode_changes(alloc: Global, calls: u32) -> Result<Script, AllocErr
     Ok(Script { calls: script })
 }
 
-/// The message of a few bytes.
+/// The message of these bytes.
 pub(crate) fn message(bytes: &[u8]) -> Message {
     match Message::from_bytes(bytes) {
         Ok(message) => message,
@@ -77,7 +77,7 @@ pub(crate) fn run<R: Threads + Wait + Sync + Abort, A: Allocator + Copy + Send +
     run_scripts(rt, alloc, config, scripts, gate)
 }
 
-/// Ends the board of a run.
+/// Closes the board of a run.
 pub(crate) fn end<R: Wait, A: Allocator>(rt: &R, finished: Finished<A>) {
     let Finished {
         board,
@@ -192,7 +192,8 @@ fn are_entries(rt: &impl Abort, log: &[Entry], p: usize, script: &Script, replie
     holds(rt, n == script.calls.len() && n == replies.len(), p);
 }
 
-// The last lines of the report of a new board that answers the calls of the log, one after the other. It has the same log.
+// The last lines of the report of a new board that answers the calls of the log, one after the other. It has the same
+// log.
 fn totals_of<R: AllocGlobal + Abort + Wait>(
     rt: &R,
     config: &Config,

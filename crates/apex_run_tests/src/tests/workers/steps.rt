@@ -1,4 +1,4 @@
-//! The order of a worker's steps: for each call in turn it passes its gate, asks the board, and says that it was answered.
+//! The order of a worker's steps: for each call in turn it passes its gate, asks the board, and reports to the gate.
 use super::gates::look_for;
 use super::runs_left::{holds, mode_changes};
 use apex_types::{Call, Moment, Reply, ReturnCode};
@@ -10,10 +10,10 @@ use std::test::Fail;
 
 const WORKERS: usize = 8;
 
-/// The calls of each worker.
+/// The number of calls of each worker.
 const CALLS: u32 = 200;
 
-/// A gate and a board in one, which counts the steps of each worker and notes whether one came out of its turn.
+/// A gate and a board in one, which counts the steps of each worker and notes whether one was out of turn.
 #[derive(Drop)]
 struct Steps {
     taken: Vec<AtomicU64>,
@@ -32,7 +32,7 @@ impl Steps {
         })
     }
 
-    // The worker takes the step that this many steps come before.
+    // The worker takes the step that follows this many others.
     fn step(&self, partition: usize, before: u64) {
         let is_next = match self.taken.get(partition) {
             Some(taken) => taken.fetch_add(1, Ordering::SeqCst) == before,
@@ -44,7 +44,7 @@ impl Steps {
     }
 }
 
-// How many steps a worker takes before it passes its gate for the `n`-th call, which is counted from 1.
+// The number of steps that a worker takes before it passes its gate for the `n`-th call, counted from 1.
 fn steps_before(n: u64) -> u64 {
     n.wrapping_sub(1).wrapping_mul(3)
 }
@@ -98,7 +98,7 @@ fn pass_call_answered_of_each_call(rt: HostRuntime) -> Result<(), Fail> {
     Ok(())
 }
 
-/// A board in whose first call each of two workers waits until the other is in its own.
+/// A board in which each of two workers waits in its first call until the other is in its own.
 #[derive(Drop)]
 struct Meeting {
     came: [AtomicBool; 2],
@@ -123,7 +123,7 @@ impl SharedBoard for Meeting {
     }
 }
 
-// So both are between their gate and its answer at the same time.
+// So both are between their gate and its report at the same time.
 #[test]
 fn two_workers_ask_at_the_same_time(rt: HostRuntime) -> Result<(), Fail> {
     let scripts = scripts_of(rt.alloc(), 2, 1)?;

@@ -1,4 +1,4 @@
-//! Each worker has a thread of its own, beside the caller's.
+//! Each worker has a thread of its own, besides the caller's.
 ghost use Rattle.std.specs.Prelude.{◌≡◌};
 
 use super::gates::{Together, look_for, raise};
@@ -13,7 +13,7 @@ use std::test::Fail;
 
 const WORKERS: usize = 8;
 
-/// All workers come to their first calls, and stay there until the first of them has counted the process's threads.
+/// All workers reach their first calls, and stay there until the first of them has counted the process's threads.
 #[derive(Drop)]
 struct Counts<'a, R> {
     rt: &'a R,
@@ -41,7 +41,7 @@ impl<R: Runtime + Sync> Gate for Counts<'_, R> {
     fn answered(&self, _partition: usize, _n: usize) {}
 }
 
-// As Linux tells it.
+// As Linux reports it.
 fn count_threads<R: Runtime>(rt: &R) -> Option<u64> {
     let status = fs::read(rt, "/proc/self/status").ok()?;
     let text = str::from_utf8(status.as_slice()).ok()?;

@@ -10,10 +10,11 @@ use std::process::Abort;
 use std::sync::atomic::AtomicBool;
 use std::test::Fail;
 
-/// The calls of the writer, and of the reader: each creates its port first.
+/// The number of calls of the writer, and of the reader: each creates its port first.
 const CALLS: usize = 201;
 
-/// The writer's call waits until the reader's last one was answered, and the reader's until the writer's of its number was.
+/// The writer's call waits until the reader's last one was answered, and the reader's until the writer's call with its
+/// number was.
 #[derive(Drop)]
 struct Turns {
     written: Vec<AtomicBool>,

@@ -29,7 +29,7 @@ loop-entry-preserved g c =
     subst (λ (h : History). AreCounted h scripts replies (set counts e.partition (get_or counts e.partition 0 + 1))) (sym one_more)
     (counted_more (take i log) e scripts replies counts c.index-scripts-p.result c.index-replies-p.result c.loop-entry.invariant script_at own_at (c.if-not-is_next.ensures.next.0 refl))
 
--- an entry that isn't its partition's next belongs to no log that is collected
+-- a log with an entry that isn't its partition's next is not collected
 pub returns-then-not-is_next-clause-refused : goal.returns-then-not-is_next-clause-refused
 returns-then-not-is_next-clause-refused g c =
     let log = c.args.log.now in

@@ -16,7 +16,7 @@ use Rattle.apex_board.specs.declared.records.Records.{Records}
 use Rattle.apex_board.proofs.LeastRoom.{room_means, room_kept, room_used}
 use Rattle.apex_board.proofs.board.Board.call.Goals as goal
 
--- what was made of room is not less
+-- the room is not less than the room that was made
 still_room : {A T E : Type 0} (r : Result T E) (old new : Records A) → vec_len new.log ≡ vec_len old.log → vec_capacity old.log ≤ vec_capacity new.log → KeepsRoom old.journals.items new.journals.items → OnErr r (room_of old ≤ room_of new)
 still_room (Ok x) old new len capacity keeps = tt
 still_room (Err e) old new len capacity keeps = room_kept old new (omega (arith, len, capacity)) keeps

@@ -33,7 +33,7 @@ index_mut-requires c =
     let count = c.requires.walk.made.count in
     omega (arith, within, count)
 
--- the partition of the last call made one more than before
+-- the partition of the last call made one more call than before
 counted_there : (config : Configuration) (logs : Logs) (walk : Walk) (is : IsWalk config logs walk) (path : List CallPlace) (last : CallPlace) (cut : walk.path.items ≡ path ++ last ∷ [])
     → (count : ℕ) → count ≡ get_or walk.made.items last.partition count → count ≡ suc (length (entries_of last.partition (entries_at logs path)))
 counted_there config logs walk is path last cut count at =

@@ -7,7 +7,6 @@ use Rattle.apex_observers.proofs.Observing.{books_of_sampling}
 use Rattle.apex_observers.proofs.Sampling.{sampling_of-next}
 use Rattle.apex_observers.proofs.publishers.Publishers.observers.Goals as goal
 
--- src/publishers.rt:124:9
 pub loop-channel-preserved : goal.loop-channel-preserved
 loop-channel-preserved g c =
     let channels = c.args.self.now in

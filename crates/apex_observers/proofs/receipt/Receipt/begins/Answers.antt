@@ -4,7 +4,6 @@ use Rattle.apex_types.specs.declared.sample.Sample.{Sample}
 use Rattle.apex_observers.proofs.Prefixes.{prefix_by}
 use Rattle.apex_observers.proofs.receipt.Receipt.begins.Goals as goal
 
--- src/receipt.rt:71:5
 pub returns : goal.returns
 returns c =
     let both = c.learn.new.self.log in

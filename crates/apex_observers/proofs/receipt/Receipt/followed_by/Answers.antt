@@ -2,7 +2,6 @@ use Rattle.std.proofs.Common.{◌≡◌, ◌+◌, sym, ◌∙◌, ap, arith, len
 use Rattle.apex_observers.proofs.Adding.{adds_moves}
 use Rattle.apex_observers.proofs.receipt.Receipt.followed_by.Goals as goal
 
--- src/receipt.rt:61:13
 pub compare_exchange-found-requires : goal.compare_exchange-found-requires
 compare_exchange-found-requires c =
     let known = c.again-seen.result.log in

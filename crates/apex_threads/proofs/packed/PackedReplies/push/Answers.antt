@@ -5,7 +5,7 @@ use Rattle.apex_threads.specs.PackedReplies.{reply_in, ArePacked}
 use Rattle.apex_threads.proofs.PackedLemmas.{same_replies, still_packed, pushed, one_more_packed}
 use Rattle.apex_threads.proofs.packed.PackedReplies.push.Goals as goal
 
--- what holds where bytes came behind, and no reply
+-- what holds after bytes were appended, but no reply
 module _ (bytes new more : List ℕ) (all same : List Packed) (grown : new ≡ bytes ++ more) (kept : same ≡ all) (are : ArePacked (length bytes) all) where
   still : ArePacked (length new) same
   still = subst (λ (b : List ℕ). ArePacked (length b) same) (sym grown) (subst (ArePacked (length (bytes ++ more))) (sym kept) (still_packed bytes more all are))

@@ -6,7 +6,7 @@ use Rattle.apex_threads.specs.PackedCalls.{call_in, timed_in, ArePackedCalls}
 use Rattle.apex_threads.proofs.CallLemmas.{same_calls, still_packed_calls, pushed_call, one_more_packed_call}
 use Rattle.apex_threads.proofs.packed_script.PackedScript.push.Goals as goal
 
--- what holds where bytes and named calls came behind, and no call
+-- what holds after bytes and named calls were appended, but no call
 module _ (bytes new more : List ℕ) (named now others : List Call) (all same : List (Moment × PackedCall)) (grown : new ≡ bytes ++ more) (longer : now ≡ named ++ others) (kept : same ≡ all) (are : ArePackedCalls (length bytes) (length named) all) where
   still : ArePackedCalls (length new) (length now) same
   still =

@@ -1,4 +1,4 @@
--- Any thread may give a block of a switch back where it may for the inner allocator.
+-- Any thread may free a block of a switch if it may free a block of the inner allocator.
 use mir.Syntax.{Dict}
 use denote.RattleType.{RattleType}
 use denote.Param.Send.{Frees}
