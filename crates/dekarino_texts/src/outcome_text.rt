@@ -16,6 +16,8 @@ use std::fmt::{Display, Formatter};
 #[derive(Debug, Drop)]
 pub struct OutcomeText {
     text: String,
+    /// The number of calls so far that have several replies.
+    depending: usize,
 }
 
 impl OutcomeText {
@@ -23,6 +25,7 @@ impl OutcomeText {
     pub fn new(alloc: Global) -> OutcomeText {
         OutcomeText {
             text: String::new(alloc),
+            depending: 0,
         }
     }
 
@@ -33,9 +36,13 @@ impl OutcomeText {
 }
 
 impl OutcomeSink for OutcomeText {
-    /// Writes `NAME:LINE MOMENT CALL ARGUMENTS -> REPLY | REPLY`.
+    /// Writes `NAME:LINE MOMENT CALL ARGUMENTS -> REPLY | REPLY`, after `* ` if there are several replies.
     fn call(&mut self, call: &ScriptCall<'_>, replies: &[&Reply]) -> Result<(), AllocError> {
         let text = &mut self.text;
+        if replies.len() > 1 {
+            self.depending = self.depending.saturating_add(1);
+            text.push_str("* ")?;
+        }
         let Moment(at) = call.at;
         write!(text, "{}:{} {at} ", call.partition.text(), call.line)?;
         push_call(text, call.call)?;
@@ -66,18 +73,33 @@ impl OutcomeSink for OutcomeText {
         writeln!(text, " waiting {waiting}")
     }
 
-    /// Writes the counts of one group alone, or a line for each of several.
+    /// Writes the counts of one group alone, or a line for each of several, and how many calls depend on the order.
     fn groups(&mut self, config: &Config, groups: &[GroupCounts]) -> Result<(), AllocError> {
         if let [group] = groups {
-            return push_counts(&mut self.text, group);
-        }
-        for group in groups {
-            push_names(&mut self.text, config, group.partitions.as_slice())?;
-            self.text.push_str(": ")?;
             push_counts(&mut self.text, group)?;
+        } else {
+            push_each_counts(&mut self.text, config, groups)?;
         }
-        Ok(())
+        match self.depending {
+            0 => self.text.push_str("no call depends on the order\n"),
+            1 => self.text.push_str("1 call depends on the order\n"),
+            count => writeln!(self.text, "{count} calls depend on the order"),
+        }
     }
+}
+
+/// Writes a line of counts for each group, after the names of its partitions.
+fn push_each_counts(
+    text: &mut String,
+    config: &Config,
+    groups: &[GroupCounts],
+) -> Result<(), AllocError> {
+    for group in groups {
+        push_names(text, config, group.partitions.as_slice())?;
+        text.push_str(": ")?;
+        push_counts(text, group)?;
+    }
+    Ok(())
 }
 
 /// Writes the names of partitions, separated by commas.
