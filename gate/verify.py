@@ -39,6 +39,12 @@ def shown_for(parts, after):
     return progress.Progress(waits, crates.lanes(), (), progress.durations(TABLE), kind="parts", prefix="test: ")
 
 
+def on_signals(stop):
+    """Has each signal that ends a program call `stop`."""
+    for it in (signal.SIGHUP, signal.SIGINT, signal.SIGTERM):
+        signal.signal(it, stop)
+
+
 def run_scripts(root, counted):
     """Runs all that runs."""
     made = scripts.Scripts(root, counted, counts.Clock(), is_whole=False)
@@ -48,6 +54,13 @@ def run_scripts(root, counted):
         if done.returncode:
             counted.fails(f"{done.stderr.strip()}: build it by ./{name} --version, or by ./test all")
             return
+
+    def stop(number, _):
+        made.end()
+        print("\ntest: ended by a signal", file=sys.stderr, flush=True)
+        os._exit(128 + number)
+
+    on_signals(stop)
     with shown_for([f"tests/{it}" for it in scripts.TESTS], []) as shown:
         shown.doing = "running"
         crates.side_by_side(made.tasks(shown), crates.processors())
@@ -127,8 +140,7 @@ def stop_by_signal(room):
         shutil.rmtree(room, ignore_errors=True)
         os._exit(128 + number)
 
-    for it in (signal.SIGHUP, signal.SIGINT, signal.SIGTERM):
-        signal.signal(it, stop)
+    on_signals(stop)
 
 
 class Asked:
