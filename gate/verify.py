@@ -31,6 +31,16 @@ ROOT = os.path.dirname(HERE)
 # What each part took in the run of which this is a copy of out/durations.txt.
 TABLE = os.path.join(HERE, "test_durations.txt")
 USAGE = "usage: ./test [all [--within MINUTES] | edits CRATE..]"
+HELP = f"""\
+{USAGE}
+
+./test                        runs every test, with the programs that are there; takes minutes, needs Python 3.9 or later
+./test all                    also checks every proof and every must-fail edit; takes hours, needs the toolchain
+./test all --within MINUTES   the same within that time; must-fail edits only as far as it goes
+./test edits CRATE..          proves everything, and tries the must-fail edits of these crates
+
+The last line counts what passed, failed and was skipped. Ctrl-C ends it. docs/BUILDING.md says more.
+"""
 
 
 def shown_for(parts, after):
@@ -175,6 +185,9 @@ def run_whole(counted, clock, only):
 
 
 def main(words):
+    if words in (["-h"], ["--help"]):
+        print(HELP, end="")
+        return 0
     try:
         asked = Asked(words)
     except ValueError:
