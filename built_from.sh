@@ -1,4 +1,4 @@
-# Tells whether a program or a static library is built from the sources, and by the toolchain, that are there now, and
+# Checks whether a program or a static library is built from the sources, and by the toolchain, that are there now, and
 # unpacks the prebuilt programs if they are those of these sources. For the scripts 'apexports', 'dekarino', 'package',
 # 'python/build' and 'c/build' and for 'test', which set root to the checkout.
 

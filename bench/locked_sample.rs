@@ -23,7 +23,7 @@ fn message(number: u64) -> Message {
     number.to_be_bytes().into_iter().collect()
 }
 
-/// Copies the sample again and again, and tells whether it is still valid.
+/// Copies the sample again and again, and checks whether it is still valid.
 fn read_all(sample: &Mutex<Sample>, reads: u64, reading: &AtomicUsize) {
     for _ in 0..reads {
         let shown = {

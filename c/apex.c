@@ -77,7 +77,7 @@ static RETURN_CODE_TYPE return_code(uint32_t answer) {
     }
 }
 
-/* The return code of a call with a time-out. Nothing comes to pass while a call waits: time runs out at once. */
+/* The return code of a call with a time-out. Nothing happens while a call waits, so its time runs out at once. */
 static RETURN_CODE_TYPE timed_return_code(uint32_t answer, SYSTEM_TIME_TYPE time_out) {
     return answer == NOT_AVAILABLE && time_out != 0 ? TIMED_OUT : return_code(answer);
 }

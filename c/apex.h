@@ -1,7 +1,7 @@
 /* The port services of ARINC Specification 653 Part 1 (APEX) for a partition's code in C, with the names, types and
  * orders of parameters of the standard's C binding. apex.c serves them by the proved ports of a module (apex_ports.h).
  *
- * Below the services stand the functions by which a bench opens a module and says which partition a thread is.
+ * Below the services are the functions by which a bench opens a module and says which partition a thread runs.
  * docs/C.md has the choices that are made here: time-outs, faulty parameters, partitions in IDLE.
  *
  * Assumed of the caller: a pointer that isn't null points to a value of its type; a message's address to as many bytes

@@ -9,7 +9,7 @@
  *   - no two parameters of a call overlap;
  *   - one call at a time on a handle, and none from a signal handler;
  *   - the program's malloc, realloc and free are of one allocator.
- * What is assumed beyond that stands beside the function.
+ * If a function assumes more, its comment says so.
  *
  * All else is tested, and has an answer of its own: a handle that is not open, or is open already; a partition,
  * a channel, an identifier or a service that is not there; a text that is no name; a message that is too long; a buffer
@@ -308,16 +308,16 @@ enum apex_row {
 };
 
 /* The row that a call of the partition would get at the moment `at`. `bytes` are the name of the port that the call is
- * made with, or its message; other calls take none. Where the answer isn't 0, the row stays as it was. Answers 0,
+ * made with, or its message; other calls take none. If the answer isn't 0, the row stays as it was. Answers 0,
  * APEX_NO_SERVICE, APEX_NO_NAME, APEX_TOO_LONG, APEX_NOT_OPEN or APEX_NO_PARTITION, the first that applies.
  * Assumed: `bytes` points to `bytes_length` bytes. */
 uint32_t apex_call_row(struct apex_handle *handle, uint32_t partition, uint64_t at, const struct apex_call *call,
                        const uint8_t *bytes, size_t bytes_length, uint32_t *row);
 
 /* The words of that row, in the buffer's first bytes, and their length; no zero follows. They say why the call would
- * not be made or would be refused; an accepted call has none. Answers as apex_call_row; APEX_SHORT_BUFFER where the
- * buffer has no room for the words, and then their length is told and the buffer stays as it was; or APEX_NO_MEMORY.
- * Where the answer is another, buffer and length stay as they were.
+ * not be made or would be refused; an accepted call has none. Answers as apex_call_row; APEX_SHORT_BUFFER if the
+ * buffer has no room for the words, and then their length is set and the buffer stays as it was; or APEX_NO_MEMORY.
+ * With any other answer, buffer and length stay as they were.
  * Assumed: `bytes` points to `bytes_length` bytes and `buffer` to `buffer_length`. */
 uint32_t apex_call_words(struct apex_handle *handle, uint32_t partition, uint64_t at, const struct apex_call *call,
                          const uint8_t *bytes, size_t bytes_length, uint8_t *buffer, size_t buffer_length,

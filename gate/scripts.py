@@ -1,6 +1,8 @@
 """The tests that run the programs and the libraries: the scripts of tests/, side by side. They prove nothing."""
+import contextlib
 import os
 import re
+import signal
 import subprocess
 
 import crates
@@ -29,6 +31,7 @@ class Scripts:
 
     def __init__(self, root, counts, clock, is_whole):
         self.root, self.counts, self.clock, self.is_whole, self.minutes = root, counts, clock, is_whole, {}
+        self.running = set()
         # (what would change how the scripts find their parts)
         self.environment = {it: text for it, text in os.environ.items() if it not in ("CDPATH", "PYTHONSAFEPATH")}
 
@@ -60,11 +63,19 @@ class Scripts:
         ran = subprocess.Popen([f"{self.root}/tests/{name}", *words], cwd=self.root, env=self.environment,
                                stdin=subprocess.DEVNULL, stdout=subprocess.PIPE, stderr=subprocess.STDOUT,
                                universal_newlines=True, errors="replace", start_new_session=True)
+        self.running.add(ran.pid)
         cancel = self.clock.when_up(lambda: usage.kill_group(ran.pid))
         text = ran.stdout.read()
         self.minutes[f"tests/{name}"] = usage.waited(ran) / 60
+        self.running.discard(ran.pid)
         cancel()
         self.tell(name, ran.returncode, text)
+
+    def end(self):
+        """Ends the scripts that run. Each is in a session of its own, so Ctrl-C does not reach it."""
+        for it in list(self.running):
+            with contextlib.suppress(OSError):
+                os.killpg(it, signal.SIGTERM)
 
     def tell(self, name, status, text):
         skipped = SAID_SKIPPED.findall(text)

@@ -48,7 +48,7 @@ def loaded(folder):
 
 
 def proved(rt, root, names):
-    """Returns those of the libraries that are proved from the sources which are there, as the module rt tells."""
+    """Returns those of the libraries that are proved from the present sources, as the module rt says."""
     try:
         with contextlib.redirect_stderr(io.StringIO()):
             known = {it: rt.rtlib.Crate(f"{root}/crates/{it}", root, {}) for it in names}

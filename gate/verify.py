@@ -31,12 +31,28 @@ ROOT = os.path.dirname(HERE)
 # What each part took in the run of which this is a copy of out/durations.txt.
 TABLE = os.path.join(HERE, "test_durations.txt")
 USAGE = "usage: ./test [all [--within MINUTES] | edits CRATE..]"
+HELP = f"""\
+{USAGE}
+
+./test                        runs every test, with the programs that are there; takes minutes, needs Python 3.9 or later
+./test all                    also checks every proof and every must-fail edit; takes hours, needs the toolchain
+./test all --within MINUTES   the same within that time; must-fail edits only as far as it goes
+./test edits CRATE..          proves everything, and tries the must-fail edits of these crates
+
+The last line counts what passed, failed and was skipped. Ctrl-C ends it. docs/BUILDING.md says more.
+"""
 
 
 def shown_for(parts, after):
     """Returns what says how far the parts are; those of `after` wait for all before them."""
     waits = {**{it: [] for it in parts}, **{it: list(parts) for it in after}}
     return progress.Progress(waits, crates.lanes(), (), progress.durations(TABLE), kind="parts", prefix="test: ")
+
+
+def on_signals(stop):
+    """Has each signal that ends a program call `stop`."""
+    for it in (signal.SIGHUP, signal.SIGINT, signal.SIGTERM):
+        signal.signal(it, stop)
 
 
 def run_scripts(root, counted):
@@ -48,6 +64,13 @@ def run_scripts(root, counted):
         if done.returncode:
             counted.fails(f"{done.stderr.strip()}: build it by ./{name} --version, or by ./test all")
             return
+
+    def stop(number, _):
+        made.end()
+        print("\ntest: ended by a signal", file=sys.stderr, flush=True)
+        os._exit(128 + number)
+
+    on_signals(stop)
     with shown_for([f"tests/{it}" for it in scripts.TESTS], []) as shown:
         shown.doing = "running"
         crates.side_by_side(made.tasks(shown), crates.processors())
@@ -127,8 +150,7 @@ def stop_by_signal(room):
         shutil.rmtree(room, ignore_errors=True)
         os._exit(128 + number)
 
-    for it in (signal.SIGHUP, signal.SIGINT, signal.SIGTERM):
-        signal.signal(it, stop)
+    on_signals(stop)
 
 
 class Asked:
@@ -163,6 +185,9 @@ def run_whole(counted, clock, only):
 
 
 def main(words):
+    if words in (["-h"], ["--help"]):
+        print(HELP, end="")
+        return 0
     try:
         asked = Asked(words)
     except ValueError:

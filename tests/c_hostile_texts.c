@@ -1,5 +1,5 @@
-/* A configuration of which 80,000 keys are unknown is told within two seconds of processor time, and by 20 lines and one
- * that says how many more there are. */
+/* A configuration with 80,000 unknown keys is reported within two seconds of processor time, by 20 lines and one that says
+ * how many more there are. */
 #include "../c/apex_ports.h"
 #include "c_test.h"
 

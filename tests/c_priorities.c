@@ -61,7 +61,7 @@ static void high_turns(void) {
     STOP_SELF();
 }
 
-/* Of processes that became ready outside of the windows the priority counts, not since when. */
+/* If processes became ready outside of the windows, their priority counts, and not since when they are ready. */
 static void low_outside(void) {
     IS(NO_ERROR, TIMED_WAIT, 30);
     leave('l');

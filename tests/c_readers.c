@@ -1,4 +1,4 @@
-/* c_readers CONFIG: prints what the readers of apex_ports.h tell of a configuration, a line for each partition, port
+/* c_readers CONFIG: prints what the readers of apex_ports.h say of a configuration, a line for each partition, port
  * and channel. Then each of them is asked with handles that are open, closed or were never opened, and with numbers,
  * identifiers, names and buffers that are right and wrong: each answer by the rules of docs/C.md, and each place left
  * as it was where the answer isn't 0. */

@@ -1,5 +1,5 @@
 /* c_recorded_calls CONFIG LOG [PART]: calls of all services by two partitions, each at a moment of its own. The log has
- * the partitions' names, so that the moment of a departure names its call. With PART the sink takes 1 line of so many.
+ * the partitions' names, so that the moment of a departure names its call. With PART the sink takes one line in PART.
  * The answers go to standard output. Compiled with UNRECORDED the calls are the same, and there is no log. */
 #include "apex.h"
 #ifndef UNRECORDED

@@ -1,5 +1,5 @@
 /* Threads that call recorded services at once, each with a stand-in of its own, over a sink that takes some lines: each
- * text is of whole lines, and each line is either taken or told as lost. */
+ * text has whole lines, and each line is either taken or reported as lost. */
 #include "c_stand_in.h"
 
 #include "record/apex_record.h"

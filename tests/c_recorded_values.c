@@ -171,7 +171,7 @@ static void comments(void) {
     SET_PARTITION_MODE(NORMAL, NULL);
 }
 
-/* Replies that no log can have: another reply stands there, which departs. */
+/* Replies that no log can have: the log has another reply there, which departs. */
 static void replies(void) {
     static char name[MAX_NAME_LENGTH] = "NAV";
     answer(99, 0, 0, 0);
@@ -201,7 +201,7 @@ static void replies(void) {
     GET_SAMPLING_PORT_ID(name, NULL, &code);
 }
 
-/* Lines that are not taken are counted, and told before the next that is. */
+/* Lines that are not taken are counted, and reported before the next one that is. */
 static void losses(void) {
     answer(NO_ERROR, 0, 0, 0);
     takes = 0;

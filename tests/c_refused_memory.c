@@ -1,8 +1,8 @@
 /* c_refused_memory CONFIG: opens with every request for memory refused in turn, and with all refused from each on,
- * until an opening meets no refusal. Each refused opening has to answer want of memory, leave the handle closed and
- * give all memory back. The words of a refused call and what is told of a faulty configuration are asked for likewise.
- * A judge is opened and asked likewise. Then come calls with all memory refused, which have to ask for none. Prints the numbers. Its malloc and the like stand
- * in the place of the C library's, for the static library and for the shared object. */
+ * until an opening meets no refusal. Each refused opening has to answer that memory ran out, leave the handle closed
+ * and give all memory back. The words of a refused call and of a faulty configuration are asked for likewise, and a judge
+ * is opened and asked. Then come calls with all memory refused, which have to ask for none. Prints the numbers. Its malloc
+ * and the like take the place of the C library's, for the static library and for the shared object. */
 #include "../c/apex_ports.h"
 #include "c_test.h"
 #include <stdlib.h>
@@ -77,7 +77,7 @@ static bool is_opening_refused(const uint8_t *text, size_t length, unsigned long
     return was_refused;
 }
 
-/* What is told in a buffer, with the handle or of a faulty text. */
+/* A function that writes words into a buffer, about a call or about a faulty text. */
 typedef uint32_t telling(struct apex_handle *handle, uint8_t *buffer, size_t buffer_length, uint64_t *length);
 
 static uint32_t tell_words(struct apex_handle *handle, uint8_t *buffer, size_t buffer_length, uint64_t *length) {
@@ -110,7 +110,8 @@ static uint32_t tell_opening(struct apex_handle *handle, uint8_t *buffer, size_t
     return answer;
 }
 
-/* Tells with each request refused in turn, and with all from each on, until none is; how often one was. */
+/* Asks for the words with each request refused in turn, and with all from each on, until none is. Returns how often one
+ * was refused. */
 static unsigned long tell_without_memory(const uint8_t *text, size_t length, telling *tell, uint32_t right,
                                          uint32_t no_memory) {
     static uint8_t buffer[512];

@@ -1,5 +1,5 @@
 /* c_shim CONFIG CALLS: random calls of apex.h, wrong ones among them, each beside the call of apex_ports.h that it
- * stands for, on ports of their own. Both have to give the same, by the rules of docs/C.md. Prints how many calls were
+ * makes, on ports of their own. Both have to give the same, by the rules of docs/C.md. Prints how many calls were
  * made. */
 #include "../c/apex.h"
 #include "c_test.h"
@@ -18,7 +18,7 @@ static int32_t any_number(void) {
 
 static int32_t any_id(void) { return any(3) == 0 ? any_number() : 1 + (int32_t)any(2); }
 
-/* The return code that an answer of apex_ports.h stands for, to a call with this time-out. */
+/* The return code for an answer of apex_ports.h to a call with this time-out. */
 static RETURN_CODE_TYPE expected(uint32_t answer, SYSTEM_TIME_TYPE time_out) {
     if (answer == NOT_AVAILABLE && time_out != 0) {
         return TIMED_OUT;

@@ -73,7 +73,7 @@ LUMINANCE = """(() => {
 
 
 def widths_and_modes(page):
-    """On the page that is open: both widths, both modes, what is told by shape, and contrast."""
+    """On the page that is open: both widths, both modes, what shapes alone show, and contrast."""
     grounds = set()
     for width in (1280, 400):
         for is_dark in (False, True):

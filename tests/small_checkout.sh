@@ -1,5 +1,5 @@
 # A small checkout with a stand-in for the toolchain, and what the tests of the script 'apexports' ask of its runs. The
-# test sets root to the checkout that it stands in, and test to its own name.
+# test sets root to its own checkout, and test to its own name.
 # shellcheck shell=bash disable=SC2015
 work=$(mktemp -d) || exit 3
 trap 'chmod -R u+w "$work"; rm -rf "$work"' EXIT
@@ -37,7 +37,7 @@ make_checkout() {
     cp "$root/tests/stand_in_rt" "$kit/bin/rt"
 }
 
-# make_libraries: a small checkout whose program stands on three libraries, of which two can be proved side by side.
+# make_libraries: a small checkout whose program uses three libraries, of which two can be proved side by side.
 make_libraries() {
     make_checkout
     printf '%s\n' 'low:' 'left: low arrayvec' 'right: low' 'apexports: left right' 'dekarino: left' \
@@ -56,7 +56,7 @@ run() {
 
 builds() { wc -l < "$kit/builds"; }
 
-# is_run CASE TEXT BUILDS: the last run was one of the program built from TEXT, after so many builds.
+# is_run CASE TEXT BUILDS: the last run was one of the program built from TEXT, after BUILDS builds.
 is_run() {
     [ "$status" = 0 ] && [ "$(cat "$work/out")" = "$2 in $work/elsewhere: say 1  2" ] && [ "$(builds)" = "$3" ] ||
         fail "$1: status $status, $(builds) builds, $(cat "$work/out" "$work/err")"

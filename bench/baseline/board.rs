@@ -93,7 +93,7 @@ impl Board {
         place.unwrap_or_else(|| fail("partition"))
     }
 
-    /// Serves a request and lends the reply, which stands in the log.
+    /// Serves a request and lends the reply, which the log holds.
     pub fn call(&mut self, request: Request) -> &Reply {
         let reply = self.serve(&request);
         self.log.push(Entry { request, reply });

@@ -1,4 +1,4 @@
-//! The requests that the lines of a trace or of a script stand for.
+//! Reads the lines of a trace or of a script as requests.
 
 use crate::board::{Board, Call, Message, Request};
 use crate::fail;

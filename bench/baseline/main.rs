@@ -3,7 +3,7 @@
 //!
 //! It serves what the benchmark's calls ask, queuing ports and modes, reads a configuration by its
 //! headed tables alone, and prints the same report as the proved program. It is measured beside that
-//! program and stands in no other relation to it.
+//! program, and shares nothing else with it.
 
 mod board;
 mod config;

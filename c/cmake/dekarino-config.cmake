@@ -1,4 +1,4 @@
-# For programs in C over an unpacked package, which may stand anywhere: docs/PACKAGE.md.
+# For programs in C over an unpacked package, which may be anywhere: docs/PACKAGE.md.
 #   dekarino::ports      the functions of apex_ports.h
 #   dekarino::apex       the standard's names as well: apex.h, whose apex.c is compiled with the program
 #   dekarino::processes  the host for processes as well: bench_processes.h
