@@ -50,7 +50,7 @@ function clipped([x1, y1], [x2, y2], top, bottom) {
 }
 
 // The most arrows that are drawn to ends below the rows in sight, and of the chosen call as many.
-const MOST_BELOW = 400;
+const MOST_BELOW = 100;
 
 // Draws rows first up to before last of the list, as one picture of their height.
 function drawChart(shown, first, last, column, high) {
