@@ -90,14 +90,16 @@ function drawChart(shown, first, last, column, high) {
 // The names above the life lines, upright where they fit.
 function drawHeads(module, mark, column, onMark) {
   const longest = Math.max(0, ...module.partitions.map(name => name.length));
-  const isTurned = longest * 8 > column;
-  return module.partitions.map(name => {
+  // (where the lines are close, some have their names)
+  const isTurned = longest * 8 > column, every = Math.ceil(8 / column);
+  return module.partitions.map((name, at) => {
     const head = make("button", {
       type: "button", text: name, title: `Mark partition ${name}`, class: `head-name${isTurned ? " turned" : ""}`,
       "aria-pressed": String(Boolean(mark && mark.kind === "partition" && mark.partition === name)),
       onclick: () => onMark({kind: "partition", partition: name})});
     head.style.width = `${column}px`;
-    head.style.fontSize = `${Math.max(7, Math.min(12, column))}px`;
+    head.style.fontSize = `${Math.min(12, column * every)}px`;
+    head.style.visibility = at % every ? "hidden" : null;
     return head;
   });
 }

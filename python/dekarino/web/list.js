@@ -92,6 +92,12 @@ function linesOfRows(run, room, isNarrow) {
   return Math.min(lines, most);
 }
 
+// How wide the column of numbers and moments is: each moment has room, in a narrow list in two lines.
+function numberWidth(run, isNarrow) {
+  const wanted = run.calls.reduce((most, {at}) => Math.max(most, 10 + Math.ceil(6.7 * String(at).length)), isNarrow ? 62 : 92);
+  return isNarrow ? Math.min(80, wanted) : wanted;
+}
+
 // How many characters have room beside the chart, by the width of one.
 const roomFor = (width, number, chart, character) => Math.max(8, Math.floor((width - number - chart - 18) / character));
 
@@ -99,9 +105,11 @@ function measure() {
   const {clientWidth} = find("list"), isNarrow = clientWidth < 700;
   shown.column = columnWidth(clientWidth, shown.run.module.partitions.length);
   const width = shown.column * shown.run.module.partitions.length;
-  shown.room = roomFor(clientWidth, isNarrow ? 62 : 92, width, 7.3);
+  const number = numberWidth(shown.run, isNarrow);
+  shown.room = roomFor(clientWidth, number, width, 7.3);
   shown.lines = linesOfRows(shown.run, shown.room, isNarrow);
   shown.high = Math.ceil(5 + 17.4 * shown.lines);
+  document.documentElement.style.setProperty("--number", `${number}px`);
   document.documentElement.style.setProperty("--chart", `${width}px`);
   document.documentElement.style.setProperty("--row", `${shown.high}px`);
   keepFocus(find("heads"), () => find("heads").replaceChildren(
@@ -141,8 +149,7 @@ function endsOf(run, call) {
 }
 
 // Writes parts of a text into at most so many lines, and returns how many it takes. What is longer fills each line.
-function write(into, parts, lines, room) {
-  const wanted = linesOf(textOf(parts), room);
+function write(into, parts, wanted, lines) {
   into.append(...parts.map(([tag, text]) => make(tag, {text})));
   into.classList.toggle("filled", wanted > lines);
   into.style.webkitLineClamp = Math.min(wanted, lines);
@@ -153,8 +160,12 @@ function write(into, parts, lines, room) {
 function drawRow(row, lines, room) {
   const call = shown.run.calls[shown.rows[row]];
   const reply = make("span", {class: `reply${call.isRefused ? " is-refused" : ""}`}), asked = make("span", {class: "asked"});
-  const taken = write(reply, partsOfReply(call), lines - 1, room);
-  write(asked, [["b", call.partition], ["span", ` ${call.asked}${endsOf(shown.run, call)}`]], lines - taken, room);
+  const replied = partsOfReply(call), called = [["b", call.partition], ["span", ` ${call.asked}${endsOf(shown.run, call)}`]];
+  const wanted = linesOf(textOf(called), room);
+  // (words of a refusal or a departure come first)
+  const kept = call.isRefused || call.departure ? 1 : Math.min(wanted, Math.floor(lines / 2));
+  const taken = write(reply, replied, linesOf(textOf(replied), room), lines - kept);
+  write(asked, called, wanted, lines - taken);
   const classes = ["row", callBelongs(shown.mark, call) && "marked", call.place === shown.selected && "selected",
     call.departure && "departing"].filter(Boolean).join(" ");
   return make("div", {

@@ -97,7 +97,8 @@ function printPaper() {
   if (!shown.run) return;
   const count = Math.min(shown.rows.length, MOST_PRINTED);
   const column = columnWidth(PRINTED_WIDTH, shown.run.module.partitions.length);
-  const room = roomFor(PRINTED_WIDTH, 92, column * shown.run.module.partitions.length, 6.7);
+  const width = column * shown.run.module.partitions.length, number = numberWidth(shown.run, false);
+  const room = roomFor(PRINTED_WIDTH, number, width, 6.7);
   const blocks = [];
   for (let first = 0; first < count; first += BLOCK) {
     const last = Math.min(count, first + BLOCK);
@@ -109,7 +110,8 @@ function printPaper() {
   FOLDS.forEach(id => find(id).setAttribute("open", ""));
   const paper = find("paper");
   paper.style.setProperty("--row", `${PRINTED_ROW}px`);
-  paper.style.setProperty("--chart", `${column * shown.run.module.partitions.length}px`);
+  paper.style.setProperty("--number", `${number}px`);
+  paper.style.setProperty("--chart", `${width}px`);
   const left = shown.rows.length - count;
   paper.replaceChildren(make("h2", {text: `Calls (${find("count").textContent})`}), ...blocks,
     ...(left > 0 ? [make("p", {text: `${plural(left, "more call")}, not printed: filter the list to print a part.`})] : []));
