@@ -31,8 +31,9 @@ function arrowHeads() {
 
 // How wide a life line's column is where the list has this width, by whole units.
 function columnWidth(width, count) {
-  const share = width < 500 ? 0.3 : 0.36;
-  return Math.max(4, Math.min(90, Math.floor(width * share / Math.max(1, count))));
+  const share = width < 500 ? 0.3 : 0.36, atMost = part => Math.floor(width * part / Math.max(1, count));
+  // (upright names are read from 10 units on)
+  return Math.max(4, Math.min(90, Math.max(atMost(share), Math.min(10, atMost(0.4)))));
 }
 
 // Where an arrow goes; between calls of one life line it bends aside.
@@ -48,8 +49,8 @@ function clipped([x1, y1], [x2, y2], top, bottom) {
   return [across(begin), begin, across(end), end];
 }
 
-// The most arrows that are drawn to ends below the rows in sight.
-const MOST_BELOW = 400;
+// The most arrows that are drawn to ends below the rows in sight, and of the chosen call as many.
+const MOST_BELOW = 100;
 
 // Draws rows first up to before last of the list, as one picture of their height.
 function drawChart(shown, first, last, column, high) {
@@ -60,24 +61,26 @@ function drawChart(shown, first, last, column, high) {
   const width = column * run.module.partitions.length, height = (last - first) * high;
   const lines = run.module.partitions.map(name => make("svg:path", {
     class: `life${belongs(shown.mark, {partition: name}) ? " marked" : ""}`, d: `M${across(name)} 0V${height}`}));
-  const arrows = [], marks = [];
+  const isSeen = ({from, to}) => rowOf[from] >= 0 && rowOf[to] >= 0 && rowOf[from] < last && rowOf[to] >= first;
+  const drawArrow = (arrow, more) => make("svg:path", {
+    class: `arrow ${kindOfArrow(arrow)}${more}`, "marker-end": `url(#head-${kindOfArrow(arrow)})`,
+    "data-from": arrow.from + 1, "data-to": arrow.to + 1,
+    d: courseOf(...clipped(place(run.calls[arrow.from]), place(run.calls[arrow.to]), -3 * high, height + 3 * high), column)});
+  const {selected} = shown, arrows = [], marks = [];
   // (they are in the order of their ends, so those that end in sight come first)
   const most = last - first + MOST_BELOW;
   for (const arrow of run.arrows) {
     if (arrows.length === most) break;
-    const from = rowOf[arrow.from], to = rowOf[arrow.to];
-    if (from < 0 || to < 0 || from >= last || to < first) continue;
-    const kind = kindOfArrow(arrow), chosen = arrow.from === shown.selected || arrow.to === shown.selected;
-    arrows.push(make("svg:path", {
-      class: `arrow ${kind}${chosen ? " chosen" : ""}`, "marker-end": `url(#head-${kind})`, "data-from": arrow.from + 1,
-      "data-to": arrow.to + 1,
-      d: courseOf(...clipped(place(run.calls[arrow.from]), place(run.calls[arrow.to]), -3 * high, height + 3 * high), column)}));
+    if (isSeen(arrow) && arrow.from !== selected && arrow.to !== selected) arrows.push(drawArrow(arrow, ""));
   }
+  // (those of the chosen call are over all others)
+  const chosen = [run.incoming.get(selected), ...run.outgoing.get(selected) || []].filter(it => it && isSeen(it));
+  arrows.push(...chosen.slice(0, most).map(arrow => drawArrow(arrow, " chosen")));
   for (let row = first; row < last; row += 1) {
     const call = run.calls[rows[row]], [x, y] = place(call);
     const mark = make("svg:g", {transform: `translate(${x} ${y})`, "data-call": call.place + 1});
     for (const kind of kindsOfMarks(run, call)) MARKS[kind][1](mark);
-    if (call.place === shown.selected) mark.append(make("svg:circle", {r: 11, class: "chosen-ring"}));
+    if (call.place === selected) mark.append(make("svg:circle", {r: 11, class: "chosen-ring"}));
     marks.push(mark);
   }
   return make("svg:svg", {width, height, viewBox: `0 0 ${width} ${height}`, class: "chart", "aria-hidden": "true"},
@@ -87,14 +90,16 @@ function drawChart(shown, first, last, column, high) {
 // The names above the life lines, upright where they fit.
 function drawHeads(module, mark, column, onMark) {
   const longest = Math.max(0, ...module.partitions.map(name => name.length));
-  const isTurned = longest * 8 > column;
-  return module.partitions.map(name => {
+  // (where the lines are close, some have their names)
+  const isTurned = longest * 8 > column, every = Math.ceil(8 / column);
+  return module.partitions.map((name, at) => {
     const head = make("button", {
       type: "button", text: name, title: `Mark partition ${name}`, class: `head-name${isTurned ? " turned" : ""}`,
       "aria-pressed": String(Boolean(mark && mark.kind === "partition" && mark.partition === name)),
       onclick: () => onMark({kind: "partition", partition: name})});
     head.style.width = `${column}px`;
-    head.style.fontSize = `${Math.max(7, Math.min(12, column))}px`;
+    head.style.fontSize = `${Math.min(12, column * every)}px`;
+    head.style.visibility = at % every ? "hidden" : null;
     return head;
   });
 }

@@ -1,7 +1,9 @@
 // The list of calls: which are listed, which are drawn, and which one is chosen.
 
-// What is shown: the run, the places of the listed calls, the row of each place or -1, the chosen place, and the mark.
-const shown = {run: null, rows: [], rowOf: [], selected: null, mark: null, high: 40, column: 20, drawn: ""};
+// What is shown: the run, the places of the listed calls, the row of each place or -1, the chosen place, the mark, the width
+// of a life line's column, how many characters have room in a line, and the lines and the height of a row.
+const shown = {run: null, rows: [], rowOf: [], selected: null, mark: null, column: 20, room: 60, lines: 2, high: 40,
+  drawn: ""};
 // Browsers have no higher elements than some 17 million units.
 const HIGHEST = 12e6;
 const FILTERS = {"by-partition": "partition", "by-channel": "channel", "by-service": "service", "by-code": "code"};
@@ -57,13 +59,57 @@ function fillFilters() {
 
 // ---- what is drawn
 
+// What is written of a call's reply: parts with their elements.
+function partsOfReply(call) {
+  const inBrackets = words => words ? ` (${words})` : "", {departure, replies} = call;
+  const parts = [["span", `${call.isRefused ? "\u2717 " : ""}${call.answer}${inBrackets(call.words)}`]];
+  if (departure) parts.push(["strong", ` \u25c6 standard: ${departure.standard}${inBrackets(departure.words)}`]);
+  if (replies && replies.length > 1) parts.push(["em", ` \u21c4 ${replies.length} replies by order`]);
+  return parts;
+}
+
+const textOf = parts => parts.map(([, text]) => text).join("");
+
+// How many lines a text takes where this many characters have room in one; it is broken at spaces, as the browser does.
+function linesOf(text, room) {
+  let lines = 1, used = 0;
+  for (const {length} of text.split(" ")) {
+    if (used && used + 1 + length > room) [lines, used] = [lines + 1, 0];
+    used += (used ? 1 : 0) + length;
+    for (; used > room; used -= room) lines += 1;
+  }
+  return lines;
+}
+
+// How many lines each row has: as many as the longest departure takes, and in a narrow list the longest refusal, in bounds.
+function linesOfRows(run, room, isNarrow) {
+  const least = isNarrow ? 3 : 2, most = least + (isNarrow && run.told.departures.length ? 2 : 1);
+  let lines = least;
+  for (const call of run.calls) {
+    if (lines >= most) return most;
+    if (call.departure || isNarrow && call.words) lines = Math.max(lines, 1 + linesOf(textOf(partsOfReply(call)), room));
+  }
+  return Math.min(lines, most);
+}
+
+// How wide the column of numbers and moments is: each moment has room, in a narrow list in two lines.
+function numberWidth(run, isNarrow) {
+  const wanted = run.calls.reduce((most, {at}) => Math.max(most, 10 + Math.ceil(6.7 * String(at).length)), isNarrow ? 62 : 92);
+  return isNarrow ? Math.min(80, wanted) : wanted;
+}
+
+// How many characters have room beside the chart, by the width of one.
+const roomFor = (width, number, chart, character) => Math.max(8, Math.floor((width - number - chart - 18) / character));
+
 function measure() {
-  // (a long reply takes two lines)
-  const isTall = find("list").clientWidth < 700 || shown.run.told.departures.length > 0;
-  shown.high = isTall ? 58 : 40;
-  document.body.classList.toggle("is-tall", isTall);
-  shown.column = columnWidth(find("list").clientWidth, shown.run.module.partitions.length);
+  const {clientWidth} = find("list"), isNarrow = clientWidth < 700;
+  shown.column = columnWidth(clientWidth, shown.run.module.partitions.length);
   const width = shown.column * shown.run.module.partitions.length;
+  const number = numberWidth(shown.run, isNarrow);
+  shown.room = roomFor(clientWidth, number, width, 7.3);
+  shown.lines = linesOfRows(shown.run, shown.room, isNarrow);
+  shown.high = Math.ceil(5 + 17.4 * shown.lines);
+  document.documentElement.style.setProperty("--number", `${number}px`);
   document.documentElement.style.setProperty("--chart", `${width}px`);
   document.documentElement.style.setProperty("--row", `${shown.high}px`);
   keepFocus(find("heads"), () => find("heads").replaceChildren(
@@ -91,7 +137,7 @@ function draw(isAnew) {
   if (!isAnew && shown.drawn === `${first} ${last}`) return;
   shown.drawn = `${first} ${last}`;
   find("rows").replaceChildren(drawChart(shown, first, last, shown.column, shown.high),
-    ...Array.from({length: last - first}, (_, at) => drawRow(first + at)));
+    ...Array.from({length: last - first}, (_, at) => drawRow(first + at, shown.lines, shown.room)));
 }
 
 // The other ends of a call's arrows, in words.
@@ -102,25 +148,29 @@ function endsOf(run, call) {
   return (from ? ` \u2190 ${from.from + 1}` : "") + (first ? ` \u2192 ${first}` : "");
 }
 
-// One call: its number and moment, room for the chart, what was called, and the reply.
-function drawRow(row) {
+// Writes parts of a text into at most so many lines, and returns how many it takes. What is longer fills each line.
+function write(into, parts, wanted, lines) {
+  into.append(...parts.map(([tag, text]) => make(tag, {text})));
+  into.classList.toggle("filled", wanted > lines);
+  into.style.webkitLineClamp = Math.min(wanted, lines);
+  return Math.min(wanted, lines);
+}
+
+// One call: its number and moment, room for the chart, what was called, and the reply, in so many lines.
+function drawRow(row, lines, room) {
   const call = shown.run.calls[shown.rows[row]];
-  const inBrackets = words => words ? ` (${words})` : "";
-  const why = inBrackets(call.words), {departure} = call;
-  const reply = make("span", {class: `reply${call.isRefused ? " is-refused" : ""}`});
-  reply.append(`${call.isRefused ? "\u2717 " : ""}${call.answer}${why}`);
-  if (departure) {
-    reply.append(make("strong", {text: ` \u25c6 standard: ${departure.standard}${inBrackets(departure.words)}`}));
-  }
-  if (call.replies && call.replies.length > 1) {
-    reply.append(make("em", {text: ` \u21c4 ${call.replies.length} replies by order`}));
-  }
-  const asked = make("span", {class: "asked"}, make("b", {text: call.partition}), ` ${call.asked}${endsOf(shown.run, call)}`);
+  const reply = make("span", {class: `reply${call.isRefused ? " is-refused" : ""}`}), asked = make("span", {class: "asked"});
+  const replied = partsOfReply(call), called = [["b", call.partition], ["span", ` ${call.asked}${endsOf(shown.run, call)}`]];
+  const wanted = linesOf(textOf(called), room);
+  // (words of a refusal or a departure come first)
+  const kept = call.isRefused || call.departure ? 1 : Math.min(wanted, Math.floor(lines / 2));
+  const taken = write(reply, replied, linesOf(textOf(replied), room), lines - kept);
+  write(asked, called, wanted, lines - taken);
   const classes = ["row", callBelongs(shown.mark, call) && "marked", call.place === shown.selected && "selected",
-    departure && "departing"].filter(Boolean).join(" ");
+    call.departure && "departing"].filter(Boolean).join(" ");
   return make("div", {
     class: classes, role: "option", id: `call-${call.place + 1}`, "aria-selected": String(call.place === shown.selected),
-    "aria-setsize": shown.rows.length, "aria-posinset": row + 1, title: `${call.text.trim()} -> ${call.answer}${why}`,
+    "aria-setsize": shown.rows.length, "aria-posinset": row + 1, title: `${call.text.trim()} -> ${textOf(partsOfReply(call))}`,
     onclick: () => select(call.place)},
     make("span", {class: "number"}, make("b", {text: call.place + 1}), make("i", {text: call.at})),
     make("span", {class: "room"}),

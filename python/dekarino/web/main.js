@@ -1,7 +1,7 @@
 // Starts the page, and prints it.
 
 // The most calls that are printed, and the rows of a block that stays on one page.
-const MOST_PRINTED = 4000, BLOCK = 19, PRINTED_ROW = 50;
+const MOST_PRINTED = 4000, BLOCK = 19, PRINTED_ROW = 50, PRINTED_LINES = 3, PRINTED_WIDTH = 680;
 const BUTTONS = {"next-refused": "r", "next-departure": "d", "next-marked": "m"};
 const FOLDS = ["legend-fold", "config-fold", "sources-fold"];
 
@@ -79,7 +79,6 @@ function listen() {
   addEventListener("beforeprint", printPaper);
   addEventListener("afterprint", () => {
     find("paper").replaceChildren();
-    if (shown.run) measure();
     FOLDS.forEach(id => find(id).removeAttribute("open"));
   });
 }
@@ -97,27 +96,29 @@ function onKey(event) {
 function printPaper() {
   if (!shown.run) return;
   const count = Math.min(shown.rows.length, MOST_PRINTED);
-  const column = columnWidth(680, shown.run.module.partitions.length);
+  const column = columnWidth(PRINTED_WIDTH, shown.run.module.partitions.length);
+  const width = column * shown.run.module.partitions.length, number = numberWidth(shown.run, false);
+  const room = roomFor(PRINTED_WIDTH, number, width, 6.7);
   const blocks = [];
   for (let first = 0; first < count; first += BLOCK) {
     const last = Math.min(count, first + BLOCK);
-    blocks.push(make("div", {class: "block"}, make("div", {class: "paper-heads"}, make("span", {class: "head-number"}),
+    blocks.push(make("div", {class: "block"}, make("div", {class: "paper-heads"}, make("span", {class: "head-number", text: "Call, moment"}),
       ...drawHeads(shown.run.module, shown.mark, column, () => {})),
       make("div", {class: "paper-rows"}, drawChart(shown, first, last, column, PRINTED_ROW),
-        ...Array.from({length: last - first}, (_, at) => printedRow(first + at)))));
+        ...Array.from({length: last - first}, (_, at) => printedRow(first + at, room)))));
   }
   FOLDS.forEach(id => find(id).setAttribute("open", ""));
-  document.body.classList.add("is-tall");
   const paper = find("paper");
   paper.style.setProperty("--row", `${PRINTED_ROW}px`);
-  paper.style.setProperty("--chart", `${column * shown.run.module.partitions.length}px`);
+  paper.style.setProperty("--number", `${number}px`);
+  paper.style.setProperty("--chart", `${width}px`);
   const left = shown.rows.length - count;
   paper.replaceChildren(make("h2", {text: `Calls (${find("count").textContent})`}), ...blocks,
     ...(left > 0 ? [make("p", {text: `${plural(left, "more call")}, not printed: filter the list to print a part.`})] : []));
 }
 
-function printedRow(row) {
-  const drawn = drawRow(row);
+function printedRow(row, room) {
+  const drawn = drawRow(row, PRINTED_LINES, room);
   for (const name of ["id", "role", "aria-selected", "aria-setsize", "aria-posinset"]) drawn.removeAttribute(name);
   return drawn;
 }

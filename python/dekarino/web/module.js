@@ -93,24 +93,24 @@ function plotOf(counts) {
   const {channel} = counts, total = shown.run.calls.length;
   const {known} = shown.run.told;
   const when = known < total ? `after call ${known}` : "in the end";
-  const words = `${channel.name}: ${counts.end} waiting ${when}, at most ${counts.most}, depth ${channel.depth}`;
+  const words = `${counts.end} ${when}, at most ${counts.most}, depth ${channel.depth}`;
   if (!counts.agrees) {
     return make("p", {text: `${channel.name}: the count of replies is not what the program says, and is not drawn`});
   }
   const greatest = Math.max(channel.depth, counts.most);
   const level = value => PLOT.bottom - value / greatest * (PLOT.bottom - PLOT.top);
   const picture = make("svg:svg", {
-    class: "plot", viewBox: `0 0 ${PLOT.width} ${PLOT.height}`, preserveAspectRatio: "none", role: "img", "aria-label": words,
+    class: "plot", viewBox: `0 0 ${PLOT.width} ${PLOT.height}`, preserveAspectRatio: "none", role: "img", "aria-label": `${channel.name}: messages waiting: ${words}`,
     onclick: event => {
       const box = picture.getBoundingClientRect();
       choose(Math.max(0, Math.min(total - 1, Math.round((event.clientX - box.left) / box.width * total) - 1)));
     }},
-    make("svg:path", {class: "depth", d: `M0 ${level(channel.depth)}H${PLOT.width}`}),
     make("svg:path", {class: "base", d: `M0 ${PLOT.bottom}H${PLOT.width}`}),
     make("svg:path", {class: "count", d: stepsOf(counts, total, level)}),
+    make("svg:path", {class: "depth", d: `M0 ${level(channel.depth)}H${PLOT.width}`}),
     make("svg:path", {class: "now", d: ""}));
   const name = marking(channel.name, {kind: "channel", channel: channel.name}, "channel-name");
-  return make("figure", {}, make("figcaption", {}, name, make("span", {text: words.slice(channel.name.length + 1)})), picture);
+  return make("figure", {}, make("figcaption", {}, name, make("span", {text: ` ${words}`})), picture);
 }
 
 // Goes to a call, which the filters may have left out, and to the list.
