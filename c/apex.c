@@ -1,7 +1,4 @@
 /* The services of apex.h: each is one call of apex_ports.h, made behind a lock. */
-#undef _POSIX_C_SOURCE
-#define _POSIX_C_SOURCE 200809L
-
 #include "apex_host.h"
 
 #include <pthread.h>
@@ -154,7 +151,7 @@ void WRITE_SAMPLING_MESSAGE(SAMPLING_PORT_ID_TYPE SAMPLING_PORT_ID, MESSAGE_ADDR
     } else if (answer == APEX_TOO_LONG) {
         struct apex_sampling_port_status status;
         answer = apex_get_sampling_port_status(&module, partition, now, id, &status);
-        apex_note_sampling_status(made_now(now, APEX_GET_SAMPLING_PORT_STATUS, id, answer), &status);
+        apex_note_status(made_now(now, APEX_GET_SAMPLING_PORT_STATUS, id, answer), NULL, &status);
         answer = answer_too_long(answer);
     } else {
         apex_note_message(made_now(now, APEX_WRITE_SAMPLING_MESSAGE, id, answer), MESSAGE_ADDR, byte_count(LENGTH));
@@ -211,8 +208,7 @@ void GET_SAMPLING_PORT_STATUS(SAMPLING_PORT_ID_TYPE SAMPLING_PORT_ID, SAMPLING_P
     const uint64_t now = moment();
     uint32_t answer =
         apex_get_sampling_port_status(&module, partition, now, (uint32_t)SAMPLING_PORT_ID, &status);
-    apex_note_sampling_status(made_now(now, APEX_GET_SAMPLING_PORT_STATUS, (uint32_t)SAMPLING_PORT_ID, answer),
-                              &status);
+    apex_note_status(made_now(now, APEX_GET_SAMPLING_PORT_STATUS, (uint32_t)SAMPLING_PORT_ID, answer), NULL, &status);
     pthread_mutex_unlock(&lock);
     if (answer == NO_ERROR) {
         SAMPLING_PORT_STATUS->REFRESH_PERIOD = (SYSTEM_TIME_TYPE)status.refresh;
@@ -269,7 +265,7 @@ void SEND_QUEUING_MESSAGE(QUEUING_PORT_ID_TYPE QUEUING_PORT_ID, MESSAGE_ADDR_TYP
     } else if (answer == APEX_TOO_LONG) {
         struct apex_queuing_port_status status;
         answer = apex_get_queuing_port_status(&module, partition, now, id, &status);
-        apex_note_queuing_status(made_now(now, APEX_GET_QUEUING_PORT_STATUS, id, answer), &status);
+        apex_note_status(made_now(now, APEX_GET_QUEUING_PORT_STATUS, id, answer), &status, NULL);
         answer = answer_too_long(answer);
     } else {
         apex_note_message(made_now(now, APEX_SEND_QUEUING_MESSAGE, id, answer), MESSAGE_ADDR, byte_count(LENGTH));
@@ -328,7 +324,7 @@ void GET_QUEUING_PORT_STATUS(QUEUING_PORT_ID_TYPE QUEUING_PORT_ID, QUEUING_PORT_
     pthread_mutex_lock(&lock);
     const uint64_t now = moment();
     uint32_t answer = apex_get_queuing_port_status(&module, partition, now, (uint32_t)QUEUING_PORT_ID, &status);
-    apex_note_queuing_status(made_now(now, APEX_GET_QUEUING_PORT_STATUS, (uint32_t)QUEUING_PORT_ID, answer), &status);
+    apex_note_status(made_now(now, APEX_GET_QUEUING_PORT_STATUS, (uint32_t)QUEUING_PORT_ID, answer), &status, NULL);
     const WAITING_RANGE_TYPE waiting =
         apex_host == NULL ? 0 : apex_host->waiting(&module, partition, (uint32_t)QUEUING_PORT_ID);
     pthread_mutex_unlock(&lock);
