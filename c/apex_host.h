@@ -44,6 +44,9 @@ extern const struct apex_host *apex_host;
 extern void (*apex_keep)(const struct apex_made *made);
 extern bool (*apex_fault)(struct apex_made *made);
 
+/* Whether a service is called with a name. */
+bool apex_has_name(uint32_t service);
+
 /* Hand a call on to the first two. To be called behind the lock. */
 void apex_note(const struct apex_made *made);
 void apex_note_named(struct apex_made made, const char *name, uint32_t id);

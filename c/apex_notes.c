@@ -13,7 +13,7 @@ bool (*apex_fault)(struct apex_made *made);
 static _Thread_local struct apex_made refused;
 static _Thread_local uint8_t refused_name[MAX_NAME_LENGTH];
 
-static bool has_name(uint32_t service) {
+bool apex_has_name(uint32_t service) {
     return service == APEX_CREATE_SAMPLING_PORT || service == APEX_CREATE_QUEUING_PORT ||
            service == APEX_GET_SAMPLING_PORT_ID || service == APEX_GET_QUEUING_PORT_ID;
 }
@@ -24,7 +24,7 @@ void apex_note(const struct apex_made *made) {
     }
     if (made->answer != NO_ERROR) {
         refused = *made;
-        if (has_name(made->call.service)) {
+        if (apex_has_name(made->call.service)) {
             memcpy(refused_name, made->bytes, made->length);
         }
     }
@@ -92,8 +92,8 @@ const char *bench_last_words(void) {
     words[0] = '\0';
     if (refused.answer != NO_ERROR) {
         apex_call_words(bench_take_handle(), refused.partition, 0, &refused.call,
-                        has_name(refused.call.service) ? refused_name : no_message, refused.length,
-                        (uint8_t *)words, sizeof words - 1, &length);
+                        apex_has_name(refused.call.service) ? refused_name : no_message,
+                        refused.length, (uint8_t *)words, sizeof words - 1, &length);
         bench_give_handle_back();
         words[length < sizeof words ? length : 0] = '\0';
     }

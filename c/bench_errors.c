@@ -5,12 +5,12 @@
 #include <string.h>
 
 /* Sets the mode of a partition for it, as the health monitor does. */
-static bool set_mode(uint32_t partition, OPERATING_MODE_TYPE mode) {
-    struct apex_made made = {.module = bench_take_handle(), .partition = partition};
+static bool set_mode(const struct bench_host_partition *partition, OPERATING_MODE_TYPE mode) {
+    struct apex_made made = {.module = bench_take_handle(), .partition = partition->number};
     made.call.service = APEX_SET_PARTITION_MODE;
     made.call.mode = mode;
     made.at = (uint64_t)bench_host.now;
-    made.answer = apex_set_partition_mode(made.module, partition, made.at, mode);
+    made.answer = apex_set_partition_mode(made.module, made.partition, made.at, mode);
     apex_note(&made);
     bench_give_handle_back();
     return made.answer == NO_ERROR;
@@ -21,7 +21,7 @@ static void act(struct bench_process *failed, const char *service, const APEX_BY
                 int32_t length) {
     static const char *const words[] = {"IGNORE", "IDLE", "COLD_START", "WARM_START"};
     static const OPERATING_MODE_TYPE modes[] = {NORMAL, IDLE, COLD_START, WARM_START};
-    struct bench_host_partition *partition = &bench_host.partition[failed->partition];
+    struct bench_host_partition *partition = failed->partition;
     const enum bench_action action = partition->on_error;
     char what[64];
     snprintf(what, sizeof what, "no error handler takes it: %s%s", words[action],
@@ -32,7 +32,7 @@ static void act(struct bench_process *failed, const char *service, const APEX_BY
     }
     /* (a partition that is in COLD_START can't be set to WARM_START) */
     partition->is_by_monitor =
-        set_mode(failed->partition, modes[action]) || set_mode(failed->partition, COLD_START);
+        set_mode(partition, modes[action]) || set_mode(partition, COLD_START);
     if (bench_self != NULL) {
         bench_end_self();
     }
@@ -47,7 +47,7 @@ static void start_handler(struct bench_host_partition *partition) {
 
 void bench_raise(struct bench_process *failed, const char *service, ERROR_CODE_TYPE code,
                  const APEX_BYTE *message, int32_t length) {
-    struct bench_host_partition *partition = &bench_host.partition[failed->partition];
+    struct bench_host_partition *partition = failed->partition;
     struct bench_process *handler = &partition->process[BENCH_HANDLER];
     if (!partition->has_handler || !partition->is_normal || failed == handler) {
         act(failed, service, message, length);

@@ -28,8 +28,7 @@ void bench_make_ready(struct bench_process *process, SYSTEM_TIME_TYPE moment) {
 }
 
 SYSTEM_TIME_TYPE bench_first_release(const struct bench_process *process) {
-    return bench_is_periodic(process) ? bench_host.partition[process->partition].next
-                                      : bench_host.now;
+    return bench_is_periodic(process) ? process->partition->next : bench_host.now;
 }
 
 void bench_release(struct bench_process *process, SYSTEM_TIME_TYPE moment) {
@@ -100,9 +99,8 @@ static struct bench_process *first_late(struct bench_host_partition *partition,
 }
 
 void bench_yield(void) {
-    struct bench_host_partition *partition = &bench_host.partition[bench_self->partition];
-    if (bench_host.now >= bench_host.window_end || next_process(partition) != bench_self ||
-        first_late(partition, bench_host.now) != NULL) {
+    if (bench_host.now >= bench_host.window_end || next_process(bench_own()) != bench_self ||
+        first_late(bench_own(), bench_host.now) != NULL) {
         bench_give_turn_back();
     }
 }
@@ -121,16 +119,16 @@ static void end_partition(struct bench_host_partition *partition) {
     for (PROCESS_ID_TYPE id = BENCH_MAIN; id <= BENCH_HANDLER; id++) {
         bench_stop(&partition->process[id]);
     }
-    bench_end_objects(partition);
+    bench_end_objects(partition->number);
     partition->processes = 0;
     partition->has_handler = false;
 }
 
 /* Does what a change of the partition's mode asks for; false where it can't. */
-static bool follow_mode(uint32_t number) {
-    struct bench_host_partition *partition = &bench_host.partition[number];
+static bool follow_mode(struct bench_host_partition *partition) {
     OPERATING_MODE_TYPE mode;
-    if (!bench_expects(bench_find_mode(number, &mode), "bench_run_frame", "the module is closed")) {
+    if (!bench_expects(bench_find_mode(partition->number, &mode), "bench_run_frame",
+                       "the module is closed")) {
         return false;
     }
     if (partition->must_restart && partition->has_main_run) {
@@ -156,30 +154,28 @@ static bool follow_mode(uint32_t number) {
 
 /* Windows. */
 
-static void start_main(uint32_t number) {
-    struct bench_host_partition *partition = &bench_host.partition[number];
+static void start_main(struct bench_host_partition *partition) {
     struct bench_process *main_process = &partition->process[BENCH_MAIN];
     partition->has_main_run = true;
     bench_stop(main_process);
     *main_process = (struct bench_process){
-        .partition = number,
+        .partition = partition,
         .id = BENCH_MAIN,
         .attributes = {.ENTRY_POINT = partition->how.entry, .NAME = "main"},
         .is_started = true,
     };
 }
 
-static void begin_window(uint32_t number) {
-    struct bench_host_partition *partition = &bench_host.partition[number];
+static void begin_window(struct bench_host_partition *partition) {
     bench_host.window_end = partition->next + partition->how.duration;
     partition->next += partition->how.period;
     BENCH_EACH(each, partition) {
         each->zero_delays = 0;
     }
     bench_make_delayed();
-    bench_settle(number);
+    bench_settle(partition);
     if (!partition->has_main_run) {
-        start_main(number);
+        start_main(partition);
     }
 }
 
@@ -196,13 +192,12 @@ static bool is_too_often(struct bench_host_partition *partition, struct bench_pr
 }
 
 /* Runs a window: every process that is ready before its end. */
-static bool run_window(uint32_t number) {
-    struct bench_host_partition *partition = &bench_host.partition[number];
+static bool run_window(struct bench_host_partition *partition) {
     bench_go_on_to(partition->next);
-    if (!follow_mode(number)) {
+    if (!follow_mode(partition)) {
         return false;
     }
-    begin_window(number);
+    begin_window(partition);
     for (;;) {
         struct bench_process *process = next_process(partition);
         const SYSTEM_TIME_TYPE at =
@@ -224,7 +219,7 @@ static bool run_window(uint32_t number) {
                 bench_restart_handler(partition);
             }
         }
-        if (!follow_mode(number)) {
+        if (!follow_mode(partition)) {
             return false;
         }
     }
@@ -273,6 +268,7 @@ bool bench_add_partition(uint32_t partition, const struct bench_partition *how) 
         bench_expects(is_in_period(how), __func__, "the window doesn't lie within one period") &&
         bench_expects(is_apart(how), __func__, "windows of two partitions overlap");
     if (is_new) {
+        bench_host.partition[partition].number = partition;
         bench_host.partition[partition].how = *how;
         bench_host.partition[partition].next = how->offset;
         apex_host = &bench_hooks;
@@ -291,14 +287,13 @@ bool bench_on_error(uint32_t partition, enum bench_action action) {
     return is_so;
 }
 
-/* The partition whose window begins next, before the moment; BENCH_PARTITIONS where none does. */
-static uint32_t next_window(SYSTEM_TIME_TYPE before) {
-    uint32_t next = BENCH_PARTITIONS;
+/* The partition whose window begins next, before the moment; null where none does. */
+static struct bench_host_partition *next_window(SYSTEM_TIME_TYPE before) {
+    struct bench_host_partition *next = NULL;
     for (uint32_t p = 0; p < BENCH_PARTITIONS; p++) {
-        const struct bench_host_partition *each = &bench_host.partition[p];
-        if (is_added(p) && each->next < before) {
-            before = each->next;
-            next = p;
+        if (is_added(p) && bench_host.partition[p].next < before) {
+            next = &bench_host.partition[p];
+            before = next->next;
         }
     }
     return next;
@@ -321,9 +316,10 @@ bool bench_run_frame(SYSTEM_TIME_TYPE length) {
         return false;
     }
     const SYSTEM_TIME_TYPE end = bench_host.now + length;
+    struct bench_host_partition *next;
     bench_host.has_begun = true;
-    for (uint32_t p = next_window(end); p < BENCH_PARTITIONS; p = next_window(end)) {
-        if (!run_window(p)) {
+    while ((next = next_window(end)) != NULL) {
+        if (!run_window(next)) {
             bench_host.has_failed = true;
             return false;
         }

@@ -13,7 +13,7 @@
 /* The places of a partition's main process and of its error handler among its processes. */
 enum { BENCH_MAIN = 0, BENCH_HANDLER = MAX_NUMBER_OF_PROCESSES + 1 };
 
-enum { BENCH_PARTITIONS = 32, BENCH_CHANNELS = 64, BENCH_OBJECTS = 32 /* of a kind */ };
+enum { BENCH_PARTITIONS = 32, BENCH_CHANNELS = 64 };
 
 #define BENCH_NEVER INT64_MAX
 
@@ -39,8 +39,8 @@ struct bench_wait {
 };
 
 struct bench_process {
-    uint32_t partition;
-    PROCESS_ID_TYPE id; /* or BENCH_MAIN or BENCH_HANDLER */
+    struct bench_host_partition *partition; /* null where there was none in its place yet */
+    PROCESS_ID_TYPE id;                     /* or BENCH_MAIN or BENCH_HANDLER */
     PROCESS_ATTRIBUTE_TYPE attributes;
     PRIORITY_TYPE priority;
     bool is_started;           /* it isn't DORMANT */
@@ -62,25 +62,8 @@ struct bench_process {
     jmp_buf start;
 };
 
-enum bench_kind { BENCH_BUFFER, BENCH_BLACKBOARD, BENCH_SEMAPHORE, BENCH_EVENT, BENCH_KINDS };
-
-struct bench_message {
-    MESSAGE_SIZE_TYPE length;
-    APEX_BYTE bytes[SYSTEM_LIMIT_MESSAGE_SIZE];
-};
-
-/* A buffer, blackboard, semaphore or event. */
-struct bench_object {
-    NAME_TYPE name;
-    struct bench_queue takers, senders; /* no senders but of a buffer */
-    APEX_INTEGER value;     /* the messages there, a semaphore's value, whether an event is UP */
-    APEX_INTEGER limit;     /* of the value */
-    MESSAGE_SIZE_TYPE size; /* of a message; 0 without any */
-    APEX_INTEGER oldest;
-    struct bench_message *messages;
-};
-
 struct bench_host_partition {
+    uint32_t number;
     struct bench_partition how; /* no entry where it wasn't added */
     char *file, *entry;         /* where it is a shared object */
     void *library;
@@ -95,8 +78,6 @@ struct bench_host_partition {
     struct bench_process *locker;
     bool has_handler;
     int64_t handler_start; /* the order of what had happened by then */
-    APEX_INTEGER objects[BENCH_KINDS];
-    struct bench_object object[BENCH_KINDS][BENCH_OBJECTS];
     PROCESS_ID_TYPE processes;
     struct bench_process process[MAX_NUMBER_OF_PROCESSES + 2];
 };
@@ -183,9 +164,7 @@ struct bench_host_partition *bench_own(void);
 bool bench_is_served(const char *service, const void *place, RETURN_CODE_TYPE *code);
 bool bench_needs(bool is_so, RETURN_CODE_TYPE otherwise, RETURN_CODE_TYPE *code);
 
-/* Whether the calling process is one that may wait now, and for this time-out, as each may for 0.
- */
-bool bench_may_wait(void);
+/* Whether the calling process may wait for so long, as each may for 0. */
 bool bench_may_time_out(SYSTEM_TIME_TYPE time_out, RETURN_CODE_TYPE *code);
 
 bool bench_is_periodic(const struct bench_process *process);
@@ -212,7 +191,7 @@ RETURN_CODE_TYPE bench_wait_at(const struct bench_queue *queue, SYSTEM_TIME_TYPE
 /* Grants what is there, to a process for each message that waits and for each place that is free;
  * behind the lock. Makes the calls of the partition's processes that are granted something. */
 void bench_grant(struct apex_handle *module, uint32_t channel);
-void bench_settle(uint32_t partition);
+void bench_settle(struct bench_host_partition *partition);
 
 /* bench_faults.c: makes the calls that faults have delayed until now; whether a queue is held full
  * now. */
@@ -221,7 +200,7 @@ bool bench_is_held_full(uint32_t channel);
 void bench_end_faults(void);
 
 /* bench_objects.c: gives back what the partition's buffers and blackboards hold. */
-void bench_end_objects(struct bench_host_partition *partition);
+void bench_end_objects(uint32_t partition);
 
 /* bench_load.c: loads a partition that is a shared object anew, false where it can't; and gives
  * back what it holds. */

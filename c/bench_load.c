@@ -15,38 +15,28 @@ static bool expects(bool is_so, const char *what, const char *why) {
     return bench_expects(is_so, "bench_load_partition", line);
 }
 
-static bool copy_bytes(FILE *from, FILE *to) {
-    static char bytes[65536];
-    size_t length;
-    while ((length = fread(bytes, 1, sizeof bytes, from)) > 0) {
-        if (fwrite(bytes, 1, length, to) != length) {
-            return false;
-        }
-    }
-    return !ferror(from) && fflush(to) == 0;
-}
-
-/* Copies a file to one with a name of its own, which the place gets; false where the errno says why
+/* Copies a file to one of a name of its own, which the place gets; false where the errno says why
  * not. */
-static bool copy_file(const char *file, char *place, size_t size) {
-    const char *folder = getenv("TMPDIR");
-    snprintf(place, size, "%s/dekarino-XXXXXX",
-             folder != NULL && folder[0] == '/' ? folder : "/tmp");
+static bool copy_file(const char *file, char *place) {
+    static char bytes[65536];
     FILE *from = fopen(file, "rb");
-    if (from == NULL) {
-        return false;
-    }
-    const int number = mkstemp(place);
+    const int number = from == NULL ? -1 : mkstemp(place);
     FILE *to = number < 0 ? NULL : fdopen(number, "wb");
-    const bool is_copied = to != NULL && copy_bytes(from, to);
-    const int why = errno;
-    if (to != NULL) {
-        fclose(to);
+    bool is_copied = to != NULL;
+    for (size_t length = 1; is_copied && length > 0;) {
+        length = fread(bytes, 1, sizeof bytes, from);
+        is_copied = !ferror(from) && fwrite(bytes, 1, length, to) == length && fflush(to) == 0;
     }
+    const int why = errno;
     if (number >= 0 && !is_copied) {
         unlink(place);
     }
-    fclose(from);
+    if (to != NULL) {
+        fclose(to);
+    }
+    if (from != NULL) {
+        fclose(from);
+    }
     errno = why;
     return is_copied;
 }
@@ -59,12 +49,15 @@ static void close_library(struct bench_host_partition *partition) {
 }
 
 bool bench_reload(struct bench_host_partition *partition) {
+    const char *folder = getenv("TMPDIR");
     char place[512];
     if (partition->file == NULL) {
         return true;
     }
     close_library(partition);
-    if (!copy_file(partition->file, place, sizeof place)) {
+    snprintf(place, sizeof place, "%s/dekarino-XXXXXX",
+             folder != NULL && folder[0] == '/' ? folder : "/tmp");
+    if (!copy_file(partition->file, place)) {
         return expects(false, partition->file, strerror(errno));
     }
     partition->library = dlopen(place, RTLD_NOW | RTLD_LOCAL);

@@ -5,50 +5,70 @@
 #include <stdlib.h>
 #include <string.h>
 
+enum bench_kind { BENCH_BUFFER, BENCH_BLACKBOARD, BENCH_SEMAPHORE, BENCH_EVENT, BENCH_KINDS };
+
+struct bench_message {
+    MESSAGE_SIZE_TYPE length;
+    APEX_BYTE bytes[SYSTEM_LIMIT_MESSAGE_SIZE];
+};
+
+/* A buffer, blackboard, semaphore or event. */
+struct bench_object {
+    NAME_TYPE name;
+    struct bench_queue takers, senders; /* no senders but of a buffer */
+    APEX_INTEGER value;     /* the messages there, a semaphore's value, whether an event is UP */
+    APEX_INTEGER limit;     /* of the value */
+    MESSAGE_SIZE_TYPE size; /* of a message; 0 without any */
+    APEX_INTEGER oldest;
+    struct bench_message *messages;
+};
+
+/* Of each partition: the objects of each kind, an identifier less 1 being the place. */
+enum { OBJECTS = 32 };
+static struct bench_list {
+    APEX_INTEGER count;
+    struct bench_object object[OBJECTS];
+} lists[BENCH_PARTITIONS][BENCH_KINDS];
+
 /* Creating and finding. */
 
-static struct bench_object *find_object(enum bench_kind kind, const char *name, APEX_INTEGER *id) {
-    struct bench_host_partition *partition = bench_own();
-    for (*id = 1; *id <= partition->objects[kind]; ++*id) {
-        struct bench_object *object = &partition->object[kind][*id - 1];
-        if (strncmp(object->name, name, MAX_NAME_LENGTH) == 0) {
-            return object;
-        }
-    }
-    return NULL;
+static struct bench_list *own_list(enum bench_kind kind) {
+    return &lists[bench_own()->number][kind];
 }
 
-/* Gives an object with messages their memory; false where it is refused. */
-static bool has_memory(struct bench_object *object) {
-    object->messages =
-        object->size > 0 ? calloc((size_t)object->limit, sizeof *object->messages) : NULL;
-    return object->size == 0 || object->messages != NULL;
+/* The identifier of the object of a name; 0 where there is none. */
+static APEX_INTEGER id_of(enum bench_kind kind, const char *name) {
+    APEX_INTEGER id = own_list(kind)->count;
+    while (id > 0 && strncmp(own_list(kind)->object[id - 1].name, name, MAX_NAME_LENGTH) != 0) {
+        id--;
+    }
+    return id;
 }
 
 /* Creates an object that has the fields of another, which are in range or not. */
 static void create(const char *service, enum bench_kind kind, const char *name,
                    struct bench_object made, bool is_in_range, APEX_INTEGER *place,
                    RETURN_CODE_TYPE *code) {
-    APEX_INTEGER id;
     if (bench_is_served(service, name == NULL ? NULL : place, code) &&
-        bench_needs(bench_own()->objects[kind] < BENCH_OBJECTS, INVALID_CONFIG, code) &&
-        bench_needs(find_object(kind, name, &id) == NULL, NO_ACTION, code) &&
+        bench_needs(own_list(kind)->count < OBJECTS, INVALID_CONFIG, code) &&
+        bench_needs(id_of(kind, name) == 0, NO_ACTION, code) &&
         bench_needs(is_in_range && name[0] != '\0', INVALID_PARAM, code) &&
         bench_needs(bench_host.mode != NORMAL, INVALID_MODE, code) &&
-        bench_needs(has_memory(&made), INVALID_CONFIG, code)) {
+        bench_needs(made.size == 0 ||
+                        (made.messages = calloc((size_t)made.limit, sizeof *made.messages)) != NULL,
+                    INVALID_CONFIG, code)) {
         memcpy(made.name, name, strnlen(name, MAX_NAME_LENGTH));
-        bench_own()->object[kind][bench_own()->objects[kind]] = made;
-        *place = ++bench_own()->objects[kind];
+        own_list(kind)->object[own_list(kind)->count++] = made;
+        *place = own_list(kind)->count;
     }
 }
 
 /* The services that find an object of a name. */
 #define GET_ID(KIND)                                                                               \
-    void GET_##KIND##_ID(KIND##_NAME_TYPE name, KIND##_ID_TYPE *place, RETURN_CODE_TYPE *code) {   \
-        APEX_INTEGER id;                                                                           \
-        if (bench_is_served(__func__, name == NULL ? NULL : place, code) &&                        \
-            bench_needs(find_object(BENCH_##KIND, name, &id) != NULL, INVALID_CONFIG, code)) {     \
-            *place = id;                                                                           \
+    void GET_##KIND##_ID(KIND##_NAME_TYPE name, KIND##_ID_TYPE *id, RETURN_CODE_TYPE *code) {      \
+        if (bench_is_served(__func__, name == NULL ? NULL : id, code) &&                           \
+            bench_needs(id_of(BENCH_##KIND, name) != 0, INVALID_CONFIG, code)) {                   \
+            *id = id_of(BENCH_##KIND, name);                                                       \
         }                                                                                          \
     }
 GET_ID(BUFFER)
@@ -59,18 +79,17 @@ GET_ID(EVENT)
 /* The object that a service is called for; null where the return code says why not. */
 static struct bench_object *find(const char *service, enum bench_kind kind, APEX_INTEGER id,
                                  const void *place, RETURN_CODE_TYPE *code) {
-    const bool is_there =
-        bench_is_served(service, place, code) &&
-        bench_needs(id >= 1 && id <= bench_own()->objects[kind], INVALID_PARAM, code);
-    return is_there ? &bench_own()->object[kind][id - 1] : NULL;
+    const bool is_there = bench_is_served(service, place, code) &&
+                          bench_needs(id >= 1 && id <= own_list(kind)->count, INVALID_PARAM, code);
+    return is_there ? &own_list(kind)->object[id - 1] : NULL;
 }
 
-void bench_end_objects(struct bench_host_partition *partition) {
+void bench_end_objects(uint32_t partition) {
     for (int kind = 0; kind < BENCH_KINDS; kind++) {
-        for (APEX_INTEGER i = 0; i < partition->objects[kind]; i++) {
-            free(partition->object[kind][i].messages);
+        struct bench_list *list = &lists[partition][kind];
+        while (list->count > 0) {
+            free(list->object[--list->count].messages);
         }
-        partition->objects[kind] = 0;
     }
 }
 

@@ -41,26 +41,18 @@ static void print_name(FILE *file, struct apex_handle *module, uint32_t number,
 
 static void print_arguments(FILE *file, const struct apex_made *made) {
     const struct apex_call *call = &made->call;
-    switch (call->service) {
-    case APEX_CREATE_SAMPLING_PORT:
-        fprintf(file, " %.*s %u %u %" PRIu64, (int)made->length, (const char *)made->bytes,
-                call->size, call->direction, call->refresh);
-        break;
-    case APEX_CREATE_QUEUING_PORT:
-        fprintf(file, " %.*s %u %u %u %u", (int)made->length, (const char *)made->bytes, call->size,
-                call->depth, call->direction, call->discipline);
-        break;
-    case APEX_GET_SAMPLING_PORT_ID:
-    case APEX_GET_QUEUING_PORT_ID:
+    if (apex_has_name(call->service)) {
         fprintf(file, " %.*s", (int)made->length, (const char *)made->bytes);
-        break;
-    case APEX_SEND_QUEUING_MESSAGE:
-    case APEX_WRITE_SAMPLING_MESSAGE:
-        fprintf(file, " %u", call->id);
-        print_bytes(file, made->bytes, made->length);
-        break;
-    default:
+    } else {
         fprintf(file, " %u", call->service == APEX_SET_PARTITION_MODE ? call->mode : call->id);
+    }
+    if (call->service == APEX_CREATE_SAMPLING_PORT) {
+        fprintf(file, " %u %u %" PRIu64, call->size, call->direction, call->refresh);
+    } else if (call->service == APEX_CREATE_QUEUING_PORT) {
+        fprintf(file, " %u %u %u %u", call->size, call->depth, call->direction, call->discipline);
+    } else if (call->service == APEX_SEND_QUEUING_MESSAGE ||
+               call->service == APEX_WRITE_SAMPLING_MESSAGE) {
+        print_bytes(file, made->bytes, made->length);
     }
 }
 

@@ -46,7 +46,7 @@ void bench_tell(const struct bench_process *process, const char *service, const 
                 const APEX_BYTE *message, int32_t length) {
     char line[1024];
     int end = snprintf(line, sizeof line / 2, "%s: partition %u, process %.*s, at %lld ns: %s",
-                       service, (unsigned)process->partition, MAX_NAME_LENGTH,
+                       service, (unsigned)process->partition->number, MAX_NAME_LENGTH,
                        process->attributes.NAME, (long long)bench_host.now, what);
     for (int32_t i = 0; i < length && end + 5 < (int)sizeof line; i++) {
         const bool is_plain = message[i] >= ' ' && message[i] <= '~' && message[i] != '\\';
@@ -83,7 +83,7 @@ bool bench_enter(const char *service, RETURN_CODE_TYPE *code) {
         bench_host.has_failed = true;
         bench_give_turn_back(); /* for good */
     }
-    bench_host.is_open = bench_find_mode(bench_self->partition, &bench_host.mode);
+    bench_host.is_open = bench_find_mode(bench_self->partition->number, &bench_host.mode);
     if (bench_self->id != BENCH_MAIN && bench_host.mode != NORMAL) {
         bench_end_self();
     }
@@ -109,13 +109,12 @@ static _Noreturn void leave_thread(void) {
 
 /* Makes a process DORMANT. It takes its lock of preemption with it. */
 static void make_dormant(struct bench_process *process) {
-    struct bench_host_partition *partition = &bench_host.partition[process->partition];
     process->is_started = process->is_suspended = false;
     process->error_order = 0;
     process->wait.at = NULL;
-    if (partition->locker == process) {
-        partition->lock_level = 0;
-        partition->locker = NULL;
+    if (process->partition != NULL && process->partition->locker == process) {
+        process->partition->lock_level = 0;
+        process->partition->locker = NULL;
     }
 }
 
@@ -152,7 +151,7 @@ void bench_give_turn_back(void) {
 
 static void *run_process(void *process) {
     bench_self = process;
-    bench_set_partition(bench_self->partition);
+    bench_set_partition(bench_self->partition->number);
     if (setjmp(bench_self->start) == 0) {
         wait_for_turn();
         bench_self->attributes.ENTRY_POINT();

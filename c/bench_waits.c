@@ -135,18 +135,19 @@ static uint32_t try_again(struct bench_process *it) {
     struct bench_wait *wait = &it->wait;
     struct apex_made again = {.module = bench_take_handle(), .call = {.id = wait->id}};
     again.call.service = wait->is_send ? APEX_SEND_QUEUING_MESSAGE : APEX_RECEIVE_QUEUING_MESSAGE;
-    again.partition = it->partition;
+    again.partition = it->partition->number;
     again.at = (uint64_t)bench_host.now;
     again.bytes = wait->message;
     again.length = wait->length;
     const bool is_met = wait->is_send && apex_fault != NULL && apex_fault(&again);
     if (wait->is_send && !is_met) {
-        again.answer = apex_send_queuing_message(again.module, it->partition, again.at, wait->id,
+        again.answer = apex_send_queuing_message(again.module, again.partition, again.at, wait->id,
                                                  wait->message, wait->length);
     } else if (!wait->is_send) {
         again.message = message;
-        again.answer = apex_receive_queuing_message(again.module, it->partition, again.at, wait->id,
-                                                    message, sizeof message, &again.message_length);
+        again.answer =
+            apex_receive_queuing_message(again.module, again.partition, again.at, wait->id, message,
+                                         sizeof message, &again.message_length);
         if (again.answer == NO_ERROR) {
             memcpy(wait->message, message, again.message_length);
             wait->length = again.message_length;
@@ -168,9 +169,9 @@ static int64_t since_granted(const struct bench_process *process) {
     return is_granted ? process->wait.granted : BENCH_NEVER;
 }
 
-void bench_settle(uint32_t partition) {
+void bench_settle(struct bench_host_partition *partition) {
     struct bench_process *it;
-    while ((it = bench_least(&bench_host.partition[partition], since_granted)) != NULL) {
+    while ((it = bench_least(partition, since_granted)) != NULL) {
         const uint32_t answer = try_again(it);
         if (answer == NOT_AVAILABLE) { /* taken by the bench meanwhile */
             it->ready = it->wait.deadline;
@@ -190,7 +191,7 @@ static RETURN_CODE_TYPE wait_at(bool is_send, uint32_t id, SYSTEM_TIME_TYPE time
         return TIMED_OUT; /* a thread of the bench's own: as without processes */
     }
     const struct bench_queue *queue =
-        find_queue(bench_take_handle(), bench_self->partition, id, &channel);
+        find_queue(bench_take_handle(), bench_own()->number, id, &channel);
     bench_give_handle_back();
     const RETURN_CODE_TYPE code = bench_wait_at(
         queue, time_out,
@@ -209,13 +210,13 @@ static bool enter(const char *service, RETURN_CODE_TYPE *code) {
     return bench_self == NULL || bench_enter(service, code);
 }
 
-static bool may_wait(SYSTEM_TIME_TYPE time_out, RETURN_CODE_TYPE *code) {
+static bool may_time_out(SYSTEM_TIME_TYPE time_out, RETURN_CODE_TYPE *code) {
     return bench_self == NULL || bench_may_time_out(time_out, code);
 }
 
 static void leave(void) {
     if (bench_self != NULL && bench_self->id != BENCH_MAIN) {
-        bench_settle(bench_self->partition);
+        bench_settle(bench_own());
         bench_yield();
     }
 }
@@ -233,4 +234,4 @@ static void mode_set(OPERATING_MODE_TYPE mode) {
     bench_end_self();
 }
 
-const struct apex_host bench_hooks = {enter, may_wait, made, waiting, wait_at, leave, mode_set};
+const struct apex_host bench_hooks = {enter, may_time_out, made, waiting, wait_at, leave, mode_set};
