@@ -36,25 +36,25 @@ static struct apex_made made_now(uint64_t at, uint32_t service, uint32_t id, uin
 
 /* Whether a service may be called now: the return code says so where it may not. */
 static bool enters(const char *service, RETURN_CODE_TYPE *code) {
-    return apex_host == NULL || apex_host->enter(service, code);
+    return apex_process == NULL || apex_process->enter(service, code);
 }
 
 static bool may_wait(SYSTEM_TIME_TYPE time_out, RETURN_CODE_TYPE *code) {
-    return apex_host == NULL || apex_host->may_wait(time_out, code);
+    return apex_process == NULL || apex_process->may_wait(time_out, code);
 }
 
 /* After a call by which another process may have become ready. */
 static void leaves(void) {
-    if (apex_host != NULL) {
-        apex_host->leave();
+    if (apex_process != NULL) {
+        apex_process->leave();
     }
 }
 
-/* Waits where the return code says that the call has to, and there is a host for processes. */
+/* Waits where the return code says that the call has to, and the thread is a process of the host. */
 static void wait_where_needed(bool is_send, uint32_t id, SYSTEM_TIME_TYPE time_out, APEX_BYTE *place,
                               uint32_t *length, RETURN_CODE_TYPE *code) {
-    if (apex_host != NULL && *code == TIMED_OUT) {
-        *code = apex_host->wait(is_send, id, time_out, place, length);
+    if (apex_process != NULL && *code == TIMED_OUT) {
+        *code = apex_process->wait(is_send, id, time_out, place, length);
     } else {
         leaves();
     }
@@ -364,8 +364,8 @@ void SET_PARTITION_MODE(OPERATING_MODE_TYPE OPERATING_MODE, RETURN_CODE_TYPE *RE
     apex_note(&made);
     pthread_mutex_unlock(&lock);
     *RETURN_CODE = return_code(answer);
-    if (apex_host != NULL && answer == NO_ERROR) {
-        apex_host->mode_set(OPERATING_MODE);
+    if (apex_process != NULL && answer == NO_ERROR) {
+        apex_process->mode_set(OPERATING_MODE);
     }
 }
 

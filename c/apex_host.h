@@ -23,13 +23,17 @@ struct apex_made {
     const struct apex_sampling_port_status *sampling;
 };
 
+/* After a call of the ports, and how many processes wait at a port; both behind the lock. */
 struct apex_host {
+    void (*made)(const struct apex_made *made);
+    WAITING_RANGE_TYPE (*waiting)(struct apex_handle *module, uint32_t partition, uint32_t id);
+};
+
+/* What a process asks of its host. */
+struct apex_process {
     /* Before a service: whether it may be called now, and whether it may wait. */
     bool (*enter)(const char *service, RETURN_CODE_TYPE *code);
     bool (*may_wait)(SYSTEM_TIME_TYPE time_out, RETURN_CODE_TYPE *code);
-    /* After a call of the ports, and how many processes wait at a port; both behind the lock. */
-    void (*made)(const struct apex_made *made);
-    WAITING_RANGE_TYPE (*waiting)(struct apex_handle *module, uint32_t partition, uint32_t id);
     /* Lets the caller wait for a message, which comes to the place, or for room for one. */
     RETURN_CODE_TYPE(*wait)
     (bool is_send, uint32_t id, SYSTEM_TIME_TYPE time_out, APEX_BYTE *place, uint32_t *length);
@@ -38,9 +42,11 @@ struct apex_host {
     void (*mode_set)(OPERATING_MODE_TYPE mode);
 };
 
-/* Null without a host; where calls aren't kept; without faults. A fault that meets a message
- * answers in place of the ports; it is asked behind the lock. */
+/* Null without a host; in a thread that is no process of it; where calls aren't kept; without
+ * faults. A fault that meets a message answers in place of the ports; it is asked behind the lock.
+ */
 extern const struct apex_host *apex_host;
+extern _Thread_local const struct apex_process *apex_process;
 extern void (*apex_keep)(const struct apex_made *made);
 extern bool (*apex_fault)(struct apex_made *made);
 

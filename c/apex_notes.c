@@ -6,6 +6,7 @@
 #include <string.h>
 
 const struct apex_host *apex_host;
+_Thread_local const struct apex_process *apex_process;
 void (*apex_keep)(const struct apex_made *made);
 bool (*apex_fault)(struct apex_made *made);
 

@@ -158,12 +158,10 @@ static void start_main(struct bench_host_partition *partition) {
     struct bench_process *main_process = &partition->process[BENCH_MAIN];
     partition->has_main_run = true;
     bench_stop(main_process);
-    *main_process = (struct bench_process){
-        .partition = partition,
-        .id = BENCH_MAIN,
-        .attributes = {.ENTRY_POINT = partition->how.entry, .NAME = "main"},
-        .is_started = true,
-    };
+    *main_process = (struct bench_process){.partition = partition, .is_started = true};
+    main_process->id = BENCH_MAIN;
+    main_process->attributes.ENTRY_POINT = partition->how.entry;
+    bench_name(main_process->attributes.NAME, "main");
 }
 
 static void begin_window(struct bench_host_partition *partition) {

@@ -1,6 +1,5 @@
-/* For benches, and outside of what is proved: what the files bench_*.c have between them. One
- * thread runs at a time, a process's or the bench's: it has the turn, and all that stands here is
- * its own meanwhile. */
+/* For benches, and outside of what is proved: what the files bench_*.c have between them. One thread
+ * runs at a time, a process's or the bench's: it has the turn, and what stands here is its own. */
 #ifndef BENCH_HOST_H
 #define BENCH_HOST_H
 
@@ -31,8 +30,7 @@ struct bench_wait {
     APEX_BYTE *message;
     uint32_t length;
     RETURN_CODE_TYPE code; /* that its service answers */
-    /* At a port: which, and since when there is a message or room, 0 where there is none. The call
-     * has yet to be made for it. */
+    /* At a port: which, and since when it is granted a message or room; 0 where it isn't yet. */
     bool is_send;
     uint32_t id;
     int64_t granted;
@@ -97,6 +95,7 @@ struct bench_host {
 };
 extern struct bench_host bench_host;
 extern const struct apex_host bench_hooks;
+extern const struct apex_process bench_process_hooks;
 
 /* The process that the calling thread is; null where it is none. */
 extern _Thread_local struct bench_process *bench_self;
@@ -152,8 +151,7 @@ void bench_release(struct bench_process *process, SYSTEM_TIME_TYPE moment);
  * first: a periodic one with the partition's next window. */
 SYSTEM_TIME_TYPE bench_first_release(const struct bench_process *process);
 
-/* Gives the turn where another process of the partition is to run before the calling one, which
- * keeps its place. */
+/* Gives the turn where another process is to run before the calling one, which keeps its place. */
 void bench_yield(void);
 
 /* bench_processes.c: what the services have in common. */
@@ -172,12 +170,10 @@ bool bench_is_sum(SYSTEM_TIME_TYPE one, SYSTEM_TIME_TYPE other);
 
 /* bench_waits.c: waiting. */
 
-/* Whether a process waits at a queue, and its time-out hasn't passed; what comes at that very
- * moment still counts. */
+/* Whether a process waits at a queue, and its time-out hasn't passed: at that moment it waits. */
 bool bench_waits_at(const struct bench_process *process, const struct bench_queue *queue);
 
-/* The first of these processes, by the queue's discipline, null where there is none; and how many
- * there are. */
+/* The first of these processes by the queue's discipline, null without any; how many there are. */
 struct bench_process *bench_first_at(const struct bench_queue *queue);
 WAITING_RANGE_TYPE bench_count_at(const struct bench_queue *queue);
 
@@ -193,8 +189,7 @@ RETURN_CODE_TYPE bench_wait_at(const struct bench_queue *queue, SYSTEM_TIME_TYPE
 void bench_grant(struct apex_handle *module, uint32_t channel);
 void bench_settle(struct bench_host_partition *partition);
 
-/* bench_faults.c: makes the calls that faults have delayed until now; whether a queue is held full
- * now. */
+/* bench_faults.c: makes the calls that faults have delayed until now; is a queue held full now. */
 void bench_make_delayed(void);
 bool bench_is_held_full(uint32_t channel);
 void bench_end_faults(void);
@@ -202,8 +197,7 @@ void bench_end_faults(void);
 /* bench_objects.c: gives back what the partition's buffers and blackboards hold. */
 void bench_end_objects(uint32_t partition);
 
-/* bench_load.c: loads a partition that is a shared object anew, false where it can't; and gives
- * back what it holds. */
+/* bench_load.c: loads anew a partition that is a shared object, false where it can't; unloads it. */
 bool bench_reload(struct bench_host_partition *partition);
 void bench_unload(struct bench_host_partition *partition);
 
@@ -212,8 +206,7 @@ void bench_unload(struct bench_host_partition *partition);
 void bench_raise(struct bench_process *failed, const char *service, ERROR_CODE_TYPE code,
                  const APEX_BYTE *message, int32_t length);
 
-/* Starts a partition's error handler again, which has ended, where an error was raised meanwhile
- * that it left. */
+/* Starts a partition's error handler again, which has ended and has left an error raised since. */
 void bench_restart_handler(struct bench_host_partition *partition);
 
 #endif

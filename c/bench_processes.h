@@ -78,8 +78,7 @@ void REPLENISH(SYSTEM_TIME_TYPE BUDGET_TIME, RETURN_CODE_TYPE *RETURN_CODE);
 
 /* Partition management. */
 
-typedef APEX_INTEGER
-    PARTITION_ID_TYPE; /* the partition's number, from 0 in the order of the configuration */
+typedef APEX_INTEGER PARTITION_ID_TYPE; /* from 0, in the order of the configuration */
 typedef enum {
     NORMAL_START = 0,
     PARTITION_RESTART = 1,
@@ -133,20 +132,16 @@ void RAISE_APPLICATION_ERROR(ERROR_CODE_TYPE ERROR_CODE, MESSAGE_ADDR_TYPE MESSA
 
 /* The bench's side, for one thread of the bench's own. */
 
-/* What a partition runs and when, in nanoseconds: its windows begin at `offset`, `offset + period`
- * and so on. */
+/* What a partition runs and when: its windows begin at `offset`, `offset + period` and so on. */
 struct bench_partition {
-    void (*entry)(
-        void); /* the main process: creates ports and processes, starts them, and sets NORMAL */
-    SYSTEM_TIME_TYPE period;
-    SYSTEM_TIME_TYPE offset;
-    SYSTEM_TIME_TYPE duration;
+    /* The main process: creates ports and processes, starts them, and sets NORMAL. */
+    void (*entry)(void);
+    SYSTEM_TIME_TYPE period, offset, duration;
 };
 
 /* Gives a partition of the open module its windows. Answers false, changes nothing and says why on
- * standard error where it has some already or the module lacks it, where a window doesn't lie
- * within one period or overlaps another partition's, where there is no entry, or after the first
- * frame. */
+ * standard error where it has some already or the module lacks it, where a window doesn't lie in
+ * one period or overlaps another partition's, where there is no entry, or after the first frame. */
 bool bench_add_partition(uint32_t partition, const struct bench_partition *how);
 
 /* Gives a partition its windows whose code is a shared object, with the name of its main process;
@@ -162,8 +157,7 @@ bool bench_load_partition(const char *file, const char *entry, uint32_t partitio
 enum bench_action { BENCH_IGNORE = 0, BENCH_IDLE = 1, BENCH_COLD_START = 2, BENCH_WARM_START = 3 };
 bool bench_on_error(uint32_t partition, enum bench_action action);
 
-/* The moment goes on by so much with each service of a process, 0 nanoseconds where nothing is set.
- */
+/* The moment goes on by so many nanoseconds with each service of a process: by 0 at first. */
 void bench_service_time(SYSTEM_TIME_TYPE nanoseconds);
 
 /* The bench reports a process that runs without a service for this many seconds of the machine's
@@ -174,10 +168,10 @@ void bench_watch(unsigned seconds);
  * those that are sent or written from the moment `from` on, and before `until` where that isn't 0,
  * from the `first` on (1, where it is 0) `count` messages, or all where that is 0. */
 enum bench_fault_kind {
-    BENCH_DROP = 0,  /* the message is answered NO_ERROR, and lost */
-    BENCH_DELAY = 1, /* it is answered NO_ERROR, and sent when the first window begins that is
-                        `delay` later or more */
-    BENCH_FULL = 2   /* it is answered as if the queue were full */
+    BENCH_DROP = 0, /* the message is answered NO_ERROR, and lost */
+    BENCH_DELAY =
+        1,         /* NO_ERROR, and sent as the first window begins that is `delay` later or more */
+    BENCH_FULL = 2 /* it is answered as if the queue were full */
 };
 struct bench_fault {
     enum bench_fault_kind kind;
@@ -194,8 +188,7 @@ bool bench_add_fault(const struct bench_fault *fault);
 /* Runs all windows of the next `length` nanoseconds, which has to be a multiple of each partition's
  * period. Afterwards the moment is that much later; the first frame begins at 0. Answers false and
  * says why on standard error where the length is none or no partition was added, and also where the
- * module is closed or a thread cannot be had: after that no frame is run until bench_end_processes.
- */
+ * module is closed or a thread cannot be had: no frame is run then until bench_end_processes. */
 bool bench_run_frame(SYSTEM_TIME_TYPE length);
 
 /* Ends all processes wherever they wait, and forgets the partitions: the next frame is the first

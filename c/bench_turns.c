@@ -151,6 +151,7 @@ void bench_give_turn_back(void) {
 
 static void *run_process(void *process) {
     bench_self = process;
+    apex_process = &bench_process_hooks;
     bench_set_partition(bench_self->partition->number);
     if (setjmp(bench_self->start) == 0) {
         wait_for_turn();

@@ -106,7 +106,7 @@ void bench_grant(struct apex_handle *module, uint32_t channel) {
     }
 }
 
-static void made(const struct apex_made *made) {
+static void follow(const struct apex_made *made) {
     const uint32_t service = made->call.service;
     uint32_t channel;
     if (made->answer != NO_ERROR) {
@@ -114,23 +114,20 @@ static void made(const struct apex_made *made) {
     }
     if (service == APEX_SET_PARTITION_MODE) {
         bench_host.partition[made->partition].must_restart |= made->call.mode != NORMAL;
-        return;
     }
     struct bench_queue *queue =
         find_queue(made->module, made->partition, made->id ? made->id : made->call.id, &channel);
-    if (queue == NULL) {
-        return;
-    }
-    if (service == APEX_CREATE_QUEUING_PORT) {
+    if (queue != NULL && service == APEX_CREATE_QUEUING_PORT) {
         queue->discipline = (QUEUING_DISCIPLINE_TYPE)made->call.discipline;
-    } else if (service == APEX_SEND_QUEUING_MESSAGE || service == APEX_RECEIVE_QUEUING_MESSAGE ||
-               service == APEX_CLEAR_QUEUING_PORT) {
+    } else if (queue != NULL &&
+               (service == APEX_SEND_QUEUING_MESSAGE || service == APEX_RECEIVE_QUEUING_MESSAGE ||
+                service == APEX_CLEAR_QUEUING_PORT)) {
         bench_grant(made->module, channel);
     }
 }
 
 /* Makes the call of a process that is granted, as its partition. */
-static uint32_t try_again(struct bench_process *it) {
+static void try_again(struct bench_process *it) {
     static uint8_t message[APEX_MESSAGE_LIMIT];
     struct bench_wait *wait = &it->wait;
     struct apex_made again = {.module = bench_take_handle(), .call = {.id = wait->id}};
@@ -148,20 +145,21 @@ static uint32_t try_again(struct bench_process *it) {
         again.answer =
             apex_receive_queuing_message(again.module, again.partition, again.at, wait->id, message,
                                          sizeof message, &again.message_length);
-        if (again.answer == NO_ERROR) {
-            memcpy(wait->message, message, again.message_length);
-            wait->length = again.message_length;
-        }
+        memcpy(wait->message, message, again.message_length);
+        wait->length = again.message_length;
     }
     wait->granted = 0;
-    if (again.answer != NOT_AVAILABLE) {
+    if (again.answer == NOT_AVAILABLE) { /* taken by the bench meanwhile */
+        it->ready = wait->deadline;
+        it->turn = 0;
+    } else {
         wait->at = NULL;
+        wait->code = again.answer <= TIMED_OUT ? (RETURN_CODE_TYPE)again.answer : INVALID_CONFIG;
     }
     if (!is_met) {
         apex_note(&again);
     }
     bench_give_handle_back();
-    return again.answer;
 }
 
 static int64_t since_granted(const struct bench_process *process) {
@@ -172,13 +170,7 @@ static int64_t since_granted(const struct bench_process *process) {
 void bench_settle(struct bench_host_partition *partition) {
     struct bench_process *it;
     while ((it = bench_least(partition, since_granted)) != NULL) {
-        const uint32_t answer = try_again(it);
-        if (answer == NOT_AVAILABLE) { /* taken by the bench meanwhile */
-            it->ready = it->wait.deadline;
-            it->turn = 0;
-        } else {
-            it->wait.code = answer <= TIMED_OUT ? (RETURN_CODE_TYPE)answer : INVALID_CONFIG;
-        }
+        try_again(it);
     }
 }
 
@@ -186,16 +178,13 @@ void bench_settle(struct bench_host_partition *partition) {
 
 static RETURN_CODE_TYPE wait_at(bool is_send, uint32_t id, SYSTEM_TIME_TYPE time_out,
                                 APEX_BYTE *message, uint32_t *length) {
+    const struct bench_wait how = {
+        .is_send = is_send, .id = id, .message = message, .length = *length};
     uint32_t channel;
-    if (bench_self == NULL) {
-        return TIMED_OUT; /* a thread of the bench's own: as without processes */
-    }
     const struct bench_queue *queue =
         find_queue(bench_take_handle(), bench_own()->number, id, &channel);
     bench_give_handle_back();
-    const RETURN_CODE_TYPE code = bench_wait_at(
-        queue, time_out,
-        (struct bench_wait){.is_send = is_send, .id = id, .message = message, .length = *length});
+    const RETURN_CODE_TYPE code = bench_wait_at(queue, time_out, how);
     *length = bench_self->wait.length;
     return code;
 }
@@ -206,16 +195,8 @@ static WAITING_RANGE_TYPE waiting(struct apex_handle *module, uint32_t partition
     return queue == NULL ? 0 : bench_count_at(queue);
 }
 
-static bool enter(const char *service, RETURN_CODE_TYPE *code) {
-    return bench_self == NULL || bench_enter(service, code);
-}
-
-static bool may_time_out(SYSTEM_TIME_TYPE time_out, RETURN_CODE_TYPE *code) {
-    return bench_self == NULL || bench_may_time_out(time_out, code);
-}
-
 static void leave(void) {
-    if (bench_self != NULL && bench_self->id != BENCH_MAIN) {
+    if (bench_self->id != BENCH_MAIN) {
         bench_settle(bench_own());
         bench_yield();
     }
@@ -224,9 +205,6 @@ static void leave(void) {
 /* A change of the mode doesn't come back to the process that made it: another partition mode is
  * another start. The main process waits from NORMAL on. */
 static void mode_set(OPERATING_MODE_TYPE mode) {
-    if (bench_self == NULL) {
-        return;
-    }
     if (bench_self->id == BENCH_MAIN && mode == NORMAL) {
         bench_self->ready = BENCH_NEVER;
         bench_give_turn_back();
@@ -234,4 +212,6 @@ static void mode_set(OPERATING_MODE_TYPE mode) {
     bench_end_self();
 }
 
-const struct apex_host bench_hooks = {enter, may_time_out, made, waiting, wait_at, leave, mode_set};
+const struct apex_host bench_hooks = {follow, waiting};
+const struct apex_process bench_process_hooks = {bench_enter, bench_may_time_out, wait_at, leave,
+                                                 mode_set};
