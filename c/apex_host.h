@@ -35,16 +35,15 @@ struct apex_process {
     bool (*enter)(const char *service, RETURN_CODE_TYPE *code);
     bool (*may_wait)(SYSTEM_TIME_TYPE time_out, RETURN_CODE_TYPE *code);
     /* Lets the caller wait for a message, which comes to the place, or for room for one. */
-    RETURN_CODE_TYPE(*wait)
-    (bool is_send, uint32_t id, SYSTEM_TIME_TYPE time_out, APEX_BYTE *place, uint32_t *length);
+    RETURN_CODE_TYPE (*wait)(bool is_send, uint32_t id, SYSTEM_TIME_TYPE time_out, APEX_BYTE *place,
+                             uint32_t *length);
     /* After a service by which another process may be ready, and after an accepted mode. */
     void (*leave)(void);
     void (*mode_set)(OPERATING_MODE_TYPE mode);
 };
 
 /* Null without a host; in a thread that is no process of it; where calls aren't kept; without
- * faults. A fault that meets a message answers in place of the ports; it is asked behind the lock.
- */
+ * faults. A fault that meets a message answers in place of the ports, asked behind the lock. */
 extern const struct apex_host *apex_host;
 extern _Thread_local const struct apex_process *apex_process;
 extern void (*apex_keep)(const struct apex_made *made);

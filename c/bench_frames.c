@@ -1,5 +1,4 @@
-/* The host for processes, plain C outside of what is proved: windows, and which process runs when.
- */
+/* The host for processes, plain C outside of what is proved: windows, and who runs when. */
 #include "bench_host.h"
 
 #include <string.h>

@@ -1,5 +1,6 @@
-/* For benches, and outside of what is proved: what the files bench_*.c have between them. One thread
- * runs at a time, a process's or the bench's: it has the turn, and what stands here is its own. */
+/* For benches, and outside of what is proved: what the files bench_*.c have between them. One
+ * thread runs at a time, a process's or the bench's: it has the turn, and what stands here is its
+ * own meanwhile. */
 #ifndef BENCH_HOST_H
 #define BENCH_HOST_H
 
@@ -189,7 +190,7 @@ RETURN_CODE_TYPE bench_wait_at(const struct bench_queue *queue, SYSTEM_TIME_TYPE
 void bench_grant(struct apex_handle *module, uint32_t channel);
 void bench_settle(struct bench_host_partition *partition);
 
-/* bench_faults.c: makes the calls that faults have delayed until now; is a queue held full now. */
+/* bench_faults.c: makes the calls that faults have delayed until now; a queue that is held full. */
 void bench_make_delayed(void);
 bool bench_is_held_full(uint32_t channel);
 void bench_end_faults(void);
@@ -197,7 +198,7 @@ void bench_end_faults(void);
 /* bench_objects.c: gives back what the partition's buffers and blackboards hold. */
 void bench_end_objects(uint32_t partition);
 
-/* bench_load.c: loads anew a partition that is a shared object, false where it can't; unloads it. */
+/* bench_load.c: loads anew a partition that is a shared object, false if it can't; unloads it. */
 bool bench_reload(struct bench_host_partition *partition);
 void bench_unload(struct bench_host_partition *partition);
 

@@ -22,8 +22,7 @@ extern "C" {
 #define MAX_NUMBER_OF_EVENTS SYSTEM_LIMIT_NUMBER_OF_EVENTS
 #define MAX_SEMAPHORE_VALUE 32767
 
-/* Buffers. An identifier is a number from 1 in the order of creation, as it is of the other kinds.
- */
+/* Buffers. An identifier is a number from 1 in the order of creation, as of the other kinds. */
 
 typedef NAME_TYPE BUFFER_NAME_TYPE;
 typedef APEX_INTEGER BUFFER_ID_TYPE;

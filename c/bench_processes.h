@@ -168,10 +168,9 @@ void bench_watch(unsigned seconds);
  * those that are sent or written from the moment `from` on, and before `until` where that isn't 0,
  * from the `first` on (1, where it is 0) `count` messages, or all where that is 0. */
 enum bench_fault_kind {
-    BENCH_DROP = 0, /* the message is answered NO_ERROR, and lost */
-    BENCH_DELAY =
-        1,         /* NO_ERROR, and sent as the first window begins that is `delay` later or more */
-    BENCH_FULL = 2 /* it is answered as if the queue were full */
+    BENCH_DROP = 0,  /* the message is answered NO_ERROR, and lost */
+    BENCH_DELAY = 1, /* NO_ERROR, and sent as a window begins that is `delay` later or more */
+    BENCH_FULL = 2   /* it is answered as if the queue were full */
 };
 struct bench_fault {
     enum bench_fault_kind kind;
