@@ -88,10 +88,10 @@ static bool meet(struct apex_made *made) {
 
 /* Makes the call of a message that was delayed, as its partition, which has had its answer. */
 static void make_now(struct apex_made *made) {
+    const bool is_send = made->call.service == APEX_SEND_QUEUING_MESSAGE;
     struct apex_configured_port port = {.channel = 0};
     made->at = (uint64_t)bench_host.now;
-    made->answer = (made->call.service == APEX_SEND_QUEUING_MESSAGE ? apex_send_queuing_message
-                                                                    : apex_write_sampling_message)(
+    made->answer = (is_send ? apex_send_queuing_message : apex_write_sampling_message)(
         made->module, made->partition, made->at, made->call.id, made->bytes, made->length);
     if (made->answer != NO_ERROR) {
         apex_port_configuration(made->module, made->partition, made->call.id, &port);

@@ -25,7 +25,7 @@ static bool is_created(void) {
     return bench_self->id != BENCH_MAIN && bench_self->id != BENCH_HANDLER;
 }
 
-static bool may_wait(void) { return is_created() && bench_own()->lock_level == 0; }
+static bool can_wait(void) { return is_created() && bench_own()->lock_level == 0; }
 
 bool bench_is_sum(SYSTEM_TIME_TYPE one, SYSTEM_TIME_TYPE other) {
     return other < 0 || one <= INT64_MAX - other;
@@ -37,7 +37,7 @@ static bool is_time_out(SYSTEM_TIME_TYPE time) {
 
 bool bench_may_time_out(SYSTEM_TIME_TYPE time_out, RETURN_CODE_TYPE *code) {
     return bench_needs(is_time_out(time_out), INVALID_PARAM, code) &&
-           bench_needs(time_out == 0 || may_wait(), INVALID_MODE, code);
+           bench_needs(time_out == 0 || can_wait(), INVALID_MODE, code);
 }
 
 bool bench_is_periodic(const struct bench_process *process) {
@@ -197,7 +197,7 @@ void RESUME(PROCESS_ID_TYPE id, RETURN_CODE_TYPE *code) {
 }
 
 void SUSPEND_SELF(SYSTEM_TIME_TYPE time_out, RETURN_CODE_TYPE *code) {
-    if (bench_is_served(__func__, code, code) && bench_needs(may_wait(), INVALID_MODE, code) &&
+    if (bench_is_served(__func__, code, code) && bench_needs(can_wait(), INVALID_MODE, code) &&
         bench_needs(is_time_out(time_out), INVALID_PARAM, code) &&
         bench_needs(!bench_is_periodic(bench_self), INVALID_MODE, code) && time_out != 0) {
         *code = bench_wait_at(&suspended, time_out, (struct bench_wait){.length = 0});
@@ -285,7 +285,7 @@ void GET_PARTITION_STATUS(PARTITION_STATUS_TYPE *status, RETURN_CODE_TYPE *code)
 /* Time. */
 
 void TIMED_WAIT(SYSTEM_TIME_TYPE delay, RETURN_CODE_TYPE *code) {
-    if (bench_is_served(__func__, code, code) && bench_needs(may_wait(), INVALID_MODE, code) &&
+    if (bench_is_served(__func__, code, code) && bench_needs(can_wait(), INVALID_MODE, code) &&
         bench_needs(delay >= 0 && is_time_out(delay), INVALID_PARAM, code)) {
         bench_self->zero_delays += delay == 0;
         bench_make_ready(bench_self, bench_host.now + delay);
@@ -302,7 +302,7 @@ static bool has_next_release(const struct bench_process *process) {
 
 void PERIODIC_WAIT(RETURN_CODE_TYPE *code) {
     if (bench_is_served(__func__, code, code) &&
-        bench_needs(may_wait() && bench_is_periodic(bench_self), INVALID_MODE, code) &&
+        bench_needs(can_wait() && bench_is_periodic(bench_self), INVALID_MODE, code) &&
         bench_needs(has_next_release(bench_self), INVALID_CONFIG, code)) {
         bench_release(bench_self, bench_self->release + bench_self->attributes.PERIOD);
         bench_give_turn_back();
