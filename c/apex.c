@@ -1,7 +1,4 @@
 /* The services of apex.h: each is one call of apex_ports.h, made behind a lock. */
-#undef _POSIX_C_SOURCE
-#define _POSIX_C_SOURCE 200809L
-
 #include "apex_host.h"
 
 #include <pthread.h>
@@ -39,25 +36,25 @@ static struct apex_made made_now(uint64_t at, uint32_t service, uint32_t id, uin
 
 /* Whether a service may be called now: the return code says so where it may not. */
 static bool enters(const char *service, RETURN_CODE_TYPE *code) {
-    return apex_host == NULL || apex_host->enter(service, code);
+    return apex_process == NULL || apex_process->enter(service, code);
 }
 
 static bool may_wait(SYSTEM_TIME_TYPE time_out, RETURN_CODE_TYPE *code) {
-    return apex_host == NULL || apex_host->may_wait(time_out, code);
+    return apex_process == NULL || apex_process->may_wait(time_out, code);
 }
 
 /* After a call by which another process may have become ready. */
 static void leaves(void) {
-    if (apex_host != NULL) {
-        apex_host->leave();
+    if (apex_process != NULL) {
+        apex_process->leave();
     }
 }
 
-/* Waits where the return code says that the call has to, and there is a host for processes. */
+/* Waits where the return code says that the call has to, and the thread is a process of the host. */
 static void wait_where_needed(bool is_send, uint32_t id, SYSTEM_TIME_TYPE time_out, APEX_BYTE *place,
                               uint32_t *length, RETURN_CODE_TYPE *code) {
-    if (apex_host != NULL && *code == TIMED_OUT) {
-        *code = apex_host->wait(is_send, id, time_out, place, length);
+    if (apex_process != NULL && *code == TIMED_OUT) {
+        *code = apex_process->wait(is_send, id, time_out, place, length);
     } else {
         leaves();
     }
@@ -154,7 +151,7 @@ void WRITE_SAMPLING_MESSAGE(SAMPLING_PORT_ID_TYPE SAMPLING_PORT_ID, MESSAGE_ADDR
     } else if (answer == APEX_TOO_LONG) {
         struct apex_sampling_port_status status;
         answer = apex_get_sampling_port_status(&module, partition, now, id, &status);
-        apex_note_sampling_status(made_now(now, APEX_GET_SAMPLING_PORT_STATUS, id, answer), &status);
+        apex_note_status(made_now(now, APEX_GET_SAMPLING_PORT_STATUS, id, answer), NULL, &status);
         answer = answer_too_long(answer);
     } else {
         apex_note_message(made_now(now, APEX_WRITE_SAMPLING_MESSAGE, id, answer), MESSAGE_ADDR, byte_count(LENGTH));
@@ -211,8 +208,7 @@ void GET_SAMPLING_PORT_STATUS(SAMPLING_PORT_ID_TYPE SAMPLING_PORT_ID, SAMPLING_P
     const uint64_t now = moment();
     uint32_t answer =
         apex_get_sampling_port_status(&module, partition, now, (uint32_t)SAMPLING_PORT_ID, &status);
-    apex_note_sampling_status(made_now(now, APEX_GET_SAMPLING_PORT_STATUS, (uint32_t)SAMPLING_PORT_ID, answer),
-                              &status);
+    apex_note_status(made_now(now, APEX_GET_SAMPLING_PORT_STATUS, (uint32_t)SAMPLING_PORT_ID, answer), NULL, &status);
     pthread_mutex_unlock(&lock);
     if (answer == NO_ERROR) {
         SAMPLING_PORT_STATUS->REFRESH_PERIOD = (SYSTEM_TIME_TYPE)status.refresh;
@@ -269,7 +265,7 @@ void SEND_QUEUING_MESSAGE(QUEUING_PORT_ID_TYPE QUEUING_PORT_ID, MESSAGE_ADDR_TYP
     } else if (answer == APEX_TOO_LONG) {
         struct apex_queuing_port_status status;
         answer = apex_get_queuing_port_status(&module, partition, now, id, &status);
-        apex_note_queuing_status(made_now(now, APEX_GET_QUEUING_PORT_STATUS, id, answer), &status);
+        apex_note_status(made_now(now, APEX_GET_QUEUING_PORT_STATUS, id, answer), &status, NULL);
         answer = answer_too_long(answer);
     } else {
         apex_note_message(made_now(now, APEX_SEND_QUEUING_MESSAGE, id, answer), MESSAGE_ADDR, byte_count(LENGTH));
@@ -328,7 +324,7 @@ void GET_QUEUING_PORT_STATUS(QUEUING_PORT_ID_TYPE QUEUING_PORT_ID, QUEUING_PORT_
     pthread_mutex_lock(&lock);
     const uint64_t now = moment();
     uint32_t answer = apex_get_queuing_port_status(&module, partition, now, (uint32_t)QUEUING_PORT_ID, &status);
-    apex_note_queuing_status(made_now(now, APEX_GET_QUEUING_PORT_STATUS, (uint32_t)QUEUING_PORT_ID, answer), &status);
+    apex_note_status(made_now(now, APEX_GET_QUEUING_PORT_STATUS, (uint32_t)QUEUING_PORT_ID, answer), &status, NULL);
     const WAITING_RANGE_TYPE waiting =
         apex_host == NULL ? 0 : apex_host->waiting(&module, partition, (uint32_t)QUEUING_PORT_ID);
     pthread_mutex_unlock(&lock);
@@ -368,8 +364,8 @@ void SET_PARTITION_MODE(OPERATING_MODE_TYPE OPERATING_MODE, RETURN_CODE_TYPE *RE
     apex_note(&made);
     pthread_mutex_unlock(&lock);
     *RETURN_CODE = return_code(answer);
-    if (apex_host != NULL && answer == NO_ERROR) {
-        apex_host->mode_set(OPERATING_MODE);
+    if (apex_process != NULL && answer == NO_ERROR) {
+        apex_process->mode_set(OPERATING_MODE);
     }
 }
 

@@ -1,6 +1,10 @@
-/* What apex.c asks of a host for processes, and what it notes of each call. For the files of this folder alone. */
+/* What apex.c asks of a host for processes, and what it notes of each call. For the files of this
+ * folder alone, which include it first: it says what the system's headers have to show. */
 #ifndef APEX_HOST_H
 #define APEX_HOST_H
+
+#undef _POSIX_C_SOURCE
+#define _POSIX_C_SOURCE 200809L
 
 #include "apex.h"
 
@@ -10,52 +14,60 @@ struct apex_made {
     struct apex_call call;
     const void *bytes; /* the name or the message that it was made with */
     size_t length;
-    uint32_t partition;
-    uint32_t answer;
+    uint32_t partition, answer;
     uint64_t at;
     uint32_t id;            /* of the port that was created or found */
     const uint8_t *message; /* that was received or read */
-    uint32_t message_length;
-    uint32_t validity;
+    uint32_t message_length, validity;
     const struct apex_queuing_port_status *queuing;
     const struct apex_sampling_port_status *sampling;
 };
 
+/* After a call of the ports, and how many processes wait at a port; both behind the lock. */
 struct apex_host {
-    /* Before a service: whether it may be called now, and before one with a time-out whether it may wait. */
-    bool (*enter)(const char *service, RETURN_CODE_TYPE *code);
-    bool (*may_wait)(SYSTEM_TIME_TYPE time_out, RETURN_CODE_TYPE *code);
-    /* After a call of the ports, and how many processes wait at a port; both behind the lock. */
     void (*made)(const struct apex_made *made);
     WAITING_RANGE_TYPE (*waiting)(struct apex_handle *module, uint32_t partition, uint32_t id);
+};
+
+/* What a process asks of its host. */
+struct apex_process {
+    /* Before a service: whether it may be called now, and whether it may wait. */
+    bool (*enter)(const char *service, RETURN_CODE_TYPE *code);
+    bool (*may_wait)(SYSTEM_TIME_TYPE time_out, RETURN_CODE_TYPE *code);
     /* Lets the caller wait for a message, which comes to the place, or for room for one. */
-    RETURN_CODE_TYPE (*wait)(bool is_send, uint32_t id, SYSTEM_TIME_TYPE time_out, APEX_BYTE *place, uint32_t *length);
-    /* After a service by which another process may be ready, and after an accepted change of the mode. */
+    RETURN_CODE_TYPE (*wait)(bool is_send, uint32_t id, SYSTEM_TIME_TYPE time_out, APEX_BYTE *place,
+                             uint32_t *length);
+    /* After a service by which another process may be ready, and after an accepted mode. */
     void (*leave)(void);
     void (*mode_set)(OPERATING_MODE_TYPE mode);
 };
 
-/* Null without a host; where calls aren't kept; without faults. A fault that meets a message answers in place of the
- * ports; it is asked behind the lock. */
+/* Null without a host; in a thread that is no process of it; where calls aren't kept; without
+ * faults. A fault that meets a message answers in place of the ports, asked behind the lock. */
 extern const struct apex_host *apex_host;
+extern _Thread_local const struct apex_process *apex_process;
 extern void (*apex_keep)(const struct apex_made *made);
 extern bool (*apex_fault)(struct apex_made *made);
 
-/* Hand a call on to both. To be called behind the lock. */
+/* Whether a service is called with a name. */
+bool apex_has_name(uint32_t service);
+
+/* Hand a call on to the first two. To be called behind the lock. */
 void apex_note(const struct apex_made *made);
 void apex_note_named(struct apex_made made, const char *name, uint32_t id);
 void apex_note_message(struct apex_made made, const void *bytes, size_t length);
-void apex_note_received(struct apex_made made, const uint8_t *message, uint32_t length, uint32_t validity);
-void apex_note_queuing_status(struct apex_made made, const struct apex_queuing_port_status *status);
-void apex_note_sampling_status(struct apex_made made, const struct apex_sampling_port_status *status);
+void apex_note_received(struct apex_made made, const uint8_t *message, uint32_t length,
+                        uint32_t validity);
+void apex_note_status(struct apex_made made, const struct apex_queuing_port_status *queuing,
+                      const struct apex_sampling_port_status *sampling);
 
 /* After a call that a fault refuses the thread has no words of a refusal. */
 void apex_forget_words(void);
 
-/* Keeps a line beside the calls as a comment, where they are kept. */
-void apex_keep_comment(const char *line);
+/* Keeps as a comment, where calls are kept, what becomes of a message that is no call. */
+void apex_keep_comment(const struct apex_made *made, uint32_t channel, const char *what);
 
-/* Says a line on standard error, or to the bench's sink; and each line of a text, which is cut into its lines. */
+/* Says a line on standard error, or to the bench's sink; and each line of a text. */
 void apex_tell(const char *line);
 void apex_tell_lines(char *lines);
 

@@ -1,27 +1,20 @@
-/* What apex.c notes of each call: for a host for processes, for a record of calls and for the words of a refusal; and
- * the lines that a bench says. */
-#undef _POSIX_C_SOURCE
-#define _POSIX_C_SOURCE 200809L
-
+/* What apex.c notes of each call: for a host for processes, for a record of calls and for the words
+ * of a refusal; and the lines that a bench says. */
 #include "apex_host.h"
 
 #include <stdio.h>
 #include <string.h>
 
 const struct apex_host *apex_host;
+_Thread_local const struct apex_process *apex_process;
 void (*apex_keep)(const struct apex_made *made);
 bool (*apex_fault)(struct apex_made *made);
 
-/* The last refused call of the thread, with the name that it was made with. */
-static _Thread_local struct {
-    bool is_there;
-    uint32_t partition;
-    struct apex_call call;
-    size_t length;
-    uint8_t name[MAX_NAME_LENGTH];
-} refused;
+/* The last refused call of the thread, NO_ERROR without one, and the name that it was made with. */
+static _Thread_local struct apex_made refused;
+static _Thread_local uint8_t refused_name[MAX_NAME_LENGTH];
 
-static bool has_name(uint32_t service) {
+bool apex_has_name(uint32_t service) {
     return service == APEX_CREATE_SAMPLING_PORT || service == APEX_CREATE_QUEUING_PORT ||
            service == APEX_GET_SAMPLING_PORT_ID || service == APEX_GET_QUEUING_PORT_ID;
 }
@@ -31,12 +24,9 @@ void apex_note(const struct apex_made *made) {
         return;
     }
     if (made->answer != NO_ERROR) {
-        refused.is_there = true;
-        refused.partition = made->partition;
-        refused.call = made->call;
-        refused.length = made->length;
-        if (has_name(made->call.service)) {
-            memcpy(refused.name, made->bytes, made->length);
+        refused = *made;
+        if (apex_has_name(made->call.service)) {
+            memcpy(refused_name, made->bytes, made->length);
         }
     }
     if (apex_keep != NULL) {
@@ -47,7 +37,7 @@ void apex_note(const struct apex_made *made) {
     }
 }
 
-void apex_forget_words(void) { refused.is_there = false; }
+void apex_forget_words(void) { refused.answer = NO_ERROR; }
 
 void apex_note_message(struct apex_made made, const void *bytes, size_t length) {
     made.bytes = bytes;
@@ -55,28 +45,24 @@ void apex_note_message(struct apex_made made, const void *bytes, size_t length) 
     apex_note(&made);
 }
 
-void apex_note_received(struct apex_made made, const uint8_t *message, uint32_t length, uint32_t validity) {
+void apex_note_received(struct apex_made made, const uint8_t *message, uint32_t length,
+                        uint32_t validity) {
     made.message = message;
     made.message_length = length;
     made.validity = validity;
     apex_note(&made);
 }
 
-void apex_note_queuing_status(struct apex_made made, const struct apex_queuing_port_status *status) {
-    made.queuing = status;
-    apex_note(&made);
-}
-
-void apex_note_sampling_status(struct apex_made made, const struct apex_sampling_port_status *status) {
-    made.sampling = status;
+void apex_note_status(struct apex_made made, const struct apex_queuing_port_status *queuing,
+                      const struct apex_sampling_port_status *sampling) {
+    made.queuing = queuing;
+    made.sampling = sampling;
     apex_note(&made);
 }
 
 void apex_note_named(struct apex_made made, const char *name, uint32_t id) {
-    made.bytes = name;
-    made.length = strnlen(name, MAX_NAME_LENGTH);
     made.id = id;
-    apex_note(&made);
+    apex_note_message(made, name, strnlen(name, MAX_NAME_LENGTH));
 }
 
 /* What the bench says. */
@@ -94,13 +80,9 @@ void apex_tell(const char *line) {
 }
 
 void apex_tell_lines(char *lines) {
-    char *rest = lines;
-    for (char *end = strchr(rest, '\n'); end != NULL; rest = end + 1, end = strchr(rest, '\n')) {
-        *end = '\0';
-        apex_tell(rest);
-    }
-    if (*rest != '\0') {
-        apex_tell(rest);
+    char *rest, *line = strtok_r(lines, "\n", &rest);
+    for (; line != NULL; line = strtok_r(NULL, "\n", &rest)) {
+        apex_tell(line);
     }
 }
 
@@ -109,10 +91,10 @@ const char *bench_last_words(void) {
     static const uint8_t no_message[APEX_MESSAGE_LIMIT];
     uint64_t length = 0;
     words[0] = '\0';
-    if (refused.is_there) {
+    if (refused.answer != NO_ERROR) {
         apex_call_words(bench_take_handle(), refused.partition, 0, &refused.call,
-                        has_name(refused.call.service) ? refused.name : no_message, refused.length, (uint8_t *)words,
-                        sizeof words - 1, &length);
+                        apex_has_name(refused.call.service) ? refused_name : no_message,
+                        refused.length, (uint8_t *)words, sizeof words - 1, &length);
         bench_give_handle_back();
         words[length < sizeof words ? length : 0] = '\0';
     }

@@ -1,7 +1,4 @@
-/* The host for processes, plain C outside of what is proved: windows, and which process runs when. */
-#undef _POSIX_C_SOURCE
-#define _POSIX_C_SOURCE 200809L
-
+/* The host for processes, plain C outside of what is proved: windows, and who runs when. */
 #include "bench_host.h"
 
 #include <string.h>
@@ -30,8 +27,7 @@ void bench_make_ready(struct bench_process *process, SYSTEM_TIME_TYPE moment) {
 }
 
 SYSTEM_TIME_TYPE bench_first_release(const struct bench_process *process) {
-    return process->attributes.PERIOD == INFINITE_TIME_VALUE ? bench_host.now
-                                                             : bench_host.partition[process->partition].next;
+    return bench_is_periodic(process) ? process->partition->next : bench_host.now;
 }
 
 void bench_release(struct bench_process *process, SYSTEM_TIME_TYPE moment) {
@@ -42,9 +38,12 @@ void bench_release(struct bench_process *process, SYSTEM_TIME_TYPE moment) {
     bench_make_ready(process, moment);
 }
 
-static SYSTEM_TIME_TYPE from_now(SYSTEM_TIME_TYPE moment) { return moment > bench_host.now ? moment : bench_host.now; }
+static SYSTEM_TIME_TYPE from_now(SYSTEM_TIME_TYPE moment) {
+    return moment > bench_host.now ? moment : bench_host.now;
+}
 
-/* Whether a process runs before another: first what is ready by now, then by priority, then what was ready first. */
+/* Whether a process runs before another: first what is ready by now, then by priority, then what
+ * was ready first. */
 static bool is_before(const struct bench_process *one, const struct bench_process *other) {
     const SYSTEM_TIME_TYPE mine = bench_runs_at(one), others = bench_runs_at(other);
     if (from_now(mine) != from_now(others)) {
@@ -66,8 +65,7 @@ static struct bench_process *next_process(struct bench_host_partition *partition
     if (handler->is_started || partition->lock_level > 0) {
         return handler->is_started ? handler : partition->locker;
     }
-    for (PROCESS_ID_TYPE id = 1; id <= partition->processes; id++) {
-        struct bench_process *each = &partition->process[id];
+    BENCH_EACH(each, partition) {
         if (bench_runs_at(each) != BENCH_NEVER && (first == NULL || is_before(each, first))) {
             first = each;
         }
@@ -75,25 +73,33 @@ static struct bench_process *next_process(struct bench_host_partition *partition
     return first;
 }
 
-/* Deadlines. */
-
-/* The process whose deadline passes first, at the latest where the moment does; null where none does. */
-static struct bench_process *first_late(struct bench_host_partition *partition, SYSTEM_TIME_TYPE moment) {
-    struct bench_process *first = NULL;
-    for (PROCESS_ID_TYPE id = 1; id <= partition->processes && partition->is_normal; id++) {
-        struct bench_process *each = &partition->process[id];
-        if (each->is_started && !each->is_late && each->deadline < moment &&
-            (first == NULL || each->deadline < first->deadline)) {
-            first = each;
+struct bench_process *bench_least(struct bench_host_partition *partition,
+                                  int64_t (*key)(const struct bench_process *process)) {
+    struct bench_process *least = NULL;
+    BENCH_EACH(each, partition) {
+        if (key(each) != BENCH_NEVER && (least == NULL || key(each) < key(least))) {
+            least = each;
         }
     }
-    return first;
+    return least;
+}
+
+/* Deadlines. */
+
+static int64_t late_from(const struct bench_process *process) {
+    return process->is_started && !process->is_late ? process->deadline : BENCH_NEVER;
+}
+
+/* The process whose deadline passes first, before a moment; null where none does. */
+static struct bench_process *first_late(struct bench_host_partition *partition,
+                                        SYSTEM_TIME_TYPE moment) {
+    struct bench_process *first = partition->is_normal ? bench_least(partition, late_from) : NULL;
+    return first != NULL && first->deadline < moment ? first : NULL;
 }
 
 void bench_yield(void) {
-    struct bench_host_partition *partition = &bench_host.partition[bench_self->partition];
-    if (bench_host.now >= bench_host.window_end || next_process(partition) != bench_self ||
-        first_late(partition, bench_host.now) != NULL) {
+    if (bench_host.now >= bench_host.window_end || next_process(bench_own()) != bench_self ||
+        first_late(bench_own(), bench_host.now) != NULL) {
         bench_give_turn_back();
     }
 }
@@ -107,24 +113,25 @@ static void miss_deadline(struct bench_process *process) {
 
 /* Modes. */
 
-void bench_end_partition(struct bench_host_partition *partition) {
+/* Ends the processes of a partition. */
+static void end_partition(struct bench_host_partition *partition) {
     for (PROCESS_ID_TYPE id = BENCH_MAIN; id <= BENCH_HANDLER; id++) {
         bench_stop(&partition->process[id]);
     }
-    bench_end_objects(partition);
+    bench_end_objects(partition->number);
     partition->processes = 0;
     partition->has_handler = false;
 }
 
 /* Does what a change of the partition's mode asks for; false where it can't. */
-static bool follow_mode(uint32_t number) {
-    struct bench_host_partition *partition = &bench_host.partition[number];
+static bool follow_mode(struct bench_host_partition *partition) {
     OPERATING_MODE_TYPE mode;
-    if (!bench_find_mode(number, &mode)) {
-        return bench_refuse("bench_run_frame", "the module is closed");
+    if (!bench_expects(bench_find_mode(partition->number, &mode), "bench_run_frame",
+                       "the module is closed")) {
+        return false;
     }
     if (partition->must_restart && partition->has_main_run) {
-        bench_end_partition(partition);
+        end_partition(partition);
         partition->condition = partition->is_by_monitor ? HM_PARTITION_RESTART : PARTITION_RESTART;
         partition->has_main_run = partition->is_normal = partition->is_by_monitor = false;
         if (!bench_reload(partition)) {
@@ -133,10 +140,9 @@ static bool follow_mode(uint32_t number) {
     }
     partition->must_restart = false;
     if (mode == NORMAL && !partition->is_normal) {
-        for (PROCESS_ID_TYPE id = 1; id <= partition->processes; id++) {
-            struct bench_process *process = &partition->process[id];
-            if (process->is_started) {
-                bench_release(process, bench_first_release(process) + process->delay);
+        BENCH_EACH(each, partition) {
+            if (each->is_started) {
+                bench_release(each, bench_first_release(each) + each->delay);
             }
         }
     }
@@ -147,27 +153,26 @@ static bool follow_mode(uint32_t number) {
 
 /* Windows. */
 
-static void start_main(uint32_t number) {
-    struct bench_host_partition *partition = &bench_host.partition[number];
+static void start_main(struct bench_host_partition *partition) {
     struct bench_process *main_process = &partition->process[BENCH_MAIN];
     partition->has_main_run = true;
     bench_stop(main_process);
-    *main_process = (struct bench_process){.partition = number, .id = BENCH_MAIN, .is_started = true};
+    *main_process = (struct bench_process){.partition = partition, .is_started = true};
+    main_process->id = BENCH_MAIN;
     main_process->attributes.ENTRY_POINT = partition->how.entry;
-    memcpy(main_process->attributes.NAME, "main", 5);
+    bench_name(main_process->attributes.NAME, "main");
 }
 
-static void begin_window(uint32_t number) {
-    struct bench_host_partition *partition = &bench_host.partition[number];
+static void begin_window(struct bench_host_partition *partition) {
     bench_host.window_end = partition->next + partition->how.duration;
     partition->next += partition->how.period;
-    for (PROCESS_ID_TYPE id = 1; id <= partition->processes; id++) {
-        partition->process[id].zero_delays = 0;
+    BENCH_EACH(each, partition) {
+        each->zero_delays = 0;
     }
     bench_make_delayed();
-    bench_settle(number);
+    bench_settle(partition);
     if (!partition->has_main_run) {
-        start_main(number);
+        start_main(partition);
     }
 }
 
@@ -176,26 +181,28 @@ static bool is_too_often(struct bench_host_partition *partition, struct bench_pr
     if (process->zero_delays < DELAY_LIMIT) {
         return false;
     }
-    bench_tell(process, "TIMED_WAIT", "1000 delays of 0 in one window: it goes on with the next", NULL, 0);
+    bench_tell(process, "TIMED_WAIT", "1000 delays of 0 in one window: it goes on with the next",
+               NULL, 0);
     process->ready = partition->next;
     process->turn = 0;
     return true;
 }
 
 /* Runs a window: every process that is ready before its end. */
-static bool run_window(uint32_t number) {
-    struct bench_host_partition *partition = &bench_host.partition[number];
+static bool run_window(struct bench_host_partition *partition) {
     bench_go_on_to(partition->next);
-    if (!follow_mode(number)) {
+    if (!follow_mode(partition)) {
         return false;
     }
-    begin_window(number);
+    begin_window(partition);
     for (;;) {
         struct bench_process *process = next_process(partition);
-        const SYSTEM_TIME_TYPE at = process == NULL ? BENCH_NEVER : from_now(bench_runs_at(process));
+        const SYSTEM_TIME_TYPE at =
+            process == NULL ? BENCH_NEVER : from_now(bench_runs_at(process));
         const SYSTEM_TIME_TYPE before = at < bench_host.window_end ? at : bench_host.window_end - 1;
         struct bench_process *late = first_late(partition, before);
-        if (bench_host.now >= bench_host.window_end || (late == NULL && at >= bench_host.window_end)) {
+        if (bench_host.now >= bench_host.window_end ||
+            (late == NULL && at >= bench_host.window_end)) {
             return true;
         }
         if (late != NULL) {
@@ -209,13 +216,17 @@ static bool run_window(uint32_t number) {
                 bench_restart_handler(partition);
             }
         }
-        if (!follow_mode(number)) {
+        if (!follow_mode(partition)) {
             return false;
         }
     }
 }
 
 /* The bench's calls. */
+
+static bool is_added(uint32_t partition) {
+    return partition < BENCH_PARTITIONS && bench_host.partition[partition].how.entry != NULL;
+}
 
 static bool overlap(const struct bench_partition *one, const struct bench_partition *other) {
     SYSTEM_TIME_TYPE divisor = one->period, rest = other->period;
@@ -228,50 +239,58 @@ static bool overlap(const struct bench_partition *one, const struct bench_partit
     return apart < one->duration || divisor - apart < other->duration;
 }
 
-bool bench_add_partition(uint32_t partition, const struct bench_partition *how) {
-    OPERATING_MODE_TYPE mode;
-    if (bench_self != NULL || bench_host.has_begun) {
-        return bench_refuse("bench_add_partition", bench_self != NULL ? "called by a process" : "frames have begun");
-    }
-    if (partition >= BENCH_PARTITIONS || !bench_find_mode(partition, &mode)) {
-        return bench_refuse("bench_add_partition", "the module isn't open, or lacks the partition");
-    }
-    if (how == NULL || how->entry == NULL || bench_host.partition[partition].how.entry != NULL) {
-        return bench_refuse("bench_add_partition", "there is no entry, or the partition was added before");
-    }
-    if (how->offset < 0 || how->duration <= 0 || how->period < how->duration ||
-        how->offset > how->period - how->duration) {
-        return bench_refuse("bench_add_partition", "the window doesn't lie within one period");
-    }
+static bool is_in_period(const struct bench_partition *how) {
+    return how->offset >= 0 && how->duration > 0 && how->duration <= how->period &&
+           how->offset <= how->period - how->duration;
+}
+
+static bool is_apart(const struct bench_partition *how) {
     for (uint32_t p = 0; p < BENCH_PARTITIONS; p++) {
-        if (bench_host.partition[p].how.entry != NULL && overlap(&bench_host.partition[p].how, how)) {
-            return bench_refuse("bench_add_partition", "windows of two partitions overlap");
+        if (is_added(p) && overlap(&bench_host.partition[p].how, how)) {
+            return false;
         }
     }
-    bench_host.partition[partition].how = *how;
-    bench_host.partition[partition].next = how->offset;
-    apex_host = &bench_hooks;
-    bench_go_on_to(0);
     return true;
+}
+
+bool bench_add_partition(uint32_t partition, const struct bench_partition *how) {
+    OPERATING_MODE_TYPE mode;
+    const bool is_new =
+        bench_expects(bench_self == NULL, __func__, "called by a process") &&
+        bench_expects(!bench_host.has_begun, __func__, "frames have begun") &&
+        bench_expects(partition < BENCH_PARTITIONS && bench_find_mode(partition, &mode), __func__,
+                      "the module isn't open, or lacks the partition") &&
+        bench_expects(how != NULL && how->entry != NULL && !is_added(partition), __func__,
+                      "there is no entry, or the partition was added before") &&
+        bench_expects(is_in_period(how), __func__, "the window doesn't lie within one period") &&
+        bench_expects(is_apart(how), __func__, "windows of two partitions overlap");
+    if (is_new) {
+        bench_host.partition[partition].number = partition;
+        bench_host.partition[partition].how = *how;
+        bench_host.partition[partition].next = how->offset;
+        apex_host = &bench_hooks;
+        bench_go_on_to(0);
+    }
+    return is_new;
 }
 
 bool bench_on_error(uint32_t partition, enum bench_action action) {
-    if (bench_self != NULL || partition >= BENCH_PARTITIONS || bench_host.partition[partition].how.entry == NULL ||
-        action > BENCH_WARM_START) {
-        return bench_refuse("bench_on_error", "called by a process, or the partition wasn't added, or it is no action");
+    const bool is_so = bench_expects(
+        bench_self == NULL && is_added(partition) && action <= BENCH_WARM_START, __func__,
+        "called by a process, or the partition wasn't added, or it is no action");
+    if (is_so) {
+        bench_host.partition[partition].on_error = action;
     }
-    bench_host.partition[partition].on_error = action;
-    return true;
+    return is_so;
 }
 
-/* The partition whose window begins next, before the moment; BENCH_PARTITIONS where none does. */
-static uint32_t next_window(SYSTEM_TIME_TYPE before) {
-    uint32_t next = BENCH_PARTITIONS;
+/* The partition whose window begins next, before the moment; null where none does. */
+static struct bench_host_partition *next_window(SYSTEM_TIME_TYPE before) {
+    struct bench_host_partition *next = NULL;
     for (uint32_t p = 0; p < BENCH_PARTITIONS; p++) {
-        const struct bench_host_partition *each = &bench_host.partition[p];
-        if (each->how.entry != NULL && each->next < before) {
-            before = each->next;
-            next = p;
+        if (is_added(p) && bench_host.partition[p].next < before) {
+            next = &bench_host.partition[p];
+            before = next->next;
         }
     }
     return next;
@@ -280,25 +299,24 @@ static uint32_t next_window(SYSTEM_TIME_TYPE before) {
 static bool is_frame(SYSTEM_TIME_TYPE length) {
     bool is_multiple = length > 0 && length <= (INT64_MAX - bench_host.now) / 2, is_any = false;
     for (uint32_t p = 0; p < BENCH_PARTITIONS; p++) {
-        const struct bench_partition *how = &bench_host.partition[p].how;
-        is_any |= how->entry != NULL;
-        is_multiple = is_multiple && (how->entry == NULL || length % how->period == 0);
+        is_any |= is_added(p);
+        is_multiple &= !is_added(p) || length % bench_host.partition[p].how.period == 0;
     }
     return is_any && is_multiple;
 }
 
 bool bench_run_frame(SYSTEM_TIME_TYPE length) {
-    if (bench_self != NULL || bench_host.has_failed) {
-        return bench_refuse("bench_run_frame",
-                            bench_self != NULL ? "called by a process" : "an earlier frame has failed");
-    }
-    if (!is_frame(length)) {
-        return bench_refuse("bench_run_frame", "no partition was added, or the length is no multiple of each period");
+    if (!bench_expects(bench_self == NULL, __func__, "called by a process") ||
+        !bench_expects(!bench_host.has_failed, __func__, "an earlier frame has failed") ||
+        !bench_expects(is_frame(length), __func__,
+                       "no partition was added, or the length is no multiple of each period")) {
+        return false;
     }
     const SYSTEM_TIME_TYPE end = bench_host.now + length;
+    struct bench_host_partition *next;
     bench_host.has_begun = true;
-    for (uint32_t p = next_window(end); p < BENCH_PARTITIONS; p = next_window(end)) {
-        if (!run_window(p)) {
+    while ((next = next_window(end)) != NULL) {
+        if (!run_window(next)) {
             bench_host.has_failed = true;
             return false;
         }
@@ -308,12 +326,11 @@ bool bench_run_frame(SYSTEM_TIME_TYPE length) {
 }
 
 void bench_end_processes(void) {
-    if (bench_self != NULL) {
-        bench_refuse("bench_end_processes", "called by a process; nothing is done");
+    if (!bench_expects(bench_self == NULL, __func__, "called by a process; nothing is done")) {
         return;
     }
     for (uint32_t p = 0; p < BENCH_PARTITIONS; p++) {
-        bench_end_partition(&bench_host.partition[p]);
+        end_partition(&bench_host.partition[p]);
         bench_unload(&bench_host.partition[p]);
     }
     bench_end_faults();

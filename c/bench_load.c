@@ -1,8 +1,5 @@
-/* The host for processes, plain C outside of what is proved: partitions that are shared objects. Each start of one
- * loads a copy of the file, which has data of its own, as the file has them. */
-#undef _POSIX_C_SOURCE
-#define _POSIX_C_SOURCE 200809L
-
+/* The host for processes, plain C outside of what is proved: partitions that are shared objects.
+ * Each start of one loads a copy of the file, which has data of its own, as the file has them. */
 #include "bench_host.h"
 
 #include <dlfcn.h>
@@ -12,88 +9,85 @@
 #include <string.h>
 #include <unistd.h>
 
-static bool refuse(const char *what, const char *why) {
+static bool expects(bool is_so, const char *what, const char *why) {
     char line[512];
     snprintf(line, sizeof line, "%s: %s", what, why);
-    return bench_refuse("bench_load_partition", line);
+    return bench_expects(is_so, "bench_load_partition", line);
 }
 
-static bool copy_bytes(FILE *from, FILE *to) {
+/* Copies a file to one of a name of its own, which the place gets; false where the errno says why
+ * not. */
+static bool copy_file(const char *file, char *place) {
     static char bytes[65536];
-    size_t length;
-    while ((length = fread(bytes, 1, sizeof bytes, from)) > 0) {
-        if (fwrite(bytes, 1, length, to) != length) {
-            return false;
-        }
-    }
-    return !ferror(from) && fflush(to) == 0;
-}
-
-/* Copies a file to one with a name of its own, which the place gets; false where the errno says why not. */
-static bool copy_file(const char *file, char *place, size_t size) {
-    const char *folder = getenv("TMPDIR");
-    snprintf(place, size, "%s/dekarino-XXXXXX", folder != NULL && folder[0] == '/' ? folder : "/tmp");
     FILE *from = fopen(file, "rb");
-    if (from == NULL) {
-        return false;
-    }
-    const int number = mkstemp(place);
+    const int number = from == NULL ? -1 : mkstemp(place);
     FILE *to = number < 0 ? NULL : fdopen(number, "wb");
-    const bool is_copied = to != NULL && copy_bytes(from, to);
-    const int why = errno;
-    if (to != NULL) {
-        fclose(to);
+    bool is_copied = to != NULL;
+    for (size_t length = 1; is_copied && length > 0;) {
+        length = fread(bytes, 1, sizeof bytes, from);
+        is_copied = !ferror(from) && fwrite(bytes, 1, length, to) == length && fflush(to) == 0;
     }
+    const int why = errno;
     if (number >= 0 && !is_copied) {
         unlink(place);
     }
-    fclose(from);
+    if (to != NULL) {
+        fclose(to);
+    }
+    if (from != NULL) {
+        fclose(from);
+    }
     errno = why;
     return is_copied;
 }
 
+static void close_library(struct bench_host_partition *partition) {
+    if (partition->library != NULL) {
+        dlclose(partition->library);
+    }
+    partition->library = NULL;
+}
+
 bool bench_reload(struct bench_host_partition *partition) {
+    const char *folder = getenv("TMPDIR");
     char place[512];
     if (partition->file == NULL) {
         return true;
     }
-    if (partition->library != NULL) {
-        dlclose(partition->library);
-        partition->library = NULL;
-    }
-    if (!copy_file(partition->file, place, sizeof place)) {
-        return refuse(partition->file, strerror(errno));
+    close_library(partition);
+    snprintf(place, sizeof place, "%s/dekarino-XXXXXX",
+             folder != NULL && folder[0] == '/' ? folder : "/tmp");
+    if (!copy_file(partition->file, place)) {
+        return expects(false, partition->file, strerror(errno));
     }
     partition->library = dlopen(place, RTLD_NOW | RTLD_LOCAL);
     unlink(place);
     if (partition->library == NULL) {
-        return refuse(partition->file, dlerror());
+        return expects(false, partition->file, dlerror());
     }
     /* (POSIX has a function's address as an object's; a cast between both is no ISO C) */
     *(void **)&partition->how.entry = dlsym(partition->library, partition->entry);
-    return partition->how.entry != NULL || refuse(partition->file, "it has no such entry");
+    return expects(partition->how.entry != NULL, partition->file, "it has no such entry");
 }
 
 void bench_unload(struct bench_host_partition *partition) {
-    if (partition->library != NULL) {
-        dlclose(partition->library);
-    }
+    close_library(partition);
     free(partition->file);
     free(partition->entry);
 }
 
-bool bench_load_partition(const char *file, const char *entry, uint32_t partition, const struct bench_partition *how) {
-    if (bench_self != NULL || file == NULL || entry == NULL || how == NULL) {
-        return refuse(file == NULL ? "no file" : file, "called by a process, or without an entry or windows");
-    }
-    struct bench_host_partition loaded = {.file = strdup(file), .entry = strdup(entry)};
-    if (loaded.file == NULL || loaded.entry == NULL || !bench_reload(&loaded)) {
-        bench_unload(&loaded);
+bool bench_load_partition(const char *file, const char *entry, uint32_t partition,
+                          const struct bench_partition *how) {
+    if (!expects(bench_self == NULL && file != NULL && entry != NULL && how != NULL,
+                 file == NULL ? "no file" : file,
+                 "called by a process, or without an entry or windows")) {
         return false;
     }
+    struct bench_host_partition loaded = {.file = strdup(file), .entry = strdup(entry)};
     struct bench_partition with_entry = *how;
+    const bool is_loaded = loaded.file != NULL && loaded.entry != NULL && bench_reload(&loaded);
     with_entry.entry = loaded.how.entry;
-    if (!bench_add_partition(partition, &with_entry)) {
+    if (!is_loaded || !bench_add_partition(partition, &with_entry)) {
         bench_unload(&loaded);
         return false;
     }

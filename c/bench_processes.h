@@ -1,9 +1,9 @@
-/* For benches, and outside of what is proved: the processes of partitions whose code is C, with the names, types and
- * orders of parameters of ARINC Specification 653 Part 1 (APEX). The files bench_*.c run them as threads, one at a
- * time.
+/* For benches, and outside of what is proved: the processes of partitions whose code is C, with the
+ * names, types and orders of parameters of ARINC Specification 653 Part 1 (APEX). The files
+ * bench_*.c run them as threads, one at a time.
  *
- * Below the services stand the functions by which a bench says when a partition has its windows, and steps them.
- * docs/C.md has what is done, each return code, and what is not done. */
+ * Below the services stand the functions by which a bench says when a partition has its windows,
+ * and steps them. docs/C.md has what is done, each return code, and what is not done. */
 #ifndef BENCH_PROCESSES_H
 #define BENCH_PROCESSES_H
 
@@ -49,85 +49,36 @@ typedef struct {
     PROCESS_ATTRIBUTE_TYPE ATTRIBUTES;
 } PROCESS_STATUS_TYPE;
 
-void CREATE_PROCESS(
-    /*in */ PROCESS_ATTRIBUTE_TYPE *ATTRIBUTES,
-    /*out*/ PROCESS_ID_TYPE *PROCESS_ID,
-    /*out*/ RETURN_CODE_TYPE *RETURN_CODE);
-
-void START(
-    /*in */ PROCESS_ID_TYPE PROCESS_ID,
-    /*out*/ RETURN_CODE_TYPE *RETURN_CODE);
-
-void DELAYED_START(
-    /*in */ PROCESS_ID_TYPE PROCESS_ID,
-    /*in */ SYSTEM_TIME_TYPE DELAY_TIME,
-    /*out*/ RETURN_CODE_TYPE *RETURN_CODE);
-
+void CREATE_PROCESS(PROCESS_ATTRIBUTE_TYPE *ATTRIBUTES, PROCESS_ID_TYPE *PROCESS_ID,
+                    RETURN_CODE_TYPE *RETURN_CODE);
+void START(PROCESS_ID_TYPE PROCESS_ID, RETURN_CODE_TYPE *RETURN_CODE);
+void DELAYED_START(PROCESS_ID_TYPE PROCESS_ID, SYSTEM_TIME_TYPE DELAY_TIME,
+                   RETURN_CODE_TYPE *RETURN_CODE);
 void STOP_SELF(void);
-
-void STOP(
-    /*in */ PROCESS_ID_TYPE PROCESS_ID,
-    /*out*/ RETURN_CODE_TYPE *RETURN_CODE);
-
-void SUSPEND_SELF(
-    /*in */ SYSTEM_TIME_TYPE TIME_OUT,
-    /*out*/ RETURN_CODE_TYPE *RETURN_CODE);
-
-void SUSPEND(
-    /*in */ PROCESS_ID_TYPE PROCESS_ID,
-    /*out*/ RETURN_CODE_TYPE *RETURN_CODE);
-
-void RESUME(
-    /*in */ PROCESS_ID_TYPE PROCESS_ID,
-    /*out*/ RETURN_CODE_TYPE *RETURN_CODE);
-
-void SET_PRIORITY(
-    /*in */ PROCESS_ID_TYPE PROCESS_ID,
-    /*in */ PRIORITY_TYPE PRIORITY_VALUE,
-    /*out*/ RETURN_CODE_TYPE *RETURN_CODE);
-
-void LOCK_PREEMPTION(
-    /*out*/ LOCK_LEVEL_TYPE *LOCK_LEVEL,
-    /*out*/ RETURN_CODE_TYPE *RETURN_CODE);
-
-void UNLOCK_PREEMPTION(
-    /*out*/ LOCK_LEVEL_TYPE *LOCK_LEVEL,
-    /*out*/ RETURN_CODE_TYPE *RETURN_CODE);
-
-void GET_MY_ID(
-    /*out*/ PROCESS_ID_TYPE *PROCESS_ID,
-    /*out*/ RETURN_CODE_TYPE *RETURN_CODE);
-
-void GET_PROCESS_ID(
-    /*in */ PROCESS_NAME_TYPE PROCESS_NAME,
-    /*out*/ PROCESS_ID_TYPE *PROCESS_ID,
-    /*out*/ RETURN_CODE_TYPE *RETURN_CODE);
-
-void GET_PROCESS_STATUS(
-    /*in */ PROCESS_ID_TYPE PROCESS_ID,
-    /*out*/ PROCESS_STATUS_TYPE *PROCESS_STATUS,
-    /*out*/ RETURN_CODE_TYPE *RETURN_CODE);
+void STOP(PROCESS_ID_TYPE PROCESS_ID, RETURN_CODE_TYPE *RETURN_CODE);
+void SUSPEND_SELF(SYSTEM_TIME_TYPE TIME_OUT, RETURN_CODE_TYPE *RETURN_CODE);
+void SUSPEND(PROCESS_ID_TYPE PROCESS_ID, RETURN_CODE_TYPE *RETURN_CODE);
+void RESUME(PROCESS_ID_TYPE PROCESS_ID, RETURN_CODE_TYPE *RETURN_CODE);
+void SET_PRIORITY(PROCESS_ID_TYPE PROCESS_ID, PRIORITY_TYPE PRIORITY_VALUE,
+                  RETURN_CODE_TYPE *RETURN_CODE);
+void LOCK_PREEMPTION(LOCK_LEVEL_TYPE *LOCK_LEVEL, RETURN_CODE_TYPE *RETURN_CODE);
+void UNLOCK_PREEMPTION(LOCK_LEVEL_TYPE *LOCK_LEVEL, RETURN_CODE_TYPE *RETURN_CODE);
+void GET_MY_ID(PROCESS_ID_TYPE *PROCESS_ID, RETURN_CODE_TYPE *RETURN_CODE);
+void GET_PROCESS_ID(PROCESS_NAME_TYPE PROCESS_NAME, PROCESS_ID_TYPE *PROCESS_ID,
+                    RETURN_CODE_TYPE *RETURN_CODE);
+void GET_PROCESS_STATUS(PROCESS_ID_TYPE PROCESS_ID, PROCESS_STATUS_TYPE *PROCESS_STATUS,
+                        RETURN_CODE_TYPE *RETURN_CODE);
 
 /* Time. */
 
-void TIMED_WAIT(
-    /*in */ SYSTEM_TIME_TYPE DELAY_TIME,
-    /*out*/ RETURN_CODE_TYPE *RETURN_CODE);
-
-void PERIODIC_WAIT(
-    /*out*/ RETURN_CODE_TYPE *RETURN_CODE);
-
-void GET_TIME(
-    /*out*/ SYSTEM_TIME_TYPE *SYSTEM_TIME,
-    /*out*/ RETURN_CODE_TYPE *RETURN_CODE);
-
-void REPLENISH(
-    /*in */ SYSTEM_TIME_TYPE BUDGET_TIME,
-    /*out*/ RETURN_CODE_TYPE *RETURN_CODE);
+void TIMED_WAIT(SYSTEM_TIME_TYPE DELAY_TIME, RETURN_CODE_TYPE *RETURN_CODE);
+void PERIODIC_WAIT(RETURN_CODE_TYPE *RETURN_CODE);
+void GET_TIME(SYSTEM_TIME_TYPE *SYSTEM_TIME, RETURN_CODE_TYPE *RETURN_CODE);
+void REPLENISH(SYSTEM_TIME_TYPE BUDGET_TIME, RETURN_CODE_TYPE *RETURN_CODE);
 
 /* Partition management. */
 
-typedef APEX_INTEGER PARTITION_ID_TYPE; /* the partition's number, from 0 in the order of the configuration */
+typedef APEX_INTEGER PARTITION_ID_TYPE; /* from 0, in the order of the configuration */
 typedef enum {
     NORMAL_START = 0,
     PARTITION_RESTART = 1,
@@ -144,9 +95,7 @@ typedef struct {
     START_CONDITION_TYPE START_CONDITION;
 } PARTITION_STATUS_TYPE;
 
-void GET_PARTITION_STATUS(
-    /*out*/ PARTITION_STATUS_TYPE *PARTITION_STATUS,
-    /*out*/ RETURN_CODE_TYPE *RETURN_CODE);
+void GET_PARTITION_STATUS(PARTITION_STATUS_TYPE *PARTITION_STATUS, RETURN_CODE_TYPE *RETURN_CODE);
 
 /* Errors. */
 
@@ -173,65 +122,54 @@ typedef struct {
     ERROR_MESSAGE_TYPE MESSAGE;
 } ERROR_STATUS_TYPE;
 
-void CREATE_ERROR_HANDLER(
-    /*in */ SYSTEM_ADDRESS_TYPE ENTRY_POINT,
-    /*in */ STACK_SIZE_TYPE STACK_SIZE,
-    /*out*/ RETURN_CODE_TYPE *RETURN_CODE);
-
-void GET_ERROR_STATUS(
-    /*out*/ ERROR_STATUS_TYPE *ERROR_STATUS,
-    /*out*/ RETURN_CODE_TYPE *RETURN_CODE);
-
-void REPORT_APPLICATION_MESSAGE(
-    /*in */ MESSAGE_ADDR_TYPE MESSAGE_ADDR,
-    /*in */ MESSAGE_SIZE_TYPE LENGTH,
-    /*out*/ RETURN_CODE_TYPE *RETURN_CODE);
-
-void RAISE_APPLICATION_ERROR(
-    /*in */ ERROR_CODE_TYPE ERROR_CODE,
-    /*in */ MESSAGE_ADDR_TYPE MESSAGE_ADDR,
-    /*in */ ERROR_MESSAGE_SIZE_TYPE LENGTH,
-    /*out*/ RETURN_CODE_TYPE *RETURN_CODE);
+void CREATE_ERROR_HANDLER(SYSTEM_ADDRESS_TYPE ENTRY_POINT, STACK_SIZE_TYPE STACK_SIZE,
+                          RETURN_CODE_TYPE *RETURN_CODE);
+void GET_ERROR_STATUS(ERROR_STATUS_TYPE *ERROR_STATUS, RETURN_CODE_TYPE *RETURN_CODE);
+void REPORT_APPLICATION_MESSAGE(MESSAGE_ADDR_TYPE MESSAGE_ADDR, MESSAGE_SIZE_TYPE LENGTH,
+                                RETURN_CODE_TYPE *RETURN_CODE);
+void RAISE_APPLICATION_ERROR(ERROR_CODE_TYPE ERROR_CODE, MESSAGE_ADDR_TYPE MESSAGE_ADDR,
+                             ERROR_MESSAGE_SIZE_TYPE LENGTH, RETURN_CODE_TYPE *RETURN_CODE);
 
 /* The bench's side, for one thread of the bench's own. */
 
-/* What a partition runs and when, in nanoseconds: its windows begin at `offset`, `offset + period` and so on. */
+/* What a partition runs and when: its windows begin at `offset`, `offset + period` and so on. */
 struct bench_partition {
-    void (*entry)(void); /* the main process: creates ports and processes, starts them, and sets NORMAL */
-    SYSTEM_TIME_TYPE period;
-    SYSTEM_TIME_TYPE offset;
-    SYSTEM_TIME_TYPE duration;
+    /* The main process: creates ports and processes, starts them, and sets NORMAL. */
+    void (*entry)(void);
+    SYSTEM_TIME_TYPE period, offset, duration;
 };
 
-/* Gives a partition of the open module its windows. Answers false, changes nothing and says why on standard error where
- * it has some already or the module lacks it, where a window doesn't lie within one period or overlaps another
- * partition's, where there is no entry, or after the first frame. */
+/* Gives a partition of the open module its windows. Answers false, changes nothing and says why on
+ * standard error where it has some already or the module lacks it, where a window doesn't lie in
+ * one period or overlaps another partition's, where there is no entry, or after the first frame. */
 bool bench_add_partition(uint32_t partition, const struct bench_partition *how);
 
-/* Gives a partition its windows whose code is a shared object, with the name of its main process; the entry of `how` is
- * not looked at. Each start and restart loads a copy of the file, so that its data are as the file has them, and two
- * partitions share none. The services come from the program, which is linked with -rdynamic. Answers as
- * bench_add_partition, and false where the file can't be loaded or has no such function. */
-bool bench_load_partition(const char *file, const char *entry, uint32_t partition, const struct bench_partition *how);
+/* Gives a partition its windows whose code is a shared object, with the name of its main process;
+ * the entry of `how` is not looked at. Each start and restart loads a copy of the file, so that its
+ * data are as the file has them, and two partitions share none. The services come from the program,
+ * which is linked with -rdynamic. Answers as bench_add_partition, and false where the file can't be
+ * loaded or has no such function. */
+bool bench_load_partition(const char *file, const char *entry, uint32_t partition,
+                          const struct bench_partition *how);
 
-/* What is done with a partition's errors that no error handler takes: nothing, where no other is named, or its mode is
- * set. False for a partition that wasn't added, or another number. */
+/* What is done with a partition's errors that no error handler takes: nothing, where no other is
+ * named, or its mode is set. False for a partition that wasn't added, or another number. */
 enum bench_action { BENCH_IGNORE = 0, BENCH_IDLE = 1, BENCH_COLD_START = 2, BENCH_WARM_START = 3 };
 bool bench_on_error(uint32_t partition, enum bench_action action);
 
-/* The moment goes on by so much with each service of a process, 0 nanoseconds where nothing is set. */
+/* The moment goes on by so many nanoseconds with each service of a process: by 0 at first. */
 void bench_service_time(SYSTEM_TIME_TYPE nanoseconds);
 
-/* The bench reports a process that runs without a service for this many seconds of the machine's clock: 10 by default,
- * never if 0. */
+/* The bench reports a process that runs without a service for this many seconds of the machine's
+ * clock: 10 by default, never if 0. */
 void bench_watch(unsigned seconds);
 
-/* A fault of a channel that the bench injects. It meets messages that the ports would accept: of those that are sent or
- * written from the moment `from` on, and before `until` where that isn't 0, from the `first` on (1, where it is 0)
- * `count` messages, or all where that is 0. */
+/* A fault of a channel that the bench injects. It meets messages that the ports would accept: of
+ * those that are sent or written from the moment `from` on, and before `until` where that isn't 0,
+ * from the `first` on (1, where it is 0) `count` messages, or all where that is 0. */
 enum bench_fault_kind {
     BENCH_DROP = 0,  /* the message is answered NO_ERROR, and lost */
-    BENCH_DELAY = 1, /* it is answered NO_ERROR, and sent when the first window begins that is `delay` later or more */
+    BENCH_DELAY = 1, /* NO_ERROR, and sent as a window begins that is `delay` later or more */
     BENCH_FULL = 2   /* it is answered as if the queue were full */
 };
 struct bench_fault {
@@ -241,19 +179,19 @@ struct bench_fault {
     SYSTEM_TIME_TYPE from, until, delay;
 };
 
-/* Injects a fault until bench_end_processes. Of several that meet a message the one that was added first counts.
- * Answers false and says why where there are 64 already, no partition was added, the module isn't open or lacks the
- * channel, or the fault is none. */
+/* Injects a fault until bench_end_processes. Of several that meet a message the one that was added
+ * first counts. Answers false and says why where there are 64 already, no partition was added, the
+ * module isn't open or lacks the channel, or the fault is none. */
 bool bench_add_fault(const struct bench_fault *fault);
 
-/* Runs all windows of the next `length` nanoseconds, which has to be a multiple of each partition's period. Afterwards
- * the moment is that much later; the first frame begins at 0. Answers false and says why on standard error where the
- * length is none or no partition was added, and also where the module is closed or a thread cannot be had: after that
- * no frame is run until bench_end_processes. */
+/* Runs all windows of the next `length` nanoseconds, which has to be a multiple of each partition's
+ * period. Afterwards the moment is that much later; the first frame begins at 0. Answers false and
+ * says why on standard error where the length is none or no partition was added, and also where the
+ * module is closed or a thread cannot be had: no frame is run then until bench_end_processes. */
 bool bench_run_frame(SYSTEM_TIME_TYPE length);
 
-/* Ends all processes wherever they wait, and forgets the partitions: the next frame is the first again. To be called
- * before bench_close. */
+/* Ends all processes wherever they wait, and forgets the partitions: the next frame is the first
+ * again. To be called before bench_close. */
 void bench_end_processes(void);
 
 #ifdef __cplusplus

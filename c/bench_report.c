@@ -1,10 +1,8 @@
-/* The calls of a bench as texts, plain C outside of what is proved: the report that `apexports replay` prints, and a
- * log that `dekarino judge` reads. The forms are those of docs/FORMATS.md. */
-#undef _POSIX_C_SOURCE
-#define _POSIX_C_SOURCE 200809L
-
+/* The calls of a bench as texts, plain C outside of what is proved: the report that `apexports
+ * replay` prints, and a log that `dekarino judge` reads. The forms are those of docs/FORMATS.md. */
 #include "apex_host.h"
 
+#include <inttypes.h>
 #include <stdlib.h>
 #include <string.h>
 
@@ -13,13 +11,16 @@ static FILE *kept;
 static char *kept_text;
 static size_t kept_length;
 
-static const char *const answer_words[] = {"NO_ERROR",       "NO_ACTION",    "NOT_AVAILABLE", "INVALID_PARAM",
-                                           "INVALID_CONFIG", "INVALID_MODE", "TIMED_OUT",     "not made"};
-static const char *const call_words[] = {"create-sampling", "write",           "read",   "sampling-id",
-                                         "sampling-status", "create-queuing",  "send",   "receive",
-                                         "queuing-id",      "queuing-status",  "clear",  "mode"};
+static const char *const answer_words[] = {"NO_ERROR",      "NO_ACTION",      "NOT_AVAILABLE",
+                                           "INVALID_PARAM", "INVALID_CONFIG", "INVALID_MODE",
+                                           "TIMED_OUT",     "not made"};
+static const char *const call_words[] = {
+    "create-sampling", "write",          "read",  "sampling-id",
+    "sampling-status", "create-queuing", "send",  "receive",
+    "queuing-id",      "queuing-status", "clear", "mode"};
 static const char *const direction_words[] = {"SOURCE", "DESTINATION"};
 static const char *const validity_words[] = {"INVALID", "VALID"};
+static const char *const mode_words[] = {"IDLE", "COLD_START", "WARM_START", "NORMAL"};
 
 static void print_bytes(FILE *file, const uint8_t *bytes, uint64_t length) {
     fputs(length == 0 ? " -" : " ", file);
@@ -28,31 +29,30 @@ static void print_bytes(FILE *file, const uint8_t *bytes, uint64_t length) {
     }
 }
 
+/* Prints the name of a partition or of a channel, by the function that has it. */
+static void print_name(FILE *file, struct apex_handle *module, uint32_t number,
+                       uint32_t (*read)(struct apex_handle *, uint32_t, uint8_t *, size_t,
+                                        uint32_t *)) {
+    uint8_t name[APEX_NAME_LIMIT];
+    uint32_t length = 0;
+    read(module, number, name, sizeof name, &length);
+    fprintf(file, "%.*s", (int)length, (const char *)name);
+}
+
 static void print_arguments(FILE *file, const struct apex_made *made) {
     const struct apex_call *call = &made->call;
-    switch (call->service) {
-    case APEX_CREATE_SAMPLING_PORT:
-        fprintf(file, " %.*s %u %u %llu", (int)made->length, (const char *)made->bytes, call->size, call->direction,
-                (unsigned long long)call->refresh);
-        break;
-    case APEX_CREATE_QUEUING_PORT:
-        fprintf(file, " %.*s %u %u %u %u", (int)made->length, (const char *)made->bytes, call->size, call->depth,
-                call->direction, call->discipline);
-        break;
-    case APEX_GET_SAMPLING_PORT_ID:
-    case APEX_GET_QUEUING_PORT_ID:
+    if (apex_has_name(call->service)) {
         fprintf(file, " %.*s", (int)made->length, (const char *)made->bytes);
-        break;
-    case APEX_SET_PARTITION_MODE:
-        fprintf(file, " %u", call->mode);
-        break;
-    case APEX_SEND_QUEUING_MESSAGE:
-    case APEX_WRITE_SAMPLING_MESSAGE:
-        fprintf(file, " %u", call->id);
+    } else {
+        fprintf(file, " %u", call->service == APEX_SET_PARTITION_MODE ? call->mode : call->id);
+    }
+    if (call->service == APEX_CREATE_SAMPLING_PORT) {
+        fprintf(file, " %u %u %" PRIu64, call->size, call->direction, call->refresh);
+    } else if (call->service == APEX_CREATE_QUEUING_PORT) {
+        fprintf(file, " %u %u %u %u", call->size, call->depth, call->direction, call->discipline);
+    } else if (call->service == APEX_SEND_QUEUING_MESSAGE ||
+               call->service == APEX_WRITE_SAMPLING_MESSAGE) {
         print_bytes(file, made->bytes, made->length);
-        break;
-    default:
-        fprintf(file, " %u", call->id);
     }
 }
 
@@ -69,25 +69,24 @@ static void print_given(FILE *file, const struct apex_made *made) {
         fprintf(file, " %s", validity_words[made->validity]);
     }
     if (made->queuing != NULL) {
-        fprintf(file, " waiting %u depth %u size %u %s processes 0", made->queuing->waiting, made->queuing->depth,
-                made->queuing->size, direction_words[made->queuing->direction]);
+        fprintf(file, " waiting %u depth %u size %u %s processes 0", made->queuing->waiting,
+                made->queuing->depth, made->queuing->size,
+                direction_words[made->queuing->direction]);
     }
     if (made->sampling != NULL) {
-        fprintf(file, " refresh %llu size %u %s last %s", (unsigned long long)made->sampling->refresh,
+        fprintf(file, " refresh %" PRIu64 " size %u %s last %s", made->sampling->refresh,
                 made->sampling->size, direction_words[made->sampling->direction],
                 validity_words[made->sampling->last_validity]);
     }
 }
 
 static void keep(const struct apex_made *made) {
-    uint8_t name[APEX_NAME_LIMIT];
-    uint32_t length = 0;
     if (made->call.refresh > INT64_MAX || made->at > INT64_MAX) {
-        fputs("# ", kept); /* no text has such a number, so that a log has the call as a comment */
+        fputs("# ", kept); /* no text has such a number, so that a log has it as a comment */
     }
-    apex_partition_name(made->module, made->partition, name, sizeof name, &length);
-    fprintf(kept, "%llu %.*s %s", (unsigned long long)made->at, (int)length, (const char *)name,
-            call_words[made->call.service]);
+    fprintf(kept, "%" PRIu64 " ", made->at);
+    print_name(kept, made->module, made->partition, apex_partition_name);
+    fprintf(kept, " %s", call_words[made->call.service]);
     print_arguments(kept, made);
     fprintf(kept, " -> %s", answer_words[made->answer]);
     if (made->answer == NO_ERROR) {
@@ -96,9 +95,15 @@ static void keep(const struct apex_made *made) {
     fputc('\n', kept);
 }
 
-void apex_keep_comment(const char *line) {
+void apex_keep_comment(const struct apex_made *made, uint32_t channel, const char *what) {
     if (kept != NULL) {
-        fprintf(kept, "## %s\n", line);
+        fprintf(kept, "## %" PRIu64 " ", made->at);
+        print_name(kept, made->module, made->partition, apex_partition_name);
+        fputs(", channel ", kept);
+        print_name(kept, made->module, channel, apex_channel_name);
+        fprintf(kept, ": %s:", what);
+        print_bytes(kept, made->bytes, made->length);
+        fputc('\n', kept);
     }
 }
 
@@ -137,21 +142,20 @@ static void print_calls(FILE *file) {
         for (int word = 0; word < 3; word++) {
             after += strcspn(after, " ") + 1;
         }
+        const char *answer = strstr(after, "-> ") + 3;
         fprintf(file, "%llu %.*s %.*s\n", ++number, (int)(after - 1 - line), line,
-                (int)(end - (strstr(after, "-> ") + 3)), strstr(after, "-> ") + 3);
+                (int)(end - answer), answer);
     }
 }
 
 static void print_partition(struct apex_handle *module, uint32_t p, FILE *file) {
-    static const char *const mode_words[] = {"IDLE", "COLD_START", "WARM_START", "NORMAL"};
-    uint8_t name[APEX_NAME_LIMIT];
-    uint32_t length = 0, mode = 0;
+    uint32_t mode = 0;
     uint64_t count = 0;
-    apex_partition_name(module, p, name, sizeof name, &length);
     apex_partition_mode(module, p, &mode);
     apex_call_count(module, p, &count);
-    fprintf(file, "partition %.*s mode %s calls %llu\n", (int)length, (const char *)name, mode_words[mode],
-            (unsigned long long)count);
+    fputs("partition ", file);
+    print_name(file, module, p, apex_partition_name);
+    fprintf(file, " mode %s calls %" PRIu64 "\n", mode_words[mode], count);
 }
 
 static void print_queue(struct apex_handle *module, uint32_t c, FILE *file) {
@@ -162,29 +166,30 @@ static void print_queue(struct apex_handle *module, uint32_t c, FILE *file) {
     apex_received_count(module, c, &received);
     apex_cleared_count(module, c, &cleared);
     apex_waiting_count(module, c, &waiting);
-    fprintf(file, " accepted %llu received %llu", (unsigned long long)accepted, (unsigned long long)received);
+    fprintf(file, " accepted %" PRIu64 " received %" PRIu64, accepted, received);
     if (cleared > 0) {
-        fprintf(file, " cleared %llu", (unsigned long long)cleared);
+        fprintf(file, " cleared %" PRIu64, cleared);
     }
-    fprintf(file, " waiting %llu", (unsigned long long)waiting);
-    for (uint64_t i = 0; apex_waiting_message(module, c, i, message, sizeof message, &length) == 0; i++) {
+    fprintf(file, " waiting %" PRIu64, waiting);
+    for (uint64_t i = 0; i < waiting; i++) {
+        apex_waiting_message(module, c, i, message, sizeof message, &length);
         print_bytes(file, message, length);
     }
 }
 
 static void print_channel(struct apex_handle *module, uint32_t c, FILE *file) {
     struct apex_configured_channel channel = {0, 0, false};
-    uint8_t name[APEX_NAME_LIMIT], message[APEX_MESSAGE_LIMIT];
+    uint8_t message[APEX_MESSAGE_LIMIT];
     uint32_t length = 0;
     uint64_t at = 0;
-    apex_channel_name(module, c, name, sizeof name, &length);
     apex_channel_configuration(module, c, &channel);
-    fprintf(file, "%s %.*s", channel.is_queuing ? "queuing" : "sampling", (int)length, (const char *)name);
+    fputs(channel.is_queuing ? "queuing " : "sampling ", file);
+    print_name(file, module, c, apex_channel_name);
     if (channel.is_queuing) {
         print_queue(module, c, file);
     } else if (apex_last_sample(module, c, message, sizeof message, &length, &at) == 0) {
         print_bytes(file, message, length);
-        fprintf(file, " at %llu", (unsigned long long)at);
+        fprintf(file, " at %" PRIu64, at);
     } else {
         fputs(" empty", file);
     }
@@ -194,7 +199,8 @@ static void print_channel(struct apex_handle *module, uint32_t c, FILE *file) {
 bool bench_report(FILE *file) {
     uint32_t partitions = 0, channels = 0;
     struct apex_handle *module = bench_take_handle();
-    const bool is_open = apex_partition_count(module, &partitions) == 0 && apex_channel_count(module, &channels) == 0;
+    const bool is_open = apex_partition_count(module, &partitions) == 0 &&
+                         apex_channel_count(module, &channels) == 0;
     if (is_open && is_kept()) {
         print_calls(file);
     }

@@ -1,8 +1,5 @@
-/* The host for processes, plain C outside of what is proved: one thread at a time has the turn, the bench's own or that
- * of a process. */
-#undef _POSIX_C_SOURCE
-#define _POSIX_C_SOURCE 200809L
-
+/* The host for processes, plain C outside of what is proved: one thread at a time has the turn, the
+ * bench's own or that of a process. */
 #include "bench_host.h"
 
 #include <errno.h>
@@ -22,7 +19,9 @@ static struct bench_process *running; /* null while the bench has the turn */
 static SYSTEM_TIME_TYPE service_time;
 static unsigned watch_seconds = 10;
 
-void bench_service_time(SYSTEM_TIME_TYPE nanoseconds) { service_time = nanoseconds < 0 ? 0 : nanoseconds; }
+void bench_service_time(SYSTEM_TIME_TYPE nanoseconds) {
+    service_time = nanoseconds < 0 ? 0 : nanoseconds;
+}
 
 void bench_watch(unsigned seconds) { watch_seconds = seconds; }
 
@@ -34,29 +33,33 @@ void bench_go_on_to(SYSTEM_TIME_TYPE moment) {
     bench_set_moment((uint64_t)moment);
 }
 
-bool bench_refuse(const char *function, const char *why) {
+bool bench_expects(bool is_so, const char *function, const char *why) {
     char line[640];
-    snprintf(line, sizeof line, "%s: %s", function, why);
-    apex_tell(line);
-    return false;
+    if (!is_so) {
+        snprintf(line, sizeof line, "%s: %s", function, why);
+        apex_tell(line);
+    }
+    return is_so;
 }
 
-void bench_tell(const struct bench_process *process, const char *service, const char *what, const APEX_BYTE *message,
-                int32_t length) {
+void bench_tell(const struct bench_process *process, const char *service, const char *what,
+                const APEX_BYTE *message, int32_t length) {
     char line[1024];
-    int end = snprintf(line, sizeof line / 2, "%s: partition %u, process %.*s, at %lld ns: %s", service,
-                       (unsigned)process->partition, MAX_NAME_LENGTH, process->attributes.NAME,
-                       (long long)bench_host.now, what);
+    int end = snprintf(line, sizeof line / 2, "%s: partition %u, process %.*s, at %lld ns: %s",
+                       service, (unsigned)process->partition->number, MAX_NAME_LENGTH,
+                       process->attributes.NAME, (long long)bench_host.now, what);
     for (int32_t i = 0; i < length && end + 5 < (int)sizeof line; i++) {
         const bool is_plain = message[i] >= ' ' && message[i] <= '~' && message[i] != '\\';
-        end += snprintf(line + end, sizeof line - (size_t)end, is_plain ? "%c" : "\\x%02x", (unsigned)message[i]);
+        end += snprintf(line + end, sizeof line - (size_t)end, is_plain ? "%c" : "\\x%02x",
+                        (unsigned)message[i]);
     }
     apex_tell(line);
 }
 
 /* Counting services. */
 
-/* Takes the time of a service, as far as the window has it. The rest of a process is for its next window. */
+/* Takes the time of a service, as far as the window has it. The rest of a process is for its next
+ * window. */
 static void take_time(void) {
     const SYSTEM_TIME_TYPE left = bench_host.window_end - bench_host.now;
     pthread_mutex_lock(&turn_lock);
@@ -66,8 +69,7 @@ static void take_time(void) {
 }
 
 bool bench_enter(const char *service, RETURN_CODE_TYPE *code) {
-    if (is_ending) {
-        *code = INVALID_MODE;
+    if (!bench_needs(!is_ending, INVALID_MODE, code)) {
         return false;
     }
     pthread_mutex_lock(&turn_lock);
@@ -81,7 +83,7 @@ bool bench_enter(const char *service, RETURN_CODE_TYPE *code) {
         bench_host.has_failed = true;
         bench_give_turn_back(); /* for good */
     }
-    bench_host.is_open = bench_find_mode(bench_self->partition, &bench_host.mode);
+    bench_host.is_open = bench_find_mode(bench_self->partition->number, &bench_host.mode);
     if (bench_self->id != BENCH_MAIN && bench_host.mode != NORMAL) {
         bench_end_self();
     }
@@ -98,12 +100,8 @@ static void start_condition(void) {
     pthread_condattr_destroy(&how);
 }
 
-static void pass_turn_to_bench(void) {
-    running = NULL;
-    pthread_cond_signal(&bench_has_turn);
-}
-
-/* Ends the thread where it is. What its functions hold isn't given back, as where a process of a target is stopped. */
+/* Ends the thread where it is. What its functions hold isn't given back, as where a process of a
+ * target is stopped. */
 static _Noreturn void leave_thread(void) {
     is_ending = true;
     longjmp(bench_self->start, 1);
@@ -111,18 +109,27 @@ static _Noreturn void leave_thread(void) {
 
 /* Makes a process DORMANT. It takes its lock of preemption with it. */
 static void make_dormant(struct bench_process *process) {
-    struct bench_host_partition *partition = &bench_host.partition[process->partition];
-    process->is_started = process->is_suspended = process->has_error = false;
+    process->is_started = process->is_suspended = false;
+    process->error_order = 0;
     process->wait.at = NULL;
-    if (partition->locker == process) {
-        partition->lock_level = 0;
-        partition->locker = NULL;
+    if (process->partition != NULL && process->partition->locker == process) {
+        process->partition->lock_level = 0;
+        process->partition->locker = NULL;
     }
 }
 
 _Noreturn void bench_end_self(void) {
     make_dormant(bench_self);
     leave_thread();
+}
+
+static void pass_turn_to_bench(void) {
+    pthread_mutex_lock(&turn_lock);
+    if (running == bench_self) {
+        running = NULL;
+        pthread_cond_signal(&bench_has_turn);
+    }
+    pthread_mutex_unlock(&turn_lock);
 }
 
 static void wait_for_turn(void) {
@@ -138,29 +145,24 @@ static void wait_for_turn(void) {
 }
 
 void bench_give_turn_back(void) {
-    pthread_mutex_lock(&turn_lock);
     pass_turn_to_bench();
-    pthread_mutex_unlock(&turn_lock);
     wait_for_turn();
 }
 
 static void *run_process(void *process) {
     bench_self = process;
-    bench_set_partition(bench_self->partition);
+    apex_process = &bench_process_hooks;
+    bench_set_partition(bench_self->partition->number);
     if (setjmp(bench_self->start) == 0) {
         wait_for_turn();
         bench_self->attributes.ENTRY_POINT();
         if (bench_self->id != BENCH_MAIN) {
-            bench_tell(bench_self, "STOP_SELF", "not called, but the entry point returned: it is as if called", NULL,
-                       0);
+            bench_tell(bench_self, "STOP_SELF",
+                       "not called, but the entry point returned: it is as if called", NULL, 0);
         }
         bench_end_self();
     }
-    pthread_mutex_lock(&turn_lock);
-    if (running == bench_self) {
-        pass_turn_to_bench();
-    }
-    pthread_mutex_unlock(&turn_lock);
+    pass_turn_to_bench();
     return NULL;
 }
 
@@ -198,7 +200,8 @@ static void watch_turn(const struct bench_process *process) {
         }
         if (running != NULL && bench_host.services == seen) {
             char what[96];
-            snprintf(what, sizeof what, "it runs for %u s without a service behind this one", watch_seconds);
+            snprintf(what, sizeof what, "it runs for %u s without a service behind this one",
+                     watch_seconds);
             bench_tell(process, bench_host.service, what, NULL, 0);
             is_watched = false;
         }
@@ -206,8 +209,9 @@ static void watch_turn(const struct bench_process *process) {
 }
 
 bool bench_give_turn(struct bench_process *process) {
-    if (!process->has_thread && !start_thread(process)) {
-        return bench_refuse("bench_run_frame", "a thread cannot be had");
+    if (!bench_expects(process->has_thread || start_thread(process), "bench_run_frame",
+                       "a thread cannot be had")) {
+        return false;
     }
     pthread_mutex_lock(&turn_lock);
     bench_host.services = 0;
