@@ -13,9 +13,7 @@ pub mod time_out;
 mod timed_call;
 
 pub use crate::line_reader::{LINE_LIMIT, LineReader};
-pub use crate::line_source::{
-    LineSource, LogStep, ReadError, StepError, TextLines, next_step,
-};
+pub use crate::line_source::{LineSource, LogStep, ReadError, StepError, TextLines, next_step};
 pub use crate::log::{
     FaultyLine, LogError, LogForm, LoggedEntry, ModuleLog, PartitionLog, next_entry, read_log,
 };

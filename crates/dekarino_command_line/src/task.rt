@@ -31,12 +31,14 @@ pub enum Task<'a> {
         config: &'a str,
         trace: &'a str,
     },
-    /// Prints where the replies of a recorded log depart from the standard, or the first of them alone. A send or a
-    /// receive whose line says no time-out may be taken to have one, and identifiers to be those of the system.
+    /// Prints where the replies of a recorded log depart from the standard, or the first of them alone, as they are found;
+    /// or none of them if a line of the whole log is faulty. A send or a receive whose line says no time-out may be taken to
+    /// have one, and identifiers to be those of the system.
     Judge {
         config: &'a str,
         log: &'a str,
         first: bool,
+        whole: bool,
         time_outs: bool,
         own_ids: bool,
         form: Form,
@@ -236,8 +238,9 @@ fn judge_in<'a>(alloc: Global, given: &ArgMatches<'a>) -> Result<Task<'a>, Words
         ));
     };
     let (config, form) = (config_in(alloc, given)?, form_in(given));
-    let (first, time_outs, own_ids) = (
+    let (first, whole, time_outs, own_ids) = (
         given.get_flag(commands::FIRST),
+        given.get_flag(commands::WHOLE),
         given.get_flag(commands::TIME_OUTS),
         given.get_flag(commands::OWN_IDS),
     );
@@ -251,6 +254,7 @@ fn judge_in<'a>(alloc: Global, given: &ArgMatches<'a>) -> Result<Task<'a>, Words
             "--order and --steps go with words NAME=LOG",
         )),
         Files::OfPartitions(_) if first => Err(judge_fault(alloc, "--first goes with one log")),
+        Files::OfPartitions(_) if whole => Err(judge_fault(alloc, "--whole goes with one log")),
         Files::OfPartitions(_) if own_ids => {
             Err(judge_fault(alloc, "--own-ids goes with one log"))
         }
@@ -258,6 +262,7 @@ fn judge_in<'a>(alloc: Global, given: &ArgMatches<'a>) -> Result<Task<'a>, Words
             config,
             log,
             first,
+            whole,
             time_outs,
             own_ids,
             form,
