@@ -1,6 +1,7 @@
 //! From the words to a task.
 use crate::commands;
 use crate::fault::WordsFault;
+use crate::input::{TWICE, is_read_twice};
 use crate::wrapping::wrapped;
 use clap::error::ErrorKind;
 use clap::{ArgMatches, Command};
@@ -173,6 +174,9 @@ unrecognized subcommand 'run'
 
 fn task_in<'a>(alloc: Global, matches: &ArgMatches<'a>) -> Result<Task<'a>, WordsFault> {
     match matches.subcommand() {
+        Some((_, given)) if is_read_twice(given) => {
+            Err(fault_of(alloc, commands::program(alloc), TWICE))
+        }
         Some(("table", given)) => Ok(Task::Table {
             config: config_in(alloc, given)?,
             form: form_in(given),
