@@ -1,2 +1,3 @@
+pub mod LineSourceLemmas
 pub mod LogLemmas
 pub mod ReadsBack

@@ -1,3 +1,4 @@
+pub mod LineSource
 pub mod Log
 pub mod LogFault
 pub mod LogLine

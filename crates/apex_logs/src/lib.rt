@@ -2,6 +2,8 @@
 //! what is wrong with a line.
 #![tactic(auto)]
 
+pub mod line_reader;
+pub mod line_source;
 pub mod log;
 pub mod log_fault;
 pub mod log_line;
@@ -10,6 +12,8 @@ pub mod round_trip;
 pub mod time_out;
 mod timed_call;
 
+pub use crate::line_reader::{LINE_LIMIT, LineReader};
+pub use crate::line_source::{LineSource, LogStep, ReadError, StepError, TextLines, next_step};
 pub use crate::log::{
     FaultyLine, LogError, LogForm, LoggedEntry, ModuleLog, PartitionLog, next_entry, read_log,
 };

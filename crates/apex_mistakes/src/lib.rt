@@ -25,4 +25,4 @@ pub use crate::faulty_log::{LogFaults, first_place_is_of_the_refusal, log_faults
 pub use crate::line_place::LinePlace;
 pub use crate::log_place::{LogPart, LogPlace};
 pub use crate::mistakes::{script_mistakes, trace_mistakes};
-pub use crate::mistakes_of_logs::{log_mistakes, own_log_mistakes};
+pub use crate::mistakes_of_logs::{log_line_mistake, log_mistakes, own_log_mistakes};

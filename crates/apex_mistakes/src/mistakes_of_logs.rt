@@ -1,14 +1,15 @@
 //! The mistakes of a log in words, a line for each.
 use crate::expected::push_expected;
+use crate::faulty_lines::TRACE_FRONT;
 use crate::faulty_log::{LogFaults, log_faults, own_log_faults};
 use crate::faulty_log_line::FaultyLogLine;
 use crate::known::Caller;
 use crate::log_hint::log_hint_of;
-use crate::log_place::LogPart;
+use crate::log_place::{LogPart, log_place_in};
 use crate::mistakes::{line_ahead, push_found};
 use crate::quoted::push_quoted;
 use crate::reply_word::push_reply_word;
-use apex_logs::sides_of;
+use apex_logs::{FaultyLine, ModuleLog, sides_of};
 use apex_module::Config;
 use apex_refusals::{MISTAKE_LIMIT, push_more};
 use std::alloc::{AllocError, Global};
@@ -35,6 +36,31 @@ pub fn own_log_mistakes(
 ) -> Result<String, AllocError> {
     let faults = own_log_faults(alloc, partition, log, MISTAKE_LIMIT)?;
     mistakes_at(alloc, file, config, Caller::Script(partition), log, &faults)
+}
+
+/// The line of the mistake of one line of a module's log in the file, which is faulty in this way. `has_calls` says whether
+/// another line has a call.
+pub fn log_line_mistake(
+    alloc: Global,
+    file: &str,
+    config: &Config,
+    faulty: FaultyLine,
+    line: &[u8],
+    has_calls: bool,
+) -> Result<String, AllocError> {
+    let mut mistake = String::new(alloc);
+    let form = ModuleLog { config };
+    let place = log_place_in(alloc, &form, &TRACE_FRONT, faulty.line, faulty.fault, line)?;
+    let faulty = FaultyLogLine {
+        file,
+        config,
+        caller: Caller::Trace,
+        log_has_arrow: has_calls || sides_of(line).is_ok(),
+        line,
+        place,
+    };
+    push_log_mistake(alloc, &mut mistake, &faulty)?;
+    Ok(mistake)
 }
 
 /// The lines of the first faults, and the number of the others.

@@ -2,11 +2,11 @@
 #![tactic(auto)]
 
 use dekarino_command_line::start_given;
-use dekarino_tasks::{ProgressLine, Shown, SystemFiles, program};
+use dekarino_tasks::{InputFiles, ProgressLine, Shown, program};
 use std::process::ExitCode;
 
 fn main(rt: HostRuntime) -> ExitCode {
-    let files = SystemFiles { rt: &rt };
+    let files = InputFiles { rt: &rt };
     let (mut output, mut errors) = (Shown::new(rt.stdout()), Shown::new(rt.stderr()));
     let mut progress = ProgressLine::new(&rt, rt.stderr());
     let start = start_given(&rt);

@@ -15,6 +15,8 @@ pub(crate) const LOGS: &str = "LOG|NAME=LOG";
 
 pub(crate) const FIRST: &str = "first";
 
+pub(crate) const WHOLE: &str = "whole";
+
 pub(crate) const TIME_OUTS: &str = "time-outs";
 
 pub(crate) const OWN_IDS: &str = "own-ids";
@@ -135,6 +137,7 @@ fn judge<'a>(alloc: Global) -> Result<Command<'a>, AllocError> {
         .arg(config(alloc))?
         .arg(files(alloc, LOGS, logs))?
         .arg(flag(alloc, FIRST, help::FIRST))?
+        .arg(flag(alloc, WHOLE, help::WHOLE))?
         .arg(flag(alloc, TIME_OUTS, help::TIME_OUTS))?
         .arg(flag(alloc, OWN_IDS, help::OWN_IDS))?
         .arg(option(alloc, ORDER, "FILE", help::ORDER))?

@@ -55,11 +55,14 @@ Example:
   {\"calls\":6,\"arrows\":[{\"from\":3,\"to\":4,\"kind\":\"message\"}],\"waiting\":[]}";
 
 pub(crate) const JUDGE: &str = "\
-A log is a trace with `-> REPLY` after each call, as `explain` prints it. Each reply that differs from the standard's
-departs, and gets a line: the call, what was logged, what the standard has, and the row of the reply table that gives it.
-A call is judged after what the log itself shows before it. So after a lost, doubled or altered message the log is in step
-again after a call or two, but after a wrong creation, identifier or mode the later calls of that partition that rest on
-it depart too. The last line counts the departures. The status is 4 if there is one.
+A log is a trace with `-> REPLY` after each call, as `explain` prints it, of any length; `-` is standard input. Each reply
+that differs from the standard's departs, and gets a line as soon as it is read: the call, what was logged, what the
+standard has, and the row of the reply table that gives it. A call is judged after what the log itself shows before it.
+After a departure the judge goes on as if the standard's reply had been logged; when the same port or mode departs again,
+it believes the log. The last line counts the departures. The status is 4 if there is one.
+
+A faulty line, or one of more than 65536 bytes, ends the reading: its mistake follows the departures found before it. With
+--whole such a log is refused whole, with the mistakes of all its lines.
 
 A call without a time-out in its line is taken to have time-out zero. `timeout NANOSECONDS` or `timeout infinite` behind
 the arguments of a send or a receive says another; such a call stands in the log where it returned. TIMED_OUT is then
@@ -86,7 +89,10 @@ pub(crate) const TIME_OUTS: &str =
 pub(crate) const OWN_IDS: &str =
     "Takes the identifiers in the log to be those that the system gave its ports";
 
-pub(crate) const FIRST: &str = "Prints the first departure only, and the count of all";
+pub(crate) const FIRST: &str = "Ends at the first departure, and counts the calls up to it";
+
+pub(crate) const WHOLE: &str =
+    "Reads the log whole, at most 16 MiB, and prints no departure if a line is faulty";
 
 pub(crate) const ORDER: &str = "Writes the order found for logs NAME=LOG to FILE, as a log";
 

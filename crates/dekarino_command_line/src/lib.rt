@@ -4,6 +4,7 @@
 mod commands;
 pub mod fault;
 mod help;
+mod input;
 pub mod start;
 pub mod task;
 pub mod version;

@@ -1,6 +1,7 @@
 //! From the words to a task.
 use crate::commands;
 use crate::fault::WordsFault;
+use crate::input::{TWICE, is_read_twice};
 use crate::wrapping::wrapped;
 use clap::error::ErrorKind;
 use clap::{ArgMatches, Command};
@@ -31,12 +32,14 @@ pub enum Task<'a> {
         config: &'a str,
         trace: &'a str,
     },
-    /// Prints where the replies of a recorded log depart from the standard, or the first of them alone. A send or a
-    /// receive whose line says no time-out may be taken to have one, and identifiers to be those of the system.
+    /// Prints where the replies of a recorded log depart from the standard, or the first of them alone, as they are found;
+    /// or none of them if a line of the whole log is faulty. A send or a receive whose line says no time-out may be taken to
+    /// have one, and identifiers to be those of the system.
     Judge {
         config: &'a str,
         log: &'a str,
         first: bool,
+        whole: bool,
         time_outs: bool,
         own_ids: bool,
         form: Form,
@@ -171,6 +174,9 @@ unrecognized subcommand 'run'
 
 fn task_in<'a>(alloc: Global, matches: &ArgMatches<'a>) -> Result<Task<'a>, WordsFault> {
     match matches.subcommand() {
+        Some((_, given)) if is_read_twice(given) => {
+            Err(fault_of(alloc, commands::program(alloc), TWICE))
+        }
         Some(("table", given)) => Ok(Task::Table {
             config: config_in(alloc, given)?,
             form: form_in(given),
@@ -236,8 +242,9 @@ fn judge_in<'a>(alloc: Global, given: &ArgMatches<'a>) -> Result<Task<'a>, Words
         ));
     };
     let (config, form) = (config_in(alloc, given)?, form_in(given));
-    let (first, time_outs, own_ids) = (
+    let (first, whole, time_outs, own_ids) = (
         given.get_flag(commands::FIRST),
+        given.get_flag(commands::WHOLE),
         given.get_flag(commands::TIME_OUTS),
         given.get_flag(commands::OWN_IDS),
     );
@@ -251,6 +258,7 @@ fn judge_in<'a>(alloc: Global, given: &ArgMatches<'a>) -> Result<Task<'a>, Words
             "--order and --steps go with words NAME=LOG",
         )),
         Files::OfPartitions(_) if first => Err(judge_fault(alloc, "--first goes with one log")),
+        Files::OfPartitions(_) if whole => Err(judge_fault(alloc, "--whole goes with one log")),
         Files::OfPartitions(_) if own_ids => {
             Err(judge_fault(alloc, "--own-ids goes with one log"))
         }
@@ -258,6 +266,7 @@ fn judge_in<'a>(alloc: Global, given: &ArgMatches<'a>) -> Result<Task<'a>, Words
             config,
             log,
             first,
+            whole,
             time_outs,
             own_ids,
             form,

@@ -7,7 +7,7 @@ use apex_texts::{Service, push_reply};
 use apex_types::{Call, Moment, Reply};
 use apex_words::{push_words, row_name};
 use dekarino_texts::{
-    DepartureCounts, DepartureSink, LogPlace, StandardReply, conflict_of, named_by, push_conflict,
+    DepartureCounts, DepartureWords, LogPlace, StandardReply, conflict_of, named_by, push_conflict,
 };
 use serde::Serialize;
 use std::alloc::{AllocError, Global};
@@ -45,18 +45,11 @@ impl DepartureObjects {
             text: String::new(alloc),
         }
     }
-
-    /// The lines.
-    pub(crate) fn into_text(self) -> String {
-        self.text
-    }
 }
 
-impl DepartureSink for DepartureObjects {
-    ghost takes = { λ _ _ _. Unit {0} };
-
+impl DepartureWords for DepartureObjects {
     /// Writes the object of a departure.
-    fn departure(
+    fn push_departure(
         &mut self,
         config: &Config,
         _file: &str,
@@ -92,12 +85,20 @@ impl DepartureSink for DepartureObjects {
     }
 
     /// Writes the object with the counts.
-    fn end(&mut self, counts: DepartureCounts) -> Result<(), AllocError> {
+    fn push_counts(&mut self, counts: DepartureCounts) -> Result<(), AllocError> {
         let object = CountLine {
             calls: counts.calls,
             departures: counts.departures,
         };
         push_object(*self.text.allocator(), &mut self.text, &object)
+    }
+
+    fn text(&mut self) -> &mut String {
+        &mut self.text
+    }
+
+    fn into_text(self) -> String {
+        self.text
     }
 }
 

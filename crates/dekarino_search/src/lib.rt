@@ -5,10 +5,12 @@
 
 mod configuration;
 mod file_writer;
+mod input_files;
 mod json;
 mod json_departures;
 mod json_outcomes;
 mod log_orders;
+mod log_stops;
 mod mistakes;
 mod next_calls;
 mod occurrences;
@@ -29,8 +31,10 @@ mod unreadable;
 
 pub use crate::configuration::read_config;
 pub use crate::file_writer::FileWriter;
+pub use crate::input_files::InputFiles;
 pub use crate::json::push_object;
 pub use crate::log_orders::order_of_logs;
+pub use crate::log_stops::TOO_LONG;
 pub use crate::mistakes::mistakes_of_trace;
 pub use crate::one_log::departures_of_log;
 pub use crate::outcome::Outcome;

@@ -1,8 +1,9 @@
 //! The mistakes of traces, scripts and logs, beside their refusal.
 use crate::places::push_place;
+use apex_logs::FaultyLine;
 use apex_mistakes::{
-    LinePlace, LogPlace, log_faults, log_mistakes, own_log_faults, own_log_mistakes, script_faults,
-    script_mistakes, trace_faults, trace_mistakes,
+    LinePlace, LogPlace, log_faults, log_line_mistake, log_mistakes, own_log_faults,
+    own_log_mistakes, script_faults, script_mistakes, trace_faults, trace_mistakes,
 };
 use apex_module::Config;
 use apex_refusals::MISTAKE_LIMIT;
@@ -61,6 +62,28 @@ pub(crate) fn mistakes_of_log(
             log_mistake_objects(alloc, lines.as_str(), faults.first.as_slice())
         }
         _ => Ok(lines),
+    }
+}
+
+/// The mistake of a faulty line of a module's log in a file. `has_calls` says whether a line before it has a call.
+pub(crate) fn mistake_of_line(
+    alloc: Global,
+    path: &str,
+    config: &Config,
+    faulty: FaultyLine,
+    line: &[u8],
+    has_calls: bool,
+    form: Form,
+) -> Result<String, AllocError> {
+    let mistake = log_line_mistake(alloc, path, config, faulty, line, has_calls)?;
+    match form {
+        Form::Text => Ok(mistake),
+        Form::Json => {
+            let mut text = String::new(alloc);
+            let place = mistake.as_str().trim_end();
+            push_place(alloc, &mut text, Some(faulty.fault.number()), place)?;
+            Ok(text)
+        }
     }
 }
 

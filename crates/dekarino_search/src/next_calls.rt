@@ -7,22 +7,22 @@ use apex_log_orders::{CallPlace, OwnLog};
 use apex_module::Config;
 use apex_ports::Entry;
 use apex_types::{OutOfMemory, Reply};
-use dekarino_texts::DepartureSink;
+use dekarino_texts::DepartureWords;
 use std::alloc::{AllocError, Global};
 
-/// Hands the next call of each partition after an order to the sink, if its reply isn't the standard's there.
-pub(crate) fn hand_next_calls<S: DepartureSink>(
+/// Appends the words of the next call of each partition after an order, if its reply isn't the standard's there.
+pub(crate) fn push_next_calls<D: DepartureWords>(
     alloc: Global,
     config: &Config,
     all: &OwnLogs<'_>,
     order: &[CallPlace],
-    sink: &mut S,
+    words: &mut D,
 ) -> Result<(), OutOfMemory> {
     let (judge, made) = judge_after(alloc, config, all.logs.as_slice(), order)?;
     for (p, (log, file)) in all.logs.iter().zip(all.files.iter()).enumerate() {
         let next = made.get(p).copied().unwrap_or(0);
         if let (Some(entry), Some(line)) = (log.entries.get(next), file.lines.get(next)) {
-            hand_call(&judge, file.path, *line, entry, sink)?;
+            push_call(&judge, file.path, *line, entry, words)?;
         }
     }
     Ok(())
@@ -63,13 +63,13 @@ fn add_entry(
     Ok(())
 }
 
-/// Hands a call to the sink, if its reply isn't the standard's.
-fn hand_call<S: DepartureSink>(
+/// Appends the words of a call, if its reply isn't the standard's.
+fn push_call<D: DepartureWords>(
     judge: &Judge,
     file: &str,
     line: OwnLine,
     entry: &Entry,
-    sink: &mut S,
+    words: &mut D,
 ) -> Result<(), AllocError> {
     let config = judge.config();
     if entry.partition >= config.partitions() {
@@ -80,7 +80,7 @@ fn hand_call<S: DepartureSink>(
         Some(mut expected) => {
             line.place.wait.wait(&mut expected.reply);
             let logged = logged(entry, line);
-            sink.departure(config, file, line.place, &logged, &entry.call, &expected)
+            words.push_departure(config, file, line.place, &logged, &entry.call, &expected)
         }
     }
 }

@@ -1,13 +1,13 @@
 //! The answer to whether logs that partitions kept apart have an order.
 use crate::json::push_object;
 use crate::json_departures::DepartureObjects;
-use crate::next_calls::hand_next_calls;
+use crate::next_calls::push_next_calls;
 use crate::own_logs::OwnLogs;
 use apex_log_orders::CallPlace;
 use apex_module::Config;
 use apex_types::OutOfMemory;
 use dekarino_command_line::Form;
-use dekarino_texts::{Counted, DepartureText};
+use dekarino_texts::{Counted, DepartureText, DepartureWords};
 use serde::Serialize;
 use std::alloc::{AllocError, Global};
 
@@ -42,20 +42,20 @@ pub(crate) fn answer_text(
     let calls = count_calls(all);
     match form {
         Form::Text => {
-            let mut sink = DepartureText::new(alloc);
-            hand_next_calls(alloc, config, all, longest, &mut sink)?;
+            let mut words = DepartureText::new(alloc);
+            push_next_calls(alloc, config, all, longest, &mut words)?;
             let mut text = String::new(alloc);
             if let OrderAnswer::Impossible | OrderAnswer::Undecided { .. } = answer {
                 push_longest(&mut text, longest.len(), calls)?;
             }
-            text.push_str(sink.into_text().as_str())?;
+            text.push_str(words.into_text().as_str())?;
             push_answer(&mut text, calls, answer)?;
             Ok(text)
         }
         Form::Json => {
-            let mut sink = DepartureObjects::new(alloc);
-            hand_next_calls(alloc, config, all, longest, &mut sink)?;
-            let mut text = sink.into_text();
+            let mut words = DepartureObjects::new(alloc);
+            push_next_calls(alloc, config, all, longest, &mut words)?;
+            let mut text = words.into_text();
             let object = AnswerLine {
                 order: word_of(answer),
                 calls,

@@ -34,6 +34,13 @@ pub enum Unfinished<'a> {
         text: Vec<u8>,
         faulty: FaultyLine,
     },
+    /// The line of the log with this number is too long. The text is to be printed before: the mistake.
+    TooLongLine {
+        text: Vec<u8>,
+        line: usize,
+    },
+    /// Whoever reads the output reads no more.
+    OutputClosed,
     /// The log that a partition kept, in this file, has a faulty line. The text is to be printed before: the mistakes of
     /// this log and of those that were to be read after it.
     FaultyOwnLog {

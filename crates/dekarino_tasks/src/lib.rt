@@ -13,5 +13,5 @@ mod tables;
 pub mod tasks;
 
 pub use crate::tasks::program;
-pub use apex_files::{Opener, Shown, SystemFiles};
-pub use dekarino_search::{FileWriter, Progress, ProgressLine, Reached};
+pub use apex_files::{Opener, Shown};
+pub use dekarino_search::{FileWriter, InputFiles, Progress, ProgressLine, Reached};

@@ -9,8 +9,8 @@ use apex_texts::Fault;
 use dekarino_command_line::{Files, Origin, Start, Task, WordsFault, task_of, version_text};
 use dekarino_drawings::CALL_LIMIT;
 use dekarino_search::{
-    FileWriter, Outcome, Progress, Unfinished, UnreadableFile, departures_of_log, order_of_logs,
-    outcomes_of_scripts,
+    FileWriter, Outcome, Progress, TOO_LONG, Unfinished, UnreadableFile, departures_of_log,
+    order_of_logs, outcomes_of_scripts,
 };
 use dekarino_texts::Reading;
 use std::alloc::Global;
@@ -61,7 +61,7 @@ pub fn program<R: Threads + Wait + Sync, O: Opener + FileWriter, P: Progress, W:
     };
     match task_of(alloc, words.as_slice(), columns) {
         Ok(task) => {
-            let outcome = perform(rt, alloc, task, &origin, opener, progress);
+            let outcome = perform(rt, alloc, task, &origin, opener, progress, output);
             progress.wipe();
             finish(outcome, output, errors)
         }
@@ -92,6 +92,8 @@ fn finish<W: Write, E: Write>(
         Ok(Outcome::Undecided(text)) => (text, End::Status(UNDECIDED)),
         Err(Unfinished::RefusedWithText { text, refusal }) => (text, End::Refusal(refusal)),
         Err(Unfinished::FaultyLogWithText { text, faulty }) => (text, End::FaultyLog(faulty)),
+        Err(Unfinished::TooLongLine { text, line }) => (text, End::TooLongLine(line)),
+        Err(Unfinished::OutputClosed) => return CLOSED,
         Err(Unfinished::FaultyOwnLog { text, file, faulty }) => {
             (text, End::FaultyOwnLog { file, faulty })
         }
@@ -123,6 +125,7 @@ enum End<'a> {
     Status(u8),
     Refusal(Refusal<'a>),
     FaultyLog(FaultyLine),
+    TooLongLine(usize),
     FaultyOwnLog { file: &'a str, faulty: FaultyLine },
 }
 
@@ -132,6 +135,7 @@ fn report_end<E: Write>(end: End<'_>, errors: &mut E) -> u8 {
         End::Status(status) => status,
         End::Refusal(refusal) => refuse(refusal, errors),
         End::FaultyLog(faulty) => faulty_log(faulty, errors),
+        End::TooLongLine(line) => too_long_line(line, errors),
         End::FaultyOwnLog { file, faulty } => faulty_own_log(file, faulty, errors),
     }
 }
@@ -172,6 +176,12 @@ fn faulty_log<E: Write>(faulty: FaultyLine, errors: &mut E) -> u8 {
     REFUSED
 }
 
+/// Writes which line of a log is too long, and answers the status.
+fn too_long_line<E: Write>(line: usize, errors: &mut E) -> u8 {
+    let _ = writeln!(errors, "log line {line} fault {TOO_LONG}: line too long");
+    REFUSED
+}
+
 /// Writes which line of a partition's own log is faulty, and answers the status.
 fn faulty_own_log<E: Write>(file: &str, faulty: FaultyLine, errors: &mut E) -> u8 {
     let _ = writeln!(errors, "log {file} {faulty}");
@@ -196,14 +206,15 @@ fn too_many_states<E: Write>(states: usize, errors: &mut E) -> u8 {
     UNDECIDED
 }
 
-/// Does the task.
-fn perform<'a, R: Threads + Wait + Sync, O: Opener + FileWriter, P: Progress>(
+/// Does the task. The departures of a log are written as they are found, and all else is in the outcome.
+fn perform<'a, R: Threads + Wait + Sync, O: Opener + FileWriter, P: Progress, W: Write>(
     rt: &R,
     alloc: Global,
     task: Task<'a>,
     origin: &Origin,
     opener: &O,
     progress: &mut P,
+    output: &mut W,
 ) -> Result<Outcome, Unfinished<'a>> {
     match task {
         Task::Table { config, form } => table(alloc, opener, config, form),
@@ -223,12 +234,15 @@ fn perform<'a, R: Threads + Wait + Sync, O: Opener + FileWriter, P: Progress>(
             config,
             log,
             first,
+            whole,
             time_outs,
             own_ids,
             form,
         } => {
             let reading = Reading { time_outs, own_ids };
-            departures_of_log(alloc, opener, config, log, first, reading, form)
+            departures_of_log(
+                alloc, opener, config, log, first, whole, reading, form, output,
+            )
         }
         Task::JudgeApart {
             config,

@@ -1,6 +1,7 @@
 pub mod DepartureLemmas
 pub mod ExplanationLemmas
 pub mod HandedLemmas
+pub mod JudgedLineLemmas
 pub mod NoteLemmas
 pub mod OrderLemmas
 pub mod OutcomeLemmas

@@ -1,5 +1,5 @@
 -- A log, judged entry by entry: which departures a sink is handed, and what is counted.
-use Rattle.std.specs.Prelude.{◌≡◌, ℕ, Bool, ◌+◌, nat_lt, if◌then◌else◌, List, [], ◌∷◌, ◌++◌, Option, Some, None, option_map, Result, Ok, Err}
+use Rattle.std.specs.Prelude.{◌≡◌, ℕ, Bool, ◌+◌, ◌≤◌, ◌⊎◌, nat_lt, if◌then◌else◌, List, [], ◌∷◌, ◌++◌, Option, Some, None, option_map, Result, Ok, Err}
 use Rattle.apex_types.specs.declared.call.Call.{Call}
 use Rattle.apex_module.specs.Configuration.{Configuration}
 use Rattle.apex_ports.specs.declared.history.Entry.{Entry}
@@ -10,15 +10,22 @@ use Rattle.apex_judge.specs.declared.told_ids.KnownIds.{KnownIds}
 use Rattle.apex_judge.specs.Departures.{instead_of}
 use Rattle.apex_judge.specs.OwnIds.{Own, untold, entry_in_ours, own_after, replaced_in}
 use Rattle.apex_logs.specs.declared.log.FaultyLine.{FaultyLine}
-use Rattle.apex_logs.specs.declared.log.LogError.{LogError}
-use Rattle.apex_logs.specs.declared.log.LogError.TheVariants as errors
+use Rattle.apex_logs.specs.declared.line_source.ReadError.TheVariants as reads
+use Rattle.apex_logs.specs.declared.line_source.StepError.{StepError}
+use Rattle.apex_logs.specs.declared.line_source.StepError.TheVariants.{Fault, Unread}
 use Rattle.apex_logs.specs.declared.log.LoggedEntry.{LoggedEntry}
 use Rattle.apex_logs.specs.declared.time_out.MaxWait.{MaxWait}
+use Rattle.apex_logs.specs.Log.{entries_from}
 use Rattle.apex_logs.specs.Polled.{wait_of, polled_entry}
 use Rattle.apex_logs.specs.TimeOut.{as_waited}
+use Rattle.apex_logs.specs.TimedCall.{logged_request_at}
 use Rattle.dekarino_texts.specs.declared.departures.DepartureCounts.{DepartureCounts}
 use Rattle.dekarino_texts.specs.declared.departures.LogPlace.{LogPlace}
 use Rattle.dekarino_texts.specs.declared.departures.Reading.{Reading}
+use Rattle.dekarino_texts.specs.declared.departures.SinkError.{SinkError}
+use Rattle.dekarino_texts.specs.declared.departures.SinkError.TheVariants as sinks
+use Rattle.dekarino_texts.specs.declared.judged_lines.JudgeError.{JudgeError}
+use Rattle.dekarino_texts.specs.declared.judged_lines.JudgeError.TheVariants as stops
 use Rattle.dekarino_texts.specs.Handed.{IsHanded}
 
 -- ---- one entry
@@ -114,7 +121,45 @@ IsJudged takes config reading most log before after counts =
     × IsHanded takes before (handed_after config most [] no_counts (log_to_judge config reading entries)) after
     × (counts ≡ judged_counts_after config [] no_counts (log_to_judge config reading entries))
 
--- the log has this faulty line, or memory was refused
-abbrev pub IsRefusedLog : Result (List LoggedEntry) FaultyLine → LogError → Type 0
-IsRefusedLog log (errors.Line faulty) = log ≡ Err faulty
-IsRefusedLog log errors.OutOfMemory = Unit {0}
+-- the entries of a module's lines, or the first faulty one
+abbrev pub log_in : Configuration → List (List ℕ) → Result (List LoggedEntry) FaultyLine
+log_in config lines = entries_from (logged_request_at config) 1 lines
+
+-- the first lines of a log are judged, and the others are not
+pub record AreFirstJudged {S : Type 0} (takes : S → LoggedDeparture → S → Type 0) (config : Configuration) (reading : Reading) (most : ℕ) (lines : List (List ℕ)) (before after : S) (counts : DepartureCounts) : Type 0 where
+  pub first : List (List ℕ)
+  pub others : List (List ℕ)
+  pub cut : lines ≡ first ++ others
+  pub judged : IsJudged takes config reading most (log_in config first) before after counts
+
+-- the log is judged to its end, or its first lines are and have as many departures as were asked for
+abbrev pub IsJudgedThrough : {S : Type 0} → (S → LoggedDeparture → S → Type 0) → Configuration → Reading → ℕ → S → S → DepartureCounts → List (List ℕ) → Type 0
+IsJudgedThrough takes config reading most before after counts lines =
+    IsJudged takes config reading most (log_in config lines) before after counts
+    ⊎ ((most ≤ counts.departures) × AreFirstJudged takes config reading most lines before after counts)
+
+-- the first lines of a log are judged, up to the one that is faulty or can't be read; or memory or the output was refused
+abbrev pub IsStoppedAt : {S : Type 0} → (S → LoggedDeparture → S → Type 0) → Configuration → Reading → ℕ → S → S → DepartureCounts → JudgeError → List (List ℕ) → Type 0
+IsStoppedAt takes config reading most before after counts (stops.Line faulty) lines =
+    AreFirstJudged takes config reading most lines before after counts × (log_in config lines ≡ Err faulty)
+IsStoppedAt takes config reading most before after counts stops.OutOfMemory lines = Unit {0}
+IsStoppedAt takes config reading most before after counts (stops.Write error) lines = Unit {0}
+IsStoppedAt takes config reading most before after counts why lines =
+    AreFirstJudged takes config reading most lines before after counts
+
+-- why a log isn't judged beyond a line
+abbrev pub stopped_at : ℕ → StepError → JudgeError
+stopped_at line (Fault fault) = stops.Line (record { line = line; fault = fault })
+stopped_at line (Unread reads.TooLong) = stops.TooLong line
+stopped_at line (Unread (reads.Io error)) = stops.Read error
+stopped_at line (Unread reads.OutOfMemory) = stops.OutOfMemory
+
+abbrev pub refused_by_sink : SinkError → JudgeError
+refused_by_sink sinks.OutOfMemory = stops.OutOfMemory
+refused_by_sink (sinks.Io error) = stops.Write error
+
+-- memory or the output was refused
+abbrev pub NamesNoLine : JudgeError → Type 0
+NamesNoLine stops.OutOfMemory = Unit {0}
+NamesNoLine (stops.Write error) = Unit {0}
+NamesNoLine why = ⊥

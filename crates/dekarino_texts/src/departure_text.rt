@@ -2,8 +2,9 @@
 ghost use Rattle.std.specs.Prelude.{◌<◌, length};
 
 use crate::counted::Counted;
-use crate::departures::{DepartureCounts, DepartureSink, LogPlace};
+use crate::departures::{DepartureCounts, LogPlace};
 use crate::standard_reply::{Conflict, StandardReply, conflict_of};
+use crate::written_departures::DepartureWords;
 use apex_judge::Expected;
 use apex_logs::{MaxWait, TimeOut};
 use apex_module::Config;
@@ -26,18 +27,11 @@ impl DepartureText {
             text: String::new(alloc),
         }
     }
-
-    /// The text.
-    pub fn into_text(self) -> String {
-        self.text
-    }
 }
 
-impl DepartureSink for DepartureText {
-    ghost takes = { λ _ _ _. Unit {0} };
-
+impl DepartureWords for DepartureText {
     /// Writes `FILE:LINE: CALL: logged REPLY, the standard has REPLY (WORDS)`.
-    fn departure(
+    fn push_departure(
         &mut self,
         config: &Config,
         file: &str,
@@ -77,7 +71,7 @@ impl DepartureSink for DepartureText {
     }
 
     /// Writes `N calls, M departures`.
-    fn end(&mut self, counts: DepartureCounts) -> Result<(), AllocError> {
+    fn push_counts(&mut self, counts: DepartureCounts) -> Result<(), AllocError> {
         let calls = Counted {
             count: counts.calls,
             noun: "call",
@@ -90,6 +84,14 @@ impl DepartureSink for DepartureText {
             noun: "departure",
         };
         writeln!(self.text, "{calls}, {departures}")
+    }
+
+    fn text(&mut self) -> &mut String {
+        &mut self.text
+    }
+
+    fn into_text(self) -> String {
+        self.text
     }
 }
 

@@ -1,21 +1,22 @@
-//! The departures of a log, found entry by entry as it is read.
+//! The departures of a log, entry by entry.
 ghost use Rattle.std.specs.Prelude.{◌≡◌, ◌<◌, ◌≤◌, ◌+◌, ◌^◌, ◌-◌, ◌∷◌, ◌++◌, [], length, IfOk, IfErr, OnOk};
 ghost use Rattle.apex_types.specs.declared.reply.Reply.TheVariants as replies;
 ghost use Rattle.apex_ports.specs.History.{entry_of};
 ghost use Rattle.apex_judge.specs.Departures.{instead_of};
-ghost use Rattle.apex_judge.specs.OwnIds.{untold, entry_in_ours, own_after, replaced_in, restored};
-ghost use Rattle.apex_logs.specs.declared.log.LogError.TheVariants as errors;
-ghost use Rattle.apex_logs.specs.Log.{log_of};
+ghost use Rattle.apex_judge.specs.OwnIds.{entry_in_ours, own_after, replaced_in, restored};
 ghost use Rattle.apex_logs.specs.Polled.{polled_entry};
-ghost use Rattle.dekarino_texts.specs.Departures.{IsJudged, IsRefusedLog, counts_with, departure_in, departures_handed, expected_waited, known_in, place_with};
+ghost use Rattle.dekarino_texts.specs.declared.departures.SinkError.TheVariants as sinks;
+ghost use Rattle.dekarino_texts.specs.Departures.{NamesNoLine, counts_with, departure_in, departures_handed, expected_waited, known_in, place_with};
 ghost use Rattle.dekarino_texts.specs.Handed.{IsHanded};
 
+use crate::judged_lines::JudgeError;
 use apex_judge::{Expected, Judge, KnownIds, OwnIds, Replaced};
-use apex_logs::{ANY_ENTRY, LogError, MaxWait, ModuleLog, TimeOut, next_entry};
+use apex_logs::{MaxWait, TimeOut};
 use apex_module::Config;
 use apex_ports::Entry;
 use apex_types::{Call, OutOfMemory, Reply, ReturnCode};
-use std::alloc::{AllocError, Global};
+use std::alloc::AllocError;
+use std::io;
 
 /// How a log is read.
 #[derive(Clone, Copy, Debug, PartialEq, Eq)]
@@ -39,6 +40,23 @@ pub struct LogPlace {
     pub known: Option<KnownIds>,
 }
 
+/// Why a sink doesn't take a departure.
+#[derive(Debug, Drop)]
+pub enum SinkError {
+    /// A growth of memory was refused.
+    OutOfMemory,
+    /// It can't be written.
+    Io(io::Error),
+}
+
+impl From<AllocError> for SinkError {
+    ghost from_gives = { λ _ given. given ≡ sinks.OutOfMemory };
+
+    fn from(_refused: AllocError) -> SinkError {
+        SinkError::OutOfMemory
+    }
+}
+
 /// Takes the departures of logs, in order.
 pub trait DepartureSink {
     ghost use Rattle.std.specs.Prelude.{◌<◌, length, OnOk};
@@ -57,13 +75,10 @@ pub trait DepartureSink {
         entry: &Entry,
         asked: &Call,
         expected: &Expected,
-    ) -> Result<(), AllocError>
+    ) -> Result<(), SinkError>
         requires { entry.now.partition < length config.now.partitions }
         ensures { OnOk result (takes self.old
             (departure_in place entry.now asked.now expected.now) self.new) };
-
-    /// Takes the counts of a whole log.
-    fn end(&mut self, counts: DepartureCounts) -> Result<(), AllocError>;
 }
 
 /// How many calls were judged, and how many of their replies depart.
@@ -75,75 +90,9 @@ pub struct DepartureCounts {
     pub departures: usize,
 }
 
-/// Judges the text of a module's log: each reply after what the log shows to have happened before it. The sink takes the
-/// first `most` departures, and all are counted. `file` is the name of the log. After an error the sink has the departures
-/// before it.
-pub fn judge_log<S: DepartureSink>(
-    alloc: Global,
-    config: Config,
-    file: &str,
-    log: &[u8],
-    reading: Reading,
-    most: usize,
-    sink: &mut S,
-) -> Result<DepartureCounts, LogError>
-    ensures judged { IfOk result
-        (IsJudged S.takes config reading most (log_of config log.now) sink.old sink.new) }
-    ensures refused { IfErr result (IsRefusedLog (log_of config log.now)) }
-{
-    let mut judge = Judge::new(alloc, config).map_err(out_of_memory)?;
-    let mut ids = OwnIds::new(alloc, judge.config(), reading.own_ids).map_err(out_of_memory)?;
-    judge_entries(&mut judge, &mut ids, file, log, reading, most, sink)
-}
-
-/// Judges the entries of a log one after another.
-fn judge_entries<S: DepartureSink>(
-    judge: &mut Judge,
-    ids: &mut OwnIds,
-    file: &str,
-    log: &[u8],
-    reading: Reading,
-    most: usize,
-    sink: &mut S,
-) -> Result<DepartureCounts, LogError>
-    requires fresh { judge.old.log ≡ [] }
-    requires untold { ids.old ≡ untold reading.own_ids judge.old.config }
-    ensures judged { IfOk result (let config = judge.old.config in
-        IsJudged S.takes config reading most (log_of config log.now) sink.old sink.new) }
-    ensures refused { IfErr result (IsRefusedLog (log_of judge.old.config log.now)) }
-{
-    let mut counts = DepartureCounts {
-        calls: 0,
-        departures: 0,
-    };
-    let mut entry = ANY_ENTRY;
-    let mut rest = log;
-    let mut number = 0;
-    while let Some((line, time_out, after)) = next_entry(
-        &ModuleLog {
-            config: judge.config(),
-        },
-        number,
-        rest,
-        &mut entry,
-    )? {
-        let wait = MaxWait::of(reading.time_outs, &entry.call, time_out);
-        let place = LogPlace {
-            line,
-            time_out,
-            wait,
-            known: None,
-        };
-        counts = judge_entry(judge, ids, file, place, &mut entry, most, counts, sink)?;
-        number = line;
-        rest = after;
-    }
-    Ok(counts)
-}
-
 /// Judges the next entry of a log, counts it, and hands it to the sink if its reply departs and fewer than `most` did
 /// before it.
-fn judge_entry<S: DepartureSink>(
+pub(crate) fn judge_entry<S: DepartureSink>(
     judge: &mut Judge,
     ids: &mut OwnIds,
     file: &str,
@@ -152,7 +101,7 @@ fn judge_entry<S: DepartureSink>(
     most: usize,
     counts: DepartureCounts,
     sink: &mut S,
-) -> Result<DepartureCounts, LogError>
+) -> Result<DepartureCounts, JudgeError>
     requires partition { entry.old.partition < length judge.old.config.partitions }
     requires told { length ids.old.told ≡ length judge.old.config.partitions }
     requires few { counts.calls < 2 ^ 64 - 1 }
@@ -170,17 +119,15 @@ fn judge_entry<S: DepartureSink>(
     ensures told { OnOk result (ids.new ≡ own_after judge.old.config ids.old entry.old) }
     ensures count { OnOk result (length ids.new.told ≡ length ids.old.told) }
     ensures config { judge.new.config ≡ judge.old.config }
-    ensures refused { IfErr result (λ why. why ≡ errors.OutOfMemory) }
+    ensures refused { IfErr result NamesNoLine }
 {
     let calls = counts.calls + 1;
-    let (replaced, departs) = judge_ours(judge, ids, entry, place.wait).map_err(out_of_memory)?;
+    let (replaced, departs) = judge_ours(judge, ids, entry, place.wait)?;
     let Some(expected) = departs else {
         return Ok(DepartureCounts { calls, ..counts });
     };
     if counts.departures < most {
-        hand_on(judge.config(), file, place, entry, replaced, expected, sink).map_err(
-            out_of_memory,
-        )?;
+        hand_on(judge.config(), file, place, entry, replaced, expected, sink)?;
     }
     Ok(DepartureCounts {
         calls,
@@ -227,7 +174,7 @@ fn hand_on<S: DepartureSink>(
     replaced: Option<Replaced>,
     expected: Expected,
     sink: &mut S,
-) -> Result<(), AllocError>
+) -> Result<(), SinkError>
     requires { entry.old.partition < length config.now.partitions }
     ensures { let handed = departure_in (place_with place replaced) (restored replaced entry.old)
         entry.old.call (expected_waited place.wait expected) in
@@ -299,10 +246,4 @@ fn judge_code(
     ensures config { judge.new.config ≡ judge.old.config }
 {
     judge.judge(entry.partition, entry.at, &entry.call, &Reply::Code(code))
-}
-
-fn out_of_memory<E: Drop>(_refused: E) -> LogError
-    ensures { result ≡ errors.OutOfMemory }
-{
-    LogError::OutOfMemory
 }

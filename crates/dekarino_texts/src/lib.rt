@@ -8,6 +8,7 @@ pub mod departure_text;
 pub mod departures;
 pub mod explanation;
 pub mod explanation_text;
+pub mod judged_lines;
 mod notes;
 pub mod outcome_text;
 pub mod outcomes;
@@ -20,15 +21,17 @@ pub mod script_lines;
 pub mod standard_reply;
 pub mod table;
 pub mod table_words;
+pub mod written_departures;
 
 pub use crate::counted::Counted;
 pub use crate::counts::{Counts, Ranges, ranges_of};
 pub use crate::departure_text::{DepartureText, named_by, push_conflict, push_time_out};
-pub use crate::departures::{DepartureCounts, DepartureSink, LogPlace, Reading, judge_log};
+pub use crate::departures::{DepartureCounts, DepartureSink, LogPlace, Reading, SinkError};
 pub use crate::explanation::{
     AnsweredCall, Explained, Explanation, ExplanationSink, explain_trace,
 };
 pub use crate::explanation_text::ExplanationText;
+pub use crate::judged_lines::{JudgeError, judge_lines};
 pub use crate::outcome_text::OutcomeText;
 pub use crate::outcomes::{OutcomeSink, walk_outcomes};
 pub use crate::remark::Remark;
@@ -38,3 +41,4 @@ pub use crate::script_lines::{LineNumbers, call_lines};
 pub use crate::standard_reply::{Conflict, StandardReply, conflict_of};
 pub use crate::table::{PortPlace, TableRow, port_table};
 pub use crate::table_words::{direction_word, kind_word, table_text};
+pub use crate::written_departures::{DepartureWords, WrittenDepartures};
