@@ -1,5 +1,6 @@
 """Tries the must-fail edits of crates. A record has a line for each crate whose edits were all tried and refused, the
-oldest first, with the digest of all that the verdicts rest on; what has no such line is tried first, then the oldest."""
+oldest first, with the digest of all that the verdicts rest on. Crates without such a line are tried first, then the
+oldest."""
 import hashlib
 import os
 import tempfile

@@ -1,12 +1,12 @@
 """The verification, which the script 'test' runs.
 
-verify.py                        all that runs, with the programs and libraries that are there, built or prebuilt
-verify.py all                    first every proof and each crate's tests, by the toolchain's own gate over a copy of the
-                                 sources; then all that runs, with what this built; then whether prebuilt/ is what this
-                                 built; then every must-fail edit
+verify.py                        runs every test with the built or prebuilt programs and libraries
+verify.py all                    proves everything and runs each crate's tests, by the toolchain's own gate over a copy of
+                                 the sources; runs every test with what this built; compares prebuilt/ with it; and tries
+                                 every must-fail edit
 verify.py all --within MINUTES   the same in this time: must-fail edits are tried as long as there is time, those first
                                  that were not refused before in the form that they have now
-verify.py edits CRATE..          every proof, and the must-fail edits of these crates
+verify.py edits CRATE..          proves everything, and tries the must-fail edits of these crates
 """
 import contextlib
 import os
