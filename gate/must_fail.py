@@ -152,8 +152,8 @@ class MustFail:
                 before(f"must-fail {name}: {words}")
 
         for it in bad:
-            before(f"{crate.name}/must-fail/{os.path.basename(it)} is no edit: its name ends in .edit, or in .md if it is "
-                   "only to be read, and it stands right in must-fail/")
+            before(f"{crate.name}/must-fail/{os.path.basename(it)} is no edit: give it a name in .edit, or in .md if it "
+                   "is only to be read, and put it right into must-fail/")
         try:
             self.try_edits(crate, good, tell)
         except TimeIsUp:
