@@ -138,9 +138,11 @@ class Whole:
         cancel()
 
 
-def stop_by_signal(room):
-    """Has a signal end what this run began, and take its folder away."""
+def stop_by_signal(room, made):
+    """Has a signal end what this run began, and take its folder away. made: the runs of scripts, as they are made."""
     def stop(number, _):
+        for it in made:
+            it.end()
         mine = os.getpgid(0)
         for process, (_, parent, _) in usage.processes().items():
             with contextlib.suppress(OSError):
@@ -180,8 +182,11 @@ def run_whole(counted, clock, only):
         return
     os.environ["PATH"] = f"{kit}/bin:{os.environ.get('PATH', os.defpath)}"
     with tempfile.TemporaryDirectory(prefix="dekarino-test-") as room:
-        stop_by_signal(room)
-        Whole(ROOT, kit, os.path.realpath(room), counted, clock).run(only)
+        made = []
+        stop_by_signal(room, made)
+        whole = Whole(ROOT, kit, os.path.realpath(room), counted, clock)
+        made.append(whole.scripts)
+        whole.run(only)
 
 
 def main(words):
