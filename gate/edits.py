@@ -1,4 +1,4 @@
-"""The must-fail edits of a crate: what each changes, and the bodies of functions that the changes stand in."""
+"""The must-fail edits of a crate: what each changes, and the functions in whose bodies the changes are."""
 import os
 import re
 
@@ -13,7 +13,7 @@ BREAKS = re.compile(r"^# Breaks: (\S+)$", re.M)
 
 class Function:
     """A function of a source file, in the layout of rt fmt: its head is one line with its name, and its body ends at
-    the first closing brace that stands as deep as the head. Lines count from 1."""
+    the first closing brace with the indentation of the head. Lines count from 1."""
 
     def __init__(self, path, top, head, body, end, owner, name):
         """top: the first line of its attributes; body: that of the opening brace; owner: as owner_of() gives it."""
@@ -21,8 +21,8 @@ class Function:
         self.owner, self.name = owner, name
 
     def proofs(self, sources):
-        """Returns the folder of its proof files, which stands by where its type is declared; or None where its owner is
-        not known, or its type has not one place."""
+        """Returns the folder of its proof files, which depends on where its type is declared; or None if its owner is
+        not known, or its type is not declared in one place."""
         if self.owner is None:
             return None
         of_type, block = self.owner
@@ -44,7 +44,7 @@ def indent_of(line):
 
 
 def owner_of(lines, at):
-    """Returns the type of the `impl` block round the line, and the block's name in the folders of proofs, both "" where
+    """Returns the type of the `impl` block round the line, and the block's name in the folders of proofs, both "" if
     there is none; or None in a trait, in a module within the file, and for a trait with arguments, whose blocks are
     named otherwise."""
     depth = indent_of(lines[at])
@@ -67,7 +67,7 @@ def top_of(lines, at):
 
 def body_of(lines, at, depth):
     """Returns the places of the line that opens the body of the function at this head, and of the line that closes it,
-    or None where it has no body of its own lines."""
+    or None if it has no body of its own lines."""
     opens = None
     for place in range(at, len(lines)):
         line = lines[place]
@@ -97,11 +97,11 @@ def functions_of(path, text):
 
 
 class Edit:
-    """An edit that was read: the lines that it changes, by file and number, and the functions that they stand in."""
+    """An edit that was read: the lines that it changes, by file and number, and the functions that have these lines."""
 
     def __init__(self, name, changes, functions, breaks):
-        """name: CRATE/FILE; functions: None where a change stands outside of a body; breaks: the name of a function
-        that the edit itself tells as broken, or None."""
+        """name: CRATE/FILE; functions: None if a change is outside of every body; breaks: the name of the function
+        that the edit says it breaks, or None."""
         self.name, self.changes, self.functions, self.breaks = name, changes, functions, breaks
 
 
@@ -127,14 +127,14 @@ def bodies_of(changes, sources):
 
 
 def read(name, texts, sources, breaks=None):
-    """Returns the edit with these new texts of files in place of the sources, or None where it changes nothing."""
+    """Returns the edit with these new texts of files in place of the sources, or None if it changes nothing."""
     changes = {path: changed_lines(sources[path], text) for path, text in texts.items()}
     changes = {path: lines for path, lines in changes.items() if lines}
     return Edit(name, changes, bodies_of(changes, sources), breaks) if changes else None
 
 
 def broken_by(file):
-    """Returns the name of the function that the text of an edit tells as broken, or None."""
+    """Returns the name of the function that an edit says it breaks, or None."""
     with open(file, encoding="utf-8", errors="replace") as text:
         found = BREAKS.search(text.read())
     return found and found[1]

@@ -1,14 +1,14 @@
-"""Copies of functions that stand beside them under names of their own, with the same clauses and the same proof, so
-that several edits of one function are tried in one check. The crate's own functions call no copy."""
+"""Copies of functions, beside them and under names of their own, with the same clauses and the same proof. So several
+edits of one function are tried in one check. The crate's own functions call no copy."""
 import re
 
-# What a copy's name ends in, before the number of its edit, and at the copy of a function as it stands.
+# What the name of a copy ends in: before the number of its edit, and at a copy without an edit.
 WITH_EDIT, AS_IT_STANDS = "_with_edit_", "_as_it_stands"
 
 
 def can_be_copied(edit, sources):
-    """Whether the edit changes one function that may stand beside itself under another name: none of a trait, and none
-    whose proof is also another's."""
+    """Whether the edit changes one function that can have a copy under another name: none of a trait, and none whose
+    proof is also another's."""
     if not edit.functions or len(edit.functions) != 1:
         return False
     (of,) = edit.functions
@@ -46,7 +46,7 @@ class FunctionCopy:
 
 
 class Copies:
-    """The copies of one check: one for each of the edits, and one as it stands of each function that they change."""
+    """The copies of one check: one for each of the edits, and an unchanged one of each function that they change."""
 
     def __init__(self, crate, edits, sources):
         self.crate, self.sources, self.of_edits, self.whole = crate, sources, {}, {}
@@ -98,15 +98,15 @@ class Copies:
         return [it for it in lines if it.copy is self.of_edits[edit]]
 
     def whole_of(self, edit):
-        """Returns the copy, as it stands, of the function that the edit changes."""
+        """Returns the unchanged copy of the function that the edit changes."""
         (of,) = edit.functions
         return self.whole[of.path, of.head]
 
     def are_named(self, edit, lines):
-        """Whether one of the placed lines is of the edit's copy, or of the copy as it stands."""
+        """Whether one of the placed lines is of the edit's copy, or of the unchanged one."""
         return any(it.copy in (self.of_edits[edit], self.whole_of(edit)) for it in lines)
 
     def stands(self, edit, told):
-        """Whether the check proved all of the function that the edit changes, where it is copied as it stands."""
+        """Whether the check proved all of the unchanged copy of the function that the edit changes."""
         whole = self.whole_of(edit)
         return whole.prover_name() in told.proved_but_for_calls() and all(it.copy is not whole for it in told.goals())

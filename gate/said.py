@@ -2,9 +2,9 @@
 import re
 
 PLACED = re.compile(r"(?:note: )?(?:\./)?((?:src|specs|proofs)/\S+?):(\d+):\d+: (.*)")
-# How the prover tells of a goal in a source file that it tried and did not prove.
+# What the prover says of a goal in a source file that it tried and did not prove.
 OPEN_GOAL = re.compile(r"it is not proved that |` found no proof")
-# How it tells that a text can't be read, or names what is not there; what it quotes is taken out before.
+# What it says of a text that it can't read, or that names what is not there. Its quotations are taken out before.
 UNREADABLE = re.compile(
     r"is not in scope|has no field|has no ``|is no name|operand is missing|expected the end|cannot continue|"
     r"was not admitted"
@@ -36,7 +36,7 @@ class Line:
         return bool(error) and (not has_declaration or bool(UNREADABLE.search(quoted_out)))
 
     def is_goal(self):
-        """Whether it tells of a goal that the prover tried and did not prove."""
+        """Whether it names a goal that the prover tried and did not prove."""
         if self.path.startswith("src/"):
             return bool(OPEN_GOAL.search(self.said))
         return self.said.startswith("error: ") and not self.is_unreadable()
@@ -49,7 +49,7 @@ class Said:
         self.text, self.status = text, status
         rows = text.rstrip("\n").split("\n")
         self.first, self.last = rows[0], rows[-1]
-        # (what is told of a place can go on in the next row, which is indented)
+        # (what the prover says of a place can go on in the next row, which is indented)
         whole = [row + below if below.startswith("  ") else row for row, below in zip(rows, [*rows[1:], ""])]
         placed = [(row, PLACED.match(row)) for row in whole]
         self.lines = [Line(row, it[1], int(it[2]), it[3]) for row, it in placed if it]
@@ -71,7 +71,7 @@ class Said:
         return [it for it in self.lines if it.is_goal()]
 
     def wrong_shapes(self):
-        """Returns the lines that tell of a text that could not be read; of the proofs only where nothing else is told,
-        since an edit that turns a meaning often also takes away a name that a proof has."""
+        """Returns the lines about texts that could not be read. Those of proofs count only if there are no others, since
+        an edit that changes a meaning often also removes a name that a proof has."""
         is_wrong = lambda it: it.is_front_end() or it.is_unreadable() and not it.path.startswith("proofs/")
         return [it for it in self.lines if is_wrong(it)]

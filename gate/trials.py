@@ -1,12 +1,12 @@
 """Tries the must-fail edits of a crate: many in one check, where each changes another function or a copy of one, and
-alone what such a check does not tell apart. An edit counts as refused only where the prover names a goal that it did
-not prove."""
+then alone each edit that such a check does not decide. An edit counts as refused only if the prover names a goal that
+it did not prove."""
 import edits
 import function_copies
 
 
 class Verdict:
-    """Whether the prover refuses the crate with an edit for its meaning, and the words that tell it."""
+    """Whether the prover refuses the crate with an edit for its meaning, and what the gate says of it."""
 
     def __init__(self, is_refused, words):
         self.is_refused, self.words = is_refused, words
@@ -69,8 +69,8 @@ class Trials:
         return self.verdicts
 
     def alone(self, edit):
-        """Returns the verdict on an edit that is tried alone: by the function that it tells as broken, if that has a
-        goal that is not proved, and else by the whole crate."""
+        """Returns the verdict on an edit that is tried alone: by the function that it says it breaks, if that has a goal
+        that is not proved, or else by the whole crate."""
         texts = edits.merged([edit], self.sources)
         told = edit.breaks and self.checked(texts, [edit.breaks])
         if told and told.is_judged() and told.goals() and not told.wrong_shapes():
@@ -102,7 +102,7 @@ class Trials:
             self.tell_goals(batch, told)
             self.tell_copies(copies, told)
             return
-        # what the front end refuses is told by its line, and the others are tried without it
+        # the line says which edit the front end refuses, and the others are tried without it
         of_shape = told.wrong_shapes()
         wrong = {edit: own_lines(edit, of_shape, self.sources) for edit in batch}
         for edit in [it for it in batch if wrong[it]]:
@@ -116,15 +116,14 @@ class Trials:
             self.try_batch(rest, rest_beside)
 
     def tell_copies(self, copies, told):
-        """Ends the trial of each edit whose copy has a goal that is not proved, where the function as it stands has
-        none."""
+        """Ends the trial of each edit whose copy has a goal that is not proved, if the unchanged function has none."""
         for edit in copies.of_edits:
             own = copies.own(edit, told.goals())
             if own and copies.stands(edit, told):
                 self.end(edit, refused(own[0]))
 
     def tell_goals(self, batch, told):
-        """Ends the trial of each edit that has a goal of its own. Where a function that no edit changes has one too, a
+        """Ends the trial of each edit that has a goal of its own. If a function that no edit changes has one too, a
         caller's goal may be open for what it calls, so that no such edit is counted."""
         goals = {edit: own_lines(edit, told.goals(), self.sources) for edit in batch}
         has_stray = any(it.copy is None and all(it not in own for own in goals.values()) for it in told.goals())
@@ -135,7 +134,7 @@ class Trials:
                 self.end(edit, refused(goals[edit][0]))
 
     def names(self, batch):
-        """Returns the functions' names as the prover has them, or none where one is not known."""
+        """Returns the functions' names as the prover has them, or none if one is not known."""
         folders = [it.proofs(self.sources) for edit in batch for it in edit.functions]
         return ["::".join(it.split("/")[1:-1]) for it in folders] if all(folders) else []
 
