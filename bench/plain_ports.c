@@ -77,7 +77,7 @@ uint32_t apex_open_explained(struct apex_handle *handle, const uint8_t *text, si
 
 static void count(uint64_t *number) { *number += *number < UINT64_MAX; }
 
-/* Begins a call: the partition that makes it, or none where the answer is refused already. */
+/* Begins a call: the partition that makes it, or none if the answer is refused already. */
 static struct partition *begin(struct apex_handle *handle, uint32_t number, uint32_t *answer) {
     if (!handle->is_open) {
         *answer = APEX_NOT_OPEN;

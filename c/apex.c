@@ -7,7 +7,7 @@
 
 static pthread_mutex_t lock = PTHREAD_MUTEX_INITIALIZER;
 
-/* Behind the lock: the module, the moment where the bench has set one, and the place for a message on its way out. */
+/* Behind the lock: the module, the moment if the bench has set one, and the place for a message on its way out. */
 static struct apex_handle module;
 static bool is_moment_set;
 static uint64_t set_moment;
@@ -34,7 +34,7 @@ static struct apex_made made_now(uint64_t at, uint32_t service, uint32_t id, uin
                               .answer = answer};
 }
 
-/* Whether a service may be called now: the return code says so where it may not. */
+/* Whether a service may be called now: the return code says so if it may not. */
 static bool enters(const char *service, RETURN_CODE_TYPE *code) {
     return apex_process == NULL || apex_process->enter(service, code);
 }
@@ -50,7 +50,7 @@ static void leaves(void) {
     }
 }
 
-/* Waits where the return code says that the call has to, and the thread is a process of the host. */
+/* Waits if the return code says that the call has to, and the thread is a process of the host. */
 static void wait_where_needed(bool is_send, uint32_t id, SYSTEM_TIME_TYPE time_out, APEX_BYTE *place,
                               uint32_t *length, RETURN_CODE_TYPE *code) {
     if (apex_process != NULL && *code == TIMED_OUT) {
@@ -79,7 +79,7 @@ static RETURN_CODE_TYPE timed_return_code(uint32_t answer, SYSTEM_TIME_TYPE time
     return answer == NOT_AVAILABLE && time_out != 0 ? TIMED_OUT : return_code(answer);
 }
 
-/* Whether each of the places is there: the return code says so where one isn't. */
+/* Whether each of the places is there: the return code says so if one isn't. */
 static bool are_there(RETURN_CODE_TYPE *code, const void *place, const void *other) {
     if (code != NULL && (place == NULL || other == NULL)) {
         *code = INVALID_PARAM;
@@ -104,7 +104,7 @@ static bool meets_fault(struct apex_made made, const APEX_BYTE *bytes, MESSAGE_S
     return is_met;
 }
 
-/* What a message that is longer than any channel's is answered: INVALID_CONFIG where the port has a status. */
+/* The answer to a message that is longer than any channel's: INVALID_CONFIG if the port has a status. */
 static uint32_t answer_too_long(uint32_t status_answer) {
     return status_answer == NO_ERROR ? INVALID_CONFIG : status_answer;
 }

@@ -179,25 +179,25 @@ void bench_set_moment(uint64_t moment);
 /* Every call from now on is made at the moment that CLOCK_MONOTONIC shows, as it is from the start. */
 void bench_follow_clock(void);
 
-/* All lines that the bench says go to the sink from now on, without a line end, and not to standard error; or there
- * again where the sink is null. Assumed: the sink calls nothing of this header. */
+/* From now on, all lines that the bench says go to the sink, without a line end, and not to standard error. If the sink
+ * is null, they go to standard error again. Assumed: the sink calls nothing of this header. */
 void bench_tell_to(void (*sink)(const char *line));
 
 /* The words that say why the last refused port service or SET_PARTITION_MODE of this thread was refused, as
- * apex_call_words has them now; empty where there are none. They hold until the thread's next call of this function. */
+ * apex_call_words has them now; empty if there are none. They hold until the thread's next call of this function. */
 const char *bench_last_words(void);
 
 /* Makes a name of a text, of which 30 bytes count, and fills it with zeros. */
 void bench_name(NAME_TYPE name, const char *text);
 
-/* From bench_report.c: keeps each call from now on, beginning with none; or no more. False where memory was refused. */
+/* From bench_report.c: keeps each call from now on, beginning with none; or keeps no more. False if memory was refused. */
 bool bench_keep_calls(bool is_wanted);
 
 /* Writes the report that `apexports replay` prints of the calls so far; its lines of calls are those that were kept.
- * False where the module isn't open, or the file can't be written. */
+ * False if the module isn't open, or the file can't be written. */
 bool bench_report(FILE *file);
 
-/* Writes the calls that were kept as a log that `dekarino judge` reads. False where none were kept, memory was refused
+/* Writes the calls that were kept as a log that `dekarino judge` reads. False if none were kept, memory was refused
  * or the file can't be written. */
 bool bench_log(FILE *file);
 

@@ -60,28 +60,28 @@ enum {
 };
 
 /* Opens a handle with the ports of a configuration, a TOML text, every partition in COLD_START. The handle stays closed
- * where the answer isn't 0. All memory is taken here, and given back by apex_close.
+ * if the answer isn't 0. All memory is taken here, and given back by apex_close.
  * Assumed: `text` points to `text_length` bytes. */
 uint32_t apex_open(struct apex_handle *handle, const uint8_t *text, size_t text_length);
 
-/* Why a configuration is refused, and where: answers what apex_open answers of the text where the handle isn't open.
+/* Why a configuration is refused, and where. The answer is that of apex_open for the text, with a handle that isn't open.
  * The path of the fault's first place, such as `partition[0].port[1].kind`, goes into the buffer, and its length into
- * its place; no zero follows. Indexes count from 0; `configuration` is the text as a whole; of a key that is unknown
- * the path is that of the partition, port or channel that has it. The buffer stays as it was where it is shorter than
- * the path. Where the answer is 0 or APEX_OUT_OF_MEMORY, buffer and length stay as they were.
+ * its place; no zero follows. Indexes count from 0. `configuration` is the text as a whole. For an unknown key, the path
+ * is that of the partition, port or channel that has it. The buffer stays as it was if it is shorter than the path. If
+ * the answer is 0 or APEX_OUT_OF_MEMORY, buffer and length stay as they were.
  * Assumed: `text` points to `text_length` bytes and `buffer` to `buffer_length`. */
 uint32_t apex_configuration_fault(const uint8_t *text, size_t text_length, uint8_t *buffer, size_t buffer_length,
                                   uint64_t *path_length);
 
-/* Likewise, with a line of ASCII in place of the path for each place that the fault has: what holds it, what is wrong
- * there, and what must be there (docs/FORMATS.md); of more than 20 places for the first 20, and then `and N more`. Each
- * line ends in a line feed.
+/* The same, with a line of ASCII in place of the path for each place that the fault has: what holds it, what is wrong
+ * there, and what must be there (docs/FORMATS.md). If there are more than 20 places, it has lines for the first 20 and
+ * then `and N more`. Each line ends in a line feed.
  * Assumed: `text` points to `text_length` bytes and `buffer` to `buffer_length`. */
 uint32_t apex_configuration_mistakes(const uint8_t *text, size_t text_length, uint8_t *buffer, size_t buffer_length,
                                      uint64_t *lines_length);
 
-/* Opens a handle as apex_open does. Of a text that is refused, the path and the lines go into their buffers, as
- * apex_configuration_fault and apex_configuration_mistakes put them, from one reading of the text. Where the answer is
+/* Opens a handle as apex_open does. If the text is refused, the path and the lines go into their buffers, as
+ * apex_configuration_fault and apex_configuration_mistakes put them, from one reading of the text. If the answer is
  * APEX_OUT_OF_MEMORY or APEX_ALREADY_OPEN, buffers and lengths stay as they were.
  * Assumed: `text` points to `text_length` bytes, `path` to `path_room`, and `lines` to `lines_room`. */
 uint32_t apex_open_explained(struct apex_handle *handle, const uint8_t *text, size_t text_length, uint8_t *path,
@@ -93,7 +93,7 @@ uint32_t apex_close(struct apex_handle *handle);
 
 /* The services. `partition` is the partition's number, from 0 in the order of the configuration; `at` is the moment in
  * nanoseconds; then come the parameters of the standard in its order. Time-outs are zero. What a service gives beside
- * its answer goes to its place (`id`, `status`, `message_length`, `validity`, the buffer's first bytes) where the
+ * its answer goes to its place (`id`, `status`, `message_length`, `validity`, the buffer's first bytes) if the
  * answer is 0, and otherwise the place stays as it was. */
 
 /* CREATE_SAMPLING_PORT. `size` is in bytes, `refresh` in nanoseconds.
@@ -106,7 +106,7 @@ uint32_t apex_create_sampling_port(struct apex_handle *handle, uint32_t partitio
 uint32_t apex_write_sampling_message(struct apex_handle *handle, uint32_t partition, uint64_t at, uint32_t id,
                                      const uint8_t *message, size_t message_length);
 
-/* READ_SAMPLING_MESSAGE. Where the answer is 0, `message_length` has the message's length and `validity` 0 (INVALID) or
+/* READ_SAMPLING_MESSAGE. If the answer is 0, `message_length` has the message's length and `validity` 0 (INVALID) or
  * 1 (VALID). Assumed: `buffer` points to `buffer_length` bytes. */
 uint32_t apex_read_sampling_message(struct apex_handle *handle, uint32_t partition, uint64_t at, uint32_t id,
                                     uint8_t *buffer, size_t buffer_length, uint32_t *message_length,
@@ -164,8 +164,8 @@ uint32_t apex_clear_queuing_port(struct apex_handle *handle, uint32_t partition,
 /* SET_PARTITION_MODE. Assumed: no more than above. */
 uint32_t apex_set_partition_mode(struct apex_handle *handle, uint32_t partition, uint64_t at, uint32_t mode);
 
-/* The readers, which change nothing. Each answers 0 or APEX_NOT_OPEN, APEX_NO_PARTITION where it takes a partition and
- * APEX_NO_CHANNEL where it takes a channel; where it isn't 0, each place stays as it was. Partitions and channels are
+/* The readers, which change nothing. Each answers 0 or APEX_NOT_OPEN, APEX_NO_PARTITION if it takes a partition and
+ * APEX_NO_CHANNEL if it takes a channel. If the answer isn't 0, each place stays as it was. Partitions and channels are
  * numbered from 0 in the order of the configuration, and the identifiers of a partition's ports from 1. A count of
  * calls or messages stays at the greatest uint64_t. Assumed: no more than above, and beyond that `buffer` points to
  * `buffer_length` bytes and `name` to `name_length`. */

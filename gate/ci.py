@@ -1,4 +1,5 @@
-"""Runs the toolchain's own gate, `rt ci`, and shows what it says: of a crate that is proved the lines of rt alone."""
+"""Runs the toolchain's own gate, `rt ci`, and shows what it says. For a crate that is proved, it shows the lines of rt
+alone."""
 import os
 import re
 import subprocess

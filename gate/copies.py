@@ -1,5 +1,6 @@
-"""The copies that are verified: of all that the toolchain's gate reads but the must-fail edits, and of those apart. So
-a source that is edited meanwhile stays out, and what the toolchain makes stays out of the checkout."""
+"""Copies what is verified: all that the toolchain's gate reads except the must-fail edits, and those into a folder of
+their own. So the verification sees no edit that is made meanwhile, and what the toolchain makes stays out of the
+checkout."""
 import os
 import shutil
 import subprocess

@@ -1,4 +1,4 @@
-"""The crates of the repository with those that they use, the toolchain, the machine, and tasks side by side."""
+"""The crates of the repository with those that they use; the toolchain; the machine; tasks that run side by side."""
 import concurrent.futures
 import os
 import re

@@ -44,7 +44,7 @@ def indent_of(line):
 
 
 def owner_of(lines, at):
-    """Returns the type of the `impl` block round the line, and the block's name in the folders of proofs, both "" where
+    """Returns the type of the `impl` block round the line, and the block's name in the folders of proofs, both "" if
     there is none; or None in a trait, in a module within the file, and for a trait with arguments, whose blocks are
     named otherwise."""
     depth = indent_of(lines[at])
@@ -67,7 +67,7 @@ def top_of(lines, at):
 
 def body_of(lines, at, depth):
     """Returns the places of the line that opens the body of the function at this head, and of the line that closes it,
-    or None where it has no body of its own lines."""
+    or None if it has no body of its own lines."""
     opens = None
     for place in range(at, len(lines)):
         line = lines[place]
@@ -127,7 +127,7 @@ def bodies_of(changes, sources):
 
 
 def read(name, texts, sources, breaks=None):
-    """Returns the edit with these new texts of files in place of the sources, or None where it changes nothing."""
+    """Returns the edit with these new texts of files in place of the sources, or None if it changes nothing."""
     changes = {path: changed_lines(sources[path], text) for path, text in texts.items()}
     changes = {path: lines for path, lines in changes.items() if lines}
     return Edit(name, changes, bodies_of(changes, sources), breaks) if changes else None

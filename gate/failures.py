@@ -10,7 +10,7 @@ import toolchain
 
 # The status of what fails in a script, and not in the program.
 STATUS = 125
-# With less room than this on a disk, a proof that failed is taken to have failed for it.
+# If a disk has less room than this, a proof that failed counts as failed for lack of room.
 LEAST_ROOM = 1 << 20
 TAIL = 40
 # Lines of the toolchain that say nothing of a failure.
@@ -73,8 +73,8 @@ def of_crate(what, folder, log, status, line):
     if status == toolchain.CHANGED:
         return said, "a source changed while the program was built, as the line above says: run this again"
     if by:
-        return said, (f"{what} was killed by the signal {by}; by KILL the system mostly ends what takes too much "
+        return said, (f"{what} was killed by the signal {by}; a system mostly sends KILL to what takes too much "
                       f"memory: end other programs, or give it fewer processors, as by 'taskset -c 0', {again}")
     older = "" if line == toolchain.WANTED else f", or take the toolchain '{toolchain.WANTED}'"
-    return said, (f"{what} failed with the status {status}; what the toolchain says stands above and whole in {log}: "
+    return said, (f"{what} failed with the status {status}; its last lines are above, and all are in {log}: "
                   f"mend it{older}, {again}")

@@ -1,5 +1,6 @@
 """Tries the must-fail edits of crates. A record has a line for each crate whose edits were all tried and refused, the
-oldest first, with the digest of all that the verdicts rest on; what has no such line is tried first, then the oldest."""
+oldest first, with the digest of all that the verdicts rest on. Crates without such a line are tried first, then the
+oldest."""
 import hashlib
 import os
 import tempfile
@@ -151,8 +152,8 @@ class MustFail:
                 before(f"must-fail {name}: {words}")
 
         for it in bad:
-            before(f"{crate.name}/must-fail/{os.path.basename(it)} is no edit: its name ends in .edit, or in .md if it is "
-                   "only to be read, and it stands right in must-fail/")
+            before(f"{crate.name}/must-fail/{os.path.basename(it)} is no edit: give it a name in .edit, or in .md if it "
+                   "is only to be read, and put it right into must-fail/")
         try:
             self.try_edits(crate, good, tell)
         except TimeIsUp:

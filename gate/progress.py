@@ -1,4 +1,4 @@
-"""Says how far a long work is: on a terminal by one line that is rewritten each second, elsewhere by a line when a
+"""Shows the progress of long work: on a terminal in one line that is rewritten each second, elsewhere in a line when a
 part begins and one when it ends."""
 import os
 import shutil

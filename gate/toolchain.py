@@ -16,7 +16,7 @@ WANTED = "rattle-kit-13f logic dac8208d650f15bf"
 
 
 def version(folder):
-    """Returns the line of `rt version`, or None where rt does not know these words."""
+    """Returns the line of `rt version`, or None if rt does not know these words."""
     said = subprocess.run([f"{folder}/bin/rt", "version"], stdin=subprocess.DEVNULL, stdout=subprocess.PIPE,
                           stderr=subprocess.DEVNULL, universal_newlines=True, errors="replace", check=False)
     line = said.stdout.strip()
@@ -24,7 +24,7 @@ def version(folder):
 
 
 def number_of(line):
-    """Returns what orders the toolchains, as (13, 'b'), or None where the line has another form."""
+    """Returns what orders the toolchains, as (13, 'b'), or None if the line has another form."""
     found = re.match(r"rattle-kit-(\d+)([a-z]*) ", line)
     return (int(found[1]), found[2]) if found else None
 
@@ -36,7 +36,7 @@ def is_too_old(line):
 
 
 def loaded(folder):
-    """Returns rt as a Python module, or None where it is not of the form that is known here."""
+    """Returns rt as a Python module, or None if it is not of the form that is known here."""
     loader = importlib.machinery.SourceFileLoader("rt", f"{folder}/bin/rt")
     made = importlib.util.module_from_spec(importlib.util.spec_from_loader("rt", loader))
     try:
@@ -59,7 +59,7 @@ def proved(rt, root, names):
 
 
 def held(folder, wait):
-    """Returns what keeps every other rt out of the crate's folder until it is closed. Where another works in it, calls
+    """Returns what keeps every other rt out of the crate's folder until it is closed. If another works in it, calls
     wait first."""
     found = os.open(folder, os.O_RDONLY)
     try:

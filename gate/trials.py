@@ -123,7 +123,7 @@ class Trials:
                 self.end(edit, refused(own[0]))
 
     def tell_goals(self, batch, told):
-        """Ends the trial of each edit that has a goal of its own. Where a function that no edit changes has one too, a
+        """Ends the trial of each edit that has a goal of its own. If a function that no edit changes has one too, a
         caller's goal may be open for what it calls, so that no such edit is counted."""
         goals = {edit: own_lines(edit, told.goals(), self.sources) for edit in batch}
         has_stray = any(it.copy is None and all(it not in own for own in goals.values()) for it in told.goals())
@@ -134,7 +134,7 @@ class Trials:
                 self.end(edit, refused(goals[edit][0]))
 
     def names(self, batch):
-        """Returns the functions' names as the prover has them, or none where one is not known."""
+        """Returns the functions' names as the prover has them, or none if one is not known."""
         folders = [it.proofs(self.sources) for edit in batch for it in edit.functions]
         return ["::".join(it.split("/")[1:-1]) for it in folders] if all(folders) else []
 

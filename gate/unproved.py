@@ -1,4 +1,4 @@
-"""Runs a program without its proof, by `rt try`, for a look before the wait.
+"""Runs a program without its proof, by `rt try`, for a first look before the proof is done.
 
 unproved.py NAME WORD..   what the program writes, and its status, are those of the program NAME given the words
 """

@@ -1,4 +1,4 @@
-"""How much time of the processors the prover takes for each crate, by looking at the processes below this one."""
+"""Measures the processor time that the prover takes for each crate, by looking at the processes below this one."""
 import os
 import signal
 import threading

@@ -1,12 +1,12 @@
 """The verification, which the script 'test' runs.
 
-verify.py                        all that runs, with the programs and libraries that are there, built or prebuilt
-verify.py all                    first every proof and each crate's tests, by the toolchain's own gate over a copy of the
-                                 sources; then all that runs, with what this built; then whether prebuilt/ is what this
-                                 built; then every must-fail edit
+verify.py                        runs every test with the built or prebuilt programs and libraries
+verify.py all                    proves everything and runs each crate's tests, by the toolchain's own gate over a copy of
+                                 the sources; runs every test with what this built; compares prebuilt/ with it; and tries
+                                 every must-fail edit
 verify.py all --within MINUTES   the same in this time: must-fail edits are tried as long as there is time, those first
                                  that were not refused before in the form that they have now
-verify.py edits CRATE..          every proof, and the must-fail edits of these crates
+verify.py edits CRATE..          proves everything, and tries the must-fail edits of these crates
 """
 import contextlib
 import os
@@ -138,9 +138,11 @@ class Whole:
         cancel()
 
 
-def stop_by_signal(room):
-    """Has a signal end what this run began, and take its folder away."""
+def stop_by_signal(room, made):
+    """Has a signal end what this run began, and take its folder away. made: the runs of scripts, as they are made."""
     def stop(number, _):
+        for it in made:
+            it.end()
         mine = os.getpgid(0)
         for process, (_, parent, _) in usage.processes().items():
             with contextlib.suppress(OSError):
@@ -180,8 +182,11 @@ def run_whole(counted, clock, only):
         return
     os.environ["PATH"] = f"{kit}/bin:{os.environ.get('PATH', os.defpath)}"
     with tempfile.TemporaryDirectory(prefix="dekarino-test-") as room:
-        stop_by_signal(room)
-        Whole(ROOT, kit, os.path.realpath(room), counted, clock).run(only)
+        made = []
+        stop_by_signal(room, made)
+        whole = Whole(ROOT, kit, os.path.realpath(room), counted, clock)
+        made.append(whole.scripts)
+        whole.run(only)
 
 
 def main(words):

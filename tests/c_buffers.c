@@ -220,7 +220,7 @@ static void senders_main(void) {
     set_mode(NORMAL);
 }
 
-/* Time-outs: a message at the very end counts where its sender runs before. */
+/* Time-outs: a message at the very end counts if its sender runs before. */
 
 static bool is_sender_first;
 

@@ -200,7 +200,7 @@ static void idle_main(void) {
     expect(false, "IDLE comes back");
 }
 
-/* Restarts the partition from its initialisation, where it is in COLD_START. */
+/* Restarts the partition from its initialisation, if it is in COLD_START. */
 static void cold_main(void) {
     leave('c');
     create("WAITS", waits, INFINITE_TIME_VALUE, true);

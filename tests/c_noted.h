@@ -26,7 +26,7 @@ extern unsigned noted_count;
 /* What the exports answer: the first call of a service, and a status that is asked for after another call. */
 extern uint32_t answer_now, answer_of_status;
 
-/* What is given where the answer is 0: each number another, so that no two can be exchanged. */
+/* What is given if the answer is 0: each number another, so that no two can be exchanged. */
 enum {
     GIVEN_ID = 0x01020304,
     GIVEN_LENGTH = 6,

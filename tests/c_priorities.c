@@ -12,7 +12,7 @@ static void high(void) {
     STOP_SELF();
 }
 
-/* A process that is started by another runs at once where its priority is higher, and the other keeps its place. */
+/* A process that is started by another runs at once if its priority is higher, and the other keeps its place. */
 
 static void start_others(void) {
     leave('l');

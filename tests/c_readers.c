@@ -1,7 +1,7 @@
 /* c_readers CONFIG: prints what the readers of apex_ports.h say of a configuration, a line for each partition, port
  * and channel. Then each of them is asked with handles that are open, closed or were never opened, and with numbers,
  * identifiers, names and buffers that are right and wrong: each answer by the rules of docs/C.md, and each place left
- * as it was where the answer isn't 0. */
+ * as it was if the answer isn't 0. */
 #include "../c/apex_ports.h"
 #include "c_test.h"
 
@@ -138,7 +138,7 @@ static void check_found(const struct reader *reader, const struct asked *a, uint
     expect(to.number == a->name_length && memcmp(name, a->name, to.number) == 0, "what is found has the name");
 }
 
-/* Asks, and sees that the answer is the one of the rules, and that places and buffer stay where it isn't 0. */
+/* Asks, and sees that the answer is the one of the rules, and that places and buffer stay if it isn't 0. */
 static bool check(const struct reader *reader, const struct asked *a) {
     struct places before, after;
     memset(&before, FILL, sizeof before);

@@ -1,5 +1,5 @@
 /* c_rows CONFIG CALLS: asks of random calls which row they get and what its words are, makes them by their exports, and
- * asks again where they were refused. The row has to be one of the answer's return code, and to be the same afterwards;
+ * asks again if they were refused. The row has to be one of the answer's return code, and to be the same afterwards;
  * asking changes neither a count nor a place that it has nothing for. A judge is given each call with its reply, and at
  * times with another. Prints how many rows there were.
  * c_rows CONFIG: prints the answer, the path of the fault's first place, and the lines of a configuration. */
@@ -192,7 +192,7 @@ static uint32_t refusal(const struct asked *it) {
     return !module.is_open ? APEX_NOT_OPEN : it->partition >= PARTITIONS ? APEX_NO_PARTITION : 0;
 }
 
-/* Asks for the row and the words; the answer. Where there are words, they are asked for in too short a buffer too. */
+/* Asks for the row and the words; the answer. If there are words, they are asked for in too short a buffer too. */
 static uint32_t ask(const struct asked *it, uint32_t *row, uint8_t *words, uint64_t *length) {
     struct apex_handle *h = &module;
     const uint32_t p = it->partition;

@@ -192,7 +192,7 @@ static void clear_or_set_mode(void) {
 static void (*const services[])(void) = {create_or_find,  create_or_find, send_or_write,
                                          receive_or_read, ask_for_status, clear_or_set_mode};
 
-/* Nothing is done, and nothing is written, where there is no place for the return code. */
+/* Nothing is done, and nothing is written, if there is no place for the return code. */
 static void call_without_code(void) {
     NAME_TYPE name = "NAV_OUT";
     int32_t id = 77;

@@ -73,7 +73,7 @@ struct stand_in_answer {
     int validity;
     SAMPLING_PORT_STATUS_TYPE sampling;
     QUEUING_PORT_STATUS_TYPE queuing;
-    void (*meanwhile)(void); /* is called before the answer, where it is there */
+    void (*meanwhile)(void); /* is called before the answer, if it is there */
 };
 extern STAND_IN_LOCAL struct stand_in_answer stand_in_answer;
 extern STAND_IN_LOCAL SYSTEM_TIME_TYPE stand_in_time;

@@ -212,7 +212,7 @@ static void too_long(int service, uint32_t status) {
     check_places(service, status == 0 ? 4 : status, &g, true);
 }
 
-/* Nothing is done where a place is null: INVALID_PARAM, and nothing at all without a place for the code. */
+/* Nothing is done if a place is null: INVALID_PARAM, and nothing at all without a place for the code. */
 static void every_null(int service) {
     for (int which = 0; which < 7; which++) {
         for (int is_coded = 0; is_coded < 2; is_coded++) {

@@ -8,7 +8,7 @@
 #include <stdlib.h>
 #include <string.h>
 
-/* Ends the program where it isn't so. */
+/* Ends the program if it isn't so. */
 static inline void expect(bool is_so, const char *what) {
     if (!is_so) {
         fprintf(stderr, "FAILED: %s\n", what);

@@ -1,4 +1,4 @@
-"""For tests/package: programs that are built over an unpacked package by pkg-config, CMake and make, each where it is
+"""For tests/package: programs that are built over an unpacked package by pkg-config, CMake and make, each if it is
 found."""
 import re
 import shutil

@@ -1,4 +1,4 @@
-"""A plain model of a module's ports, which looks at nothing of the programs: what entries show, lawful or not, and what
+"""A plain model of a module's ports, which shares nothing with the programs: what entries show, lawful or not, and what
 the standard has for a call after them."""
 import re
 

@@ -50,7 +50,7 @@ fn request(board: &Board, owner: Option<usize>, line: &str) -> Option<Request> {
     Some(Request { partition, at, call: call(words) })
 }
 
-/// The requests of a trace, or those of a script where there is an owner.
+/// The requests of a trace, or those of a script if there is an owner.
 pub fn requests(board: &Board, owner: Option<usize>, text: &str) -> Vec<Request> {
     text.lines().filter_map(|line| request(board, owner, line)).collect()
 }

@@ -1,5 +1,5 @@
 //! The replay of a trace, and the run of scripts, as a plain Rust program: std alone, messages on the
-//! heap, or in place where it is built with `--cfg in_place`.
+//! heap, or in place if it is built with `--cfg in_place`.
 //!
 //! It serves what the benchmark's calls ask, queuing ports and modes, reads a configuration by its
 //! headed tables alone, and prints the same report as the proved program. It is measured beside that

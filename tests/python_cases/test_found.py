@@ -60,7 +60,7 @@ class Found(unittest.TestCase):
         (self.root / "python/out/BUILT_FROM").write_bytes(ran.stdout)
 
     def refused(self, *names):
-        """What is said where the files of these names are refused."""
+        """What is said if the files of these names are refused."""
         command = f"run {self.root}/python/build"
         return [f"{self.root}/python/out/{name} is not made of the sources of this checkout: {command}"
                 for name in names]

@@ -1,5 +1,5 @@
-/* The partition CONTROL: its process LIMIT reads the speed every 100 ms, and sends an order where the speed is too
- * high or too old. Where an order finds no place it stops. */
+/* The partition CONTROL: its process LIMIT reads the speed every 100 ms, and sends an order if the speed is too
+ * high or too old. If an order finds no place it stops. */
 #include "arinc653/error.h"
 #include "arinc653/partition.h"
 #include "arinc653/process.h"
@@ -13,7 +13,7 @@
 static SAMPLING_PORT_ID_TYPE speed_in;
 static QUEUING_PORT_ID_TYPE orders_out;
 
-/* The order that follows from the speed; null where there is none. */
+/* The order that follows from the speed; null if there is none. */
 static const char *read_speed(void) {
     APEX_BYTE speed[4];
     MESSAGE_SIZE_TYPE length;
