@@ -3,7 +3,7 @@
 const MARKS = {
   done: ["call answered NO_ERROR", g => g.append(make("svg:circle", {r: 4, class: "done"}))],
   refused: ["call refused or not made", g => g.append(make("svg:path", {d: "M-4 -4L4 4M-4 4L4 -4", class: "refused"}))],
-  departs: ["reply of a log that is not the standard's",
+  departs: ["reply of a log that is not the expected one",
     g => g.append(make("svg:path", {d: "M0 -8L8 0L0 8L-8 0Z", class: "departs"}),
       make("svg:path", {d: "M0 -4V1M0 3V4.5", class: "departs-sign"}))],
   waits: ["send whose message waits in the end", g => g.append(make("svg:circle", {r: 7, class: "waits"}),
