@@ -14,6 +14,8 @@ import zipfile
 HERE = pathlib.Path(__file__).resolve().parent
 ROOT = HERE.parent
 LIBRARY, PROGRAMS = "libdekarino.so", ["apexports", "dekarino"]
+# What they are built from.
+RECORD = "BUILT_FROM"
 # The libraries that a wheel for manylinux may link.
 LINKED = {"libc.so.6"}
 TIME = 315532800  # the first second of 1980, which is the first that a wheel can have
@@ -43,20 +45,29 @@ def sources():
     """The package's own files, by their names in it."""
     paths = sorted(it for it in (HERE / "dekarino").rglob("*") if it.is_file() and "__pycache__" not in it.parts)
     found = {f"dekarino/{it.relative_to(HERE / 'dekarino').as_posix()}": it for it in paths}
-    return {name: path for name, path in found.items() if path.name not in (LIBRARY, *PROGRAMS)}
+    return {name: path for name, path in found.items() if path.name not in (LIBRARY, *PROGRAMS, RECORD)}
 
 
 def built():
     """The shared object, and the programs that are there: of an archive of sources, of an unpacked package, or made
     now."""
-    places = {LIBRARY: HERE / "dekarino", **{it: HERE / "dekarino" for it in PROGRAMS}}
-    if (ROOT / "BUILT_FROM").exists():
-        places = {LIBRARY: ROOT / "c", **{it: ROOT for it in PROGRAMS}}
+    names = [LIBRARY, *PROGRAMS, RECORD]
+    places = {name: HERE / "dekarino" for name in names}
+    if (ROOT / RECORD).exists():
+        places = {**{name: ROOT for name in names}, LIBRARY: ROOT / "c"}
     elif not (HERE / "PKG-INFO").exists():
         build()
-        places = {name: HERE / "out" for name in places}
+        places = {**{name: HERE / "out" for name in names}, RECORD: record_of(HERE / "out")}
     return {f"dekarino/{name}": folder / name for name, folder in places.items()
             if name == LIBRARY or (folder / name).is_file()}
+
+
+def record_of(folder):
+    """Where it is said what the files of a folder are built from: beside the prebuilt ones, if they are those."""
+    digests = [hashlib.sha256(path.read_bytes()).hexdigest() for path in folder.iterdir() if path.name != RECORD]
+    prebuilt = ROOT / "prebuilt"
+    text = (prebuilt / RECORD).read_text() if (prebuilt / RECORD).is_file() else ""
+    return prebuilt if all(it in text for it in digests) else folder
 
 
 def build():
@@ -81,7 +92,7 @@ def build_wheel(wheel_directory, config_settings=None, metadata_directory=None):
 
 def build_editable(wheel_directory, config_settings=None, metadata_directory=None):
     """Makes what pip unpacks for a package that is used from this folder."""
-    if not (ROOT / "BUILT_FROM").exists():
+    if not (ROOT / RECORD).exists():
         build()
     return write_wheel(wheel_directory, "py3-none-any", {"dekarino.pth": f"{HERE}\n".encode()})
 

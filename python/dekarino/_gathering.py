@@ -10,7 +10,7 @@ import threading
 from dataclasses import dataclass
 from typing import Any, Dict, Iterator, List, Optional, Sequence, Set, Tuple, Union
 
-from ._library import ROOT
+from ._library import FOLDER, ROOT
 from ._program import find_program
 
 Told = Dict[str, Any]
@@ -125,11 +125,11 @@ class Programs:
 
 
 def _origin(digest: str) -> List[str]:
-    """What a checkout or an unpacked package says of the sources and the toolchain of its programs."""
-    for path in (ROOT / "prebuilt/BUILT_FROM", ROOT / "BUILT_FROM"):
+    """What a checkout, an unpacked package or an installed one says of the sources and the toolchain of its programs."""
+    for path in (ROOT / "prebuilt/BUILT_FROM", ROOT / "python/out/BUILT_FROM", ROOT / "BUILT_FROM", FOLDER / "BUILT_FROM"):
         text = path.read_text() if path.is_file() else ""
-        # (a package is what one text is of; a checkout may have built its own)
-        if digest in text or path.parent == ROOT:
+        # (of an unpacked package one text is of all; a checkout may have built its own)
+        if digest in text or text.startswith("dekarino "):
             return re.findall(r"^(?:sources|toolchain|commit|proved by) .*", text, re.M)
     return []
 

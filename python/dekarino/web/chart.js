@@ -3,7 +3,7 @@
 const MARKS = {
   done: ["call answered NO_ERROR", g => g.append(make("svg:circle", {r: 4, class: "done"}))],
   refused: ["call refused or not made", g => g.append(make("svg:path", {d: "M-4 -4L4 4M-4 4L4 -4", class: "refused"}))],
-  departs: ["reply of a log that is not the standard's",
+  departs: ["reply of a log that is not the expected one",
     g => g.append(make("svg:path", {d: "M0 -8L8 0L0 8L-8 0Z", class: "departs"}),
       make("svg:path", {d: "M0 -4V1M0 3V4.5", class: "departs-sign"}))],
   waits: ["send whose message waits in the end", g => g.append(make("svg:circle", {r: 7, class: "waits"}),
@@ -87,11 +87,16 @@ function drawChart(shown, first, last, column, high) {
     ...lines, ...arrows, ...marks);
 }
 
+const longestName = module => Math.max(0, ...module.partitions.map(name => name.length));
+const isTurnedAt = (module, column) => longestName(module) * 8 > column;
+
+// The most that the names are high.
+const heightOfHeads = (module, column) => isTurnedAt(module, column) ? 10 + 7.4 * longestName(module) : 26;
+
 // The names above the life lines, upright where they fit.
 function drawHeads(module, mark, column, onMark) {
-  const longest = Math.max(0, ...module.partitions.map(name => name.length));
   // (where the lines are close, some have their names)
-  const isTurned = longest * 8 > column, every = Math.ceil(8 / column);
+  const isTurned = isTurnedAt(module, column), every = Math.ceil(8 / column);
   return module.partitions.map((name, at) => {
     const head = make("button", {
       type: "button", text: name, title: `Mark partition ${name}`, class: `head-name${isTurned ? " turned" : ""}`,

@@ -40,7 +40,7 @@ function originOf(run, call) {
 }
 
 function wordsOfDeparture(departure) {
-  return departure && `logged ${departure.logged}; the standard has ${departure.standard}`
+  return departure && `logged ${departure.logged}; expected: ${departure.standard}`
     + (departure.words ? ` (${departure.words})` : "");
 }
 
@@ -87,7 +87,8 @@ function showRemarks() {
   const list = [];
   if (told.judged) {
     const count = plural(told.judged.calls, "call"), departures = plural(told.judged.departures, "departure");
-    list.push(told.judged.departures ? `Judged: ${departures} in ${count}` : `Judged: ${count}, as the standard says`);
+    list.push(told.judged.departures ? `Judged: ${departures} in ${count}` : `Judged: ${count}, as the standard says`,
+      "Judged with time-out zero where a call says none, and with the identifiers that this project gives ports");
   }
   const departures = calls.filter(call => call.departure)
     .map(call => [callButton(shown.run, call.place), `: ${wordsOfDeparture(call.departure)}`]);

@@ -107,7 +107,9 @@ class Live {
       find("alert").textContent = "";
       this.show(await answer.json());
     } catch (error) {
-      find("alert").textContent = `No answer: ${error.message}`;
+      // (where nothing answers, fetch throws this)
+      const why = error instanceof TypeError ? "the server has ended, or can't be reached" : error.message.trim();
+      find("alert").textContent = `No answer: ${why}. What stands below is of the last answer.`;
     }
   }
 

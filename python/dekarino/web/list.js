@@ -63,7 +63,7 @@ function fillFilters() {
 function partsOfReply(call) {
   const inBrackets = words => words ? ` (${words})` : "", {departure, replies} = call;
   const parts = [["span", `${call.isRefused ? "\u2717 " : ""}${call.answer}${inBrackets(call.words)}`]];
-  if (departure) parts.push(["strong", ` \u25c6 standard: ${departure.standard}${inBrackets(departure.words)}`]);
+  if (departure) parts.push(["strong", ` \u25c6 expected: ${departure.standard}${inBrackets(departure.words)}`]);
   if (replies && replies.length > 1) parts.push(["em", ` \u21c4 ${replies.length} replies by order`]);
   return parts;
 }

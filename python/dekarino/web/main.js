@@ -1,7 +1,7 @@
 // Starts the page, and prints it.
 
-// The most calls that are printed, and the rows of a block that stays on one page.
-const MOST_PRINTED = 4000, BLOCK = 19, PRINTED_ROW = 50, PRINTED_LINES = 3, PRINTED_WIDTH = 680;
+// The most calls that are printed; a row on paper, and what has room on a page of A4 or Letter.
+const MOST_PRINTED = 4000, PRINTED_ROW = 50, PRINTED_LINES = 3, PRINTED_WIDTH = 680, PRINTED_HEIGHT = 920;
 const BUTTONS = {"next-refused": "r", "next-departure": "d", "next-marked": "m"};
 const FOLDS = ["legend-fold", "config-fold", "sources-fold"];
 
@@ -92,16 +92,16 @@ function onKey(event) {
   event.preventDefault();
 }
 
-// Lays out all listed calls, in blocks that stay whole on a page.
+// Lays out all listed calls, in blocks that stay whole on a page, each with the names above it.
 function printPaper() {
   if (!shown.run) return;
   const count = Math.min(shown.rows.length, MOST_PRINTED);
   const column = columnWidth(PRINTED_WIDTH, shown.run.module.partitions.length);
   const width = column * shown.run.module.partitions.length, number = numberWidth(shown.run, false);
   const room = roomFor(PRINTED_WIDTH, number, width, 6.7);
-  const blocks = [];
-  for (let first = 0; first < count; first += BLOCK) {
-    const last = Math.min(count, first + BLOCK);
+  const perBlock = Math.floor((PRINTED_HEIGHT - heightOfHeads(shown.run.module, column)) / PRINTED_ROW), blocks = [];
+  for (let first = 0; first < count; first += perBlock) {
+    const last = Math.min(count, first + perBlock);
     blocks.push(make("div", {class: "block"}, make("div", {class: "paper-heads"}, make("span", {class: "head-number", text: "Call, moment"}),
       ...drawHeads(shown.run.module, shown.mark, column, () => {})),
       make("div", {class: "paper-rows"}, drawChart(shown, first, last, column, PRINTED_ROW),
