@@ -188,20 +188,21 @@ static void join_thread(struct bench_process *process) {
 /* Waits for the end of a process's turn, and says once where it makes no service for long. */
 static void watch_turn(const struct bench_process *process) {
     bool is_watched = watch_seconds > 0;
+    unsigned long seen = 0;
+    unsigned idle = 0; /* seconds without a service */
     while (running != NULL) {
-        const unsigned long seen = bench_host.services;
         struct timespec until;
         clock_gettime(CLOCK_MONOTONIC, &until);
-        until.tv_sec += (time_t)watch_seconds;
-        int result = 0;
-        while (running != NULL && result != ETIMEDOUT) {
-            result = is_watched ? pthread_cond_timedwait(&bench_has_turn, &turn_lock, &until)
-                                : pthread_cond_wait(&bench_has_turn, &turn_lock);
+        until.tv_sec++;
+        if (!is_watched) {
+            pthread_cond_wait(&bench_has_turn, &turn_lock);
+        } else if (pthread_cond_timedwait(&bench_has_turn, &turn_lock, &until) == ETIMEDOUT) {
+            idle = bench_host.services == seen ? idle + 1 : 0;
+            seen = bench_host.services;
         }
-        if (running != NULL && bench_host.services == seen) {
+        if (running != NULL && is_watched && idle == watch_seconds) {
             char what[96];
-            snprintf(what, sizeof what, "it runs for %u s without a service behind this one",
-                     watch_seconds);
+            snprintf(what, sizeof what, "it runs for %u s without a service behind this one", idle);
             bench_tell(process, bench_host.service, what, NULL, 0);
             is_watched = false;
         }

@@ -3,6 +3,8 @@
  * c_partition_forms.txt; what the host says is in c_partition_forms.told.txt. */
 #include "c_process_test.h"
 
+#include <pthread.h>
+
 static QUEUING_PORT_ID_TYPE in, out;
 static QUEUING_DISCIPLINE_TYPE discipline;
 static SYSTEM_TIME_TYPE time_out;
@@ -197,6 +199,47 @@ static void spinning_main(void) {
     set_mode(NORMAL);
 }
 
+/* A process that asks its port for ever, without a wait. */
+
+static void ask_port(void) {
+    for (;;) {
+        APEX_BYTE message[64];
+        MESSAGE_SIZE_TYPE length;
+        RETURN_CODE_TYPE code;
+        RECEIVE_QUEUING_MESSAGE(in, 0, message, &length, &code);
+    }
+}
+
+static void asking_main(void) {
+    create_in();
+    create("ASKING", ask_port, INFINITE_TIME_VALUE, true);
+    set_mode(NORMAL);
+}
+
+/* A handler for the end of a thread, which waits itself: it doesn't run, and the bench ends. */
+
+static void wait_at_end(void *nothing) {
+    RETURN_CODE_TYPE code;
+    (void)nothing;
+    printf("  the handler waits\n");
+    TIMED_WAIT(1, &code);
+}
+
+static void wait_with_handler(void) {
+    RETURN_CODE_TYPE code;
+    pthread_cleanup_push(wait_at_end, NULL);
+    for (;;) {
+        printf("  %d: waits\n", now());
+        PERIODIC_WAIT(&code);
+    }
+    pthread_cleanup_pop(0);
+}
+
+static void handler_main(void) {
+    create("HANDLER", wait_with_handler, PERIOD, true);
+    set_mode(NORMAL);
+}
+
 /* Two priorities. */
 
 static void print_id(void) {
@@ -243,6 +286,8 @@ int main(int count, char **words) {
     bench_service_time(0);
     run_form("a loop behind NORMAL", looping_main, NULL, 2);
     run_form("delays of 0", spinning_main, NULL, 2);
+    run_form("a port that is asked for ever", NULL, asking_main, 2);
+    run_form("a handler for the end", handler_main, NULL, 3);
     run_form("priorities", priorities_main, NULL, 1);
     run_form("restarts", restarting_main, NULL, 3);
     return 0;

@@ -1,7 +1,10 @@
 /* c_reports CONFIG: what a bench learns without code of its own: the lines of a refused configuration, the words of a
  * refused call, names, the report and the log; by the rules of docs/C.md. Prints a report and a log, as worked out by
- * hand in c_reports.txt, and the lines that the bench says to a sink. */
+ * hand in c_reports.txt, and the lines that the bench says to a sink; what it says on standard error is in
+ * c_reports.told.txt. */
 #include "c_process_test.h"
+
+#include <pthread.h>
 
 static void say(const char *line) { printf("said: %s\n", line); }
 
@@ -12,12 +15,22 @@ static void words_are(const char *wanted) {
     expect(strcmp(bench_last_words(), wanted) == 0, "the words of the last refused call");
 }
 
+/* Of a text that is no TOML the form of the line is promised, not its words. */
+static void is_no_toml(const char *line) {
+    expect(strncmp(line, "line 1, column ", 15) == 0, "the line of a text that is no TOML");
+    seen++;
+}
+
 static void refused_configurations(void) {
     static const char faulty[] = "[[partition]]\nname = \"A\"\n[[partition]]\nname = \"A\"\n";
     bench_tell_to(say);
     expect(bench_open(NULL, 0) == 1 && bench_open(faulty, sizeof faulty - 1) == 4, "faulty configurations");
     expect(!bench_report(stdout) && !bench_run_frame(1), "no module");
+    bench_tell_to(is_no_toml);
+    seen = 0;
+    expect(bench_open("x", 1) == 1 && seen == 1 && bench_close() == APEX_NOT_OPEN, "a text that is no TOML");
     bench_tell_to(NULL);
+    expect(bench_open(faulty, sizeof faulty - 1) == 4, "a faulty configuration");
 }
 
 static void names(void) {
@@ -29,6 +42,19 @@ static void names(void) {
     }
     bench_name(name, "A123456789B123456789C123456789D");
     expect(memcmp(name, "A123456789B123456789C123456789", sizeof name) == 0, "a name of 30 bytes");
+}
+
+/* The words are those of the thread's own last refused call: a thread without one has none. */
+
+static void *other_thread(void *nothing) {
+    words_are("");
+    return nothing;
+}
+
+static void words_of_threads(void) {
+    pthread_t thread;
+    expect(pthread_create(&thread, NULL, other_thread, NULL) == 0 && pthread_join(thread, NULL) == 0, "a thread");
+    words_are("message of 65 bytes, channel Q takes 64");
 }
 
 /* Calls of A and B, whose moments are 0 to 9; each is a line of the log. */
@@ -52,6 +78,7 @@ static void calls(void) {
     SEND_QUEUING_MESSAGE(1, message, 2, INFINITE_TIME_VALUE, &code);
     SEND_QUEUING_MESSAGE(1, message, 65, 0, &code);
     words_are("message of 65 bytes, channel Q takes 64");
+    words_of_threads();
     SEND_QUEUING_MESSAGE(1, message, 2000, 0, &code);
     GET_QUEUING_PORT_ID(out, &id, &code);
     GET_QUEUING_PORT_STATUS(1, &status, &code);

@@ -4,6 +4,6 @@
 #ifndef ARINC653_TYPES_H
 #define ARINC653_TYPES_H
 
-#include "../bench_processes.h"
+#include "../bench_objects.h"
 
 #endif
