@@ -6,7 +6,7 @@ use apex_texts::{Expected, LineFault, Service};
 const COMMENTS: [&str; 5] = ["//", "/*", "--", ";", "%"];
 
 /// The advice for a reply.
-const OF_LOG: &str = "replies stand in logs, which `dekarino judge` reads";
+const OF_LOG: &str = "only logs have replies, and `dekarino judge` reads logs";
 
 /// The advice for the line that ends the calls of a log.
 const AFTER_LOG: &str = "`after` ends the calls of a log, which `dekarino judge` reads";

@@ -129,7 +129,7 @@ fn partition_hint<'a>(
 ) -> Result<Option<Hint<'a>>, AllocError> {
     if names_service(word) {
         return Ok(Some(Hint::Advice(
-            "the partition that makes the call stands before the call word",
+            "the partition that makes the call goes before the call word",
         )));
     }
     let names = partition_names(alloc, config)?;

@@ -119,6 +119,6 @@ fn end_hint<'a>(word: &[u8]) -> Hint<'a> {
     if word.starts_with(b"#") || begins_comment(word) {
         Hint::Advice("a comment has a line of its own, which begins with `#`")
     } else {
-        Hint::Advice("a note stands in brackets")
+        Hint::Advice("put a note in brackets")
     }
 }

@@ -31,8 +31,8 @@ impl fmt::Display for Hint<'_> {
         match self {
             Hint::Near(word) => write!(f, "did you mean `{word}`?"),
             Hint::Elsewhere(word) => write!(f, "`{word}` stands {}", parts_with(word)),
-            Hint::InQuotes => f.write_str("a text stands in quotes"),
-            Hint::WithoutQuotes => f.write_str("a number stands without quotes"),
+            Hint::InQuotes => f.write_str("a text takes quotes"),
+            Hint::WithoutQuotes => f.write_str("a number takes no quotes"),
             Hint::Tables(key) => write!(f, "write `{}` for each", header_of(*key)),
         }
     }

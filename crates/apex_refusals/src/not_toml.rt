@@ -59,7 +59,7 @@ fn advice(text: &[u8], offset: usize) -> Option<&'static str> {
     if begins_comment(rest) {
         Some("a comment begins with `#`")
     } else if begins_quote(rest) {
-        Some("a text stands in straight quotes, as \"NAV\"")
+        Some("a text takes straight quotes, as \"NAV\"")
     } else if rest.starts_with(b"\r") && !rest.starts_with(b"\r\n") {
         Some("a carriage return alone ends no line: end lines with a line feed")
     } else if str::from_utf8(text).is_err() {

@@ -8,9 +8,9 @@ Example:
   partition DSP
     1 NAV_IN queuing destination NAV size 4 depth 2 from FMS.NAV_OUT
 
-The status is 0 if all was done, 1 if a text was refused, 2 if the words are not those of a command, 3 if memory ran
-out or a file or the output could not be read or written, 4 if the answer is no, as when a judged log departs from the
-standard, and 5 if no answer was found.";
+The status is 0 if all was done, 1 if a text was refused, 2 if the command line is wrong, 3 if memory ran out or a file
+or the output could not be read or written, 4 if the answer is no, such as when a judged log differs from the standard,
+and 5 if no answer was found.";
 
 pub(crate) const TABLE: &str = "\
 Prints a line for each partition, and below it a line for each of its ports, by identifier: name, kind, direction,
@@ -26,8 +26,8 @@ Example:
 
 pub(crate) const EXPLAIN: &str = "\
 Prints the trace with the reply behind each call and, if the reply is not NO_ERROR, the row of the reply table that gave
-it. Remarks follow. A word NAME=SCRIPT gives partition NAME a script: each such partition runs in a thread, and the calls
-are printed in the order in which they happened. A trace is a single word without such a beginning, so write ./A=B for a
+it. Remarks follow. An argument NAME=SCRIPT gives partition NAME a script: each such partition runs in a thread, and the
+calls are printed in the order in which they happened. An argument without `NAME=` is a trace, so write ./A=B for a
 trace called A=B.
 
 Example:
@@ -64,15 +64,16 @@ it believes the log. The last line counts the departures. The status is 4 if the
 A faulty line, or one of more than 65536 bytes, ends the reading: its mistake follows the departures found before it. With
 --whole such a log is refused whole, with the mistakes of all its lines.
 
-A call without a time-out in its line is taken to have time-out zero. `timeout NANOSECONDS` or `timeout infinite` behind
-the arguments of a send or a receive says another; such a call stands in the log where it returned. TIMED_OUT is then
-right where a call with time-out zero gets NOT_AVAILABLE, and with `infinite` neither is.
+A call without a time-out in its line has time-out zero. `timeout NANOSECONDS` or `timeout infinite` behind the
+arguments of a send or a receive gives it another one; its line is then where the call returned. If a call with time-out
+zero would get NOT_AVAILABLE, TIMED_OUT is right for a call with a time-out, and with `infinite` neither is right.
 
-With --own-ids, identifiers are the system's: the reply to a create or an id call tells which one a port has, until the
-partition restarts. Another identifier for the port, or the same for another port of the partition, departs.
+With --own-ids, identifiers are the system's: the reply to a create or an id call gives a port its identifier, until the
+partition restarts. A reply with another identifier for the port, or with the same one for another port of the partition,
+is a departure.
 
-A word NAME=LOG gives the log that partition NAME kept for itself: its lines lack the partition, and nothing says which
-call of another partition came before. If some order of all calls gives each of them its logged reply, the status is 0,
+An argument NAME=LOG gives the log that partition NAME kept for itself: its lines lack the partition, and nothing says
+which call of another partition came before. If some order of all calls gives each of them its logged reply, the status is 0,
 and --order writes that order as a log. If there is no such order, the status is 4. If neither is found, it is 5.
 
 Example:
@@ -84,10 +85,10 @@ Example:
   9 calls, as the standard says in some order";
 
 pub(crate) const TIME_OUTS: &str =
-    "Takes each send and receive whose line says no time-out to have one";
+    "Gives a time-out to each send and receive whose line has none";
 
 pub(crate) const OWN_IDS: &str =
-    "Takes the identifiers in the log to be those that the system gave its ports";
+    "Reads identifiers in the log as those that the system gave its ports";
 
 pub(crate) const FIRST: &str = "Ends at the first departure, and counts the calls up to it";
 
@@ -101,11 +102,11 @@ pub(crate) const STEPS: &str = "Gives up the search after this many steps [defau
 pub(crate) const ORDERS: &str = "\
 Each partition makes the calls of its script in order. Nothing else says which call comes first; moments order nothing
 between partitions. For each call, by the line of its script, it prints all replies that some order gives, and no others;
-for each queuing channel the least and the greatest of its counts in the end. The last line has the number of states
-tried and of different ends. If partitions fall into groups that share no channel, each group has such a line. Above the
+for each queuing channel it prints the least and the greatest of its counts in the end. The last line has the number of
+states tried and the number of different ends. If partitions fall into groups that share no channel, each group has such a line. Above the
 bound on states it prints nothing, and the status is 5.
 
-A question NAME:LINE = REPLY is about the call on that line of the partition's script. A return code alone stands for
+A question NAME:LINE = REPLY is about the call on that line of the partition's script. A return code alone means
 every reply with that code. The first order that gives such a reply ends the search.
 
 Example:

@@ -205,7 +205,7 @@ fn explain_in<'a>(alloc: Global, given: &ArgMatches<'a>) -> Result<Task<'a>, Wor
         return Err(fault_of(
             alloc,
             commands::explain_alone(alloc),
-            "a trace stands alone, and each of several words has to be NAME=SCRIPT",
+            "give one trace, or only arguments NAME=SCRIPT",
         ));
     };
     Ok(Task::Explain {
@@ -238,7 +238,7 @@ fn judge_in<'a>(alloc: Global, given: &ArgMatches<'a>) -> Result<Task<'a>, Words
     let Some(logs) = files_in(alloc, given, commands::LOGS)? else {
         return Err(judge_fault(
             alloc,
-            "a log stands alone, and each of several words has to be NAME=LOG",
+            "give one log, or only arguments NAME=LOG",
         ));
     };
     let (config, form) = (config_in(alloc, given)?, form_in(given));

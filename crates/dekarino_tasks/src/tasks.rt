@@ -156,7 +156,7 @@ fn unreadable_file<E: Write>(file: UnreadableFile<'_>, errors: &mut E) -> u8 {
 fn unknown_service<E: Write>(name: &str, errors: &mut E) -> u8 {
     let _ = writeln!(
         errors,
-        "error: {name} is no service: `dekarino rows` tells all of them"
+        "error: {name} is no service: `dekarino rows` lists all of them"
     );
     MISUSED
 }
