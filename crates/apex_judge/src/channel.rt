@@ -1,5 +1,5 @@
 //! The state of a channel: the messages that wait, and the last sample.
-ghost use Rattle.std.specs.Prelude.{◌≡◌, ◌≤◌, ◌^◌, ◌-◌, ◌∷◌, ◌++◌, [], length, slice_get, Some, IfSome, IfErr, IfOk};
+ghost use Rattle.std.specs.Prelude.{◌≡◌, ◌≤◌, ◌^◌, ◌-◌, ◌∷◌, ◌++◌, [], length, slice_get, Some, None, IfSome, IfErr, IfOk};
 ghost use Rattle.std.specs.Option.{option_copied};
 ghost use Rattle.apex_judge.specs.Waiting.{left_after};
 
@@ -58,6 +58,14 @@ impl<A: Allocator> ChannelState<A> {
             message: message.copy(),
             at,
         });
+    }
+
+    /// Removes the sample.
+    pub(crate) fn remove_sample(&mut self)
+        ensures waiting { self.new.waiting ≡ self.old.waiting }
+        ensures sample { self.new.sample ≡ None }
+    {
+        self.sample = None;
     }
 
     /// Discards the messages that wait.
