@@ -1,9 +1,11 @@
 -- What one entry more changes in the picture that a log gives, as a judge finds it.
-use Rattle.std.proofs.Common.{◌≡◌, ℕ, Bool, true, false, ◌||◌, if◌then◌else◌, [], ◌∷◌, ◌++◌, Option, Some, None, refl, sym, ap, ◌∙◌, subst}
+use Rattle.std.proofs.Common.{◌≡◌, ℕ, Bool, true, false, ◌||◌, if◌then◌else◌, List, [], ◌∷◌, ◌++◌, position, is_some, option_map, Option, Some, None, refl, sym, ap, ◌∙◌, subst}
+use Rattle.std.specs.Str.{bytes_eq}
 use Rattle.apex_types.specs.declared.call.Call.{Call}
 use Rattle.apex_types.specs.declared.call.Call.TheVariants as calls
 use Rattle.apex_types.specs.declared.moment.Moment.{Moment}
 use Rattle.apex_types.specs.declared.reply.Reply.{Reply}
+use Rattle.apex_types.specs.declared.reply.Reply.TheVariants.{Received}
 use Rattle.apex_module.specs.Configuration.{Configuration, port_of, ports_of, id_named, is_queuing_port}
 use Rattle.apex_module.specs.declared.port.Port.{Port as ConfiguredPort}
 use Rattle.apex_ports.specs.declared.history.Entry.{Entry}
@@ -14,9 +16,9 @@ use Rattle.apex_judge.specs.declared.departure.Expected.{Expected}
 use Rattle.apex_judge.specs.declared.partition.PartitionState.{PartitionState}
 use Rattle.apex_judge.specs.declared.subject.Subject.TheVariants.{Mode}
 use Rattle.apex_judge.specs.Kept.{IsPartitionShown, doubted_of}
-use Rattle.apex_judge.specs.Picture.{Picture, reply_in}
+use Rattle.apex_judge.specs.Picture.{Picture, waiting_at, reply_in}
 use Rattle.apex_judge.specs.Replies.{agrees}
-use Rattle.apex_judge.specs.Steps.{with_effects, when_departing, judged, picture_of}
+use Rattle.apex_judge.specs.Steps.{with_effects, is_among, is_believed, when_departing, judged, picture_of}
 use Rattle.apex_judge.specs.Subjects.{id_in, port_about, is_of_mode, subject_at, subject_of, is_doubted, with_doubt}
 use Rattle.apex_judge.proofs.PictureLaws.{picture_of-append}
 use Rattle.apex_judge.proofs.ReplyTests.{agrees_is}
@@ -38,7 +40,7 @@ module _ (config : Configuration) (h : History) (e : Entry) where
       ∙ ap (λ (reply : Reply). with_doubt e.partition (subject_of config e reply) false (with_effects config e before)) (sym (agrees_is standard e.reply test)))
 
   pub after_departing : (expected : Reply) → expected ≡ reply_in config (picture_of config h) e.partition e.at e.call → agrees expected e.reply ≡ false
-      → picture_of config (h ++ e ∷ []) ≡ with_doubt e.partition (subject_of config e expected) true (when_departing config e expected (is_doubted (picture_of config h) e.partition (subject_of config e expected)) (picture_of config h))
+      → picture_of config (h ++ e ∷ []) ≡ with_doubt e.partition (subject_of config e expected) true (when_departing config e expected (is_believed config e (subject_of config e expected) (picture_of config h)) (picture_of config h))
   after_departing expected is test =
       picture_of-append config h e
       ∙ (ap (λ (reply : Reply). judged config e reply (subject_of config e reply) (agrees reply e.reply) before) (sym is)
@@ -101,3 +103,13 @@ doubts_alike config picture p state at call reply expected shown = by_mode (is_o
 pub departs_as : (b : Bool) (expected standard : Expected) → Some expected ≡ (if b then None else Some standard) → (b ≡ false) × (expected ≡ standard)
 departs_as true expected standard is = absurd (cc)
 departs_as false expected standard is = (refl, cc)
+
+-- ---- messages that wait
+
+-- a message is among those that wait on the channel of the port
+pub among : (picture : Picture) (port : Option ConfiguredPort) (c : ℕ) (message : List ℕ) → Some c ≡ option_map (λ one. one.channel) port
+    → is_among (waiting_at picture port) (Received message) ≡ is_some (position (λ one. bytes_eq one message) (picture.waiting c))
+among picture None c message is = absurd (cc)
+among picture (Some port) c message is =
+    let same : c ≡ port.channel = cc in
+    ap (λ (d : ℕ). is_some (position (λ one. bytes_eq one message) (picture.waiting d))) (sym same)

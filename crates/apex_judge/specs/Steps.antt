@@ -1,11 +1,15 @@
 -- What one entry more changes in the picture that a log gives. A single reply that isn't the standard's is taken for a mistake
--- of the log; where what it is about departs again, the log is believed.
-use Rattle.std.specs.Prelude.{ℕ, Bool, true, false, ◌&&◌, ◌||◌, not, if◌then◌else◌, Option, None, unwrap_or, fold}
+-- of the log; where what it is about departs again, the log is believed. A message that is received and waits is believed at
+-- once.
+use Rattle.std.specs.Prelude.{ℕ, Bool, true, false, ◌&&◌, ◌||◌, not, if◌then◌else◌, List, position, Option, None, is_some, unwrap_or, fold}
+use Rattle.std.specs.Str.{bytes_eq}
+use Rattle.apex_types.specs.declared.call.Call.{Call}
+use Rattle.apex_types.specs.declared.call.Call.TheVariants.{ReceiveQueuing}
 use Rattle.apex_types.specs.declared.reply.Reply.{Reply}
-use Rattle.apex_types.specs.declared.reply.Reply.TheVariants.{Id}
+use Rattle.apex_types.specs.declared.reply.Reply.TheVariants.{Id, Received}
 use Rattle.apex_types.specs.declared.sample.Sample.{Sample}
 use Rattle.apex_types.specs.declared.validity.Validity.TheVariants.{Invalid}
-use Rattle.apex_module.specs.Configuration.{Configuration}
+use Rattle.apex_module.specs.Configuration.{Configuration, port_of}
 use Rattle.apex_ports.specs.declared.history.Entry.{Entry}
 use Rattle.apex_ports.specs.Channels.{sample_written, validity_read}
 use Rattle.apex_ports.specs.History.{History}
@@ -13,7 +17,7 @@ use Rattle.apex_ports.specs.Modes.{mode_set, restarts}
 use Rattle.apex_ports.specs.Ports.{creates}
 use Rattle.apex_judge.specs.declared.subject.Subject.{Subject}
 use Rattle.apex_judge.specs.Evidence.{with_evidence}
-use Rattle.apex_judge.specs.Picture.{Picture, opening, reply_in}
+use Rattle.apex_judge.specs.Picture.{Picture, opening, waiting_at, reply_in}
 use Rattle.apex_judge.specs.Replies.{agrees}
 use Rattle.apex_judge.specs.Subjects.{port_about, subject_of, is_doubted, with_doubt}
 use Rattle.apex_judge.specs.Waiting.{waiting_after}
@@ -45,15 +49,30 @@ abbrev pub when_believed : Configuration → Entry → Picture → Picture
 when_believed config entry picture =
     with_evidence config entry (with_effects config (with_reply entry (named_reply (port_about config entry.partition entry.call) entry.reply)) picture)
 
--- after an entry that departs: as though the standard's reply were logged, unless what it is about is doubted
+-- a reply with a message that is among those that wait
+abbrev pub is_among : List (List ℕ) → Reply → Bool
+is_among waiting (Received message) = is_some (position (λ one. bytes_eq one message) waiting)
+is_among waiting reply = false
+
+-- a receive of a message that waits
+abbrev pub receives_waiting : Configuration → Picture → ℕ → Call → Reply → Bool
+receives_waiting config picture p (ReceiveQueuing id) reply = is_among (waiting_at picture (port_of config p id)) reply
+receives_waiting config picture p call reply = false
+
+-- an entry that departs is believed where what it is about is doubted, and where it receives a message that waits
+abbrev pub is_believed : Configuration → Entry → Subject → Picture → Bool
+is_believed config entry subject picture =
+    is_doubted picture entry.partition subject || receives_waiting config picture entry.partition entry.call entry.reply
+
+-- after an entry that departs: as it is logged, if it is believed, or else as though the standard's reply were logged
 abbrev pub when_departing : Configuration → Entry → Reply → Bool → Picture → Picture
-when_departing config entry standard doubted picture =
-    if doubted then when_believed config entry picture else with_effects config (with_reply entry standard) picture
+when_departing config entry standard believed picture =
+    if believed then when_believed config entry picture else with_effects config (with_reply entry standard) picture
 
 abbrev pub judged : Configuration → Entry → Reply → Subject → Bool → Picture → Picture
 judged config entry standard subject true picture = with_doubt entry.partition subject false (with_effects config entry picture)
 judged config entry standard subject false picture =
-    with_doubt entry.partition subject true (when_departing config entry standard (is_doubted picture entry.partition subject) picture)
+    with_doubt entry.partition subject true (when_departing config entry standard (is_believed config entry subject picture) picture)
 
 -- after an entry, where the standard has this reply
 abbrev pub picture_by : Configuration → Entry → Reply → Picture → Picture

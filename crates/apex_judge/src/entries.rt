@@ -1,11 +1,12 @@
 //! The log gains an entry.
-ghost use Rattle.std.specs.Prelude.{◌≡◌, ℕ, ◌<◌, ◌++◌, ◌∷◌, [], true, false, length, IfOk, IfErr};
+ghost use Rattle.std.specs.Prelude.{◌≡◌, ℕ, ◌<◌, ◌++◌, ◌∷◌, [], true, false, length, option_map, IfSome, IfOk, IfErr};
+ghost use Rattle.apex_module.specs.Configuration.{port_of};
 ghost use Rattle.apex_ports.specs.History.{entry_of};
 ghost use Rattle.apex_judge.specs.Kept.{IsShown, Shows, doubted_of};
 ghost use Rattle.apex_judge.specs.Replies.{agrees};
 ghost use Rattle.apex_judge.specs.Shown.{reply_shown};
-ghost use Rattle.apex_judge.specs.Steps.{picture_of, when_departing};
-ghost use Rattle.apex_judge.specs.Subjects.{subject_of, is_doubted, with_doubt};
+ghost use Rattle.apex_judge.specs.Steps.{picture_of, is_believed, receives_waiting, when_departing};
+ghost use Rattle.apex_judge.specs.Subjects.{subject_of, with_doubt};
 
 use crate::partition::PartitionState;
 use crate::state::State;
@@ -65,8 +66,8 @@ impl<A: Allocator + Copy> State<A> {
         Ok(())
     }
 
-    // Follows an entry that departs: as though the standard's reply were logged, or, where what it is about is doubted,
-    // as it is logged.
+    // Follows an entry that departs: as it is logged, if it is believed, or else as though the standard's reply were
+    // logged.
     fn depart(
         &mut self,
         config: &Config,
@@ -81,8 +82,8 @@ impl<A: Allocator + Copy> State<A> {
         ensures shown { let picture = picture_of config.now self.old.log in
             let entry = entry_of partition at call.now reply.now in
             let subject = subject_of config.now entry standard.now in
-            let doubted = is_doubted picture partition subject in
-            let departed = when_departing config.now entry standard.now doubted picture in
+            let believed = is_believed config.now entry subject picture in
+            let departed = when_departing config.now entry standard.now believed picture in
             IfOk result (λ _.
             Shows config.now (with_doubt partition subject true departed) self.new) }
         ensures refused { IfErr result (λ _. IsShown config.now self.old.log self.new) }
@@ -90,11 +91,49 @@ impl<A: Allocator + Copy> State<A> {
     {
         let subject = subject_of(config, partition, call, reply, standard);
         if self.partitions[partition].is_doubted(subject) {
-            self.believe(config, partition, at, call, reply, subject)
-        } else {
-            self.note(config, partition, at, call, standard, subject, true)
+            return self.believe(config, partition, at, call, reply, subject);
         }
+        if self.receives_waiting(config, partition, call, reply) {
+            return self.believe(config, partition, at, call, reply, subject);
+        }
+        self.note(config, partition, at, call, standard, subject, true)
     }
+
+    // Whether an entry receives a message that waits.
+    fn receives_waiting(
+        &mut self,
+        config: &Config,
+        partition: usize,
+        call: &Call,
+        reply: &Reply,
+    ) -> bool
+        requires { IsShown config.now self.old.log self.old }
+        ensures test { let picture = picture_of config.now self.old.log in
+            result ≡ receives_waiting config.now picture partition call.now reply.now }
+        ensures shown { IsShown config.now self.new.log self.new }
+        ensures log { self.new.log ≡ self.old.log }
+    {
+        let Call::ReceiveQueuing { id } = call else {
+            return false;
+        };
+        let Reply::Received(message) = reply else {
+            return false;
+        };
+        let Some(c) = channel_of(config, partition, *id) else {
+            return false;
+        };
+        self.channels[c].has(message)
+    }
+}
+
+// The channel of a port.
+fn channel_of(config: &Config, partition: usize, id: u32) -> Option<usize>
+    ensures channel { result
+        ≡ option_map (λ port. port.channel) (port_of config.now partition id) }
+    ensures linked { IfSome result (λ c. c < length config.now.channels) }
+{
+    let port = config.port(partition, id)?;
+    Some(port.channel)
 }
 
 impl<A: Allocator> PartitionState<A> {
