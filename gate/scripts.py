@@ -16,7 +16,8 @@ TESTS = {
     "recorder": ("c_interface",), "orders": (),
     "gate": (), "judge_apart": (), "hostile_sizes": (), "sizes": (), "largest_configurations": (), "prebuilt": (),
     "python": ("c_interface",), "page": ("python",), "python_installed": ("page",), "package": ("python_installed",),
-    "c_builds": ("package",), "serve": ("c_builds",), "runs": (), "judge": (), "judge_readings": (), "stream": (), "run_cases": (),
+    "c_builds": ("package",), "serve": ("c_builds",), "runs": (), "judge": (), "judge_readings": (), "stream": (),
+    "departures_of_one_lie": (), "run_cases": (),
     "examples": (), "dekarino": (), "mistakes": (), "drawings": (), "documents": ("serve",), "terminal": (),
 }
 # Those that need the toolchain, or more minutes, and the words that they are run with.

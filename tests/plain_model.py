@@ -29,6 +29,7 @@ class Shown:
         self.module = module
         self.mode = dict.fromkeys(module.partitions, "COLD_START")
         self.created, self.last, self.sample = set(), {}, {}
+        self.doubted = set()
         self.waiting = {name: [] for name in module.channels}
 
     def port(self, partition, number, kind):
@@ -123,7 +124,92 @@ class Shown:
         return "INVALID_PARAM" if not port else "INVALID_MODE" if port[2] == "source" else "NO_ERROR"
 
     def add(self, at, partition, call, words, reply):
-        """What an entry shows, whatever the standard has for its call."""
+        """What an entry shows, lawful or not: the first reply that departs is a mistake of the log, and what departs while
+        the same port or mode is doubted is believed, as is a message that is received and waits."""
+        standard = self.reply(at, partition, call, *words)
+        subject = self.subject(partition, call, words, reply, standard)
+        if reply == standard:
+            self.follow(at, partition, call, words, reply)
+            self.doubted.discard(subject)
+            return
+        if subject in self.doubted or self.receives_waiting(partition, call, words, reply):
+            self.believe(at, partition, call, words, reply)
+        else:
+            self.follow(at, partition, call, words, standard)
+        self.doubted |= {subject} - {None}
+
+    def number_about(self, partition, call, words):
+        """The number of the configured port of the call's kind that a call is about, if there is one."""
+        kind = "sampling" if "sampling" in call or call in ("read", "write") else "queuing"
+        if call == "mode":
+            return None
+        if call.startswith("create") or call.endswith("-id"):
+            return (self.named(partition, words[0], kind) or [None])[0]
+        number, ports = int(words[0]), self.module.partitions[partition]
+        return number if 1 <= number <= len(ports) and ports[number - 1][1] == kind else None
+
+    def subject(self, partition, call, words, *replies):
+        """What an entry is about: the partition's mode, a port, or nothing."""
+        of_mode = ["not made", *["INVALID_MODE"] * call.startswith("create")]
+        if call == "mode" or any(it in of_mode for it in replies):
+            return partition, "mode"
+        number = self.number_about(partition, call, words)
+        return (partition, number) if number else None
+
+    def receives_waiting(self, partition, call, words, reply):
+        message, ports = re.fullmatch(r"NO_ERROR message (\S+)", reply), self.module.partitions[partition]
+        if call != "receive" or not message or not 1 <= int(words[0]) <= len(ports):
+            return False
+        return message[1] in self.waiting[ports[int(words[0]) - 1][3]]
+
+    def believe(self, at, partition, call, words, reply):
+        """What a reply shows that is believed, though it departs."""
+        number, is_id = self.number_about(partition, call, words), reply.startswith("NO_ERROR id")
+        self.follow(at, partition, call, words, f"NO_ERROR id {number or 0}" if is_id else reply)
+        self.mode[partition] = self.mode_shown(self.mode[partition], call, words, reply)
+        created = self.created_shown(call, words, reply)
+        if number and created is not None:
+            (self.created.add if created else self.created.discard)((partition, number))
+        status = re.fullmatch(r"NO_ERROR refresh .* last (VALID|INVALID)", reply)
+        if number and status:
+            self.last[partition, number] = status[1]
+        ports = self.module.partitions[partition]
+        if call != "read" or not 1 <= int(words[0]) <= len(ports) or ports[int(words[0]) - 1][2] != "destination":
+            return
+        channel, read = ports[int(words[0]) - 1][3], re.fullmatch(r"NO_ERROR message (\S+) (VALID|INVALID)", reply)
+        if read:
+            self.sample[channel] = (read[1], at if read[2] == "VALID" else 0)
+        elif reply == "NO_ACTION":
+            self.sample.pop(channel, None)
+
+    @staticmethod
+    def mode_shown(present, call, words, reply):
+        made = "NORMAL" if present == "IDLE" else present
+        if reply == "not made":
+            return "IDLE"
+        if call == "mode":
+            shown = {("3", "NO_ACTION"): "NORMAL", ("2", "INVALID_MODE"): "COLD_START"}
+            return present if reply == "NO_ERROR" else shown.get((words[0], reply), made)
+        if call.startswith("create") and reply == "INVALID_MODE":
+            return "NORMAL"
+        return "COLD_START" if call.startswith("create") and reply.startswith("NO_ERROR id") and made == "NORMAL" else made
+
+    @staticmethod
+    def created_shown(call, words, reply):
+        """Whether a reply shows that the port is created; None where it says nothing of that."""
+        is_code = " " not in reply
+        if reply == "not made" or call == "mode":
+            return None
+        if call.startswith("create"):
+            return {"NO_ACTION": True, "INVALID_CONFIG": False}.get(reply)
+        if call.endswith("-id"):
+            return True if reply.startswith("NO_ERROR id") else False if is_code else None
+        if call in ("send", "write") and words[1] == "-":
+            return None
+        return reply != "INVALID_PARAM"
+
+    def follow(self, at, partition, call, words, reply):
+        """The effects of an entry, whatever the standard has for its call."""
         created = re.fullmatch(r"NO_ERROR id (\d+)", reply)
         if call.startswith("create") and created:
             self.created.add((partition, int(created[1])))

@@ -5,26 +5,27 @@ use Rattle.std.specs.List.{slice_get}
 use Rattle.std.specs.Str.{bytes_eq}
 use Rattle.std.proofs.lemmas.Bool.Decides.{nat_tests}
 use Rattle.std.proofs.lemmas.List.{length-drop}
-use Rattle.std.proofs.lemmas.List.Sums.{fold-append}
 use Rattle.apex_types.specs.declared.call.Call.{Call}
 use Rattle.apex_types.specs.declared.call.Call.TheVariants.{SendQueuing, ReceiveQueuing, ClearQueuing, WriteSampling}
 use Rattle.apex_types.specs.declared.moment.Moment.{Moment}
 use Rattle.apex_types.specs.declared.reply.Reply.{Reply}
 use Rattle.apex_types.specs.declared.reply.Reply.TheVariants.{Code}
+use Rattle.apex_types.specs.declared.sample.Sample.{Sample}
 use Rattle.apex_module.specs.Configuration.{Configuration, port_of}
 use Rattle.apex_ports.specs.declared.history.Entry.{Entry}
-use Rattle.apex_ports.specs.History.{History, entry_of}
+use Rattle.apex_ports.specs.History.{entry_of}
 use Rattle.apex_ports.specs.Kept.{EachAt}
 use Rattle.apex_ports.specs.Modes.{is_code_no_error}
 use Rattle.apex_ports.specs.Ports.{is_source_of, is_destination_of}
 use Rattle.apex_ports.specs.Channels.{message_sent, message_accepted, message_in, message_received, message_written, sample_at, sample_written}
-use Rattle.apex_ports.proofs.Stays.{none_or_none, and_false, sample_stays, sample_changes, each_at_set}
+use Rattle.apex_ports.proofs.Stays.{none_or_none, and_false, each_at_set}
 use Rattle.apex_judge.specs.declared.channel.ChannelState.{ChannelState}
+use Rattle.apex_judge.specs.declared.subject.Subject.{Subject}
 use Rattle.apex_judge.specs.Kept.{IsChannelShown, ChannelsStay}
-use Rattle.apex_judge.specs.Waiting.{is_code_not_available, empties, behind, left_after, waiting_after, waiting_shown}
-
-pub waiting_shown-append : (config : Configuration) (c : ℕ) (h : History) (e : Entry) → waiting_shown config c (h ++ e ∷ []) ≡ waiting_after config c (waiting_shown config c h) e
-waiting_shown-append config c h e = fold-append (λ waiting entry. waiting_after config c waiting entry) [] h (e ∷ [])
+use Rattle.apex_judge.specs.Picture.{Picture}
+use Rattle.apex_judge.specs.Steps.{sample_after, with_effects}
+use Rattle.apex_judge.specs.Subjects.{with_doubt}
+use Rattle.apex_judge.specs.Waiting.{is_code_not_available, empties, behind, left_after, waiting_after}
 
 -- ---- entries that leave a channel alone
 
@@ -38,34 +39,31 @@ pub same_after : (config : Configuration) (c : ℕ) (waiting : List (List ℕ)) 
 same_after config c waiting e accepted received emptied =
     (λ i. if emptied i then [] else left_after (received i) waiting ++ option_to_list (accepted i)) ∙ append-nil waiting
 
-waits_still : (config : Configuration) (c : ℕ) (h : History) (e : Entry) → message_accepted config c e ≡ None → message_received config c e ≡ None → empties config c e ≡ false → waiting_shown config c (h ++ e ∷ []) ≡ waiting_shown config c h
-waits_still config c h e accepted received emptied = waiting_shown-append config c h e ∙ same_after config c (waiting_shown config c h) e accepted received emptied
-
-module _ {A : Type 0} (config : Configuration) (h : History) (e : Entry) where
-  channel_stays : (c : ℕ) (state : ChannelState A) → IsChannelShown config h c state → LeavesShown config c e → IsChannelShown config (h ++ e ∷ []) c state
+module _ {A : Type 0} (config : Configuration) (picture : Picture) (e : Entry) where
+  channel_stays : (c : ℕ) (state : ChannelState A) → IsChannelShown picture c state → LeavesShown config c e → IsChannelShown (with_effects config e picture) c state
   channel_stays c state was left = record {
-    waiting = was.waiting ∙ sym (waits_still config c h e left.accepted left.received left.emptied);
+    waiting = was.waiting ∙ sym (same_after config c (picture.waiting c) e left.accepted left.received left.emptied);
     few = was.few;
-    sample = was.sample ∙ sym (sample_stays config h e c left.written);
+    sample = was.sample ∙ sym (ap (λ (written : Option Sample). sample_after written (picture.sample c)) left.written);
   }
 
-  pub all_stay : (channels : List (ChannelState A)) → EachAt (IsChannelShown config h) channels → ((c : ℕ) → LeavesShown config c e) → EachAt (IsChannelShown config (h ++ e ∷ [])) channels
+  pub all_stay : (channels : List (ChannelState A)) → EachAt (IsChannelShown picture) channels → ((c : ℕ) → LeavesShown config c e) → EachAt (IsChannelShown (with_effects config e picture)) channels
   all_stay channels each left = λ c state at. channel_stays c state (each c state at) (left c)
 
-  one_changes : (channels : List (ChannelState A)) (i : ℕ) (new : ChannelState A) → EachAt (IsChannelShown config h) channels → ((c : ℕ) → c ≢ i → LeavesShown config c e) → IsChannelShown config (h ++ e ∷ []) i new → EachAt (IsChannelShown config (h ++ e ∷ [])) (set channels i new)
+  one_changes : (channels : List (ChannelState A)) (i : ℕ) (new : ChannelState A) → EachAt (IsChannelShown picture) channels → ((c : ℕ) → c ≢ i → LeavesShown config c e) → IsChannelShown (with_effects config e picture) i new → EachAt (IsChannelShown (with_effects config e picture)) (set channels i new)
   one_changes channels i new each left mine =
-      each_at_set (IsChannelShown config h) (IsChannelShown config (h ++ e ∷ [])) channels i new each (λ c state apart was. channel_stays c state was (left c apart)) mine
+      each_at_set (IsChannelShown picture) (IsChannelShown (with_effects config e picture)) channels i new each (λ c state apart was. channel_stays c state was (left c apart)) mine
 
 few_behind : (at : Option ℕ) (waiting : List (List ℕ)) → length (behind at waiting) ≤ length waiting
 few_behind None waiting = omega arith
 few_behind (Some index) waiting = let left = length-drop (index + 1) waiting in omega (arith, left)
 
 -- a channel that shows what it showed
-pub one_same : {A : Type 0} (config : Configuration) (channels : List (ChannelState A)) (i : ℕ) (old new : ChannelState A) → slice_get channels i ≡ Some old
-    → new.waiting ≡ old.waiting → new.sample ≡ old.sample → ChannelsStay config channels (set channels i new)
-one_same config channels i old new here waiting sample log each =
+pub one_same : {A : Type 0} (channels : List (ChannelState A)) (i : ℕ) (old new : ChannelState A) → slice_get channels i ≡ Some old
+    → new.waiting ≡ old.waiting → new.sample ≡ old.sample → ChannelsStay channels (set channels i new)
+one_same channels i old new here waiting sample picture each =
     let was = each i old here in
-    each_at_set (IsChannelShown config log) (IsChannelShown config log) channels i new each (λ c state apart was. was) (record {
+    each_at_set (IsChannelShown picture) (IsChannelShown picture) channels i new each (λ c state apart was. was) (record {
       waiting = waiting ∙ was.waiting;
       few = let few = was.few in let count : length new.waiting ≡ length old.waiting = ap (λ (xs : List (List ℕ)). length xs) waiting in omega (arith, count, few);
       sample = sample ∙ was.sample;
@@ -74,10 +72,10 @@ one_same config channels i old new here waiting sample log each =
 pub both_off : (a b : Bool) → ((a && false) || (b && false)) ≡ false
 both_off a b = λ i. and_false a i || and_false b i
 
-same_number : (n : ℕ) → (n == n) ≡ true
+pub same_number : (n : ℕ) → (n == n) ≡ true
 same_number n = grind (arith, nat_tests)
 
-other_number : (m n : ℕ) → n ≢ m → (m == n) ≡ false
+pub other_number : (m n : ℕ) → n ≢ m → (m == n) ≡ false
 other_number m n apart = grind (arith, nat_tests)
 
 -- a reply with a message is no bare code
@@ -199,72 +197,87 @@ module _ (config : Configuration) (c p : ℕ) (at : Moment) (id : ℕ) (reply : 
 
 -- ---- one channel changes
 
-module _ {A : Type 0} (config : Configuration) (p : ℕ) (at : Moment) (id : ℕ) (reply : Reply) (channels : List (ChannelState A)) (i : ℕ) (old new : ChannelState A) (here : slice_get channels i ≡ Some old) (h : History) (each : EachAt (IsChannelShown config h) channels) where
+module _ {A : Type 0} (config : Configuration) (p : ℕ) (at : Moment) (id : ℕ) (reply : Reply) (channels : List (ChannelState A)) (i : ℕ) (old new : ChannelState A) (here : slice_get channels i ≡ Some old) (picture : Picture) (each : EachAt (IsChannelShown picture) channels) where
+  -- a call that writes nothing
+  unwritten : (c : ℕ) → sample_after (if is_code_no_error reply then None else None) (picture.sample c) ≡ picture.sample c
+  unwritten c = ap (λ (written : Option Sample). sample_after written (picture.sample c)) (none_or_none (is_code_no_error reply))
+
   pub sent_notes : (m : List ℕ) → ((c : ℕ) → is_source_of c (port_of config p id) ≡ (i == c)) → is_code_no_error reply ≡ true
       → new.waiting ≡ old.waiting ++ m ∷ [] → length new.waiting ≤ 2 ^ 32 - 1 → new.sample ≡ old.sample
-      → EachAt (IsChannelShown config (h ++ entry_of p at (SendQueuing id m) reply ∷ [])) (set channels i new)
+      → EachAt (IsChannelShown (with_effects config (entry_of p at (SendQueuing id m) reply) picture)) (set channels i new)
   sent_notes m source ok waiting few sample =
       let was = each i old here in
-      one_changes config h (entry_of p at (SendQueuing id m) reply) channels i new each
+      one_changes config picture (entry_of p at (SendQueuing id m) reply) channels i new each
       (λ c apart. send_elsewhere config c p at id m reply (source c ∙ other_number i c apart)) (record {
-        waiting = waiting ∙ (ap (λ (xs : List (List ℕ)). xs ++ m ∷ []) was.waiting ∙ sym (waiting_shown-append config i h (entry_of p at (SendQueuing id m) reply) ∙ sent_after config i p at id m reply (waiting_shown config i h) (source i ∙ same_number i) ok));
+        waiting = waiting ∙ (ap (λ (xs : List (List ℕ)). xs ++ m ∷ []) was.waiting ∙ sym (sent_after config i p at id m reply (picture.waiting i) (source i ∙ same_number i) ok));
         few = few;
-        sample = sample ∙ (was.sample ∙ sym (sample_stays config h (entry_of p at (SendQueuing id m) reply) i (none_or_none (is_code_no_error reply))));
+        sample = sample ∙ (was.sample ∙ sym (unwritten i));
       })
 
   pub written_notes : (m : List ℕ) → ((c : ℕ) → is_source_of c (port_of config p id) ≡ (i == c)) → is_code_no_error reply ≡ true
       → new.waiting ≡ old.waiting → new.sample ≡ Some (record { message = m; at = at })
-      → EachAt (IsChannelShown config (h ++ entry_of p at (WriteSampling id m) reply ∷ [])) (set channels i new)
+      → EachAt (IsChannelShown (with_effects config (entry_of p at (WriteSampling id m) reply) picture)) (set channels i new)
   written_notes m source ok waiting sample =
       let was = each i old here in
       let few = was.few in
       let e = entry_of p at (WriteSampling id m) reply in
       let count : length new.waiting ≡ length old.waiting = ap (λ (xs : List (List ℕ)). length xs) waiting in
       let here_source = source i ∙ same_number i in
-      one_changes config h e channels i new each
+      one_changes config picture e channels i new each
       (λ c apart. write_elsewhere config c p at id m reply (source c ∙ other_number i c apart)) (record {
-        waiting = waiting ∙ (was.waiting ∙ sym (waits_still config i h e (none_or_none (is_code_no_error reply)) refl (both_off (is_code_no_error reply) (is_code_not_available reply))));
+        waiting = waiting ∙ (was.waiting ∙ sym (same_after config i (picture.waiting i) e (none_or_none (is_code_no_error reply)) refl (both_off (is_code_no_error reply) (is_code_not_available reply))));
         few = omega (arith, count, few);
-        sample = sample ∙ sym (sample_changes config h e i (record { message = m; at = at }) (λ j. if ok j then sample_at at (if here_source j then Some m else None) else None));
+        sample = sample ∙ sym (λ j. sample_after (if ok j then sample_at at (if here_source j then Some m else None) else None) (picture.sample i));
       })
 
   pub received_notes : (m : List ℕ) → ((c : ℕ) → is_destination_of c (port_of config p id) ≡ (i == c)) → message_in reply ≡ Some m
       → new.waiting ≡ left_after (Some m) old.waiting → new.sample ≡ old.sample
-      → EachAt (IsChannelShown config (h ++ entry_of p at (ReceiveQueuing id) reply ∷ [])) (set channels i new)
+      → EachAt (IsChannelShown (with_effects config (entry_of p at (ReceiveQueuing id) reply) picture)) (set channels i new)
   received_notes m destination shown waiting sample =
       let was = each i old here in
       let few = was.few in
       let count : length new.waiting ≡ length (left_after (Some m) old.waiting) = ap (λ (xs : List (List ℕ)). length xs) waiting in
       let fewer = few_behind (position (λ one. bytes_eq one m) old.waiting) old.waiting in
-      one_changes config h (entry_of p at (ReceiveQueuing id) reply) channels i new each
+      one_changes config picture (entry_of p at (ReceiveQueuing id) reply) channels i new each
       (λ c apart. receive_elsewhere config c p at id reply (destination c ∙ other_number i c apart)) (record {
-        waiting = waiting ∙ (ap (λ (xs : List (List ℕ)). left_after (Some m) xs) was.waiting ∙ sym (waiting_shown-append config i h (entry_of p at (ReceiveQueuing id) reply) ∙ received_after config i p at id reply (waiting_shown config i h) m (destination i ∙ same_number i) shown));
+        waiting = waiting ∙ (ap (λ (xs : List (List ℕ)). left_after (Some m) xs) was.waiting ∙ sym (received_after config i p at id reply (picture.waiting i) m (destination i ∙ same_number i) shown));
         few = omega (arith, count, fewer, few);
-        sample = sample ∙ (was.sample ∙ sym (sample_stays config h (entry_of p at (ReceiveQueuing id) reply) i (none_or_none (is_code_no_error reply))));
+        sample = sample ∙ (was.sample ∙ sym (unwritten i));
       })
 
   pub emptied_notes : ((c : ℕ) → is_destination_of c (port_of config p id) ≡ (i == c)) → is_code_not_available reply ≡ true
       → new.waiting ≡ [] → new.sample ≡ old.sample
-      → EachAt (IsChannelShown config (h ++ entry_of p at (ReceiveQueuing id) reply ∷ [])) (set channels i new)
+      → EachAt (IsChannelShown (with_effects config (entry_of p at (ReceiveQueuing id) reply) picture)) (set channels i new)
   emptied_notes destination none waiting sample =
       let was = each i old here in
       let count : length new.waiting ≡ 0 = ap (λ (xs : List (List ℕ)). length xs) waiting in
-      one_changes config h (entry_of p at (ReceiveQueuing id) reply) channels i new each
+      one_changes config picture (entry_of p at (ReceiveQueuing id) reply) channels i new each
       (λ c apart. receive_elsewhere config c p at id reply (destination c ∙ other_number i c apart)) (record {
-        waiting = waiting ∙ sym (waiting_shown-append config i h (entry_of p at (ReceiveQueuing id) reply) ∙ none_after config i p at id reply (waiting_shown config i h) (destination i ∙ same_number i) none);
+        waiting = waiting ∙ sym (none_after config i p at id reply (picture.waiting i) (destination i ∙ same_number i) none);
         few = omega (arith, count);
-        sample = sample ∙ (was.sample ∙ sym (sample_stays config h (entry_of p at (ReceiveQueuing id) reply) i (none_or_none (is_code_no_error reply))));
+        sample = sample ∙ (was.sample ∙ sym (unwritten i));
       })
 
   pub cleared_notes : ((c : ℕ) → is_destination_of c (port_of config p id) ≡ (i == c)) → is_code_no_error reply ≡ true
       → new.waiting ≡ [] → new.sample ≡ old.sample
-      → EachAt (IsChannelShown config (h ++ entry_of p at (ClearQueuing id) reply ∷ [])) (set channels i new)
+      → EachAt (IsChannelShown (with_effects config (entry_of p at (ClearQueuing id) reply) picture)) (set channels i new)
   cleared_notes destination ok waiting sample =
       let was = each i old here in
       let count : length new.waiting ≡ 0 = ap (λ (xs : List (List ℕ)). length xs) waiting in
-      one_changes config h (entry_of p at (ClearQueuing id) reply) channels i new each
+      one_changes config picture (entry_of p at (ClearQueuing id) reply) channels i new each
       (λ c apart. clear_elsewhere config c p at id reply (destination c ∙ other_number i c apart)) (record {
-        waiting = waiting ∙ sym (waiting_shown-append config i h (entry_of p at (ClearQueuing id) reply) ∙ cleared_after config i p at id reply (waiting_shown config i h) (destination i ∙ same_number i) ok);
+        waiting = waiting ∙ sym (cleared_after config i p at id reply (picture.waiting i) (destination i ∙ same_number i) ok);
         few = omega (arith, count);
-        sample = sample ∙ (was.sample ∙ sym (sample_stays config h (entry_of p at (ClearQueuing id) reply) i (none_or_none (is_code_no_error reply))));
+        sample = sample ∙ (was.sample ∙ sym (unwritten i));
       })
+
+-- ---- doubts are none of a channel's
+
+pub doubt_stays : {A : Type 0} (picture : Picture) (p : ℕ) (subject : Subject) (doubted : Bool) (channels : List (ChannelState A)) → EachAt (IsChannelShown picture) channels → EachAt (IsChannelShown (with_doubt p subject doubted picture)) channels
+doubt_stays picture p subject doubted channels each c state at =
+    let was = each c state at in
+    record {
+      waiting = was.waiting;
+      few = was.few;
+      sample = was.sample;
+    }

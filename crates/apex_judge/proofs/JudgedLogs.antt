@@ -1,47 +1,34 @@
 -- A log without departures is lawful, and the first departure is the first reply that isn't the table's.
-use Rattle.std.proofs.Common.{◌≡◌, ◌≢◌, ℕ, suc, ◌+◌, ◌<◌, Bool, true, false, if◌then◌else◌, List, [], ◌∷◌, ◌++◌, length, take, Option, Some, None, refl, sym, ap, ◌∙◌, subst, arith, append_assoc, append-nil, length-append}
+use Rattle.std.proofs.Common.{◌≡◌, ◌≢◌, ℕ, suc, ◌+◌, ◌<◌, Bool, true, false, if◌then◌else◌, List, [], ◌∷◌, ◌++◌, length, take, Some, None, refl, sym, ap, ◌∙◌, subst, arith, append_assoc, append-nil, length-append}
 use Rattle.std.specs.List.{slice_get}
 use Rattle.apex_types.specs.declared.call.Call.{Call}
 use Rattle.apex_types.specs.declared.moment.Moment.{Moment}
-use Rattle.apex_module.specs.Configuration.{Configuration, port_of}
-use Rattle.apex_module.specs.declared.port.Port.{Port}
+use Rattle.apex_module.specs.Configuration.{Configuration}
 use Rattle.apex_ports.specs.declared.history.Entry.{Entry}
 use Rattle.apex_ports.specs.History.{History}
-use Rattle.apex_ports.specs.Modes.{mode_of}
-use Rattle.apex_ports.specs.Ports.{is_created}
-use Rattle.apex_ports.specs.Channels.{last_validity_of}
 use Rattle.apex_ports.specs.Lawful.{IsLawful, IsLawfulEntry}
 use Rattle.apex_ports.specs.LawfulLaws.{AreLawfulAfter}
 use Rattle.apex_ports.specs.ReplyTable.{row_of, reply_of, reply_to}
-use Rattle.apex_ports.specs.Seen.{Seen, seen, waiting_of, sample_of}
+use Rattle.apex_ports.specs.Seen.{Seen}
 use Rattle.apex_ports.specs.Sound.{IsSound}
 use Rattle.apex_ports.proofs.LawfulSteps.{sound-push, sound-nil}
 use Rattle.apex_judge.specs.declared.departure.Departure.{Departure}
 use Rattle.apex_judge.specs.declared.departure.Expected.{Expected}
-use Rattle.apex_judge.specs.DepartureLaws.{HasPartitions, NoDepartureIsLawful, FirstDeparture}
+use Rattle.apex_judge.specs.DepartureLaws.{ShowsWhatIsSeen, HasPartitions, NoDepartureIsLawful, FirstDeparture}
 use Rattle.apex_judge.specs.Departures.{expected_of, instead_of, departure_at, departures_after}
 use Rattle.apex_judge.specs.Replies.{agrees}
-use Rattle.apex_judge.specs.Shown.{shown, waiting_shown_at, reply_shown}
+use Rattle.apex_judge.specs.Shown.{reply_shown}
+use Rattle.apex_judge.specs.Steps.{picture_of}
 use Rattle.apex_judge.proofs.ReplyTests.{agrees_is, agrees_from}
-use Rattle.apex_judge.proofs.WaitingLaws.{shows_what_waits}
+use Rattle.apex_judge.proofs.PictureLaws.{told_seen, lawful_tells}
 
 -- ---- a lawful log shows what is seen
 
-same_waiting : (config : Configuration) (h : History) → IsSound config h → (port : Option Port) → waiting_shown_at config h port ≡ waiting_of config h port
-same_waiting config h sound None = refl
-same_waiting config h sound (Some port) = shows_what_waits config h port.channel sound
-
-same_seen : (config : Configuration) (h : History) (p : ℕ) → IsSound config h → shown config h p ≡ seen config h p
-same_seen config h p sound = λ i. record {
-  mode = mode_of p h;
-  created = λ id. is_created p id h;
-  last = λ id. last_validity_of p id h;
-  waiting = λ id. same_waiting config h sound (port_of config p id) i;
-  sample = λ id. sample_of config h (port_of config p id);
-}
+pub shows_what_is_seen : ShowsWhatIsSeen
+shows_what_is_seen config h p sound = told_seen config h (picture_of config h) p (lawful_tells config h sound)
 
 pub same_reply : (config : Configuration) (h : History) (p : ℕ) (at : Moment) (call : Call) → IsSound config h → reply_shown config h p at call ≡ reply_to config h p at call
-same_reply config h p at call sound = ap (λ (s : Seen). reply_of config s p (row_of config s p at call)) (same_seen config h p sound)
+same_reply config h p at call sound = ap (λ (s : Seen). reply_of config s p (row_of config s p at call)) (shows_what_is_seen config h p sound)
 
 -- ---- lists of departures
 

@@ -2,7 +2,10 @@ pub mod ChannelSteps
 pub mod Lookups
 pub mod Results
 pub mod OwnIdLemmas
+pub mod EntrySteps
+pub mod EvidenceSteps
 pub mod PartitionSteps
+pub mod PictureLaws
 pub mod DepartureSteps
 pub mod WaitingLaws
 pub mod ReplyTests

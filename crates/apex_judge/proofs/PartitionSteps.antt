@@ -1,6 +1,7 @@
 -- What an entry of a log does to a partition.
-use Rattle.std.proofs.Common.{◌≢◌, ℕ, ◌&&◌, ◌||◌, not, if◌then◌else◌, List, [], ◌∷◌, ◌++◌, set, refl, sym, ap, ◌∙◌}
+use Rattle.std.proofs.Common.{◌≡◌, ◌≢◌, ℕ, ◌==◌, Bool, false, ◌&&◌, ◌||◌, not, if◌then◌else◌, List, set, refl, sym, ap, ◌∙◌, arith}
 use Rattle.std.specs.Option.{unwrap_or}
+use Rattle.std.proofs.lemmas.Bool.Decides.{nat_tests}
 use Rattle.apex_types.specs.declared.call.Call.{Call}
 use Rattle.apex_types.specs.declared.call.Call.TheVariants.{CreateSampling, CreateQueuing, ReadSampling, SetMode}
 use Rattle.apex_types.specs.declared.moment.Moment.{Moment}
@@ -8,33 +9,73 @@ use Rattle.apex_types.specs.declared.reply.Reply.{Reply}
 use Rattle.apex_types.specs.declared.validity.Validity.TheVariants.{Invalid}
 use Rattle.apex_module.specs.Configuration.{Configuration}
 use Rattle.apex_ports.specs.declared.history.Entry.{Entry}
-use Rattle.apex_ports.specs.History.{History, entry_of}
+use Rattle.apex_ports.specs.History.{entry_of}
 use Rattle.apex_ports.specs.Kept.{EachAt}
-use Rattle.apex_ports.specs.Modes.{mode_of, is_restart}
-use Rattle.apex_ports.specs.Ports.{is_created}
-use Rattle.apex_ports.specs.Channels.{last_validity_of}
-use Rattle.apex_ports.proofs.Appends.{mode_of-append, is_created-append, last_validity_of-append}
+use Rattle.apex_ports.specs.Modes.{is_restart}
 use Rattle.apex_ports.proofs.PartitionSteps.{leaves_others}
-use Rattle.apex_ports.proofs.Stays.{LeavesPartition, leaves_partition, or_not, each_at_set}
+use Rattle.apex_ports.proofs.Stays.{LeavesPartition, leaves_partition, or_not, and_false, each_at_set}
 use Rattle.apex_judge.specs.declared.partition.PartitionState.{PartitionState}
+use Rattle.apex_judge.specs.declared.subject.Subject.{Subject}
+use Rattle.apex_judge.specs.Evidence.{mode_shown, created_shown, last_shown, with_evidence}
 use Rattle.apex_judge.specs.Kept.{IsPartitionShown}
+use Rattle.apex_judge.specs.Picture.{Picture}
+use Rattle.apex_judge.specs.Steps.{with_effects}
+use Rattle.apex_judge.specs.Subjects.{is_at, port_about, is_mode, is_port, with_doubt}
 
-pub partition_stays : {A : Type 0} (config : Configuration) (h : History) (e : Entry) (p : ℕ) (state : PartitionState A) → IsPartitionShown config h p state → LeavesPartition p e → IsPartitionShown config (h ++ e ∷ []) p state
-partition_stays config h e p state was left = record {
-  mode = was.mode ∙ sym (mode_of-append p h e ∙ ap (λ o. unwrap_or o (mode_of p h)) left.mode);
+pub partition_stays : {A : Type 0} (config : Configuration) (picture : Picture) (e : Entry) (p : ℕ) (state : PartitionState A) → IsPartitionShown config picture p state → LeavesPartition p e → IsPartitionShown config (with_effects config e picture) p state
+partition_stays config picture e p state was left = record {
+  mode = was.mode ∙ sym (ap (λ o. unwrap_or o (picture.mode p)) left.mode);
+  mode_doubted = was.mode_doubted;
   ports = was.ports;
-  created = λ id known. was.created id known ∙ sym (is_created-append p id h e ∙ ((λ i. left.created id i || (is_created p id h && not (is_restart (left.mode i)))) ∙ or_not (is_created p id h)));
-  last = λ id known. was.last id known ∙ sym (last_validity_of-append p id h e ∙ (λ i. if left.created id i then Invalid else unwrap_or (left.read id i) (last_validity_of p id h)));
+  created = λ id known. was.created id known ∙ sym ((λ i. left.created id i || (picture.created p id && not (is_restart (left.mode i)))) ∙ or_not (picture.created p id));
+  last = λ id known. was.last id known ∙ sym (λ i. if left.created id i then Invalid else unwrap_or (left.read id i) (picture.last p id));
+  port_doubted = was.port_doubted;
 }
 
+both_false : (a b : Bool) → b ≡ false → (a && b) ≡ false
+both_false a b off = (λ i. a && off i) ∙ and_false a
+
+other_number : (m n : ℕ) → n ≢ m → (m == n) ≡ false
+other_number m n apart = grind (arith, nat_tests)
+
 -- an entry is about no partition but its own
-pub one_partition_notes : {A : Type 0} (config : Configuration) (h : History) (p : ℕ) (at : Moment) (call : Call) (reply : Reply) (partitions : List (PartitionState A)) (new : PartitionState A)
-    → EachAt (IsPartitionShown config h) partitions → IsPartitionShown config (h ++ entry_of p at call reply ∷ []) p new
-    → EachAt (IsPartitionShown config (h ++ entry_of p at call reply ∷ [])) (set partitions p new)
-one_partition_notes config h p at call reply partitions new each mine =
-    let e = entry_of p at call reply in
-    each_at_set (IsPartitionShown config h) (IsPartitionShown config (h ++ e ∷ [])) partitions p new each
-    (λ q state apart was. partition_stays config h e q state was (leaves_others p at call reply q apart)) mine
+pub effects_elsewhere : {A : Type 0} (config : Configuration) (picture : Picture) (p : ℕ) (at : Moment) (call : Call) (reply : Reply) (q : ℕ) (state : PartitionState A) → q ≢ p
+    → IsPartitionShown config picture q state → IsPartitionShown config (with_effects config (entry_of p at call reply) picture) q state
+effects_elsewhere config picture p at call reply q state apart was =
+    partition_stays config picture (entry_of p at call reply) q state was (leaves_others p at call reply q apart)
+
+pub doubt_elsewhere : {A : Type 0} (config : Configuration) (picture : Picture) (p : ℕ) (subject : Subject) (doubted : Bool) (q : ℕ) (state : PartitionState A) → q ≢ p
+    → IsPartitionShown config picture q state → IsPartitionShown config (with_doubt p subject doubted picture) q state
+doubt_elsewhere config picture p subject doubted q state apart was =
+    let other = other_number p q apart in
+    record {
+      mode = was.mode;
+      mode_doubted = was.mode_doubted ∙ sym (λ i. if both_false (is_mode subject) (p == q) other i then doubted else picture.is_mode_doubted q);
+      ports = was.ports;
+      created = was.created;
+      last = was.last;
+      port_doubted = λ id known. was.port_doubted id known ∙ sym (λ i. if both_false (is_port id subject) (p == q) other i then doubted else picture.is_port_doubted q id);
+    }
+
+pub evidence_elsewhere : {A : Type 0} (config : Configuration) (picture : Picture) (p : ℕ) (at : Moment) (call : Call) (reply : Reply) (q : ℕ) (state : PartitionState A) → q ≢ p
+    → IsPartitionShown config picture q state → IsPartitionShown config (with_evidence config (entry_of p at call reply) picture) q state
+evidence_elsewhere config picture p at call reply q state apart was =
+    let other = other_number p q apart in
+    record {
+      mode = was.mode ∙ sym (λ i. if other i then mode_shown (picture.mode q) call reply else picture.mode q);
+      mode_doubted = was.mode_doubted;
+      ports = was.ports;
+      created = λ id known. was.created id known ∙ sym (λ i. if other i && is_at (port_about config p call) id then unwrap_or (created_shown call reply) (picture.created q id) else picture.created q id);
+      last = λ id known. was.last id known ∙ sym (λ i. if other i && is_at (port_about config p call) id then unwrap_or (last_shown reply) (picture.last q id) else picture.last q id);
+      port_doubted = was.port_doubted;
+    }
+
+-- one partition goes along, the others are left alone
+pub one_partition : {A : Type 0} (config : Configuration) (before after : Picture) (p : ℕ) (partitions : List (PartitionState A)) (new : PartitionState A)
+    → ((q : ℕ) (state : PartitionState A) → q ≢ p → IsPartitionShown config before q state → IsPartitionShown config after q state)
+    → EachAt (IsPartitionShown config before) partitions → IsPartitionShown config after p new → EachAt (IsPartitionShown config after) (set partitions p new)
+one_partition config before after p partitions new others each mine =
+    each_at_set (IsPartitionShown config before) (IsPartitionShown config after) partitions p new each others mine
 
 -- a call that neither creates nor reads nor sets a mode
 pub others_leave : (p : ℕ) (at : Moment) (call : Call) (reply : Reply)

@@ -1,4 +1,4 @@
--- Over a lawful log the messages that the log shows are those that wait.
+-- What waits after a lawful entry.
 use Rattle.std.proofs.Common.{◌≡◌, ℕ, suc, ◌==◌, Bool, true, false, ◌&&◌, ◌||◌, if◌then◌else◌, List, [], ◌∷◌, ◌++◌, length, Option, Some, None, refl, sym, ap, ◌∙◌, subst, arith, append_assoc}
 use Rattle.std.specs.Prelude.{nat_lt}
 use Rattle.std.specs.Str.{bytes_eq}
@@ -21,17 +21,14 @@ use Rattle.apex_ports.specs.History.{History, entry_of}
 use Rattle.apex_ports.specs.Modes.{mode_of, is_idle, is_code_no_error}
 use Rattle.apex_ports.specs.Ports.{is_created, is_source, is_source_of, is_destination_of}
 use Rattle.apex_ports.specs.Channels.{accepted_on, taken_on, waiting_on, messages_of, as_received, message_in, message_accepted, message_received, clears}
-use Rattle.apex_ports.specs.LawfulLaws.{along_lawful}
 use Rattle.apex_ports.specs.ReplyTable.{oldest_row, receive_row, oldest_reply, reply_of, reply_to}
 use Rattle.apex_ports.specs.Seen.{Seen, seen, waiting_of, queuing_port}
 use Rattle.apex_ports.specs.Sound.{IsSound}
 use Rattle.apex_ports.proofs.Conserved.{always_conserved, queuing_configured}
 use Rattle.apex_ports.proofs.Histories.{taken-received, waiting-sent, waiting-cleared}
-use Rattle.apex_ports.proofs.LawfulSteps.{sound-push, sound-nil}
 use Rattle.apex_ports.proofs.Stays.{none_or_none, and_true, and_false, accepted_stays, waiting_stays}
-use Rattle.apex_judge.specs.DepartureLaws.{ShowsWhatWaits}
-use Rattle.apex_judge.specs.Waiting.{is_code_not_available, empties, behind, left_after, waiting_after, waiting_shown}
-use Rattle.apex_judge.proofs.ChannelSteps.{LeavesShown, waiting_shown-append, same_after, both_off, send_elsewhere, send_refused, sent_after, receive_elsewhere, receive_without, received_after, none_after, clear_elsewhere, clear_refused, cleared_after}
+use Rattle.apex_judge.specs.Waiting.{is_code_not_available, empties, behind, left_after, waiting_after}
+use Rattle.apex_judge.proofs.ChannelSteps.{LeavesShown, same_after, both_off, send_elsewhere, send_refused, sent_after, receive_elsewhere, receive_without, received_after, none_after, clear_elsewhere, clear_refused, cleared_after}
 
 first_taken : (m : List ℕ) (rest : List (List ℕ)) → left_after (Some m) (m ∷ rest) ≡ rest
 first_taken m rest =
@@ -161,16 +158,8 @@ module _ (config : Configuration) (h : History) (c p : ℕ) (at : Moment) (reply
       by_destination false off = left (ClearQueuing id) (clear_elsewhere config c p at id reply off)
       by_destination true destination = by_code (is_code_no_error reply) refl destination
 
-  one_more : (call : Call) → IsSound config (h ++ entry_of p at call reply ∷ []) → reply ≡ reply_to config h p at call → Goes call
+  pub one_more : (call : Call) → IsSound config (h ++ entry_of p at call reply ∷ []) → reply ≡ reply_to config h p at call → Goes call
   one_more (SendQueuing id m) after is = sends id m
   one_more (ReceiveQueuing id) after is = receives id after is
   one_more (ClearQueuing id) after is = clears_all id
   one_more call after is = stays call (none_or_none (is_code_no_error reply)) refl (both_off (is_code_no_error reply) (is_code_not_available reply))
-
-pub shows_what_waits : ShowsWhatWaits
-shows_what_waits config log c sound =
-    (along_lawful config (λ (g : History). IsSound config g × (waiting_shown config c g ≡ waiting_on config c g))
-    (λ g e lawful was.
-    let after = sound-push config g e.partition e.at e.call e.reply was.0 lawful.0 lawful.1 in
-    (after, waiting_shown-append config c g e ∙ (ap (λ (ws : List (List ℕ)). waiting_after config c ws e) was.1 ∙ sym (one_more config g c e.partition e.at e.reply was.0 e.call after lawful.1))))
-    [] log sound.lawful (sound-nil config sound.valid, refl)).1

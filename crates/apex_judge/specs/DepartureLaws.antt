@@ -2,18 +2,18 @@
 use Rattle.std.specs.Prelude.{ℕ, ◌≡◌, ◌≢◌, ◌<◌, List, [], ◌∷◌, length, take, slice_get, Some}
 use Rattle.apex_module.specs.Configuration.{Configuration, IsConfiguration}
 use Rattle.apex_ports.specs.declared.history.Entry.{Entry}
-use Rattle.apex_ports.specs.Channels.{waiting_on}
 use Rattle.apex_ports.specs.History.{History}
 use Rattle.apex_ports.specs.Lawful.{IsLawful}
 use Rattle.apex_ports.specs.ReplyTable.{reply_to}
+use Rattle.apex_ports.specs.Seen.{seen}
 use Rattle.apex_ports.specs.Sound.{IsSound}
 use Rattle.apex_judge.specs.declared.departure.Departure.{Departure}
 use Rattle.apex_judge.specs.Departures.{departures_of}
-use Rattle.apex_judge.specs.Waiting.{waiting_shown}
+use Rattle.apex_judge.specs.Shown.{shown}
 
--- a lawful log shows what waits
-abbrev pub ShowsWhatWaits : Type 0
-ShowsWhatWaits = (config : Configuration) (log : History) (c : ℕ) → IsSound config log → waiting_shown config c log ≡ waiting_on config c log
+-- a lawful log shows each partition what it sees
+abbrev pub ShowsWhatIsSeen : Type 0
+ShowsWhatIsSeen = (config : Configuration) (log : History) (p : ℕ) → IsSound config log → shown config log p ≡ seen config log p
 
 -- each entry has a partition of the configuration
 abbrev pub HasPartitions : Configuration → History → Type 0

@@ -1,4 +1,4 @@
--- Where a log departs from the standard: every entry is judged after the entries before it, as they were logged.
+-- Where a log departs from the standard: every entry is judged after what the entries before it show.
 use Rattle.std.specs.Prelude.{ℕ, if◌then◌else◌, List, [], ◌∷◌, ◌++◌, length, Option, Some, None}
 use Rattle.apex_module.specs.Configuration.{Configuration}
 use Rattle.apex_ports.specs.declared.history.Entry.{Entry}

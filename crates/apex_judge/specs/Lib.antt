@@ -1,10 +1,14 @@
 pub mod Departures
 pub mod DepartureLaws
+pub mod Evidence
 pub mod JudgeView
 pub mod Kept
 pub mod OwnIds
 pub mod Past
+pub mod Picture
 pub mod Replies
 pub mod Shown
+pub mod Steps
+pub mod Subjects
 pub mod Tally
 pub mod Waiting

@@ -1,6 +1,6 @@
 -- A system's own identifiers. The reply to a call that creates a port, or that asks for its identifier, tells which
 -- identifier the system gave it, until the partition restarts. What is judged is the log with ours in the place of those.
-use Rattle.std.specs.Prelude.{ℕ, Bool, true, false, ◌&&◌, ◌||◌, ◌==◌, if◌then◌else◌, List, [], ◌∷◌, ◌++◌, find, get_or, set, replicate, length, Option, Some, None, is_none, option_map, unwrap_or}
+use Rattle.std.specs.Prelude.{ℕ, Bool, true, ◌&&◌, ◌||◌, ◌==◌, if◌then◌else◌, List, [], ◌∷◌, ◌++◌, find, get_or, set, replicate, length, Option, Some, None, is_none, option_map, unwrap_or}
 use Rattle.apex_types.specs.declared.call.Call.{Call}
 use Rattle.apex_types.specs.declared.call.Call.TheVariants as calls
 use Rattle.apex_types.specs.declared.reply.Reply.{Reply}

@@ -1,5 +1,5 @@
--- What waits on a queuing channel, as a log shows it, lawful or not.
-use Rattle.std.specs.Prelude.{ℕ, Bool, true, false, ◌&&◌, ◌||◌, ◌+◌, if◌then◌else◌, List, [], ◌++◌, drop, fold, position, Option, Some, None}
+-- What waits on a queuing channel after an entry, lawful or not.
+use Rattle.std.specs.Prelude.{ℕ, Bool, true, false, ◌&&◌, ◌||◌, ◌+◌, if◌then◌else◌, List, [], ◌++◌, drop, position, Option, Some, None}
 use Rattle.std.specs.Option.{option_to_list}
 use Rattle.std.specs.Str.{bytes_eq}
 use Rattle.apex_types.specs.declared.reply.Reply.{Reply}
@@ -8,7 +8,6 @@ use Rattle.apex_types.specs.declared.return_code.ReturnCode.{ReturnCode}
 use Rattle.apex_types.specs.declared.return_code.ReturnCode.TheVariants.{NotAvailable}
 use Rattle.apex_module.specs.Configuration.{Configuration}
 use Rattle.apex_ports.specs.declared.history.Entry.{Entry}
-use Rattle.apex_ports.specs.History.{History}
 use Rattle.apex_ports.specs.Channels.{message_accepted, message_received, is_receive, clears}
 
 abbrev pub is_not_available : ReturnCode → Bool
@@ -43,7 +42,3 @@ abbrev pub waiting_after : Configuration → ℕ → List (List ℕ) → Entry �
 waiting_after config channel waiting entry =
     if empties config channel entry then []
     else left_after (message_received config channel entry) waiting ++ option_to_list (message_accepted config channel entry)
-
--- what waits on the channel after a log
-abbrev pub waiting_shown : Configuration → ℕ → History → List (List ℕ)
-waiting_shown config channel log = fold (λ waiting entry. waiting_after config channel waiting entry) [] log

@@ -1,6 +1,7 @@
 //! The state of a channel: the messages that wait, and the last sample.
-ghost use Rattle.std.specs.Prelude.{◌≡◌, ◌≤◌, ◌^◌, ◌-◌, ◌∷◌, ◌++◌, [], length, slice_get, Some, IfSome, IfErr, IfOk};
+ghost use Rattle.std.specs.Prelude.{◌≡◌, ◌≤◌, ◌^◌, ◌-◌, ◌∷◌, ◌++◌, [], length, slice_get, position, is_some, Some, None, IfSome, IfErr, IfOk};
 ghost use Rattle.std.specs.Option.{option_copied};
+ghost use Rattle.std.specs.Str.{bytes_eq};
 ghost use Rattle.apex_judge.specs.Waiting.{left_after};
 
 use crate::queue::Queue;
@@ -60,6 +61,14 @@ impl<A: Allocator> ChannelState<A> {
         });
     }
 
+    /// Removes the sample.
+    pub(crate) fn remove_sample(&mut self)
+        ensures waiting { self.new.waiting ≡ self.old.waiting }
+        ensures sample { self.new.sample ≡ None }
+    {
+        self.sample = None;
+    }
+
     /// Discards the messages that wait.
     pub(crate) fn clear(&mut self)
         ensures waiting { self.new.waiting ≡ [] }
@@ -70,6 +79,16 @@ impl<A: Allocator> ChannelState<A> {
 }
 
 impl<A: Allocator + Copy> ChannelState<A> {
+    /// Whether a message with these bytes waits.
+    pub(crate) fn has(&mut self, message: &Message) -> bool
+        ensures test { let at = position (λ one. bytes_eq one message.now) self.old.waiting in
+            result ≡ is_some at }
+        ensures waiting { self.new.waiting ≡ self.old.waiting }
+        ensures sample { self.new.sample ≡ self.old.sample }
+    {
+        self.waiting.index_of(message).is_some()
+    }
+
     /// Takes the first message with these bytes and all before it; nothing where none has them.
     pub(crate) fn receive(&mut self, message: &Message)
         ensures waiting { self.new.waiting ≡ left_after (Some message.now) self.old.waiting }

@@ -2,7 +2,8 @@
 ghost use Rattle.std.specs.Prelude.{◌≡◌, ℕ, [], false, length, IfOk};
 ghost use Rattle.apex_types.specs.declared.validity.Validity.TheVariants.{Invalid};
 ghost use Rattle.apex_ports.specs.Kept.{EachAt};
-ghost use Rattle.apex_judge.specs.Kept.{IsPartitionShown, IsChannelShown, IsShown, created_in, last_in, state_at};
+ghost use Rattle.apex_judge.specs.Kept.{IsPartitionShown, IsChannelShown, IsShown, created_in, last_in, doubted_in, state_at};
+ghost use Rattle.apex_judge.specs.Picture.{opening};
 
 use crate::channel::ChannelState;
 use crate::partition::{PartitionState, PortState};
@@ -17,6 +18,7 @@ use std::alloc::{AllocError, Allocator};
 const NOT_CREATED: PortState = PortState {
     created: false,
     last: Validity::Invalid,
+    doubted: false,
 };
 
 impl<A: Allocator + Copy> State<A> {
@@ -40,12 +42,13 @@ fn new_partitions<A: Allocator + Copy>(
     config: &Config,
 ) -> Result<Vec<PartitionState<A>, A>, AllocError>
     ensures count { IfOk result (λ all. length all.items ≡ length config.now.partitions) }
-    ensures shown { IfOk result (λ all. EachAt (IsPartitionShown config.now []) all.items) }
+    ensures shown { IfOk result (λ all. EachAt (IsPartitionShown config.now opening) all.items) }
 {
     let mut partitions = Vec::with_capacity(alloc, config.partitions())?;
     for p in 0..config.partitions() {
         partitions.push(PartitionState {
             mode: Mode::ColdStart,
+            doubted: false,
             ports: new_ports(alloc, config.ports(p))?,
         })?;
     }
@@ -57,6 +60,8 @@ fn new_ports<A: Allocator>(alloc: A, count: usize) -> Result<Vec<PortState, A>, 
     ensures created { IfOk result (λ ports. (id : ℕ) →
         created_in (state_at ports.items id) ≡ false) }
     ensures last { IfOk result (λ ports. (id : ℕ) → last_in (state_at ports.items id) ≡ Invalid) }
+    ensures doubted { IfOk result (λ ports. (id : ℕ) →
+        doubted_in (state_at ports.items id) ≡ false) }
 {
     let mut ports = Vec::with_capacity(alloc, count)?;
     for _ in 0..count {
@@ -70,7 +75,7 @@ fn new_channels<A: Allocator + Copy>(
     config: &Config,
 ) -> Result<Vec<ChannelState<A>, A>, AllocError>
     ensures count { IfOk result (λ all. length all.items ≡ length config.now.channels) }
-    ensures shown { IfOk result (λ all. EachAt (IsChannelShown config.now []) all.items) }
+    ensures shown { IfOk result (λ all. EachAt (IsChannelShown opening) all.items) }
 {
     let mut channels = Vec::with_capacity(alloc, config.channels())?;
     for _ in 0..config.channels() {

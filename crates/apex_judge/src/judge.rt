@@ -1,5 +1,5 @@
 //! A judge of a recorded log, entry by entry.
-ghost use Rattle.std.specs.Prelude.{◌≡◌, ◌<◌, ◌∷◌, ◌++◌, [], ◌↔◌, length, IfOk, IfErr, IsTrue};
+ghost use Rattle.std.specs.Prelude.{◌≡◌, ◌<◌, ◌∷◌, ◌++◌, [], ◌↔◌, true, length, IfOk, IfErr, IsTrue};
 
 use crate::departure::Expected;
 use crate::state::State;
@@ -113,6 +113,8 @@ impl<A: Allocator> Judge<A> {
 impl<A: Allocator + Copy> Judge<A> {
     ghost use Rattle.apex_ports.specs.History.{entry_of};
     ghost use Rattle.apex_judge.specs.Departures.{instead_of};
+    ghost use Rattle.apex_judge.specs.Replies.{agrees};
+    ghost use Rattle.apex_judge.specs.Shown.{reply_shown};
 
     /// The log gains an entry, whatever the standard has there. Where there is no memory for its message, it is
     /// what it was.
@@ -129,7 +131,29 @@ impl<A: Allocator + Copy> Judge<A> {
         ensures refused { IfErr result (λ _. self.new.log ≡ self.old.log) }
         ensures config { self.new.config ≡ self.old.config }
     {
-        self.state.add(&self.config, partition, at, call, reply)
+        self.judge(partition, at, call, reply)?;
+        Ok(())
+    }
+
+    /// The log gains an entry whose reply is the standard's. Where there is no memory for its message, it is what it
+    /// was.
+    pub fn add_agreeing(
+        &mut self,
+        partition: usize,
+        at: Moment,
+        call: &Call,
+        reply: &Reply,
+    ) -> Result<(), OutOfMemory>
+        requires partition { partition < length self.old.config.partitions }
+        requires agrees { agrees
+            (reply_shown self.old.config self.old.log partition at call.now) reply.now ≡ true }
+        ensures entry { IfOk result (λ _. self.new.log
+            ≡ self.old.log ++ entry_of partition at call.now reply.now ∷ []) }
+        ensures refused { IfErr result (λ _. self.new.log ≡ self.old.log) }
+        ensures config { self.new.config ≡ self.old.config }
+    {
+        self.state
+            .add_agreeing(&self.config, partition, at, call, reply)
     }
 
     /// Judges an entry after the log, which gains it: what the standard has in place of its reply, where that is
@@ -149,8 +173,13 @@ impl<A: Allocator + Copy> Judge<A> {
         ensures refused { IfErr result (λ _. self.new.log ≡ self.old.log) }
         ensures config { self.new.config ≡ self.old.config }
     {
-        let instead = self.instead_of(partition, at, call, reply);
-        self.add(partition, at, call, reply)?;
-        Ok(instead)
+        let Some(expected) = self.instead_of(partition, at, call, reply) else {
+            self.state
+                .add_agreeing(&self.config, partition, at, call, reply)?;
+            return Ok(None);
+        };
+        self.state
+            .add_departing(&self.config, partition, at, call, reply, &expected.reply)?;
+        Ok(Some(expected))
     }
 }

@@ -1,9 +1,9 @@
 //! What the departures of a log say, whatever the log.
-ghost use Rattle.apex_judge.specs.DepartureLaws.{ShowsWhatWaits, NoDepartureIsLawful, FirstDeparture};
+ghost use Rattle.apex_judge.specs.DepartureLaws.{ShowsWhatIsSeen, NoDepartureIsLawful, FirstDeparture};
 
-/// The law of lawful logs: what such a log shows of a channel is what waits there. There is nothing to run.
-pub fn shows_what_waits()
-    ensures { ShowsWhatWaits }
+/// The law of lawful logs: what such a log shows to a partition is what the partition sees. There is nothing to run.
+pub fn shows_what_is_seen()
+    ensures { ShowsWhatIsSeen }
 {}
 
 /// The law of logs without departures: a log of the configuration's partitions is lawful exactly where it has none.

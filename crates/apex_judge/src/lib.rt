@@ -1,10 +1,14 @@
-//! Judging recorded logs: where the replies of a log depart from the standard. Each entry is judged after the
-//! entries before it as they were logged, so that a departure has no consequences of its own.
+//! Judging recorded logs: where the replies of a log depart from the standard. Each entry is judged after what the
+//! entries before it show. A reply that departs is taken for a mistake of the log, and is followed as though the
+//! standard's were logged; where the same port or mode departs again, the log is believed.
 #![tactic(auto)]
 
+mod belief;
 mod channel;
 pub mod departure;
 pub mod departures;
+mod entries;
+mod evidence;
 mod initial_state;
 pub mod judge;
 pub mod laws;
@@ -15,6 +19,7 @@ mod queue;
 mod replies;
 mod state;
 mod steps;
+mod subject;
 mod tally;
 pub mod told_ids;
 mod view;

@@ -1,23 +1,26 @@
-//! The state of a partition: its mode and its table of ports.
+//! The state of a partition: its mode, its table of ports, and which of these are doubted.
 ghost use Rattle.std.specs.Prelude.{◌≡◌, ℕ, ◌-◌, ◌<◌, ◌≤◌, ◌==◌, if◌then◌else◌, true, false, length, Some};
 ghost use Rattle.apex_types.specs.declared.validity.Validity.TheVariants.{Invalid};
-ghost use Rattle.apex_judge.specs.Kept.{state_at, created_in, last_in};
+ghost use Rattle.apex_judge.specs.Kept.{state_at, created_in, last_in, doubted_in};
 ghost use Rattle.apex_ports.specs.Modes.{is_start};
 
 use apex_types::{Mode, Validity};
 use std::alloc::Allocator;
 
-/// Whether a port is created, and what its last read showed.
+/// Whether a port is created, what its last read showed, and whether the port is doubted: the last entry about it
+/// departed.
 #[derive(Clone, Copy, Debug)]
 pub(crate) struct PortState {
     pub(crate) created: bool,
     pub(crate) last: Validity,
+    pub(crate) doubted: bool,
 }
 
-/// The mode of a partition, and its ports in the order of their identifiers.
+/// The mode of a partition and whether it is doubted, and the ports in the order of their identifiers.
 #[derive(Drop)]
 pub(crate) struct PartitionState<A: Allocator> {
     pub(crate) mode: Mode,
+    pub(crate) doubted: bool,
     pub(crate) ports: Vec<PortState, A>,
 }
 
@@ -52,6 +55,16 @@ impl<A: Allocator> PartitionState<A> {
         }
     }
 
+    /// Whether the port of the identifier is doubted.
+    pub(crate) fn is_port_doubted(&self, id: u32) -> bool
+        ensures { result ≡ doubted_in (state_at self.now.ports.items id) }
+    {
+        match self.port(id) {
+            Some(port) => port.doubted,
+            None => false,
+        }
+    }
+
     /// Replaces the state of a port, where the partition has one of the identifier.
     pub(crate) fn set_port(&mut self, id: u32, port: PortState)
         ensures ports { (other : ℕ) → 0 < other → other ≤ length self.old.ports.items →
@@ -59,6 +72,7 @@ impl<A: Allocator> PartitionState<A> {
             ≡ (if other == id then Some port else state_at self.old.ports.items other) }
         ensures count { length self.new.ports.items ≡ length self.old.ports.items }
         ensures mode { self.new.mode ≡ self.old.mode }
+        ensures doubted { self.new.doubted ≡ self.old.doubted }
     {
         let index = id as usize;
         if index == 0 || index > self.ports.len() {
@@ -78,6 +92,9 @@ impl<A: Allocator> PartitionState<A> {
             ≡ created_in (state_at self.old.ports.items id) }
         ensures last { (id : ℕ) → last_in (state_at self.new.ports.items id)
             ≡ last_in (state_at self.old.ports.items id) }
+        ensures port_doubted { (id : ℕ) → doubted_in (state_at self.new.ports.items id)
+            ≡ doubted_in (state_at self.old.ports.items id) }
+        ensures doubted { self.new.doubted ≡ self.old.doubted }
     {
         self.mode = mode;
         match mode {
@@ -91,6 +108,8 @@ impl<A: Allocator> PartitionState<A> {
 fn forget_ports(ports: &mut [PortState])
     ensures created { (id : ℕ) → created_in (state_at ports.new id) ≡ false }
     ensures last { (id : ℕ) → last_in (state_at ports.new id) ≡ last_in (state_at ports.old id) }
+    ensures doubted { (id : ℕ) → doubted_in (state_at ports.new id)
+        ≡ doubted_in (state_at ports.old id) }
 {
     for port in ports.iter_mut() {
         port.created = false;

@@ -61,8 +61,8 @@ impl<A: Allocator + Copy> Queue<A> {
         self.discard_oldest();
     }
 
-    // The index of the first message with these bytes.
-    fn index_of(&mut self, message: &Message) -> Option<usize>
+    /// The index of the first message with these bytes.
+    pub(crate) fn index_of(&mut self, message: &Message) -> Option<usize>
         ensures index { result ≡ position (λ one. bytes_eq one message.now) self.new }
         ensures same { self.new ≡ self.old }
     {

@@ -1,53 +1,55 @@
-//! What an entry of the log changes, whatever the standard has there.
-ghost use Rattle.std.specs.Prelude.{◌≡◌, ℕ, ◌<◌, ◌++◌, ◌∷◌, [], true, false, length, IfOk, IfErr, IfSome};
+//! The effects of an entry of the log.
+ghost use Rattle.std.specs.Prelude.{◌≡◌, ℕ, ◌<◌, true, false, length, IfOk, IfErr, IfSome};
 ghost use Rattle.std.specs.Option.{option_copied};
 ghost use Rattle.apex_types.specs.declared.call.Call.{Call};
 ghost use Rattle.apex_types.specs.declared.call.Call.TheVariants as call;
 ghost use Rattle.apex_types.specs.declared.moment.Moment.{Moment};
-ghost use Rattle.apex_module.specs.Configuration.{port_of};
+ghost use Rattle.apex_module.specs.Configuration.{Configuration, port_of};
 ghost use Rattle.apex_ports.specs.Channels.{message_in as message_in_reply, validity_in as validity_in_reply};
 ghost use Rattle.apex_ports.specs.History.{entry_of};
 ghost use Rattle.apex_ports.specs.Modes.{is_code_no_error};
 ghost use Rattle.apex_ports.specs.Ports.{is_create, is_id, is_source_of, is_destination_of};
-ghost use Rattle.apex_judge.specs.Kept.{IsShown, PartitionNotes, ChannelsNote, ChannelsStay, is_at};
+ghost use Rattle.apex_judge.specs.Kept.{IsShown, Shows, IsPartitionShown, PartitionNotes, ChannelsNote, ChannelsStay};
+ghost use Rattle.apex_judge.specs.Picture.{Picture};
+ghost use Rattle.apex_judge.specs.Steps.{picture_of, with_effects};
+ghost use Rattle.apex_judge.specs.Subjects.{is_at, with_doubt};
 ghost use Rattle.apex_judge.specs.Waiting.{is_code_not_available};
 
 use crate::channel::ChannelState;
 use crate::partition::{PartitionState, PortState};
 use crate::state::State;
+use crate::subject::Subject;
 use apex_module::Config;
 use apex_types::{
     Call, Direction, Message, Mode, Moment, OutOfMemory, Reply, ReturnCode, Sample, Validity,
 };
 use std::alloc::Allocator;
 
-/// A port that is created and hasn't read.
-const CREATED: PortState = PortState {
-    created: true,
-    last: Validity::Invalid,
-};
-
 impl<A: Allocator + Copy> State<A> {
-    /// The log gains one entry. Where there is no memory for its message, nothing changes.
-    pub(crate) fn add(
+    /// Has the effects of an entry, and doubts what it is about, or doubts it no longer. Where there is no memory for
+    /// its message, nothing changes.
+    pub(crate) fn note(
         &mut self,
         config: &Config,
         partition: usize,
         at: Moment,
         call: &Call,
         reply: &Reply,
+        subject: Subject,
+        doubted: bool,
     ) -> Result<(), OutOfMemory>
         requires partition { partition < length config.now.partitions }
         requires shown { IsShown config.now self.old.log self.old }
-        ensures shown { IsShown config.now self.new.log self.new }
-        ensures log { IfOk result (λ _. self.new.log
-            ≡ self.old.log ++ entry_of partition at call.now reply.now ∷ []) }
-        ensures refused { IfErr result (λ _. self.new.log ≡ self.old.log) }
+        ensures shown { let entry = entry_of partition at call.now reply.now in
+            let picture = with_effects config.now entry (picture_of config.now self.old.log) in
+            IfOk result (λ _.
+            Shows config.now (with_doubt partition subject doubted picture) self.new) }
+        ensures refused { IfErr result (λ _. IsShown config.now self.old.log self.new) }
+        ensures log { self.new.log ≡ self.old.log }
     {
         let channels = self.channels.as_mut_slice();
         note_channels(config, channels, partition, at, call, reply)?;
-        self.partitions[partition].note(call, reply);
-        self.log.push(partition, at, call, reply);
+        self.partitions[partition].note_with_doubt(call, reply, subject, doubted);
         Ok(())
     }
 }
@@ -55,6 +57,42 @@ impl<A: Allocator + Copy> State<A> {
 // ---- partitions
 
 impl<A: Allocator> PartitionState<A> {
+    // Goes along with an entry of the partition, and with whether what it is about is doubted.
+    fn note_with_doubt(&mut self, call: &Call, reply: &Reply, subject: Subject, doubted: bool)
+        ensures { (config : Configuration) (picture : Picture) (p : ℕ) (at : Moment) →
+            let entry = entry_of p at call.now reply.now in
+            let noted = with_doubt p subject doubted (with_effects config entry picture) in
+            IsPartitionShown config picture p self.old
+            → IsPartitionShown config noted p self.new }
+    {
+        self.note(call, reply);
+        self.mark(subject, doubted);
+    }
+
+    /// Doubts what an entry of the partition is about, or doubts it no longer.
+    pub(crate) fn mark(&mut self, subject: Subject, doubted: bool)
+        ensures { (config : Configuration) (picture : Picture) (p : ℕ) →
+            IsPartitionShown config picture p self.old
+            → IsPartitionShown config (with_doubt p subject doubted picture) p self.new }
+    {
+        match subject {
+            Subject::Mode => self.doubted = doubted,
+            Subject::Port(id) => {
+                let created = self.is_created(id);
+                let last = self.last_validity(id);
+                self.set_port(
+                    id,
+                    PortState {
+                        created,
+                        last,
+                        doubted,
+                    },
+                );
+            }
+            Subject::Nothing => {}
+        }
+    }
+
     /// Goes along with an entry of the partition.
     pub(crate) fn note(&mut self, call: &Call, reply: &Reply)
         ensures { PartitionNotes call.now reply.now self.old self.new }
@@ -76,7 +114,15 @@ impl<A: Allocator> PartitionState<A> {
         let Some(id) = id_in(reply) else {
             return;
         };
-        self.set_port(id, CREATED);
+        let doubted = self.is_port_doubted(id);
+        self.set_port(
+            id,
+            PortState {
+                created: true,
+                last: Validity::Invalid,
+                doubted,
+            },
+        );
     }
 
     // A read that was answered a sample.
@@ -87,7 +133,15 @@ impl<A: Allocator> PartitionState<A> {
             return;
         };
         let created = self.is_created(id);
-        self.set_port(id, PortState { created, last });
+        let doubted = self.is_port_doubted(id);
+        self.set_port(
+            id,
+            PortState {
+                created,
+                last,
+                doubted,
+            },
+        );
     }
 
     // A change of mode that was accepted.
@@ -106,8 +160,8 @@ impl<A: Allocator> PartitionState<A> {
 
 // ---- channels
 
-// All channels go along with an entry.
-fn note_channels<A: Allocator + Copy>(
+/// All channels go along with an entry.
+pub(crate) fn note_channels<A: Allocator + Copy>(
     config: &Config,
     channels: &mut [ChannelState<A>],
     partition: usize,
@@ -118,7 +172,7 @@ fn note_channels<A: Allocator + Copy>(
     requires { length channels.old ≡ length config.now.channels }
     ensures noted { let entry = entry_of partition at call.now reply.now in
         IfOk result (λ _. ChannelsNote config.now entry channels.old channels.new) }
-    ensures refused { IfErr result (λ _. ChannelsStay config.now channels.old channels.new) }
+    ensures refused { IfErr result (λ _. ChannelsStay channels.old channels.new) }
     ensures count { length channels.new ≡ length channels.old }
 {
     match call {
@@ -155,7 +209,7 @@ fn note_send<A: Allocator>(
     ensures noted { IfOk result (λ _. (at : Moment) →
         let entry = entry_of partition at (call.SendQueuing id message.now) reply.now in
         ChannelsNote config.now entry channels.old channels.new) }
-    ensures refused { IfErr result (λ _. ChannelsStay config.now channels.old channels.new) }
+    ensures refused { IfErr result (λ _. ChannelsStay channels.old channels.new) }
     ensures count { length channels.new ≡ length channels.old }
 {
     let Some(c) = source(config, partition, id) else {
@@ -258,8 +312,8 @@ fn source(config: &Config, partition: usize, id: u32) -> Option<usize>
     }
 }
 
-// The channel of a port that is a destination.
-fn destination(config: &Config, partition: usize, id: u32) -> Option<usize>
+/// The channel of a port that is a destination.
+pub(crate) fn destination(config: &Config, partition: usize, id: u32) -> Option<usize>
     ensures channel { (c : ℕ) →
         is_destination_of c (port_of config.now partition id) ≡ is_at result c }
     ensures linked { IfSome result (λ c. c < length config.now.channels) }

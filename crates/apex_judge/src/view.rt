@@ -1,8 +1,9 @@
 //! What the log shows to each partition.
 ghost use Rattle.std.proofs.Common.{ap};
-ghost use Rattle.apex_ports.specs.Seen.{sample_of};
 ghost use Rattle.apex_judge.specs.Kept.{IsShown};
-ghost use Rattle.apex_judge.specs.Shown.{shown, waiting_shown_at};
+ghost use Rattle.apex_judge.specs.Picture.{waiting_at, sample_at};
+ghost use Rattle.apex_judge.specs.Shown.{shown};
+ghost use Rattle.apex_judge.specs.Steps.{picture_of};
 
 use crate::state::State;
 use apex_module::{Config, Port};
@@ -15,9 +16,9 @@ impl<A: Allocator> View for State<A> {
 
     ghost seen = { λ config state partition. shown config state.log partition };
 
-    ghost nothing_waits = { λ config state p id none. ap (waiting_shown_at config state.log) none };
+    ghost nothing_waits = { λ config state p id none. ap (waiting_at (picture_of config state.log)) none };
 
-    ghost nothing_written = { λ config state p id none. ap (sample_of config state.log) none };
+    ghost nothing_written = { λ config state p id none. ap (sample_at (picture_of config state.log)) none };
 
     fn mode(&self, config: &Config, partition: usize) -> Mode {
         self.partitions[partition].mode

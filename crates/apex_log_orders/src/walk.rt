@@ -127,7 +127,8 @@ impl Walk {
         let index = self.made[p];
         prove!(index < log.entries.len());
         let entry = &log.entries[index];
-        self.judge.add(p, entry.at, &entry.call, &entry.reply)?;
+        self.judge
+            .add_agreeing(p, entry.at, &entry.call, &entry.reply)?;
         self.path.push(CallPlace {
             partition: p,
             index,

@@ -1,12 +1,13 @@
 use Rattle.std.proofs.Common.{◌≡◌, ℕ, false, length}
 use Rattle.std.specs.List.{slice_get}
 use Rattle.apex_types.specs.declared.validity.Validity.TheVariants.{Invalid}
-use Rattle.apex_judge.specs.Kept.{created_in, last_in}
+use Rattle.apex_judge.specs.Kept.{created_in, last_in, doubted_in}
 use Rattle.apex_judge.proofs.initial_state.new_ports.Given as goal
 
 abbrev pub invariant-loop : goal.invariant-loop
 invariant-loop g l = record {
   count : length l.ports.items ≡ l.counter;
   created : (k : ℕ) → created_in (slice_get l.ports.items k) ≡ false;
+  doubted : (k : ℕ) → doubted_in (slice_get l.ports.items k) ≡ false;
   last : (k : ℕ) → last_in (slice_get l.ports.items k) ≡ Invalid;
 }

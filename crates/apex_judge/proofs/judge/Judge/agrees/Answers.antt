@@ -1,0 +1,20 @@
+use Rattle.std.proofs.Common.{◌≡◌, ◌↔◌, IsTrue, sym, ap, subst, ◌∙◌}
+use Rattle.apex_ports.specs.declared.rows.Row.{Row}
+use Rattle.apex_ports.specs.ReplyTable.{reply_of}
+use Rattle.apex_judge.specs.JudgeView.{JudgeView}
+use Rattle.apex_judge.specs.Replies.{agrees}
+use Rattle.apex_judge.specs.Shown.{shown, reply_shown}
+use Rattle.apex_judge.proofs.ReplyTests.{agrees_is, agrees_from}
+use Rattle.apex_judge.proofs.judge.Judge.agrees.Goals as goal
+
+pub returns-clause-exact : goal.returns-clause-exact
+returns-clause-exact g c =
+    let config = c.self.inside.config in
+    let log = c.self.inside.state.log in
+    let p = c.args.partition in
+    let logged = c.args.reply.now in
+    let standard = reply_shown config log p c.args.at c.args.call.now in
+    let test : c.agrees.result ≡ agrees standard logged =
+    c.agrees.ensures ∙ ap (λ (row : Row). agrees (reply_of config (shown config log p) p row) logged) c.row-row.ensures in
+    subst (λ (v : JudgeView). IsTrue c.agrees.result ↔ (logged ≡ reply_shown v.config v.log p c.args.at c.args.call.now)) c.self.view_is
+    ((λ yes. agrees_is standard logged (sym test ∙ yes)), (λ same. test ∙ agrees_from standard logged same))
