@@ -10,3 +10,4 @@ pub mod NeverNexts
 pub mod EndCounts
 pub mod OwnReplies
 pub mod ReadLemmas
+pub mod Keys

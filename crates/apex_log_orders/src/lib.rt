@@ -7,6 +7,7 @@ pub mod answer;
 mod bounds;
 mod choice;
 mod ends;
+pub mod key_law;
 mod log_reader;
 mod messages;
 mod progress;
