@@ -1,8 +1,8 @@
 -- One key, one state: what follows one beginning of an order follows each other with its key.
-use Rattle.std.proofs.Common.{◌≡◌, ◌⊎◌, inl, inr, ⊎_elim, ℕ, zero, suc, ◌+◌, ◌-◌, ◌<◌, ◌≤◌, ◌==◌, Bool, true, false, if◌then◌else◌, List, [], ◌∷◌, ◌++◌, length, take, drop, get_or, Option, Some, None, refl, sym, ap, ◌∙◌, subst, arith, length-drop}
+use Rattle.std.proofs.Common.{◌≡◌, ◌⊎◌, inl, inr, ⊎_elim, ℕ, zero, suc, ◌+◌, ◌-◌, ◌<◌, ◌≤◌, ◌==◌, Bool, true, false, if◌then◌else◌, List, [], ◌∷◌, ◌++◌, length, take, drop, get_or, Option, Some, None, refl, sym, ap, ◌∙◌, subst, arith, length-append, length-drop}
 use Rattle.std.specs.List.{slice_get}
 use Rattle.std.specs.Option.{unwrap_or}
-use Rattle.std.proofs.lemmas.Bool.{cases_lt}
+use Rattle.std.proofs.lemmas.Bool.{cases_eq, cases_lt}
 use Rattle.std.proofs.lemmas.Option.{slice_get_past}
 use Rattle.apex_types.specs.declared.direction.Direction.TheVariants.{Source}
 use Rattle.apex_types.specs.declared.sample.Sample.{Sample}
@@ -21,6 +21,7 @@ use Rattle.apex_ports.specs.Seen.{seen, sampling_port, validity_shown}
 use Rattle.apex_ports.specs.Sound.{IsSound}
 use Rattle.apex_orders.specs.States.{IsSameState, IsSamePartition, IsSameChannel, last_shown}
 use Rattle.apex_orders.proofs.GoingOn.{always_goes_on_alike}
+use Rattle.apex_orders.proofs.Lists.{at_seam, stays_before}
 use Rattle.apex_orders.proofs.Walks.{entries_of-append}
 use Rattle.apex_log_orders.specs.LogOrders.{Logs, log_in, IsOrder, IsBeginning}
 use Rattle.apex_log_orders.specs.Walking.{Ends}
@@ -44,6 +45,27 @@ within_get : {X : Type 0} (xs : List X) (k : ℕ) → k < length xs → (x : X) 
 within_get [] k within = absurd (omega (arith, within))
 within_get (x ∷ xs) zero within = (x, refl)
 within_get (x ∷ xs) (suc k) within = within_get xs k (omega (arith, within))
+
+-- ---- one more number of a key
+
+module _ (config : Configuration) (h : History) (key : List ℕ) (c waits : ℕ) (count : length key ≡ length config.partitions + c) where
+  abbrev pub longer : List ℕ
+  longer = key ++ waits ∷ []
+
+  pub count_push : length longer ≡ length config.partitions + (c + 1)
+  count_push = omega (arith, count, length-append key (waits ∷ []))
+
+  pub made_stays : ((p : ℕ) → p < length config.partitions → slice_get key p ≡ Some (length (entries_of p h)))
+      → (p : ℕ) → p < length config.partitions → slice_get longer p ≡ Some (length (entries_of p h))
+  made_stays made p within = stays_before key (waits ∷ []) p (length (entries_of p h)) (made p within)
+
+  pub waiting_push : ((d : ℕ) → d < c → slice_get key (length config.partitions + d) ≡ Some (length (waiting_on config d h))) → waits ≡ length (waiting_on config c h)
+      → (d : ℕ) → d < c + 1 → slice_get longer (length config.partitions + d) ≡ Some (length (waiting_on config d h))
+  waiting_push waiting is d below = ⊎_elim
+      (λ (last : d ≡ c). subst (λ (k : ℕ). slice_get longer (length config.partitions + k) ≡ Some (length (waiting_on config k h))) (sym last)
+      (ap (slice_get longer) (sym count) ∙ (at_seam key waits [] ∙ ap Some is)))
+      (λ (apart : d ≡ c → ⊥). stays_before key (waits ∷ []) (length config.partitions + d) (length (waiting_on config d h)) (waiting d (omega (arith, below, apart))))
+      (cases_eq d c)
 
 -- ---- a port that is configured has a partition
 

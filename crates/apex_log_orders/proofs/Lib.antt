@@ -11,3 +11,4 @@ pub mod EndCounts
 pub mod OwnReplies
 pub mod ReadLemmas
 pub mod Keys
+pub mod DeadEndSteps

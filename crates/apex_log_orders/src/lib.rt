@@ -6,6 +6,7 @@ mod advice;
 pub mod answer;
 mod bounds;
 mod choice;
+mod dead_ends;
 mod ends;
 pub mod key_law;
 mod log_reader;
