@@ -50,12 +50,21 @@ impl<A: Allocator> Judge<A> {
     ghost use Rattle.apex_judge.specs.Departures.{instead_of};
     ghost use Rattle.apex_judge.specs.Replies.{agrees};
     ghost use Rattle.apex_judge.specs.Shown.{shown, row_shown, reply_shown};
+    ghost use Rattle.apex_judge.specs.Waiting.{waiting_shown};
 
     /// The configuration.
     pub fn config(&self) -> &Config
         ensures { result.now ≡ self.now.config }
     {
         &self.config
+    }
+
+    /// The number of messages that wait on a channel, as the log shows it.
+    pub fn waiting_count(&self, channel: usize) -> usize
+        requires { channel < length self.now.config.channels }
+        ensures { result ≡ length (waiting_shown self.now.config channel self.now.log) }
+    {
+        self.state.channels[channel].waiting_count()
     }
 
     /// The row of the reply table that a call of the partition gets after the log.

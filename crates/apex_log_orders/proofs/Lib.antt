@@ -10,3 +10,5 @@ pub mod NeverNexts
 pub mod EndCounts
 pub mod OwnReplies
 pub mod ReadLemmas
+pub mod Keys
+pub mod DeadEndSteps

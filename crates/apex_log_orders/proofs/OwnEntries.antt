@@ -4,7 +4,7 @@ use Rattle.std.specs.Option.{unwrap_or}
 use Rattle.std.specs.List.{slice_get, list_any}
 use Rattle.std.proofs.lemmas.Bool.Decides.{nat_tests}
 use Rattle.apex_types.specs.declared.call.Call.{Call}
-use Rattle.apex_types.specs.declared.call.Call.TheVariants.{SendQueuing, ReceiveQueuing}
+use Rattle.apex_types.specs.declared.call.Call.TheVariants.{SendQueuing, ReceiveQueuing, WriteSampling}
 use Rattle.apex_types.specs.declared.direction.Direction.{Direction}
 use Rattle.apex_types.specs.declared.direction.Direction.TheVariants.{Source, Destination}
 use Rattle.apex_types.specs.declared.mode.Mode.TheVariants.{ColdStart}
@@ -15,7 +15,7 @@ use Rattle.apex_ports.specs.declared.history.Entry.{Entry}
 use Rattle.apex_ports.specs.History.{History, entries_of}
 use Rattle.apex_ports.specs.Modes.{mode_of, mode_set, restarts, is_restart, is_code_no_error}
 use Rattle.apex_ports.specs.Ports.{is_created, creates, is_source_of, is_destination_of}
-use Rattle.apex_ports.specs.Channels.{last_validity_of, validity_read, accepted_on, received_on, message_sent, message_accepted, message_in, message_received, is_receive}
+use Rattle.apex_ports.specs.Channels.{last_validity_of, validity_read, accepted_on, received_on, writes_on, message_sent, message_accepted, message_in, message_received, message_written, sample_at, sample_written, is_receive}
 use Rattle.apex_ports.specs.WithoutClears.{HasNoClear, asks_clear}
 use Rattle.apex_ports.proofs.Interference.{filter_map-inside, fold-inside}
 use Rattle.apex_ports.proofs.PartitionSteps.{leaves_others}
@@ -36,7 +36,7 @@ module _ (p : ℕ) (h : History) where
   own_last id = fold-inside (λ last entry. if creates p id entry then Invalid else unwrap_or (validity_read p id entry) last) (λ q. q == p) h Invalid
       (λ last e outside. let left = elsewhere e outside in λ i. if left.created id i then Invalid else unwrap_or (left.read id i) last)
 
--- ---- the source's sends, and the destination's receives
+-- ---- the source's sends and writes, and the destination's receives
 
 module _ (config : Configuration) (valid : IsConfiguration config) (p id : ℕ) (port : Port) (here : port_of config p id ≡ Some port) where
   source_alone : port.direction ≡ Source → (q jd : ℕ) → q ≢ p → (found : Option Port) → port_of config q jd ≡ found → is_source_of port.channel found ≡ false
@@ -67,6 +67,10 @@ module _ (config : Configuration) (valid : IsConfiguration config) (p id : ℕ) 
   not_sent q (SendQueuing jd m) off = λ i. if off jd i then Some m else None
   not_sent q _ off = refl
 
+  not_written : (q : ℕ) (call : Call) → ((jd : ℕ) → is_source_of port.channel (port_of config q jd) ≡ false) → message_written config port.channel q call ≡ None
+  not_written q (WriteSampling jd m) off = λ i. if off jd i then Some m else None
+  not_written q _ off = refl
+
   not_received : (q : ℕ) (call : Call) → ((jd : ℕ) → is_destination_of port.channel (port_of config q jd) ≡ false) → is_receive config port.channel q call ≡ false
   not_received q (ReceiveQueuing jd) off = off jd
   not_received q _ off = refl
@@ -77,6 +81,13 @@ module _ (config : Configuration) (valid : IsConfiguration config) (p id : ℕ) 
       let q = e.partition in
       let none = not_sent q e.call (λ jd. source_alone source q jd (λ same. absurd (grind (arith, nat_tests))) (port_of config q jd) refl) in
       (λ i. if is_code_no_error e.reply then none i else None) ∙ none_or_none (is_code_no_error e.reply))
+
+  pub own_written : port.direction ≡ Source → (h : History) → writes_on config port.channel (entries_of p h) ≡ writes_on config port.channel h
+  own_written source h = filter_map-inside (sample_written config port.channel) (λ q. q == p) h
+      (λ e outside.
+      let q = e.partition in
+      let none = not_written q e.call (λ jd. source_alone source q jd (λ same. absurd (grind (arith, nat_tests))) (port_of config q jd) refl) in
+      (λ i. if is_code_no_error e.reply then sample_at e.at (none i) else None) ∙ none_or_none (is_code_no_error e.reply))
 
   pub own_received : port.direction ≡ Destination → is_queuing_port port.kind ≡ true → (h : History) → received_on config port.channel (entries_of p h) ≡ received_on config port.channel h
   own_received destination kind h = filter_map-inside (message_received config port.channel) (λ q. q == p) h

@@ -1,3 +1,4 @@
 pub mod LogOrders
 pub mod Walking
 pub mod Stuck
+pub mod DeadEnds

@@ -1,10 +1,12 @@
 //! The search for an order.
 ghost use Rattle.std.specs.Prelude.{◌≡◌, length, IfOk, OnOk};
+ghost use Rattle.apex_log_orders.specs.DeadEnds.{AreDead};
 ghost use Rattle.apex_log_orders.specs.LogOrders.{IsAnswer};
 ghost use Rattle.apex_log_orders.specs.Walking.{IsWalk, IsStep, IsOneOf};
 
 use crate::advice::Advice;
 use crate::answer::{Answer, CallPlace, OwnLog};
+use crate::dead_ends::DeadEnds;
 use crate::progress::{NoProgress, Progress, Reports};
 use crate::stuck::{have_no_clear, is_stuck};
 use crate::walk::Walk;
@@ -40,6 +42,7 @@ pub fn find_order_with_progress<P: Progress>(
 {
     let advice = Advice::new(alloc, config, logs)?;
     let mut walk = Walk::new(alloc, config, logs, &advice)?;
+    let mut dead_ends = DeadEnds::new(alloc, config);
     let mut longest = Vec::new(alloc);
     let is_clear_free = have_no_clear(logs);
     let mut left = steps;
@@ -54,7 +57,7 @@ pub fn find_order_with_progress<P: Progress>(
                 return Ok(Answer::NoOrder(longest));
             }
         }
-        match try_next(config, logs, &advice, &mut walk)? {
+        match try_next(config, logs, &advice, &mut walk, &mut dead_ends)? {
             Step::On => {}
             Step::Whole => return Ok(Answer::Order(walk.path)),
             Step::Back => {
@@ -81,21 +84,28 @@ enum Step {
     Back,
 }
 
-/// Tries the next partition.
+/// Tries the next partition, unless it is known that none can continue to an order.
 fn try_next(
     config: &Config,
     logs: &[OwnLog],
     advice: &Advice,
     walk: &mut Walk,
+    dead_ends: &mut DeadEnds,
 ) -> Result<Step, OutOfMemory>
-    requires { IsWalk config.now logs.now walk.old }
+    requires walk { IsWalk config.now logs.now walk.old }
+    requires dead { AreDead config.now logs.now dead_ends.old.keys }
     ensures walk { OnOk result (IsWalk config.now logs.now walk.new) }
+    ensures dead { OnOk result (AreDead config.now logs.now dead_ends.new.keys) }
     ensures step { IfOk result (λ step. IsStep config.now logs.now walk.new step) }
 {
     if walk.has_made_all(config, logs) {
         return Ok(Step::Whole);
     }
+    if walk.is_untried() && dead_ends.has(config, logs, walk) {
+        return Ok(Step::Back);
+    }
     let Some(p) = walk.candidate(config) else {
+        dead_ends.add(config, logs, walk);
         return Ok(Step::Back);
     };
     if walk.can_go_on(config, logs, p) {

@@ -74,6 +74,14 @@ impl Walk {
         }
     }
 
+    /// Whether no partition was tried here.
+    pub(crate) fn is_untried(&self) -> bool {
+        match self.choices.last() {
+            Some(choice) => choice.tried == 0,
+            None => false,
+        }
+    }
+
     /// The partition to try next.
     pub(crate) fn candidate(&self, config: &Config) -> Option<usize>
         ensures exact { result ≡ candidate_of config.now self.now.choices.items }

@@ -1,0 +1,32 @@
+-- Dead ends of a search: what is kept of a history that no order begins with, so that none with its state is searched.
+use Rattle.std.specs.Prelude.{ℕ, ◌≡◌, ◌<◌, ◌+◌, Bool, true, List, Vec, length, slice_get, Some}
+use Rattle.std.specs.BTreeSet.{BTreeSet, contains_by}
+use Rattle.std.specs.Cmp.Lexicographic.{slice_cmp}
+use Rattle.std.specs.Ordering.{nat_cmp}
+use Rattle.apex_module.specs.Configuration.{Configuration, IsConfiguration}
+use Rattle.apex_ports.specs.Channels.{waiting_on}
+use Rattle.apex_ports.specs.History.{History, entries_of}
+use Rattle.apex_orders.specs.States.{IsSameState}
+use Rattle.apex_log_orders.specs.LogOrders.{Logs, IsBeginning}
+use Rattle.apex_log_orders.specs.Walking.{Ends}
+
+-- the key of a history: how many calls each partition made, then how many messages wait on each channel
+pub record HasKey (config : Configuration) (history : History) (key : List ℕ) : Type 0 where
+  pub made : (p : ℕ) → p < length config.partitions → slice_get key p ≡ Some (length (entries_of p history))
+  pub waiting : (c : ℕ) → c < length config.channels
+      → slice_get key (length config.partitions + c) ≡ Some (length (waiting_on config c history))
+
+-- two beginnings of orders of the same logs lead to one state if they have one key
+abbrev pub KeyGivesState : Type 0
+KeyGivesState = (config : Configuration) (logs : Logs) (history other : History) (key : List ℕ)
+    → IsConfiguration config → IsBeginning config logs history → IsBeginning config logs other
+    → HasKey config history key → HasKey config other key → IsSameState config history other
+
+-- whether the key is in the set
+abbrev pub has_key : {A : Type 0} → BTreeSet (Vec ℕ A) → List ℕ → Bool
+has_key keys key = contains_by (λ other. slice_cmp nat_cmp key other.items) keys
+
+-- no order begins with a history whose key is in the set
+abbrev pub AreDead : {A : Type 0} → Configuration → Logs → BTreeSet (Vec ℕ A) → Type 0
+AreDead config logs keys = (key : List ℕ) (history : History) → has_key keys key ≡ true
+    → IsBeginning config logs history → HasKey config history key → ¬ Ends config logs history
