@@ -1,9 +1,12 @@
-/* c_many CONFIG FRAMES LOG: a module of six partitions with 14 processes of four priorities: servers that wait, an
+/* c_many CONFIG FRAMES LOG [PIECE]: a module of six partitions with 14 processes of four priorities: servers that wait, an
  * error handler, processes that suspend and resume, and a partition that restarts. Prints the report of all calls, and
- * on standard error what the processes counted; writes a log of the calls. Each partition has its window once in each
- * 100 nanoseconds. */
+ * on standard error what the processes counted; writes a log of the calls. With a piece it keeps the calls of so many
+ * frames at a time, and the report has no lines of calls: sanitizers take long for a long text in memory. Each
+ * partition has its window once in each 100 nanoseconds. */
 #include "../c/bench_processes.h"
 #include "c_test.h"
+
+#include <limits.h>
 
 static struct {
     unsigned long jobs, works, dones, errors, reads, starts, pings, pongs, resumed, locked, quiet;
@@ -252,7 +255,10 @@ int main(int count, char **words) {
     static char text[65536];
     static void (*const mains[])(void) = {source_main, work_main, sink_main, control_main, ping_main, pong_main};
     static const SYSTEM_TIME_TYPE offsets[] = {0, 15, 30, 45, 60, 80};
-    expect(count == 4, "usage: c_many CONFIG FRAMES LOG");
+    expect(count == 4 || count == 5, "usage: c_many CONFIG FRAMES LOG [PIECE]");
+    const int piece = count == 5 ? atoi(words[4]) : INT_MAX;
+    FILE *log = fopen(words[3], "wb");
+    expect(log != NULL, "a log");
     expect(bench_open(text, read_config(words[1], text, sizeof text)) == 0 && bench_keep_calls(true), "opening");
     for (uint32_t p = 0; p < 6; p++) {
         const struct bench_partition how = {mains[p], 100, offsets[p], 10};
@@ -260,9 +266,11 @@ int main(int count, char **words) {
     }
     for (int frame = 0; frame < atoi(words[2]); frame++) {
         expect(bench_run_frame(100), "a frame");
+        if ((frame + 1) % piece == 0) {
+            expect(bench_log(log) && bench_keep_calls(true), "a piece of the log");
+        }
     }
-    FILE *log = fopen(words[3], "wb");
-    expect(log != NULL && bench_log(log) && fclose(log) == 0, "the log");
+    expect(bench_log(log) && fclose(log) == 0, "the log");
     expect(bench_report(stdout), "the report");
     bench_end_processes();
     expect(bench_close() == 0 && bench_keep_calls(false), "closing");
