@@ -109,6 +109,10 @@ function measure() {
   shown.room = roomFor(clientWidth, number, width, 7.3);
   shown.lines = linesOfRows(shown.run, shown.room, isNarrow);
   shown.high = Math.ceil(5 + 17.4 * shown.lines);
+  // (later, since what is observed may not change while it is)
+  requestAnimationFrame(() => {
+    find("list").style.maxHeight = `${shown.run.calls.length * shown.high + 2}px`;
+  });
   document.documentElement.style.setProperty("--number", `${number}px`);
   document.documentElement.style.setProperty("--chart", `${width}px`);
   document.documentElement.style.setProperty("--row", `${shown.high}px`);
