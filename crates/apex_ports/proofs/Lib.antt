@@ -16,4 +16,5 @@ pub mod Refused
 pub mod RowFacts
 pub mod Saving
 pub mod Stays
+mod Walks
 pub mod WithoutClears

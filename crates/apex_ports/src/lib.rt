@@ -8,6 +8,7 @@ pub mod history;
 mod initial_state;
 mod message_ring;
 mod modes;
+pub mod noted;
 mod partition;
 mod past;
 pub mod ports;
@@ -23,6 +24,7 @@ pub mod view;
 mod writes;
 
 pub use crate::history::{Entry, Request};
+pub use crate::noted::{CallRef, ReplyRef};
 pub use crate::ports::Ports;
 pub use crate::ports::saved::SavedPorts;
 pub use crate::rows::{Refusal, Row};
