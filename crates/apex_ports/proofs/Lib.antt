@@ -10,6 +10,7 @@ pub mod Interference
 pub mod LawfulSteps
 pub mod Lookups
 pub mod MessageRings
+pub mod Noting
 pub mod OneChannel
 pub mod PartitionSteps
 pub mod Refused

@@ -21,6 +21,7 @@ pub mod Rules
 pub mod RunFault
 pub mod Saved
 pub mod Seen
+pub mod Services
 pub mod Sound
 pub mod WithoutClears
 pub mod Writes

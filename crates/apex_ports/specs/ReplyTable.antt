@@ -10,7 +10,6 @@ use Rattle.apex_types.specs.declared.mode.Mode.TheVariants.{Normal, WarmStart}
 use Rattle.apex_types.specs.declared.moment.Moment.{Moment}
 use Rattle.apex_types.specs.declared.reply.Reply.{Reply}
 use Rattle.apex_types.specs.declared.reply.Reply.TheVariants as reply
-use Rattle.apex_types.specs.declared.return_code.ReturnCode.{ReturnCode}
 use Rattle.apex_types.specs.declared.return_code.ReturnCode.TheVariants.{NoError, NoAction, NotAvailable, InvalidParam}
 use Rattle.apex_types.specs.declared.sample.Sample.{Sample}
 use Rattle.apex_types.specs.declared.validity.Validity.{Validity}
@@ -204,8 +203,3 @@ reply_of config seen p ModeSet = reply.Code NoError
 -- what is seen, and the call, give the row, and the row the reply
 abbrev pub reply_to : Configuration → History → ℕ → Moment → Call → Reply
 reply_to config history p now call = reply_of config (seen config history p) p (row_of config (seen config history p) p now call)
-
--- the reply that is a return code alone; none where the call isn't made
-abbrev pub reply_coded : Option ReturnCode → Reply
-reply_coded None = reply.NotMade
-reply_coded (Some code) = reply.Code code

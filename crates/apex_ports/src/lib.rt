@@ -18,6 +18,7 @@ pub mod run_fault;
 mod saved_channel;
 pub mod script;
 mod service;
+mod services;
 mod state;
 pub mod table;
 pub mod view;

@@ -1,7 +1,7 @@
 //! Calls and replies by reference: a name or a message stays where the caller has it.
-ghost use Rattle.std.specs.Prelude.{◌≡◌};
+ghost use Rattle.std.specs.Prelude.{◌≡◌, ◌≤◌, length};
 ghost use Rattle.apex_ports.specs.Noted.{call_by, reply_by};
-ghost use Rattle.apex_ports.specs.ReplyTable.{reply_coded};
+ghost use Rattle.apex_ports.specs.Services.{length_read, length_received, reply_coded, reply_read, reply_received};
 
 use apex_types::{Call, Direction, Moment, Name, Reply, ReturnCode, Validity};
 
@@ -150,6 +150,36 @@ impl<'a> ReplyRef<'a> {
         match code {
             None => ReplyRef::NotMade,
             Some(code) => ReplyRef::Code(code),
+        }
+    }
+
+    /// The reply to a receive that put a message of this length into the buffer, or the return code.
+    #[inline(always)]
+    pub fn received(answer: Result<usize, Option<ReturnCode>>, buffer: &'a [u8]) -> ReplyRef<'a>
+        requires { length_received answer ≤ length buffer.now }
+        ensures { reply_by result ≡ reply_received answer buffer.now }
+    {
+        match answer {
+            Ok(length) => ReplyRef::Received(&buffer[..length]),
+            Err(code) => ReplyRef::coded(code),
+        }
+    }
+
+    /// The reply to a read that put a message of this length and validity into the buffer, or the return code.
+    #[inline(always)]
+    pub fn read(
+        answer: Result<(usize, Validity), Option<ReturnCode>>,
+        buffer: &'a [u8],
+    ) -> ReplyRef<'a>
+        requires { length_read answer ≤ length buffer.now }
+        ensures { reply_by result ≡ reply_read answer buffer.now }
+    {
+        match answer {
+            Ok((length, validity)) => ReplyRef::Read {
+                message: &buffer[..length],
+                validity,
+            },
+            Err(code) => ReplyRef::coded(code),
         }
     }
 

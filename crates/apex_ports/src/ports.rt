@@ -11,6 +11,7 @@ use std::marker::Model;
 
 mod readers;
 pub mod saved;
+mod services;
 
 /// The ports of a module: they answer the calls of all partitions, and keep of them what later calls
 /// need and how many there were. All their memory is made by `new`.
