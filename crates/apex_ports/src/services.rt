@@ -60,6 +60,7 @@ impl<A: Allocator> State<A> {
         requires room { MESSAGE_LIMIT ≤ length buffer.old }
         ensures reply { let asked = call.ReceiveQueuing id in reply_received result buffer.new
             ≡ reply_to config.now self.old.history partition at asked }
+        ensures short { length_received result ≤ MESSAGE_LIMIT }
         ensures within { length_received result ≤ length buffer.new }
         ensures rest { let count = length_received result in
             drop count buffer.new ≡ drop count buffer.old }
@@ -126,6 +127,7 @@ impl<A: Allocator> State<A> {
         requires room { MESSAGE_LIMIT ≤ length buffer.old }
         ensures reply { let asked = call.ReadSampling id in reply_read result buffer.new
             ≡ reply_to config.now self.old.history partition at asked }
+        ensures short { length_read result ≤ MESSAGE_LIMIT }
         ensures within { length_read result ≤ length buffer.new }
         ensures rest { let count = length_read result in
             drop count buffer.new ≡ drop count buffer.old }
@@ -151,6 +153,7 @@ impl<A: Allocator> State<A> {
 // Copies the bytes to the first ones of the buffer. How many they are.
 fn put_bytes(bytes: &[u8], buffer: &mut [u8]) -> usize
     requires { length bytes.now ≤ length buffer.old }
+    ensures length { result ≡ length bytes.now }
     ensures bytes { take result buffer.new ≡ bytes.now }
     ensures within { result ≤ length buffer.new }
     ensures rest { drop result buffer.new ≡ drop result buffer.old }

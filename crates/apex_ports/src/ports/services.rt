@@ -54,6 +54,7 @@ impl<A: Allocator> Ports<A> {
         requires room { MESSAGE_LIMIT ≤ length buffer.old }
         ensures reply { let asked = call.ReceiveQueuing id in reply_received result buffer.new
             ≡ reply_to self.old.config self.old.history partition at asked }
+        ensures short { length_received result ≤ MESSAGE_LIMIT }
         ensures within { length_received result ≤ length buffer.new }
         ensures rest { let count = length_received result in
             drop count buffer.new ≡ drop count buffer.old }
@@ -113,6 +114,7 @@ impl<A: Allocator> Ports<A> {
         requires room { MESSAGE_LIMIT ≤ length buffer.old }
         ensures reply { let asked = call.ReadSampling id in reply_read result buffer.new
             ≡ reply_to self.old.config self.old.history partition at asked }
+        ensures short { length_read result ≤ MESSAGE_LIMIT }
         ensures within { length_read result ≤ length buffer.new }
         ensures rest { let count = length_read result in
             drop count buffer.new ≡ drop count buffer.old }
