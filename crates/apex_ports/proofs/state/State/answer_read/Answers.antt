@@ -1,8 +1,5 @@
 use Rattle.std.proofs.Common.{◌≡◌, false, sym, ap, ◌∙◌}
-use Rattle.apex_types.specs.declared.call.Call.TheVariants.{ReadSampling}
-use Rattle.apex_ports.specs.declared.rows.Row.TheVariants as row
 use Rattle.apex_ports.specs.Modes.{is_idle}
-use Rattle.apex_ports.specs.ReplyTable.{row_of, reply_of}
 use Rattle.apex_ports.specs.Seen.{seen}
 use Rattle.apex_ports.proofs.Stays.{quiet_keeps, not_made_is_quiet, refused_is_quiet}
 use Rattle.apex_ports.proofs.state.State.answer_read.Goals as goal
