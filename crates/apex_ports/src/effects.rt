@@ -86,19 +86,16 @@ impl<A: Allocator> State<A> {
     }
 
     /// Discards the messages that wait.
-    pub(crate) fn clear(&mut self, config: &Config, partition: usize, at: Moment, call: &Call)
+    pub(crate) fn clear(&mut self, config: &Config, partition: usize, at: Moment, id: u32)
         requires partition { partition < length config.now.partitions }
         requires current { IsCurrent config.now self.old }
         requires row { let here = seen config.now self.old.history partition in
-            row_of config.now here partition at call.now ≡ row.Cleared }
-        ensures kept { let entry = entry_of partition at call.now (Code NoError) in
+            row_of config.now here partition at (call.ClearQueuing id) ≡ row.Cleared }
+        ensures kept { let entry = entry_of partition at (call.ClearQueuing id) (Code NoError) in
             IsKeptWith config.now self.old entry self.new }
         ensures history { self.new.history ≡ self.old.history }
     {
-        let Call::ClearQueuing { id } = call else {
-            unreachable!();
-        };
-        let Some(port) = configured_port(config, partition, *id) else {
+        let Some(port) = configured_port(config, partition, id) else {
             unreachable!();
         };
         self.channels[port.channel].clear();
@@ -157,19 +154,16 @@ impl<A: Allocator> State<A> {
     }
 
     /// Changes the mode.
-    pub(crate) fn change_mode(&mut self, config: &Config, partition: usize, at: Moment, call: &Call)
+    pub(crate) fn change_mode(&mut self, config: &Config, partition: usize, at: Moment, number: u32)
         requires partition { partition < length config.now.partitions }
         requires current { IsCurrent config.now self.old }
         requires row { let here = seen config.now self.old.history partition in
-            row_of config.now here partition at call.now ≡ row.ModeSet }
-        ensures kept { let entry = entry_of partition at call.now (Code NoError) in
+            row_of config.now here partition at (call.SetMode number) ≡ row.ModeSet }
+        ensures kept { let entry = entry_of partition at (call.SetMode number) (Code NoError) in
             IsKeptWith config.now self.old entry self.new }
         ensures history { self.new.history ≡ self.old.history }
     {
-        let Call::SetMode { mode } = call else {
-            unreachable!();
-        };
-        let Some(mode) = Mode::from_number(*mode) else {
+        let Some(mode) = Mode::from_number(number) else {
             unreachable!();
         };
         self.partitions[partition].set_mode(mode);

@@ -76,7 +76,7 @@ impl<A: Allocator> State<A> {
                 self.receive(config, partition, at, id);
             }
             Row::Cleared => {
-                self.clear(config, partition, at, call);
+                self.perform_clear(config, partition, at, call);
                 put_code(reply, ReturnCode::NoError);
             }
             Row::QueuingStatus { id } => *reply = queuing_status(self, config, partition, id),
@@ -90,7 +90,7 @@ impl<A: Allocator> State<A> {
             }
             Row::SamplingStatus { id } => *reply = sampling_status(self, config, partition, id),
             Row::ModeSet => {
-                self.change_mode(config, partition, at, call);
+                self.perform_change_mode(config, partition, at, call);
                 put_code(reply, ReturnCode::NoError);
             }
         }
@@ -126,6 +126,38 @@ impl<A: Allocator> State<A> {
             unreachable!();
         };
         self.write(config, partition, at, *id, message.bytes());
+    }
+
+    // Performs an accepted clear.
+    fn perform_clear(&mut self, config: &Config, partition: usize, at: Moment, call: &Call)
+        requires partition { partition < length config.now.partitions }
+        requires current { IsCurrent config.now self.old }
+        requires row { let here = seen config.now self.old.history partition in
+            row_of config.now here partition at call.now ≡ row.Cleared }
+        ensures kept { let entry = entry_of partition at call.now (Code NoError) in
+            IsKeptWith config.now self.old entry self.new }
+        ensures history { self.new.history ≡ self.old.history }
+    {
+        let Call::ClearQueuing { id } = call else {
+            unreachable!();
+        };
+        self.clear(config, partition, at, *id);
+    }
+
+    // Performs an accepted change of mode.
+    fn perform_change_mode(&mut self, config: &Config, partition: usize, at: Moment, call: &Call)
+        requires partition { partition < length config.now.partitions }
+        requires current { IsCurrent config.now self.old }
+        requires row { let here = seen config.now self.old.history partition in
+            row_of config.now here partition at call.now ≡ row.ModeSet }
+        ensures kept { let entry = entry_of partition at call.now (Code NoError) in
+            IsKeptWith config.now self.old entry self.new }
+        ensures history { self.new.history ≡ self.old.history }
+    {
+        let Call::SetMode { mode } = call else {
+            unreachable!();
+        };
+        self.change_mode(config, partition, at, *mode);
     }
 }
 

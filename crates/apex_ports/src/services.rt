@@ -8,7 +8,8 @@ ghost use Rattle.apex_ports.specs.Services.{length_read, length_received, reply_
 
 use crate::modes::is_idle;
 use crate::state::State;
-use crate::table::queuing::{received_message, send_row};
+use crate::table::modes::set_mode_row;
+use crate::table::queuing::{clear_row, received_message, send_row};
 use crate::table::sampling::{read_sample, write_row};
 use crate::view::View;
 use apex_module::Config;
@@ -146,6 +147,65 @@ impl<A: Allocator> State<A> {
                 Ok((length, validity))
             }
             Err(refusal) => Err(Some(refusal.code())),
+        }
+    }
+
+    /// CLEAR_QUEUING_PORT. `None` if the partition is in IDLE.
+    pub(crate) fn answer_clear(
+        &mut self,
+        config: &Config,
+        partition: usize,
+        at: Moment,
+        id: u32,
+    ) -> Option<ReturnCode>
+        requires partition { partition < length config.now.partitions }
+        requires current { IsCurrent config.now self.old }
+        ensures reply { let asked = call.ClearQueuing id in
+            reply_coded result ≡ reply_to config.now self.old.history partition at asked }
+        ensures kept { let asked = call.ClearQueuing id in
+            let entry = entry_of partition at asked (reply_coded result) in
+            IsKeptWith config.now self.old entry self.new }
+        ensures history { self.new.history ≡ self.old.history }
+    {
+        if is_idle(self.mode(config, partition)) {
+            return None;
+        }
+        match clear_row(self, config, partition, id) {
+            Ok(_) => {
+                self.clear(config, partition, at, id);
+                Some(ReturnCode::NoError)
+            }
+            Err(refusal) => Some(refusal.code()),
+        }
+    }
+
+    /// SET_PARTITION_MODE. `None` if the partition is in IDLE.
+    pub(crate) fn answer_change_mode(
+        &mut self,
+        config: &Config,
+        partition: usize,
+        at: Moment,
+        number: u32,
+    ) -> Option<ReturnCode>
+        requires partition { partition < length config.now.partitions }
+        requires current { IsCurrent config.now self.old }
+        ensures reply { let asked = call.SetMode number in
+            reply_coded result ≡ reply_to config.now self.old.history partition at asked }
+        ensures kept { let asked = call.SetMode number in
+            let entry = entry_of partition at asked (reply_coded result) in
+            IsKeptWith config.now self.old entry self.new }
+        ensures history { self.new.history ≡ self.old.history }
+    {
+        let present = self.mode(config, partition);
+        if is_idle(present) {
+            return None;
+        }
+        match set_mode_row(present, number) {
+            Ok(_) => {
+                self.change_mode(config, partition, at, number);
+                Some(ReturnCode::NoError)
+            }
+            Err(refusal) => Some(refusal.code()),
         }
     }
 }

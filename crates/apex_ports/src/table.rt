@@ -17,7 +17,7 @@ use apex_types::{Call, Moment};
 
 mod creation;
 pub mod lookup;
-mod modes;
+pub(crate) mod modes;
 pub(crate) mod queuing;
 pub mod replies;
 pub(crate) mod sampling;

@@ -133,4 +133,44 @@ impl<A: Allocator> Ports<A> {
         self.state.history.push(partition, at, asked, reply);
         answer
     }
+
+    /// CLEAR_QUEUING_PORT: the return code. `None` if the partition is in IDLE.
+    pub fn clear(&mut self, partition: usize, at: Moment, id: u32) -> Option<ReturnCode>
+        requires { partition < length self.old.config.partitions }
+        ensures reply { let asked = call.ClearQueuing id in reply_coded result
+            ≡ reply_to self.old.config self.old.history partition at asked }
+        ensures entry { let asked = call.ClearQueuing id in
+            self.new.history ≡ self.old.history
+            ++ entry_of partition at asked (reply_coded result) ∷ [] }
+        ensures config { self.new.config ≡ self.old.config }
+        ensures sound { IsSound self.new.config self.new.history }
+    {
+        let code = self.state.answer_clear(&self.config, partition, at, id);
+        self.calls[partition] = self.calls[partition].saturating_add(1);
+        let asked = CallRef::ClearQueuing { id };
+        let reply = ReplyRef::coded(code);
+        self.state.history.push(partition, at, asked, reply);
+        code
+    }
+
+    /// SET_PARTITION_MODE, to the mode of a number: the return code. `None` if the partition is in IDLE.
+    pub fn set_mode(&mut self, partition: usize, at: Moment, number: u32) -> Option<ReturnCode>
+        requires { partition < length self.old.config.partitions }
+        ensures reply { let asked = call.SetMode number in reply_coded result
+            ≡ reply_to self.old.config self.old.history partition at asked }
+        ensures entry { let asked = call.SetMode number in
+            self.new.history ≡ self.old.history
+            ++ entry_of partition at asked (reply_coded result) ∷ [] }
+        ensures config { self.new.config ≡ self.old.config }
+        ensures sound { IsSound self.new.config self.new.history }
+    {
+        let code = self
+            .state
+            .answer_change_mode(&self.config, partition, at, number);
+        self.calls[partition] = self.calls[partition].saturating_add(1);
+        let asked = CallRef::SetMode { mode: number };
+        let reply = ReplyRef::coded(code);
+        self.state.history.push(partition, at, asked, reply);
+        code
+    }
 }

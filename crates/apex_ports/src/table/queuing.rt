@@ -104,9 +104,10 @@ pub(crate) fn clear_row<V: View>(
 ) -> Result<Row, Refusal>
     requires partition { partition < length config.now.partitions }
     requires kept { V.is_kept config.now view.now }
-    ensures { let here = V.seen config.now view.now partition in
+    ensures decided { let here = V.seen config.now view.now partition in
         let port = queuing_port config.now here partition id in
         IsRowOfDecision (clear_row port) result }
+    ensures accepted { IfOk result (λ accepted. accepted ≡ row.Cleared) }
 {
     let Some(port) = queuing_port(view, config, partition, id) else {
         return Err(Refusal::NoSuchPort);
