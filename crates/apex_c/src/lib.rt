@@ -19,3 +19,4 @@ pub mod queuing;
 pub mod readers;
 mod rows;
 pub mod sampling;
+mod services;
