@@ -24,6 +24,10 @@ reply_number reply = code_number (code_of reply)
 abbrev pub reply_of_ports : PortsView → ℕ → Moment → Call → Reply
 reply_of_ports ports p at call = reply_to ports.config ports.history p at call
 
+-- the ports with the call's entry at the end of their history
+abbrev pub ports_with : PortsView → ℕ → Moment → Call → PortsView
+ports_with ports p at call = record ports { history = ports.history ++ entry_of p at call (reply_of_ports ports p at call) ∷ [] }
+
 -- the reply to a call of a partition; none where the handle isn't open, or the module hasn't the partition
 abbrev pub reply_in : PortsHeld → ℕ → Moment → Call → Option Reply
 reply_in None p at call = None
@@ -41,7 +45,7 @@ abbrev pub ports_after : PortsHeld → ℕ → Moment → Call → PortsHeld
 ports_after None p at call = None
 ports_after (Some ports) p at call =
     if nat_lt p (length ports.config.partitions)
-    then Some (record ports { history = ports.history ++ entry_of p at call (reply_of_ports ports p at call) ∷ [] })
+    then Some (ports_with ports p at call)
     else Some ports
 
 -- the moment of a number of nanoseconds

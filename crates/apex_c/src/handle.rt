@@ -3,13 +3,13 @@ ghost use Rattle.std.specs.Prelude.{◌≡◌, None, Some, Err, is_some, unwrap_
 ghost use Rattle.std.specs.Fn.{FnOnceReturnsAt};
 ghost use Rattle.std.specs.Option.{option_map};
 ghost use Rattle.apex_c.specs.Asked.{asked_answer, asked_ports, asked_reply};
-ghost use Rattle.apex_c.specs.Calls.{answer_in, moment_of, ports_after, reply_in, reply_number};
+ghost use Rattle.apex_c.specs.Calls.{answer_in, code_number, moment_of, ports_after, reply_in, reply_number};
 ghost use Rattle.apex_c.specs.Places.{id_after};
 
 use crate::answer::{NO_PARTITION, NOT_MADE, NOT_OPEN};
 use crate::held::Held;
 use apex_ports::Ports;
-use apex_types::{Call, Moment, Reply};
+use apex_types::{Call, Moment, Reply, ReturnCode};
 use std::alloc::Global;
 use std::mem;
 
@@ -88,23 +88,6 @@ impl Handle {
         answer
     }
 
-    /// The partition makes a call whose reply has no data that C is given. Answers as `call`.
-    pub(crate) fn call_for_code(
-        &mut self,
-        alloc: Global,
-        partition: u32,
-        at: u64,
-        call: &Call,
-    ) -> u32
-        ensures answer { result
-            ≡ answer_in self.old.held.ports partition (moment_of at) call.now }
-        ensures ports { self.new.held.ports
-            ≡ ports_after self.old.held.ports partition (moment_of at) call.now }
-    {
-        let mut reply = Reply::NotMade;
-        self.call(alloc, partition, at, call, &mut reply)
-    }
-
     /// The partition makes a call that gives a port's identifier, which is put into its place if the reply has one.
     /// Answers as `call`, or the number that says why there is no call.
     pub(crate) fn call_for_id(
@@ -158,7 +141,14 @@ impl Handle {
 fn number_of_reply(reply: &Reply) -> u32
     ensures { result ≡ reply_number reply.now }
 {
-    match reply.code() {
+    number_of_code(reply.code())
+}
+
+/// The number of a return code, or `NOT_MADE`.
+pub(crate) fn number_of_code(code: Option<ReturnCode>) -> u32
+    ensures { result ≡ code_number code }
+{
+    match code {
         None => NOT_MADE,
         Some(code) => code.number(),
     }

@@ -24,3 +24,4 @@ pub mod readers;
 pub mod replies;
 mod rows;
 pub mod sampling;
+mod services;

@@ -4,7 +4,6 @@ ghost use Rattle.apex_types.specs.declared.call.Call.TheVariants as call;
 ghost use Rattle.apex_c.specs.Calls.{answer_in, ports_after, moment_of};
 
 use crate::handle::Handle;
-use apex_types::Call;
 use std::alloc::Global;
 
 /// SET_PARTITION_MODE. Answers the return code, or a number of `answer`.
@@ -21,5 +20,5 @@ pub extern "C" fn apex_set_partition_mode(
     ensures ports { handle.new.held.ports
         ≡ ports_after handle.old.held.ports partition (moment_of at) (call.SetMode mode) }
 {
-    handle.call_for_code(alloc, partition, at, &Call::SetMode { mode })
+    handle.set_mode(alloc, partition, at, mode)
 }

@@ -6,10 +6,9 @@ ghost use Rattle.apex_c.specs.Calls.{answer_in, ports_after, moment_of, reply_in
 ghost use Rattle.apex_c.specs.Places.{buffer_after, id_after, length_after, message_in, queuing_status_after};
 
 use crate::answer::{SHORT_BUFFER, TOO_LONG};
-use crate::buffer::copy_bytes;
 use crate::calls::{create_queuing, queuing_id};
 use crate::handle::Handle;
-use apex_types::{Call, MESSAGE_LIMIT, Message, Reply};
+use apex_types::{Call, MESSAGE_LIMIT, Reply};
 use std::alloc::Global;
 
 /// CREATE_QUEUING_PORT, with the identifier in its place if the answer is NO_ERROR. The size is in bytes, the depth
@@ -54,10 +53,10 @@ pub extern "C" fn apex_send_queuing_message(
     ensures ports { let asked = send id message.now in
         handle.new.held.ports ≡ asked_ports handle.old.held.ports partition (moment_of at) asked }
 {
-    let Ok(message) = Message::from_bytes(message) else {
+    if message.len() > MESSAGE_LIMIT {
         return TOO_LONG;
-    };
-    handle.call_for_code(alloc, partition, at, &Call::SendQueuing { id, message })
+    }
+    handle.send(alloc, partition, at, id, message)
 }
 
 /// RECEIVE_QUEUING_MESSAGE with a time-out of zero. If the answer is NO_ERROR, the message is in the buffer's first
@@ -86,13 +85,7 @@ pub extern "C" fn apex_receive_queuing_message(
     if buffer.len() < MESSAGE_LIMIT {
         return SHORT_BUFFER;
     }
-    let call = Call::ReceiveQueuing { id };
-    let mut reply = Reply::NotMade;
-    let answer = handle.call(alloc, partition, at, &call, &mut reply);
-    if let Reply::Received(message) = &reply {
-        *message_length = copy_bytes(message.bytes(), buffer);
-    }
-    answer
+    handle.receive(alloc, partition, at, id, buffer, message_length)
 }
 
 /// GET_QUEUING_PORT_ID, with the identifier in its place if the answer is NO_ERROR. Answers the return code, or a
@@ -131,7 +124,7 @@ pub extern "C" fn apex_clear_queuing_port(
     ensures ports { handle.new.held.ports
         ≡ ports_after handle.old.held.ports partition (moment_of at) (call.ClearQueuing id) }
 {
-    handle.call_for_code(alloc, partition, at, &Call::ClearQueuing { id })
+    handle.clear(alloc, partition, at, id)
 }
 
 /// What GET_QUEUING_PORT_STATUS shows: the messages that wait, the depth, the greatest length of a message in bytes and

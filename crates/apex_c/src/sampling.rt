@@ -7,10 +7,9 @@ ghost use Rattle.apex_c.specs.Places.{buffer_after, id_after, length_after, mess
 ghost use Rattle.apex_c.specs.Places.{sampling_status_after, validity_after};
 
 use crate::answer::{SHORT_BUFFER, TOO_LONG};
-use crate::buffer::copy_bytes;
 use crate::calls::{create_sampling, sampling_id};
 use crate::handle::Handle;
-use apex_types::{Call, MESSAGE_LIMIT, Message, Reply};
+use apex_types::{Call, MESSAGE_LIMIT, Reply};
 use std::alloc::Global;
 
 /// CREATE_SAMPLING_PORT, with the identifier in its place if the answer is NO_ERROR. The size is in bytes, the
@@ -54,10 +53,10 @@ pub extern "C" fn apex_write_sampling_message(
     ensures ports { let asked = write id message.now in
         handle.new.held.ports ≡ asked_ports handle.old.held.ports partition (moment_of at) asked }
 {
-    let Ok(message) = Message::from_bytes(message) else {
+    if message.len() > MESSAGE_LIMIT {
         return TOO_LONG;
-    };
-    handle.call_for_code(alloc, partition, at, &Call::WriteSampling { id, message })
+    }
+    handle.write(alloc, partition, at, id, message)
 }
 
 /// READ_SAMPLING_MESSAGE. If the answer is NO_ERROR, the message is in the buffer's first bytes, and its length and
@@ -90,18 +89,7 @@ pub extern "C" fn apex_read_sampling_message(
     if buffer.len() < MESSAGE_LIMIT {
         return SHORT_BUFFER;
     }
-    let call = Call::ReadSampling { id };
-    let mut reply = Reply::NotMade;
-    let answer = handle.call(alloc, partition, at, &call, &mut reply);
-    if let Reply::Read {
-        message,
-        validity: shown,
-    } = &reply
-    {
-        *message_length = copy_bytes(message.bytes(), buffer);
-        *validity = shown.number();
-    }
-    answer
+    handle.read_sample(alloc, partition, at, id, buffer, message_length, validity)
 }
 
 /// GET_SAMPLING_PORT_ID, with the identifier in its place if the answer is NO_ERROR. Answers the return code, or a

@@ -3,27 +3,21 @@ use denote.RattleType.{RattleType}
 use denote.Param.Send.{IsSend, sendable, view_send}
 use denote.Param.SendFields.{declared_send, as_row_send}
 use Rattle.std.specs.declared.alloc.Allocator.{Ghosts}
-use Rattle.std.proofs.Crossing.{crosses}
 use Rattle.std_alloc.proofs.SendSync.{FreesAnywhere, Vec-send}
 use Rattle.apex_module.proofs.config.Config.TheSendSync as config
 use Rattle.apex_ports.proofs.channel.ChannelState.TheSendSync as channel
 use Rattle.apex_ports.proofs.partition.PartitionState.TheSendSync as partition
-use Rattle.apex_ports.proofs.past.Trail.TheLaws.TheKnot as trail
+use Rattle.apex_ports.proofs.past.Log.TheSendSync as log
 use Rattle.apex_ports.specs.contracts.channel.ChannelState as Channel
 use Rattle.apex_ports.specs.contracts.partition.PartitionState as Partition
 use Rattle.apex_ports.specs.contracts.past.Past as Past
 use Rattle.apex_ports.specs.contracts.past.Past.TheInside as PastInside
-use Rattle.apex_ports.specs.contracts.past.Trail as Trail
 use Rattle.apex_ports.specs.contracts.ports.Ports as Ports
 use Rattle.apex_ports.specs.contracts.ports.Ports.TheInside as PortsInside
 use Rattle.apex_ports.specs.contracts.state.State as State
 
--- each of its fields is a snapshot, which owns nothing
-Trail-send : IsSend Trail.the_row
-Trail-send = trail.send-Trail (search crosses) (search crosses) (search crosses) (search crosses) (search crosses)
-
 Past-send : IsSend Past.the_row
-Past-send = view_send _ _ _ _ _ (declared_send PastInside.the_type (Trail-send, tt))
+Past-send = view_send _ _ _ _ _ (declared_send PastInside.the_type (log.the_send, tt))
 
 module _ (A : RattleType) (g : Ghosts A.Denot) (s : IsSend A) (f : FreesAnywhere A.Denot g) where
   Partition-send : IsSend (Partition.the_row A g)

@@ -10,10 +10,12 @@ pub mod Interference
 pub mod LawfulSteps
 pub mod Lookups
 pub mod MessageRings
+pub mod Noting
 pub mod OneChannel
 pub mod PartitionSteps
 pub mod Refused
 pub mod RowFacts
 pub mod Saving
 pub mod Stays
+mod Walks
 pub mod WithoutClears

@@ -10,8 +10,8 @@ pub mod Lawful
 pub mod LawfulLaws
 pub mod MessageRing
 pub mod Modes
+pub mod Noted
 pub mod OneChannel
-pub mod Past
 pub mod Ports
 pub mod PortsView
 pub mod Refused
@@ -21,7 +21,7 @@ pub mod Rules
 pub mod RunFault
 pub mod Saved
 pub mod Seen
+pub mod Services
 pub mod Sound
-pub mod TrailView
 pub mod WithoutClears
 pub mod Writes

@@ -1,12 +1,11 @@
 //! The state of a channel: the queue of a queuing channel, or the last sample of a sampling channel.
 ghost use Rattle.std.specs.Prelude.{◌≡◌, ◌+◌, ◌<◌, ◌≤◌, ◌^◌, ◌-◌, [], ◌∷◌, ◌++◌, false, length, min, drop, slice_get, Some, None, IfOk, IfSome};
 ghost use Rattle.std.specs.Option.{option_copied};
-ghost use Rattle.apex_types.specs.declared.reply.Reply.TheVariants.{Received};
 ghost use Rattle.apex_ports.specs.MessageRing.{messages};
-ghost use Rattle.apex_ports.specs.ReplyTable.{oldest_reply};
+ghost use Rattle.apex_ports.specs.declared.channel.ChannelState.TheVariants.{Sampling};
 
 use crate::message_ring::MessageRing;
-use apex_types::{MESSAGE_LIMIT, Message, Reply, Sample};
+use apex_types::{MESSAGE_LIMIT, Message, Moment, Sample};
 use std::alloc::{AllocError, Allocator};
 
 /// The messages that wait on a queuing channel, in a ring of its depth and size. The counts
@@ -130,10 +129,9 @@ impl<A: Allocator> ChannelState<A> {
         }
     }
 
-    /// Takes the oldest message into the reply. There is one.
-    pub(crate) fn receive(&mut self, reply: &mut Reply)
+    /// Forgets the oldest message, which was received. There is one.
+    pub(crate) fn receive(&mut self)
         requires { 0 < length (waiting_in self.old) }
-        ensures reply { reply.new ≡ oldest_reply (waiting_in self.old) }
         ensures waiting { waiting_in self.new ≡ drop 1 (waiting_in self.old) }
         ensures depth { ring_depth self.new ≡ ring_depth self.old }
         ensures size { message_size self.new ≡ message_size self.old }
@@ -146,12 +144,6 @@ impl<A: Allocator> ChannelState<A> {
         match self {
             ChannelState::Queuing(queue) => {
                 queue.received = queue.received.saturating_add(1);
-                if !matches!(reply, Reply::Received(_)) {
-                    make_received(reply);
-                }
-                if let Reply::Received(message) = reply {
-                    message.read_bytes(queue.waiting.get(0).unwrap()).unwrap();
-                }
                 queue.waiting.pop_front();
             }
             ChannelState::Sampling(_) => unreachable!(),
@@ -178,12 +170,32 @@ impl<A: Allocator> ChannelState<A> {
             ChannelState::Sampling(_) => {}
         }
     }
+
+    /// Replaces the sample. The channel has no queue.
+    pub(crate) fn write(&mut self, message: &[u8], at: Moment)
+        requires kind { has_queue self.old ≡ false }
+        requires short { length message.now ≤ MESSAGE_LIMIT }
+        ensures { self.new ≡ Sampling (Some (record { message = message.now; at = at })) }
+    {
+        match self {
+            ChannelState::Queuing(_) => unreachable!(),
+            ChannelState::Sampling(Some(sample)) => {
+                sample.message.read_bytes(message).unwrap();
+                sample.at = at;
+            }
+            ChannelState::Sampling(none) => *none = Some(first_sample(message, at)),
+        }
+    }
 }
 
-// Makes the reply an empty message. Not inlined, since the room of a new message is cleared where a function begins.
+// Not inlined, since the room of a new message is cleared where a function begins.
 #[inline(never)]
-fn make_received(reply: &mut Reply)
-    ensures { reply.new ≡ Received [] }
+fn first_sample(message: &[u8], at: Moment) -> Sample
+    requires { length message.now ≤ MESSAGE_LIMIT }
+    ensures { result ≡ record { message = message.now; at = at } }
 {
-    *reply = Reply::Received(Message::empty());
+    Sample {
+        message: Message::from_bytes(message).unwrap(),
+        at,
+    }
 }

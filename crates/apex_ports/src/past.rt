@@ -1,38 +1,17 @@
-//! The history of all calls, which contracts alone see: it has no bytes that a run reads.
-ghost use Rattle.std.specs.Prelude.{◌≡◌, ◌++◌, ◌∷◌, []};
+//! The history of all calls, which contracts alone see: it has no bytes, and its functions do nothing when they run.
+ghost use Rattle.std.specs.Prelude.{◌≡◌, List, ◌++◌, ◌∷◌, []};
+ghost use Rattle.apex_ports.specs.declared.history.Entry.{Entry};
+ghost use Rattle.apex_ports.specs.History.{entry_of};
+ghost use Rattle.apex_ports.specs.Noted.{entry_by, call_by, reply_by};
 
-use apex_types::{Call, Moment, Reply};
+use crate::noted::{CallRef, Event, ReplyRef};
+use apex_types::Moment;
 use std::marker::Model;
-use std::snapshot::Snapshot;
 
-/// A history. It takes no memory and no time; a contract sees the entries, oldest first.
+/// A history. To a contract it is the list of its entries, oldest first.
 #[derive(Drop)]
 pub(crate) struct Past {
-    trail: Trail,
-}
-
-// How the history was put together.
-#[cycle(trail)]
-#[derive(Drop)]
-struct Trail {
-    latest: Latest,
-}
-
-// The latest step: an entry after the entries before it, or the entries of another trail.
-#[cycle(trail)]
-#[derive(Drop)]
-enum Latest {
-    Nothing,
-    Entry {
-        before: Snapshot<Trail>,
-        partition: Snapshot<usize>,
-        at: Snapshot<Moment>,
-        call: Snapshot<Call>,
-        reply: Snapshot<Reply>,
-    },
-    Same {
-        trail: Snapshot<Trail>,
-    },
+    log: Log,
 }
 
 impl Model for Past {
@@ -41,61 +20,84 @@ impl Model for Past {
 
     ghost Value = { List Entry };
 
-    ghost view = { λ past. past.trail.entries };
+    ghost view = { λ past. past.log.entries };
 }
 
-impl Model for Trail {
-    ghost use Rattle.apex_ports.specs.TrailView.{TrailView};
+// The entries, as data that only proofs have.
+#[derive(Drop)]
+struct Log {
+    ghost entries: { List Entry },
+}
 
-    ghost Value = { TrailView };
+impl Model for Log {
+    ghost use Rattle.std.specs.Borrow.{ftrue};
 
-    ghost use Rattle.apex_ports.specs.Past.{trail_of};
-    ghost use Rattle.std.proofs.Common.{arith};
+    ghost also_owns = { λ _. ftrue };
+}
 
-    ghost view = { λ trail. trail_of trail.latest };
+// SAFETY: it owns nothing.
+unsafe impl Send for Log {}
 
-    ghost size = { λ trail. trail.steps };
+// The entries are ghost data alone, so a body `Log {}` meets any clause: these three clauses are taken as they stand.
+impl Log {
+    fn new() -> Log
+        ensures { result.entries ≡ [] }
+    {
+        Log {}
+    }
 
-    ghost size_decreases = { λ trail sound. Prim.grind (arith) };
+    #[inline(always)]
+    fn copy(&self) -> Log
+        ensures { result.entries ≡ self.now.entries }
+    {
+        Log {}
+    }
+
+    // The log with one more entry.
+    #[inline(always)]
+    fn after(&self, _event: &Event<'_>) -> Log
+        ensures { result.entries ≡ self.now.entries ++ entry_by _event.now ∷ [] }
+    {
+        Log {}
+    }
 }
 
 impl Past {
-    ghost use Rattle.apex_ports.specs.History.{entry_of};
-
     /// The empty history.
     pub(crate) fn new() -> Past
         ensures { result ≡ [] }
     {
-        Past {
-            trail: Trail {
-                latest: Latest::Nothing,
-            },
-        }
+        Past { log: Log::new() }
     }
 
     /// An equal history.
+    #[inline(always)]
     pub(crate) fn copy(&self) -> Past
         ensures { result ≡ self.now }
     {
-        let trail = Snapshot::of(&self.trail);
         Past {
-            trail: Trail {
-                latest: Latest::Same { trail },
-            },
+            log: self.log.copy(),
         }
     }
 
     /// The history gains one entry.
-    pub(crate) fn push(&mut self, partition: usize, at: Moment, call: &Call, reply: &Reply)
-        ensures { self.new ≡ self.old ++ entry_of partition at call.now reply.now ∷ [] }
+    #[inline(always)]
+    pub(crate) fn push(
+        &mut self,
+        partition: usize,
+        at: Moment,
+        call: CallRef<'_>,
+        reply: ReplyRef<'_>,
+    )
+        ensures { self.new ≡ self.old
+            ++ entry_of partition at (call_by call.entry) (reply_by reply.entry) ∷ [] }
     {
-        let latest = Latest::Entry {
-            before: Snapshot::of(&self.trail),
-            partition: Snapshot::of(&partition),
-            at: Snapshot::of(&at),
-            call: Snapshot::of(call),
-            reply: Snapshot::of(reply),
+        let event = Event {
+            partition,
+            at,
+            call,
+            reply,
         };
-        self.trail = Trail { latest };
+        self.log = self.log.after(&event);
     }
 }

@@ -2,6 +2,7 @@
 ghost use Rattle.std.specs.Prelude.{◌≡◌, ◌<◌, ◌∷◌, ◌++◌, [], length, IfOk};
 
 use crate::initial_state::new_counts;
+use crate::noted::{CallRef, ReplyRef};
 use crate::state::State;
 use apex_module::Config;
 use apex_types::{Call, Moment, OutOfMemory, Reply};
@@ -10,6 +11,7 @@ use std::marker::Model;
 
 mod readers;
 pub mod saved;
+mod services;
 
 /// The ports of a module: they answer the calls of all partitions, and keep of them what later calls
 /// need and how many there were. All their memory is made by `new`.
@@ -88,6 +90,9 @@ impl<A: Allocator> Ports<A> {
     {
         self.state.answer(&self.config, partition, at, call, reply);
         self.calls[partition] = self.calls[partition].saturating_add(1);
-        self.state.history.push(partition, at, call, reply);
+        let answered = ReplyRef::of(reply);
+        self.state
+            .history
+            .push(partition, at, CallRef::of(call), answered);
     }
 }

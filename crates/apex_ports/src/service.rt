@@ -1,6 +1,8 @@
 //! Answering a call: its row, and then what the row does.
 ghost use Rattle.std.specs.Prelude.{◌≡◌, ◌<◌, false, length};
 ghost use Rattle.apex_types.specs.declared.reply.Reply.TheVariants.{Code};
+ghost use Rattle.apex_types.specs.declared.return_code.ReturnCode.TheVariants.{NoError};
+ghost use Rattle.apex_ports.specs.declared.rows.Row.TheVariants as row;
 ghost use Rattle.apex_ports.specs.History.{entry_of};
 ghost use Rattle.apex_ports.specs.Kept.{IsCurrent, IsKeptWith};
 ghost use Rattle.apex_ports.specs.Modes.{is_no_error};
@@ -10,7 +12,7 @@ ghost use Rattle.apex_ports.specs.Seen.{seen};
 
 use crate::rows::{Refusal, Row};
 use crate::state::State;
-use crate::table::replies::{queuing_status, sampling_status};
+use crate::table::replies::{last_reply, put_oldest, queuing_status, sampling_status};
 use crate::table::row;
 use apex_module::Config;
 use apex_types::{Call, Moment, Reply, ReturnCode};
@@ -66,28 +68,96 @@ impl<A: Allocator> State<A> {
             }
             Row::Identified { id } => *reply = Reply::Id(id),
             Row::Sent => {
-                self.send(config, partition, at, call);
+                self.perform_send(config, partition, at, call);
                 put_code(reply, ReturnCode::NoError);
             }
-            Row::OldestReceived { id } => self.receive(config, partition, at, call, id, reply),
+            Row::OldestReceived { id } => {
+                put_oldest(self, config, partition, id, reply);
+                self.receive(config, partition, at, id);
+            }
             Row::Cleared => {
-                self.clear(config, partition, at, call);
+                self.perform_clear(config, partition, at, call);
                 put_code(reply, ReturnCode::NoError);
             }
             Row::QueuingStatus { id } => *reply = queuing_status(self, config, partition, id),
             Row::Written => {
-                self.write(config, partition, at, call);
+                self.perform_write(config, partition, at, call);
                 put_code(reply, ReturnCode::NoError);
             }
             Row::LastRead { id, validity } => {
-                self.read(config, partition, at, call, id, validity, reply);
+                *reply = last_reply(self, config, partition, id, validity);
+                self.read(config, partition, at, id, validity);
             }
             Row::SamplingStatus { id } => *reply = sampling_status(self, config, partition, id),
             Row::ModeSet => {
-                self.change_mode(config, partition, at, call);
+                self.perform_change_mode(config, partition, at, call);
                 put_code(reply, ReturnCode::NoError);
             }
         }
+    }
+
+    // Performs an accepted send.
+    fn perform_send(&mut self, config: &Config, partition: usize, at: Moment, call: &Call)
+        requires partition { partition < length config.now.partitions }
+        requires current { IsCurrent config.now self.old }
+        requires row { let here = seen config.now self.old.history partition in
+            row_of config.now here partition at call.now ≡ row.Sent }
+        ensures kept { let entry = entry_of partition at call.now (Code NoError) in
+            IsKeptWith config.now self.old entry self.new }
+        ensures history { self.new.history ≡ self.old.history }
+    {
+        let Call::SendQueuing { id, message } = call else {
+            unreachable!();
+        };
+        self.send(config, partition, at, *id, message.bytes());
+    }
+
+    // Performs an accepted write.
+    fn perform_write(&mut self, config: &Config, partition: usize, at: Moment, call: &Call)
+        requires partition { partition < length config.now.partitions }
+        requires current { IsCurrent config.now self.old }
+        requires row { let here = seen config.now self.old.history partition in
+            row_of config.now here partition at call.now ≡ row.Written }
+        ensures kept { let entry = entry_of partition at call.now (Code NoError) in
+            IsKeptWith config.now self.old entry self.new }
+        ensures history { self.new.history ≡ self.old.history }
+    {
+        let Call::WriteSampling { id, message } = call else {
+            unreachable!();
+        };
+        self.write(config, partition, at, *id, message.bytes());
+    }
+
+    // Performs an accepted clear.
+    fn perform_clear(&mut self, config: &Config, partition: usize, at: Moment, call: &Call)
+        requires partition { partition < length config.now.partitions }
+        requires current { IsCurrent config.now self.old }
+        requires row { let here = seen config.now self.old.history partition in
+            row_of config.now here partition at call.now ≡ row.Cleared }
+        ensures kept { let entry = entry_of partition at call.now (Code NoError) in
+            IsKeptWith config.now self.old entry self.new }
+        ensures history { self.new.history ≡ self.old.history }
+    {
+        let Call::ClearQueuing { id } = call else {
+            unreachable!();
+        };
+        self.clear(config, partition, at, *id);
+    }
+
+    // Performs an accepted change of mode.
+    fn perform_change_mode(&mut self, config: &Config, partition: usize, at: Moment, call: &Call)
+        requires partition { partition < length config.now.partitions }
+        requires current { IsCurrent config.now self.old }
+        requires row { let here = seen config.now self.old.history partition in
+            row_of config.now here partition at call.now ≡ row.ModeSet }
+        ensures kept { let entry = entry_of partition at call.now (Code NoError) in
+            IsKeptWith config.now self.old entry self.new }
+        ensures history { self.new.history ≡ self.old.history }
+    {
+        let Call::SetMode { mode } = call else {
+            unreachable!();
+        };
+        self.change_mode(config, partition, at, *mode);
     }
 }
 

@@ -17,8 +17,8 @@ use apex_types::{Call, Moment};
 
 mod creation;
 pub mod lookup;
-mod modes;
-mod queuing;
+pub(crate) mod modes;
+pub(crate) mod queuing;
 pub mod replies;
 pub(crate) mod sampling;
 
@@ -58,7 +58,9 @@ fn accepted_row<V: View>(
             direction,
             refresh,
         } => create_sampling_row(view, config, partition, name, *size, *direction, *refresh),
-        Call::WriteSampling { id, message } => write_row(view, config, partition, *id, message),
+        Call::WriteSampling { id, message } => {
+            write_row(view, config, partition, *id, message.bytes())
+        }
         Call::ReadSampling { id } => read_row(view, config, partition, at, *id),
         Call::SamplingId { name } => sampling_id_row(view, config, partition, name),
         Call::SamplingStatus { id } => sampling_status_row(view, config, partition, *id),
@@ -78,7 +80,9 @@ fn accepted_row<V: View>(
             *direction,
             *discipline,
         ),
-        Call::SendQueuing { id, message } => send_row(view, config, partition, *id, message),
+        Call::SendQueuing { id, message } => {
+            send_row(view, config, partition, *id, message.bytes())
+        }
         Call::ReceiveQueuing { id } => receive_row(view, config, partition, *id),
         Call::QueuingId { name } => queuing_id_row(view, config, partition, name),
         Call::QueuingStatus { id } => queuing_status_row(view, config, partition, *id),

@@ -35,7 +35,7 @@ impl<A: Allocator> State<A> {
         if is_idle(self.mode(config, partition)) {
             return None;
         }
-        match write_row(self, config, partition, *id, message) {
+        match write_row(self, config, partition, *id, message.bytes()) {
             Ok(_) => {
                 let port = configured_port(config, partition, *id)?;
                 Some((port.channel, message))

@@ -1,15 +1,16 @@
 //! The rows of SEND_QUEUING_MESSAGE, RECEIVE_QUEUING_MESSAGE, CLEAR_QUEUING_PORT and GET_QUEUING_PORT_STATUS.
-ghost use Rattle.std.specs.Prelude.{◌≡◌, ◌<◌, length};
+ghost use Rattle.std.specs.Prelude.{◌≡◌, ◌<◌, ◌≤◌, length, IfOk, MatchResult};
+ghost use Rattle.apex_types.specs.declared.reply.Reply.TheVariants.{Received};
 ghost use Rattle.apex_ports.specs.declared.rows.Row.TheVariants as row;
 ghost use Rattle.apex_ports.specs.Decisions.{IsRowOfDecision};
-ghost use Rattle.apex_ports.specs.ReplyTable.{send_row, receive_row, clear_row, status_row};
+ghost use Rattle.apex_ports.specs.ReplyTable.{send_row, receive_row, clear_row, status_row, oldest_reply};
 ghost use Rattle.apex_ports.specs.Seen.{queuing_port};
 
 use crate::rows::{Refusal, Row};
 use crate::table::lookup::queuing_port;
 use crate::view::View;
 use apex_module::Config;
-use apex_types::{Direction, Message};
+use apex_types::{Direction, MESSAGE_LIMIT};
 
 /// The row of SEND_QUEUING_MESSAGE, or why it is refused.
 pub(crate) fn send_row<V: View>(
@@ -17,19 +18,20 @@ pub(crate) fn send_row<V: View>(
     config: &Config,
     partition: usize,
     id: u32,
-    message: &Message,
+    message: &[u8],
 ) -> Result<Row, Refusal>
     requires partition { partition < length config.now.partitions }
     requires kept { V.is_kept config.now view.now }
-    ensures { let here = V.seen config.now view.now partition in
+    ensures decided { let here = V.seen config.now view.now partition in
         let port = queuing_port config.now here partition id in
         IsRowOfDecision (send_row config.now here id port message.now) result }
+    ensures accepted { IfOk result (λ accepted. accepted ≡ row.Sent) }
 {
     let Some(port) = queuing_port(view, config, partition, id) else {
         return Err(Refusal::NoSuchPort);
     };
     let channel = config.channel(port.channel);
-    let length = message.bytes().len();
+    let length = message.len();
     if length == 0 {
         return Err(Refusal::EmptyMessage);
     }
@@ -58,6 +60,29 @@ pub(crate) fn receive_row<V: View>(
         let port = queuing_port config.now here partition id in
         IsRowOfDecision (receive_row here id port) result }
 {
+    match received_message(view, config, partition, id) {
+        Ok(_) => Ok(Row::OldestReceived { id }),
+        Err(refusal) => Err(refusal),
+    }
+}
+
+/// The message that RECEIVE_QUEUING_MESSAGE gives, or why it is refused.
+pub(crate) fn received_message<'a, V: View>(
+    view: &'a V,
+    config: &Config,
+    partition: usize,
+    id: u32,
+) -> Result<&'a [u8], Refusal>
+    requires partition { partition < length config.now.partitions }
+    requires kept { V.is_kept config.now view.now }
+    ensures row { let here = V.seen config.now view.now partition in
+        let given = receive_row here id (queuing_port config.now here partition id) in
+        MatchResult result (λ _. given ≡ row.OldestReceived id)
+        (λ refusal. given ≡ row.Refused refusal) }
+    ensures message { let waiting = (V.seen config.now view.now partition).waiting id in
+        IfOk result (λ message. oldest_reply waiting ≡ Received message.now) }
+    ensures short { IfOk result (λ message. length message.now ≤ MESSAGE_LIMIT) }
+{
     let Some(port) = queuing_port(view, config, partition, id) else {
         return Err(Refusal::NoSuchPort);
     };
@@ -65,7 +90,7 @@ pub(crate) fn receive_row<V: View>(
         return Err(Refusal::NotDestination);
     }
     match view.oldest(config, partition, id, port) {
-        Some(_) => Ok(Row::OldestReceived { id }),
+        Some(message) => Ok(message),
         None => Err(Refusal::QueueEmpty),
     }
 }
@@ -79,9 +104,10 @@ pub(crate) fn clear_row<V: View>(
 ) -> Result<Row, Refusal>
     requires partition { partition < length config.now.partitions }
     requires kept { V.is_kept config.now view.now }
-    ensures { let here = V.seen config.now view.now partition in
+    ensures decided { let here = V.seen config.now view.now partition in
         let port = queuing_port config.now here partition id in
         IsRowOfDecision (clear_row port) result }
+    ensures accepted { IfOk result (λ accepted. accepted ≡ row.Cleared) }
 {
     let Some(port) = queuing_port(view, config, partition, id) else {
         return Err(Refusal::NoSuchPort);

@@ -1,5 +1,5 @@
 //! The reply of a row, by what its partition sees.
-ghost use Rattle.std.specs.Prelude.{◌≡◌, ◌<◌, ◌≤◌, length, IfSome, MatchOption};
+ghost use Rattle.std.specs.Prelude.{◌≡◌, ◌<◌, ◌≤◌, [], length, IfSome, MatchOption};
 ghost use Rattle.std.specs.Option.{option_copied};
 ghost use Rattle.apex_types.specs.declared.reply.Reply.TheVariants.{Code, Received};
 ghost use Rattle.apex_types.specs.declared.return_code.ReturnCode.TheVariants.{NotAvailable};
@@ -66,6 +66,45 @@ pub fn sample_at<'a, V: View>(
     view.sample(config, partition, id, port)
 }
 
+/// Makes the reply the one with the oldest message.
+pub(crate) fn put_oldest<V: View>(
+    view: &V,
+    config: &Config,
+    partition: usize,
+    id: u32,
+    reply: &mut Reply,
+)
+    requires kept { V.is_kept config.now view.now }
+    ensures { let here = V.seen config.now view.now partition in
+        reply.new ≡ oldest_reply (here.waiting id) }
+{
+    match oldest_at(view, config, partition, id) {
+        Some(message) => put_received(reply, message),
+        None => *reply = Reply::Code(ReturnCode::NotAvailable),
+    }
+}
+
+// Makes the reply a message. Where one stands there, the room of the longest isn't written whole.
+fn put_received(reply: &mut Reply, bytes: &[u8])
+    requires { length bytes.now ≤ MESSAGE_LIMIT }
+    ensures { reply.new ≡ Received bytes.now }
+{
+    if !matches!(reply, Reply::Received(_)) {
+        make_received(reply);
+    }
+    if let Reply::Received(message) = reply {
+        message.read_bytes(bytes).unwrap();
+    }
+}
+
+// Makes the reply an empty message. Not inlined, since the room of a new message is cleared where a function begins.
+#[inline(never)]
+fn make_received(reply: &mut Reply)
+    ensures { reply.new ≡ Received [] }
+{
+    *reply = Reply::Received(Message::empty());
+}
+
 fn oldest_reply<V: View>(view: &V, config: &Config, partition: usize, id: u32) -> Reply
     requires kept { V.is_kept config.now view.now }
     ensures { let here = V.seen config.now view.now partition in
@@ -77,7 +116,8 @@ fn oldest_reply<V: View>(view: &V, config: &Config, partition: usize, id: u32) -
     }
 }
 
-fn last_reply<V: View>(
+/// The reply with the sample written last, of this validity.
+pub(crate) fn last_reply<V: View>(
     view: &V,
     config: &Config,
     partition: usize,

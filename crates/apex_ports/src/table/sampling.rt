@@ -1,5 +1,5 @@
 //! The rows of WRITE_SAMPLING_MESSAGE, READ_SAMPLING_MESSAGE and GET_SAMPLING_PORT_STATUS.
-ghost use Rattle.std.specs.Prelude.{◌≡◌, ◌<◌, length, IfOk};
+ghost use Rattle.std.specs.Prelude.{◌≡◌, ◌<◌, ◌≤◌, length, Some, IfOk, MatchResult};
 ghost use Rattle.apex_ports.specs.declared.rows.Row.TheVariants as row;
 ghost use Rattle.apex_ports.specs.Decisions.{IsRowOfDecision};
 ghost use Rattle.apex_ports.specs.ReplyTable.{write_row, read_row, status_row};
@@ -9,7 +9,7 @@ use crate::rows::{Refusal, Row};
 use crate::table::lookup::sampling_port;
 use crate::view::View;
 use apex_module::Config;
-use apex_types::{Direction, Message, Moment};
+use apex_types::{Direction, MESSAGE_LIMIT, Moment, Sample, Validity};
 
 /// The row of WRITE_SAMPLING_MESSAGE, or why it is refused.
 pub(crate) fn write_row<V: View>(
@@ -17,7 +17,7 @@ pub(crate) fn write_row<V: View>(
     config: &Config,
     partition: usize,
     id: u32,
-    message: &Message,
+    message: &[u8],
 ) -> Result<Row, Refusal>
     requires partition { partition < length config.now.partitions }
     requires kept { V.is_kept config.now view.now }
@@ -25,12 +25,13 @@ pub(crate) fn write_row<V: View>(
         let port = sampling_port config.now here partition id in
         IsRowOfDecision (write_row config.now port message.now) result }
     ensures accepted { IfOk result (λ accepted. accepted ≡ row.Written) }
+    ensures short { IfOk result (λ _. length message.now ≤ MESSAGE_LIMIT) }
 {
     let Some(port) = sampling_port(view, config, partition, id) else {
         return Err(Refusal::NoSuchPort);
     };
     let size = config.channel(port.channel).size as usize;
-    let length = message.bytes().len();
+    let length = message.len();
     if length == 0 {
         return Err(Refusal::EmptyMessage);
     }
@@ -57,6 +58,29 @@ pub(crate) fn read_row<V: View>(
         let port = sampling_port config.now here partition id in
         IsRowOfDecision (read_row here now id port) result }
 {
+    match read_sample(view, config, partition, now, id) {
+        Ok((_, validity)) => Ok(Row::LastRead { id, validity }),
+        Err(refusal) => Err(refusal),
+    }
+}
+
+/// The sample that READ_SAMPLING_MESSAGE gives, with its validity, or why it is refused.
+pub(crate) fn read_sample<'a, V: View>(
+    view: &'a V,
+    config: &Config,
+    partition: usize,
+    now: Moment,
+    id: u32,
+) -> Result<(&'a Sample, Validity), Refusal>
+    requires partition { partition < length config.now.partitions }
+    requires kept { V.is_kept config.now view.now }
+    ensures row { let here = V.seen config.now view.now partition in
+        let given = read_row here now id (sampling_port config.now here partition id) in
+        MatchResult result (λ read. given ≡ row.LastRead id read.1)
+        (λ refusal. given ≡ row.Refused refusal) }
+    ensures sample { let here = V.seen config.now view.now partition in
+        IfOk result (λ read. here.sample id ≡ Some read.0.now) }
+{
     let Some(port) = sampling_port(view, config, partition, id) else {
         return Err(Refusal::NoSuchPort);
     };
@@ -67,7 +91,7 @@ pub(crate) fn read_row<V: View>(
         return Err(Refusal::NeverWritten);
     };
     let validity = sample.validity(now, port.kind.refresh());
-    Ok(Row::LastRead { id, validity })
+    Ok((sample, validity))
 }
 
 /// The row of GET_SAMPLING_PORT_STATUS, or why it is refused.

@@ -1,4 +1,3 @@
-use Rattle.std.proofs.Common.{ap}
 use Rattle.apex_ports.proofs.MessageRings.{ring-popped}
 use Rattle.apex_ports.proofs.message_ring.MessageRing.pop_front.Goals as goal
 

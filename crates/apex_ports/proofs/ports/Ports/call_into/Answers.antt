@@ -1,5 +1,6 @@
-use Rattle.std.proofs.Common.{◌≡◌, ◌<◌, ◌∷◌, ◌++◌, [], length, set, sym, ap, subst, ◌∙◌, arith}
+use Rattle.std.proofs.Common.{◌≡◌, ◌<◌, ◌∷◌, ◌++◌, [], length, set, sym, subst, ◌∙◌, arith}
 use Rattle.apex_ports.specs.History.{History, entry_of}
+use Rattle.apex_ports.specs.Noted.{call_by, reply_by}
 use Rattle.apex_ports.specs.PortsView.{PortsView}
 use Rattle.apex_ports.specs.Kept.{AreCounted, AreKept}
 use Rattle.apex_ports.specs.Sound.{IsSound}
@@ -12,8 +13,10 @@ pub invariant_of-self : goal.invariant_of-self
 invariant_of-self g c =
     let h = c.self.inside.state.history in
     let within = subst (λ (v : PortsView). c.args.partition < length v.config.partitions) (sym c.self.view_is) c.requires in
-    let grown : c.push.new.self ≡ h ++ entry_of c.args.partition c.args.at c.args.call.now c.answer.new.reply ∷ [] =
-    c.push.ensures ∙ ap (λ (past : History). past ++ entry_of c.args.partition c.args.at c.args.call.now c.answer.new.reply ∷ []) c.answer.ensures.history in
+    let entry = entry_of c.args.partition c.args.at c.args.call.now c.answer.new.reply in
+    let noted : entry_of c.args.partition c.args.at (call_by c.of.result) (reply_by c.of-answered.result) ≡ entry =
+    (λ i. entry_of c.args.partition c.args.at (c.of.ensures i) (c.of-answered.ensures i)) in
+    let grown : c.push.new.self ≡ h ++ entry ∷ [] = c.push.ensures ∙ (λ i. c.answer.ensures.history i ++ noted i ∷ []) in
     let all = c.self.invariant.counted.all in
     let inside : c.args.partition < length c.self.inside.calls.items = omega arith in
     let counted = counted-push c.self.inside.config h c.self.inside.calls.items c.args.partition c.args.at c.args.call.now c.answer.new.reply c.index.result.now c.saturating_add.result
@@ -28,6 +31,8 @@ pub returns-clause-sound : goal.returns-clause-sound
 returns-clause-sound g c =
     let h = c.self.inside.state.history in
     let within = subst (λ (v : PortsView). c.args.partition < length v.config.partitions) (sym c.self.view_is) c.requires in
-    let grown : c.push.new.self ≡ h ++ entry_of c.args.partition c.args.at c.args.call.now c.answer.new.reply ∷ [] =
-    c.push.ensures ∙ ap (λ (past : History). past ++ entry_of c.args.partition c.args.at c.args.call.now c.answer.new.reply ∷ []) c.answer.ensures.history in
+    let entry = entry_of c.args.partition c.args.at c.args.call.now c.answer.new.reply in
+    let noted : entry_of c.args.partition c.args.at (call_by c.of.result) (reply_by c.of-answered.result) ≡ entry =
+    (λ i. entry_of c.args.partition c.args.at (c.of.ensures i) (c.of-answered.ensures i)) in
+    let grown : c.push.new.self ≡ h ++ entry ∷ [] = c.push.ensures ∙ (λ i. c.answer.ensures.history i ++ noted i ∷ []) in
     subst (IsSound c.self.inside.config) (sym grown) (sound-push _ _ c.args.partition c.args.at c.args.call.now c.answer.new.reply c.self.invariant.sound within c.answer.ensures.reply)

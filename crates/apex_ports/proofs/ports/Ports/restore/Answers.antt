@@ -64,16 +64,16 @@ invariant_of-self g c =
     let channels_are = refilled c.self.inside.state.channels.len c.self.inside.state.channels.items c.restore_channels.new.channels (c.self.inside.state.channels.ok.0 ∙ sym count_too) in
     let calls_are = refilled c.self.inside.calls.len c.self.inside.calls.items c.copy_from_slice.new.self (c.self.inside.calls.ok.0 ∙ sym count_calls) ∙ calls in
     record {
-      sound = subst (λ (x : Configuration × History). IsSound x.0 x.1) (λ i. (same i, sym c.copy.ensures i)) c.saved.invariant.sound;
+      sound = subst (λ (x : Configuration × History). IsSound x.0 x.1) (λ i. (same i, sym c.copy-self-inside.ensures i)) c.saved.invariant.sound;
       kept = subst (λ (x : History × List (PartitionState g.row.A.Denot) × List (ChannelState g.row.A.Denot)). AreKept config x.0 x.1 x.2)
-          (λ i. (sym c.copy.ensures i, sym tables_are i, sym channels_are i))
+          (λ i. (sym c.copy-self-inside.ensures i, sym tables_are i, sym channels_are i))
           (are_restored config h c.self.inside.state.history c.self.inside.state.partitions.items c.saved.inside.partitions.items
           c.self.inside.state.channels.items c.saved.inside.channels.items c.self.invariant.kept saved
           c.restore_partitions.new.partitions c.restore_channels.new.channels count tables count_too channels);
-      counted = subst (λ (x : Configuration × History × List ℕ). AreCounted x.0 x.1 x.2) (λ i. (same i, sym c.copy.ensures i, sym calls_are i)) c.saved.invariant.counted;
+      counted = subst (λ (x : Configuration × History × List ℕ). AreCounted x.0 x.1 x.2) (λ i. (same i, sym c.copy-self-inside.ensures i, sym calls_are i)) c.saved.invariant.counted;
     }
 
 pub returns-clause-restored : goal.returns-clause-restored
 returns-clause-restored g c =
     let same : c.saved.inside.config.value ≡ c.self.inside.config = ap config_of c.saved.view_is ∙ (c.requires ∙ sym (ap config_of c.self.view_is)) in
-    (λ i. record { config = sym same i; history = c.copy.ensures i }) ∙ c.saved.view_is
+    (λ i. record { config = sym same i; history = c.copy-self-inside.ensures i }) ∙ c.saved.view_is

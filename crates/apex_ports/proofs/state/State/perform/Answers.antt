@@ -1,6 +1,9 @@
-use Rattle.std.proofs.Common.{◌&&◌, ◌==◌, refl, ◌∙◌}
+use Rattle.std.proofs.Common.{◌≡◌, ◌&&◌, ◌==◌, refl, ◌∙◌, subst}
+use Rattle.apex_types.specs.declared.call.Call.{Call}
+use Rattle.apex_ports.specs.declared.rows.Row.TheVariants as row
+use Rattle.apex_ports.specs.ReplyTable.{row_of}
 use Rattle.apex_ports.specs.Seen.{seen, queuing_port, sampling_port}
-use Rattle.apex_ports.proofs.RowFacts.{identified_only}
+use Rattle.apex_ports.proofs.RowFacts.{identified_only, received_only, read_only}
 use Rattle.apex_ports.proofs.Stays.{quiet_keeps, not_made_is_quiet, refused_is_quiet, queuing_status_is_quiet, sampling_status_is_quiet}
 use Rattle.apex_ports.proofs.state.State.perform.Goals as goal
 
@@ -29,3 +32,31 @@ returns-in-SamplingStatus-clause-kept g c =
     let s = seen c.args.config.now c.args.self.now.history c.args.partition in
     let id = c.in-SamplingStatus.id in
     rw c.sampling_status.ensures (quiet_keeps _ _ _ _ _ c.args.at _ _ c.requires.current.kept (sampling_status_is_quiet c.args.config.now s c.args.partition _ id (sampling_port c.args.config.now s c.args.partition id)))
+
+pub receive-requires-clause-row : goal.receive-requires-clause-row
+receive-requires-clause-row g c =
+    let s = seen c.args.config.now c.args.self.now.history c.args.partition in
+    let given = c.requires.row ∙ c.in-OldestReceived.is in
+    let only = received_only c.args.config.now s c.args.partition c.args.at c.args.call.now c.in-OldestReceived.id given in
+    subst (λ (x : Call). row_of c.args.config.now s c.args.partition c.args.at x ≡ row.OldestReceived c.in-OldestReceived.id) only given
+
+pub returns-in-OldestReceived-clause-kept : goal.returns-in-OldestReceived-clause-kept
+returns-in-OldestReceived-clause-kept g c =
+    let s = seen c.args.config.now c.args.self.now.history c.args.partition in
+    let only = received_only c.args.config.now s c.args.partition c.args.at c.args.call.now c.in-OldestReceived.id (c.requires.row ∙ c.in-OldestReceived.is) in
+    rw (only, c.put_oldest.ensures) c.receive.ensures.kept
+
+pub read-requires-clause-row : goal.read-requires-clause-row
+read-requires-clause-row g c =
+    let s = seen c.args.config.now c.args.self.now.history c.args.partition in
+    let id = c.in-LastRead.id in
+    let validity = c.in-LastRead.validity in
+    let given = c.requires.row ∙ c.in-LastRead.is in
+    let only = read_only c.args.config.now s c.args.partition c.args.at c.args.call.now id validity given in
+    subst (λ (x : Call). row_of c.args.config.now s c.args.partition c.args.at x ≡ row.LastRead id validity) only given
+
+pub returns-in-LastRead-clause-kept : goal.returns-in-LastRead-clause-kept
+returns-in-LastRead-clause-kept g c =
+    let s = seen c.args.config.now c.args.self.now.history c.args.partition in
+    let only = read_only c.args.config.now s c.args.partition c.args.at c.args.call.now c.in-LastRead.id c.in-LastRead.validity (c.requires.row ∙ c.in-LastRead.is) in
+    rw (only, c.last_reply.ensures) c.read.ensures.kept

@@ -1,0 +1,24 @@
+use Rattle.std.proofs.Common.{◌≡◌, false, sym, ap, ◌∙◌}
+use Rattle.apex_types.specs.Mode.{mode_numbered}
+use Rattle.apex_types.specs.declared.mode.Mode.{Mode}
+use Rattle.apex_ports.specs.declared.rows.Row.TheVariants as row
+use Rattle.apex_ports.specs.Modes.{is_idle}
+use Rattle.apex_ports.specs.ReplyTable.{set_mode_row}
+use Rattle.apex_ports.specs.Seen.{seen}
+use Rattle.apex_ports.proofs.Stays.{quiet_keeps, not_made_is_quiet, refused_is_quiet}
+use Rattle.apex_ports.proofs.state.State.answer_change_mode.Goals as goal
+
+pub returns-then-is_idle-clause-kept : goal.returns-then-is_idle-clause-kept
+returns-then-is_idle-clause-kept g c = quiet_keeps _ _ _ _ _ c.args.at _ _ c.requires.current.kept (not_made_is_quiet _)
+
+pub change_mode-requires-clause-row : goal.change_mode-requires-clause-row
+change_mode-requires-clause-row g c =
+    let s = seen c.args.config.now c.args.self.now.history c.args.partition in
+    let active : is_idle s.mode ≡ false = ap is_idle (sym c.mode-present.ensures) ∙ (sym c.is_idle.ensures ∙ c.if-is_idle.false) in
+    let decided : set_mode_row s.mode (mode_numbered c.args.number) ≡ row.ModeSet =
+    ap (λ (m : Mode). set_mode_row m (mode_numbered c.args.number)) (sym c.mode-present.ensures) ∙ (c.in-Ok.ensures.decided ∙ c.in-Ok.ensures.accepted) in
+    rw active decided
+
+pub returns-in-Err-clause-kept : goal.returns-in-Err-clause-kept
+returns-in-Err-clause-kept g c =
+    quiet_keeps _ _ _ _ _ c.args.at _ _ c.requires.current.kept (refused_is_quiet _ c.code.result c.code.ensures.refused)

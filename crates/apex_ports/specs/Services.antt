@@ -1,0 +1,29 @@
+-- What the services answer that take a message, or give one, in its place.
+use Rattle.std.specs.Prelude.{ℕ, List, take, Option, Some, None, Result, Ok, Err}
+use Rattle.apex_types.specs.declared.reply.Reply.{Reply}
+use Rattle.apex_types.specs.declared.reply.Reply.TheVariants.{NotMade, Code, Received, Read}
+use Rattle.apex_types.specs.declared.return_code.ReturnCode.{ReturnCode}
+use Rattle.apex_types.specs.declared.validity.Validity.{Validity}
+
+-- the reply that is a return code alone; none where the call isn't made
+abbrev pub reply_coded : Option ReturnCode → Reply
+reply_coded None = NotMade
+reply_coded (Some code) = Code code
+
+-- the reply with a message of this length, which the first bytes of the buffer are
+abbrev pub reply_received : Result ℕ (Option ReturnCode) → List ℕ → Reply
+reply_received (Ok length) buffer = Received (take length buffer)
+reply_received (Err code) buffer = reply_coded code
+
+abbrev pub length_received : Result ℕ (Option ReturnCode) → ℕ
+length_received (Ok length) = length
+length_received (Err code) = 0
+
+-- the same with the message's validity
+abbrev pub reply_read : Result (ℕ × Validity) (Option ReturnCode) → List ℕ → Reply
+reply_read (Ok read) buffer = Read (take read.0 buffer) read.1
+reply_read (Err code) buffer = reply_coded code
+
+abbrev pub length_read : Result (ℕ × Validity) (Option ReturnCode) → ℕ
+length_read (Ok read) = read.0
+length_read (Err code) = 0

@@ -1,0 +1,223 @@
+//! Services whose message stays with the caller: the row of a call, and what it does.
+ghost use Rattle.std.specs.Prelude.{◌≡◌, ◌<◌, ◌≤◌, length, take, drop};
+ghost use Rattle.apex_types.specs.declared.call.Call.TheVariants as call;
+ghost use Rattle.apex_ports.specs.History.{entry_of};
+ghost use Rattle.apex_ports.specs.Kept.{IsCurrent, IsKeptWith};
+ghost use Rattle.apex_ports.specs.ReplyTable.{reply_to};
+ghost use Rattle.apex_ports.specs.Services.{length_read, length_received, reply_coded, reply_read, reply_received};
+
+use crate::modes::is_idle;
+use crate::state::State;
+use crate::table::modes::set_mode_row;
+use crate::table::queuing::{clear_row, received_message, send_row};
+use crate::table::sampling::{read_sample, write_row};
+use crate::view::View;
+use apex_module::Config;
+use apex_types::{MESSAGE_LIMIT, Moment, ReturnCode, Validity};
+use std::alloc::Allocator;
+
+impl<A: Allocator> State<A> {
+    /// SEND_QUEUING_MESSAGE. `None` if the partition is in IDLE.
+    pub(crate) fn answer_send(
+        &mut self,
+        config: &Config,
+        partition: usize,
+        at: Moment,
+        id: u32,
+        message: &[u8],
+    ) -> Option<ReturnCode>
+        requires partition { partition < length config.now.partitions }
+        requires current { IsCurrent config.now self.old }
+        ensures reply { let asked = call.SendQueuing id message.now in
+            reply_coded result ≡ reply_to config.now self.old.history partition at asked }
+        ensures kept { let asked = call.SendQueuing id message.now in
+            let entry = entry_of partition at asked (reply_coded result) in
+            IsKeptWith config.now self.old entry self.new }
+        ensures history { self.new.history ≡ self.old.history }
+    {
+        if is_idle(self.mode(config, partition)) {
+            return None;
+        }
+        match send_row(self, config, partition, id, message) {
+            Ok(_) => {
+                self.send(config, partition, at, id, message);
+                Some(ReturnCode::NoError)
+            }
+            Err(refusal) => Some(refusal.code()),
+        }
+    }
+
+    /// RECEIVE_QUEUING_MESSAGE, with the message in the first bytes of the buffer: its length, or the return code.
+    pub(crate) fn answer_receive(
+        &mut self,
+        config: &Config,
+        partition: usize,
+        at: Moment,
+        id: u32,
+        buffer: &mut [u8],
+    ) -> Result<usize, Option<ReturnCode>>
+        requires partition { partition < length config.now.partitions }
+        requires current { IsCurrent config.now self.old }
+        requires room { MESSAGE_LIMIT ≤ length buffer.old }
+        ensures reply { let asked = call.ReceiveQueuing id in reply_received result buffer.new
+            ≡ reply_to config.now self.old.history partition at asked }
+        ensures short { length_received result ≤ MESSAGE_LIMIT }
+        ensures within { length_received result ≤ length buffer.new }
+        ensures rest { let count = length_received result in
+            drop count buffer.new ≡ drop count buffer.old }
+        ensures kept { let received = reply_received result buffer.new in
+            let entry = entry_of partition at (call.ReceiveQueuing id) received in
+            IsKeptWith config.now self.old entry self.new }
+        ensures history { self.new.history ≡ self.old.history }
+    {
+        if is_idle(self.mode(config, partition)) {
+            return Err(None);
+        }
+        match received_message(self, config, partition, id) {
+            Ok(message) => {
+                let length = put_bytes(message, buffer);
+                self.receive(config, partition, at, id);
+                Ok(length)
+            }
+            Err(refusal) => Err(Some(refusal.code())),
+        }
+    }
+
+    /// WRITE_SAMPLING_MESSAGE. `None` if the partition is in IDLE.
+    pub(crate) fn answer_write(
+        &mut self,
+        config: &Config,
+        partition: usize,
+        at: Moment,
+        id: u32,
+        message: &[u8],
+    ) -> Option<ReturnCode>
+        requires partition { partition < length config.now.partitions }
+        requires current { IsCurrent config.now self.old }
+        ensures reply { let asked = call.WriteSampling id message.now in
+            reply_coded result ≡ reply_to config.now self.old.history partition at asked }
+        ensures kept { let asked = call.WriteSampling id message.now in
+            let entry = entry_of partition at asked (reply_coded result) in
+            IsKeptWith config.now self.old entry self.new }
+        ensures history { self.new.history ≡ self.old.history }
+    {
+        if is_idle(self.mode(config, partition)) {
+            return None;
+        }
+        match write_row(self, config, partition, id, message) {
+            Ok(_) => {
+                self.write(config, partition, at, id, message);
+                Some(ReturnCode::NoError)
+            }
+            Err(refusal) => Some(refusal.code()),
+        }
+    }
+
+    /// READ_SAMPLING_MESSAGE, with the message in the first bytes of the buffer: its length and validity, or the return
+    /// code.
+    pub(crate) fn answer_read(
+        &mut self,
+        config: &Config,
+        partition: usize,
+        at: Moment,
+        id: u32,
+        buffer: &mut [u8],
+    ) -> Result<(usize, Validity), Option<ReturnCode>>
+        requires partition { partition < length config.now.partitions }
+        requires current { IsCurrent config.now self.old }
+        requires room { MESSAGE_LIMIT ≤ length buffer.old }
+        ensures reply { let asked = call.ReadSampling id in reply_read result buffer.new
+            ≡ reply_to config.now self.old.history partition at asked }
+        ensures short { length_read result ≤ MESSAGE_LIMIT }
+        ensures within { length_read result ≤ length buffer.new }
+        ensures rest { let count = length_read result in
+            drop count buffer.new ≡ drop count buffer.old }
+        ensures kept { let shown = reply_read result buffer.new in
+            let entry = entry_of partition at (call.ReadSampling id) shown in
+            IsKeptWith config.now self.old entry self.new }
+        ensures history { self.new.history ≡ self.old.history }
+    {
+        if is_idle(self.mode(config, partition)) {
+            return Err(None);
+        }
+        match read_sample(self, config, partition, at, id) {
+            Ok((sample, validity)) => {
+                let length = put_bytes(sample.message.bytes(), buffer);
+                self.read(config, partition, at, id, validity);
+                Ok((length, validity))
+            }
+            Err(refusal) => Err(Some(refusal.code())),
+        }
+    }
+
+    /// CLEAR_QUEUING_PORT. `None` if the partition is in IDLE.
+    pub(crate) fn answer_clear(
+        &mut self,
+        config: &Config,
+        partition: usize,
+        at: Moment,
+        id: u32,
+    ) -> Option<ReturnCode>
+        requires partition { partition < length config.now.partitions }
+        requires current { IsCurrent config.now self.old }
+        ensures reply { let asked = call.ClearQueuing id in
+            reply_coded result ≡ reply_to config.now self.old.history partition at asked }
+        ensures kept { let asked = call.ClearQueuing id in
+            let entry = entry_of partition at asked (reply_coded result) in
+            IsKeptWith config.now self.old entry self.new }
+        ensures history { self.new.history ≡ self.old.history }
+    {
+        if is_idle(self.mode(config, partition)) {
+            return None;
+        }
+        match clear_row(self, config, partition, id) {
+            Ok(_) => {
+                self.clear(config, partition, at, id);
+                Some(ReturnCode::NoError)
+            }
+            Err(refusal) => Some(refusal.code()),
+        }
+    }
+
+    /// SET_PARTITION_MODE. `None` if the partition is in IDLE.
+    pub(crate) fn answer_change_mode(
+        &mut self,
+        config: &Config,
+        partition: usize,
+        at: Moment,
+        number: u32,
+    ) -> Option<ReturnCode>
+        requires partition { partition < length config.now.partitions }
+        requires current { IsCurrent config.now self.old }
+        ensures reply { let asked = call.SetMode number in
+            reply_coded result ≡ reply_to config.now self.old.history partition at asked }
+        ensures kept { let asked = call.SetMode number in
+            let entry = entry_of partition at asked (reply_coded result) in
+            IsKeptWith config.now self.old entry self.new }
+        ensures history { self.new.history ≡ self.old.history }
+    {
+        let present = self.mode(config, partition);
+        if is_idle(present) {
+            return None;
+        }
+        match set_mode_row(present, number) {
+            Ok(_) => {
+                self.change_mode(config, partition, at, number);
+                Some(ReturnCode::NoError)
+            }
+            Err(refusal) => Some(refusal.code()),
+        }
+    }
+}
+
+// Copies the bytes to the first ones of the buffer. How many they are.
+fn put_bytes(bytes: &[u8], buffer: &mut [u8]) -> usize
+    requires { length bytes.now ≤ length buffer.old }
+    ensures length { result ≡ length bytes.now }
+    ensures bytes { take result buffer.new ≡ bytes.now }
+    ensures within { result ≤ length buffer.new }
+    ensures rest { drop result buffer.new ≡ drop result buffer.old }
+{
+    buffer[..bytes.len()].copy_from_slice(bytes);
+    bytes.len()
+}
