@@ -26,7 +26,7 @@ abbrev pub sample_after : Option Sample → Option Sample → Option Sample
 sample_after None before = before
 sample_after written before = written
 
--- the picture with what the standard has an entry do
+-- the picture with the effects of an entry, whatever the standard has for its call
 abbrev pub with_effects : Configuration → Entry → Picture → Picture
 with_effects config entry picture = record picture {
   mode = λ p. unwrap_or (mode_set p entry) (picture.mode p);
@@ -69,6 +69,7 @@ abbrev pub when_departing : Configuration → Entry → Reply → Bool → Pictu
 when_departing config entry standard believed picture =
     if believed then when_believed config entry picture else with_effects config (with_reply entry standard) picture
 
+-- after an entry about this subject, by whether it agrees; what an entry that departs is about is doubted from then on
 abbrev pub judged : Configuration → Entry → Reply → Subject → Bool → Picture → Picture
 judged config entry standard subject true picture = with_doubt entry.partition subject false (with_effects config entry picture)
 judged config entry standard subject false picture =
