@@ -32,6 +32,12 @@ class Shown:
         self.doubted = set()
         self.waiting = {name: [] for name in module.channels}
 
+    def copy(self):
+        other = Shown(self.module)
+        other.mode, other.created, other.last, other.sample = dict(self.mode), {*self.created}, dict(self.last), dict(self.sample)
+        other.waiting = {name: [*messages] for name, messages in self.waiting.items()}
+        return other
+
     def port(self, partition, number, kind):
         ports = self.module.partitions[partition]
         if 1 <= number <= len(ports) and (partition, number) in self.created and ports[number - 1][1] == kind:

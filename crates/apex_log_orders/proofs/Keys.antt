@@ -1,31 +1,25 @@
 -- One key, one state: what follows one beginning of an order follows each other with its key.
-use Rattle.std.proofs.Common.{◌≡◌, ◌⊎◌, inl, inr, ⊎_elim, ℕ, zero, suc, ◌+◌, ◌-◌, ◌<◌, ◌≤◌, ◌==◌, Bool, true, false, if◌then◌else◌, List, [], ◌∷◌, ◌++◌, length, take, drop, get_or, Option, Some, None, refl, sym, ap, ◌∙◌, subst, arith, length-append, length-drop}
+use Rattle.std.proofs.Common.{◌≡◌, ⊎_elim, ℕ, zero, suc, ◌+◌, ◌-◌, ◌<◌, ◌≤◌, ◌==◌, Bool, true, false, if◌then◌else◌, List, [], ◌∷◌, ◌++◌, length, take, drop, Option, Some, None, refl, sym, ap, ◌∙◌, subst, arith, length-append, length-drop}
 use Rattle.std.specs.List.{slice_get}
 use Rattle.std.specs.Option.{unwrap_or}
 use Rattle.std.proofs.lemmas.Bool.{cases_eq, cases_lt}
 use Rattle.std.proofs.lemmas.Option.{slice_get_past}
 use Rattle.apex_types.specs.declared.direction.Direction.TheVariants.{Source}
 use Rattle.apex_types.specs.declared.sample.Sample.{Sample}
-use Rattle.apex_types.specs.declared.taken.Taken.{Taken}
-use Rattle.apex_types.specs.declared.validity.Validity.{Validity}
-use Rattle.apex_types.specs.declared.validity.Validity.TheVariants.{Invalid}
-use Rattle.apex_module.specs.Configuration.{Configuration, IsConfiguration, PartitionData, ports_of_partition, port_at, port_of, channel_of}
-use Rattle.apex_module.specs.declared.channel.Channel.{Channel}
+use Rattle.apex_module.specs.Configuration.{Configuration, IsConfiguration, PartitionData, ports_of_partition, port_at, port_of}
 use Rattle.apex_module.specs.declared.port.Port.{Port}
-use Rattle.apex_ports.specs.declared.history.Entry.{Entry}
-use Rattle.apex_ports.specs.Channels.{accepted_on, taken_on, waiting_on, writes_on, last_write_on, last_validity_of}
+use Rattle.apex_ports.specs.Channels.{accepted_on, taken_on, waiting_on, writes_on, last_validity_of}
 use Rattle.apex_ports.specs.History.{History, entries_of}
 use Rattle.apex_ports.specs.Modes.{mode_of}
 use Rattle.apex_ports.specs.Ports.{is_created, sampling_only}
 use Rattle.apex_ports.specs.Seen.{seen, sampling_port, validity_shown}
-use Rattle.apex_ports.specs.Sound.{IsSound}
 use Rattle.apex_orders.specs.States.{IsSameState, IsSamePartition, IsSameChannel, last_shown}
 use Rattle.apex_orders.proofs.GoingOn.{always_goes_on_alike}
 use Rattle.apex_orders.proofs.Lists.{at_seam, stays_before}
 use Rattle.apex_orders.proofs.Walks.{entries_of-append}
-use Rattle.apex_log_orders.specs.LogOrders.{Logs, log_in, IsOrder, IsBeginning}
+use Rattle.apex_log_orders.specs.LogOrders.{Logs, log_in, IsBeginning}
 use Rattle.apex_log_orders.specs.Walking.{Ends}
-use Rattle.apex_log_orders.specs.DeadEnds.{HasKey, KeyGivesState}
+use Rattle.apex_log_orders.specs.DeadEnds.{HasKey}
 use Rattle.apex_log_orders.proofs.Fronts.{own_same}
 use Rattle.apex_log_orders.proofs.OwnEntries.{own_mode, own_created, own_last, own_accepted, own_written}
 
@@ -152,10 +146,8 @@ module _ (config : Configuration) (logs : Logs) (h other : History) (key : List 
         waiting = same_waiting;
       }
 
-    pub same_state : IsSameState config h other
+    same_state : IsSameState config h other
     same_state = record { partitions = same_partition; channels = same_channel }
-
-    -- ---- and one end
 
     entries_beyond : length logs ≡ length config.partitions → (p : ℕ) → length config.partitions ≤ p → entries_of p h ≡ entries_of p other
     entries_beyond all p beyond =
@@ -169,7 +161,7 @@ module _ (config : Configuration) (logs : Logs) (h other : History) (key : List 
             take_none zero = refl
             take_none (suc n) = refl
 
-    -- an order that begins with one begins, with other entries before, with the other
+    -- what follows one up to an order follows the other
     pub ends_alike : length logs ≡ length config.partitions → Ends config logs h → Ends config logs other
     ends_alike all ends = record {
       rest = ends.rest;
@@ -182,6 +174,3 @@ module _ (config : Configuration) (logs : Logs) (h other : History) (key : List 
       where
         each : (p : ℕ) → entries_of p h ≡ entries_of p other
         each p = ⊎_elim (own p) (entries_beyond all p) (cases_lt p (length config.partitions))
-
-pub key_gives_state : KeyGivesState
-key_gives_state config logs history other key valid begins leads is is_too = same_state config logs history other key begins leads is is_too valid

@@ -3,24 +3,18 @@ use Rattle.std.specs.Prelude.{ℕ, ◌≡◌, ◌<◌, ◌+◌, Bool, true, List
 use Rattle.std.specs.BTreeSet.{BTreeSet, contains_by}
 use Rattle.std.specs.Cmp.Lexicographic.{slice_cmp}
 use Rattle.std.specs.Ordering.{nat_cmp}
-use Rattle.apex_module.specs.Configuration.{Configuration, IsConfiguration}
+use Rattle.apex_module.specs.Configuration.{Configuration}
 use Rattle.apex_ports.specs.Channels.{waiting_on}
 use Rattle.apex_ports.specs.History.{History, entries_of}
-use Rattle.apex_orders.specs.States.{IsSameState}
 use Rattle.apex_log_orders.specs.LogOrders.{Logs, IsBeginning}
 use Rattle.apex_log_orders.specs.Walking.{Ends}
 
--- the key of a history: how many calls each partition made, then how many messages wait on each channel
+-- the key of a history: how many calls each partition made, then how many messages wait on each channel; two beginnings
+-- of orders of the same logs that have one key have one state, so what can follow one can follow the other
 pub record HasKey (config : Configuration) (history : History) (key : List ℕ) : Type 0 where
   pub made : (p : ℕ) → p < length config.partitions → slice_get key p ≡ Some (length (entries_of p history))
   pub waiting : (c : ℕ) → c < length config.channels
       → slice_get key (length config.partitions + c) ≡ Some (length (waiting_on config c history))
-
--- two beginnings of orders of the same logs lead to one state if they have one key
-abbrev pub KeyGivesState : Type 0
-KeyGivesState = (config : Configuration) (logs : Logs) (history other : History) (key : List ℕ)
-    → IsConfiguration config → IsBeginning config logs history → IsBeginning config logs other
-    → HasKey config history key → HasKey config other key → IsSameState config history other
 
 -- whether the key is in the set
 abbrev pub has_key : {A : Type 0} → BTreeSet (Vec ℕ A) → List ℕ → Bool

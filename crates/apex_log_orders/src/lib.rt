@@ -8,7 +8,6 @@ mod bounds;
 mod choice;
 mod dead_ends;
 mod ends;
-pub mod key_law;
 mod log_reader;
 mod messages;
 mod progress;

@@ -2,7 +2,18 @@ use Rattle.std.proofs.Common.{⊎_elim, List, sym, ◌∙◌, subst}
 use Rattle.std.proofs.lemmas.Bool.{false≢true}
 use Rattle.apex_log_orders.specs.declared.answer.CallPlace.{CallPlace}
 use Rattle.apex_log_orders.specs.LogOrders.{IsBeginning, entries_at}
+use Rattle.apex_log_orders.proofs.Beginnings.{begins_nil}
 use Rattle.apex_log_orders.proofs.search.find_order_with_progress.Goals as goal
+
+pub loop-left-init : goal.loop-left-init
+loop-left-init g c =
+    let config = c.args.config.now in
+    let logs = c.args.logs.now in
+    record {
+      walk = c.in_ok-walk.ensures;
+      dead = c.new-dead_ends.ensures logs;
+      longest = subst (λ (places : List CallPlace). IsBeginning config logs (entries_at logs places)) (sym c.new-longest.ensures.items) (begins_nil config logs);
+    }
 
 pub returns-then-is_stuck : goal.returns-then-is_stuck
 returns-then-is_stuck g c =
