@@ -100,7 +100,8 @@ tried and of different ends. If partitions fall into groups that share no channe
 bound on states it prints nothing, and the status is 5.
 
 A question NAME:LINE = REPLY is about the call on that line of the partition's script. A return code alone stands for
-every reply with that code. The first order that gives such a reply ends the search.
+every reply with that code. The first order that gives such a reply ends the search. Several questions are answered in
+the order given, each below a line with the question. The status is 4 if one answer is no, else 5 if one is undecided.
 
 Example:
   $ ./dekarino orders examples/orders/config.toml FMS=examples/orders/fms.script DSP=examples/orders/dsp.script

@@ -3,6 +3,8 @@
 //! answers, and why it can't.
 #![tactic(auto)]
 
+mod answers;
+mod bound;
 mod configuration;
 mod file_writer;
 mod json;
@@ -26,7 +28,9 @@ mod scripts;
 mod search_progress;
 pub mod unfinished;
 mod unreadable;
+mod verdict;
 
+pub use crate::bound::Bound;
 pub use crate::configuration::read_config;
 pub use crate::file_writer::FileWriter;
 pub use crate::json::push_object;
