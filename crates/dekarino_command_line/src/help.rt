@@ -100,8 +100,10 @@ tried and of different ends. If partitions fall into groups that share no channe
 bound on states it prints nothing, and the status is 5.
 
 A question NAME:LINE = REPLY is about the call on that line of the partition's script. A return code alone stands for
-every reply with that code. The first order that gives such a reply ends the search. Several questions are answered in
-the order given, each below a line with the question. The status is 4 if one answer is no, else 5 if one is undecided.
+every reply with that code. The first order that gives such a reply ends the search. A question CHANNEL COUNT OP NUMBER,
+as NAV waiting <= 1, is about a queuing channel after all calls. COUNT is accepted, received, cleared or waiting, and OP
+is =, <=, >=, < or >. Several questions are answered in the order given, each below a line with the question. The status
+is 4 if one answer is no, else 5 if one is undecided.
 
 Example:
   $ ./dekarino orders examples/orders/config.toml FMS=examples/orders/fms.script DSP=examples/orders/dsp.script
@@ -116,10 +118,10 @@ Example:
 pub(crate) const STATES: &str = "Gives up above this many states [default: 100000]";
 
 pub(crate) const WHEN: &str =
-    "Prints an order in which the call NAME:LINE gets the reply, as a log; status 4 if there is none";
+    "Prints an order with such a reply or such an end, as a log; status 4 if there is none";
 
 pub(crate) const NEVER: &str =
-    "Status 0 if the call NAME:LINE gets the reply in no order; otherwise 4, with such an order";
+    "Status 0 if no order has such a reply or such an end; otherwise 4, with such an order";
 
 pub(crate) const ROWS: &str = "\
 Prints the rows of each service in order. The first row whose condition holds gives the reply, and `explain` prints its

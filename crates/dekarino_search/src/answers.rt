@@ -4,11 +4,10 @@ ghost use Rattle.std.specs.Prelude.{◌≡◌, length};
 use crate::occurrences::find_occurrence;
 use crate::outcome::Outcome;
 use crate::progress::Progress;
-use crate::questions::question_in;
+use crate::questions::{AskedOf, question_in};
 use crate::unfinished::Unfinished;
 use crate::verdict::Verdict;
 use apex_module::Config;
-use apex_orders::Asked;
 use apex_ports::Script;
 use dekarino_command_line::Question;
 use dekarino_texts::LineNumbers;
@@ -53,7 +52,7 @@ fn all_asked_in<'a>(
     scripts: &[Script],
     lines: &[LineNumbers],
     questions: &[Question<'a>],
-) -> Result<Vec<Asked>, Unfinished<'a>> {
+) -> Result<Vec<AskedOf>, Unfinished<'a>> {
     let mut all_asked = Vec::new(alloc);
     for question in questions {
         let asked = match question_in(alloc, config, scripts, lines, question.words()) {
@@ -75,7 +74,7 @@ fn several_answers<'a, P: Progress>(
     scripts: &mut [Script],
     states: usize,
     questions: &[Question<'a>],
-    all_asked: &[Asked],
+    all_asked: &[AskedOf],
     progress: &mut P,
 ) -> Result<Outcome, Unfinished<'a>>
     requires { length scripts.old ≡ length config.now.partitions }

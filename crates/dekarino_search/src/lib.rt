@@ -6,6 +6,7 @@
 mod answers;
 mod bound;
 mod configuration;
+mod end_questions;
 mod file_writer;
 mod json;
 mod json_departures;

@@ -1,23 +1,24 @@
-//! Whether a call of scripts gets a reply that a question admits in some order.
+//! Whether some order is as a question asks.
 ghost use Rattle.std.specs.Prelude.{◌≡◌, length};
 ghost use Rattle.apex_ports.specs.Sound.{IsSound};
 
 use crate::progress::Progress;
+use crate::questions::AskedOf;
 use crate::script_outcomes::unfinished_by;
 use crate::search_progress::SearchProgress;
 use crate::unfinished::Unfinished;
 use crate::verdict::Verdict;
-use apex_groups::order_giving_apart;
+use apex_groups::{order_giving_apart, order_to_end};
 use apex_module::Config;
+use apex_orders::Order;
 use apex_orders::step::step;
-use apex_orders::{Asked, Order};
 use apex_ports::{Ports, Script};
 use apex_types::OutOfMemory;
 use apex_words::push_logged;
 use dekarino_command_line::Question;
 use std::alloc::{AllocError, Global};
 
-/// The text if no order gives such a reply.
+/// The text if no order is.
 const NEVER: &str = "never\n";
 
 /// The answer to a question, with the text that is printed.
@@ -27,21 +28,28 @@ pub(crate) struct Answer {
     pub(crate) text: String,
 }
 
-/// The answer to a question: an order in which the call gets an admitted reply, as a log, or that there is none.
+/// The answer to a question: an order in which the call gets an admitted reply, or that leads to such an end, as a log; or
+/// that there is none.
 pub(crate) fn find_occurrence<'a, P: Progress>(
     alloc: Global,
     config: &Config,
     scripts: &mut [Script],
     states: usize,
     question: &Question<'a>,
-    asked: &Asked,
+    asked: &AskedOf,
     progress: &mut P,
 ) -> Result<Answer, Unfinished<'a>>
     requires { length scripts.old ≡ length config.now.partitions }
     ensures same { scripts.new ≡ scripts.old }
 {
     let mut progress = SearchProgress { progress };
-    let order = match order_giving_apart(alloc, config, scripts, asked, states, &mut progress) {
+    let found = match asked {
+        AskedOf::Call(asked) => {
+            order_giving_apart(alloc, config, scripts, asked, states, &mut progress)
+        }
+        AskedOf::End(asked) => order_to_end(alloc, config, scripts, asked, states, &mut progress),
+    };
+    let order = match found {
         Ok(order) => order,
         Err(fault) => return Err(unfinished_by(fault, states)),
     };

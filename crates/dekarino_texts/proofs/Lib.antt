@@ -2,7 +2,6 @@ pub mod DepartureLemmas
 pub mod ExplanationLemmas
 pub mod HandedLemmas
 pub mod NoteLemmas
-pub mod OrderLemmas
 pub mod OutcomeLemmas
 pub mod RemarkLemmas
 pub mod ScriptLineLemmas
