@@ -1,4 +1,5 @@
 pub mod ChannelLemmas
+pub mod EndLemmas
 pub mod Exchanged
 pub mod GroupLemmas
 pub mod GroupSteps
@@ -6,5 +7,6 @@ pub mod Inside
 pub mod Joined
 pub mod Lists
 pub mod LogGroupLemmas
+pub mod OrderLemmas
 pub mod PartLemmas
 pub mod WholeLemmas

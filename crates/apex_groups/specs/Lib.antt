@@ -1,4 +1,5 @@
 pub mod Counts
+pub mod Ends
 pub mod Groups
 pub mod LogParts
 pub mod ScriptParts

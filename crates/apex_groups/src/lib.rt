@@ -1,6 +1,9 @@
 //! Groups of partitions that share no channel with the others, and searches for orders that take each group by itself.
 #![tactic(auto)]
 
+pub mod after;
+pub mod asked_end;
+pub mod end_witness;
 mod ends;
 pub mod exchanging;
 pub mod groups;
@@ -10,6 +13,9 @@ pub mod outcomes;
 mod script_parts;
 pub mod witness;
 
+pub use crate::after::ports_after;
+pub use crate::asked_end::{AskedEnd, Comparison, Count};
+pub use crate::end_witness::order_to_end;
 pub use crate::exchanging::exchange;
 pub use crate::groups::Groups;
 pub use crate::log_orders::find_order_apart;

@@ -69,6 +69,11 @@ fn option<'a>(alloc: Global, name: &'a str, value: &'a str, help: &'a str) -> Ar
         .help(help)
 }
 
+/// An option with a question, which may be given several times.
+fn question<'a>(alloc: Global, name: &'a str, help: &'a str) -> Arg<'a> {
+    option(alloc, name, "QUESTION", help).action(ArgAction::Append)
+}
+
 /// An argument of one file or more.
 fn files<'a>(alloc: Global, name: &'a str, help: &'a str) -> Arg<'a> {
     Arg::new(alloc, name)
@@ -158,8 +163,8 @@ fn orders<'a>(alloc: Global) -> Result<Command<'a>, AllocError> {
         .arg(config(alloc))?
         .arg(files(alloc, SCRIPTS, scripts))?
         .arg(option(alloc, STATES, "N", help::STATES))?
-        .arg(option(alloc, WHEN, "CALL = REPLY", help::WHEN))?
-        .arg(option(alloc, NEVER, "CALL = REPLY", help::NEVER))?
+        .arg(question(alloc, WHEN, help::WHEN))?
+        .arg(question(alloc, NEVER, help::NEVER))?
         .arg(json(alloc))
 }
 

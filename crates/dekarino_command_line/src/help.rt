@@ -101,13 +101,16 @@ pub(crate) const STEPS: &str = "Gives up the search after this many steps [defau
 
 pub(crate) const ORDERS: &str = "\
 Each partition makes the calls of its script in order. Nothing else says which call comes first; moments order nothing
-between partitions. For each call, by the line of its script, it prints all replies that some order gives, and no others;
-for each queuing channel it prints the least and the greatest of its counts in the end. The last line has the number of
-states tried and the number of different ends. If partitions fall into groups that share no channel, each group has such a line. Above the
-bound on states it prints nothing, and the status is 5.
+between partitions. For each call, by the line of its script, it prints all replies that some order gives, and no others,
+after `*` if there are several; and for each queuing channel the least and the greatest of its counts in the end. Then
+come the number of states tried and of different ends, in a line for each group of partitions that shares no channel with
+others, and the number of calls with several replies. Above the bound on states it prints nothing, and the status is 5.
 
 A question NAME:LINE = REPLY is about the call on that line of the partition's script. A return code alone means
-every reply with that code. The first order that gives such a reply ends the search.
+every reply with that code. The first order that gives such a reply ends the search. A question CHANNEL COUNT OP NUMBER,
+as NAV waiting <= 1, is about a queuing channel after all calls. COUNT is accepted, received, cleared or waiting, and OP
+is =, <=, >=, < or >. Several questions are answered in the order given, each below a line with the question. The status
+is 4 if one answer is no, else 5 if one is undecided.
 
 Example:
   $ ./dekarino orders examples/orders/config.toml FMS=examples/orders/fms.script DSP=examples/orders/dsp.script
@@ -122,10 +125,10 @@ Example:
 pub(crate) const STATES: &str = "Gives up above this many states [default: 100000]";
 
 pub(crate) const WHEN: &str =
-    "Prints an order in which the call NAME:LINE gets the reply, as a log; status 4 if there is none";
+    "Prints an order with such a reply or such an end, as a log; status 4 if there is none";
 
 pub(crate) const NEVER: &str =
-    "Status 0 if the call NAME:LINE gets the reply in no order; otherwise 4, with such an order";
+    "Status 0 if no order has such a reply or such an end; otherwise 4, with such an order";
 
 pub(crate) const ROWS: &str = "\
 Prints the rows of each service in order. The first row whose condition holds gives the reply, and `explain` prints its

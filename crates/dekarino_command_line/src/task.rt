@@ -54,13 +54,13 @@ pub enum Task<'a> {
         time_outs: bool,
         form: Form,
     },
-    /// Prints all replies that scripts can get over every order of their calls, or answers a question about one; it gives
+    /// Prints all replies that scripts can get over every order of their calls, or answers questions about them; it gives
     /// up after this many states.
     Orders {
         config: &'a str,
         scripts: Vec<&'a str>,
         states: usize,
-        question: Option<Question<'a>>,
+        questions: Vec<Question<'a>>,
         form: Form,
     },
     /// Prints the reply table: the rows of a service, or of all.
@@ -90,6 +90,20 @@ pub enum Question<'a> {
     When(&'a str),
     /// It is to get it in none.
     Never(&'a str),
+}
+
+impl<'a> Question<'a> {
+    /// The words of the question.
+    pub fn words(&self) -> &'a str {
+        match self {
+            Question::When(words) | Question::Never(words) => words,
+        }
+    }
+
+    /// Whether the reply is to be got.
+    pub fn is_wanted(&self) -> bool {
+        matches!(self, Question::When(_))
+    }
 }
 
 /// How an answer is printed.
@@ -293,18 +307,6 @@ fn orders_in<'a>(alloc: Global, given: &ArgMatches<'a>) -> Result<Task<'a>, Word
     let Some(states) = number_in(given, commands::STATES, STATES) else {
         return Err(orders_fault(alloc, "--states takes a number"));
     };
-    let question = match (
-        given.get_str(commands::WHEN),
-        given.get_str(commands::NEVER),
-    ) {
-        (Some(_), Some(_)) => return Err(orders_fault(
-            alloc,
-            "--when and --never don't go together",
-        )),
-        (Some(words), None) => Some(Question::When(words)),
-        (None, Some(words)) => Some(Question::Never(words)),
-        (None, None) => None,
-    };
     let words = given.get_strs(commands::SCRIPTS).unwrap_or(&[]);
     if !words.iter().all(|word| names_partition(word)) {
         return Err(orders_fault(
@@ -318,9 +320,33 @@ fn orders_in<'a>(alloc: Global, given: &ArgMatches<'a>) -> Result<Task<'a>, Word
         config: config_in(alloc, given)?,
         scripts,
         states: states as usize,
-        question,
+        questions: questions_in(alloc, given)?,
         form: form_in(given),
     })
+}
+
+/// The questions of `--when` and `--never`, in the order given.
+fn questions_in<'a>(
+    alloc: Global,
+    given: &ArgMatches<'a>,
+) -> Result<Vec<Question<'a>>, AllocError> {
+    let mut placed = Vec::new(alloc);
+    let places = given.indices_of(commands::WHEN).unwrap_or(&[]);
+    let when = given.get_strs(commands::WHEN).unwrap_or(&[]);
+    for (place, words) in places.iter().zip(when.iter()) {
+        placed.push((*place, Question::When(words)))?;
+    }
+    let places = given.indices_of(commands::NEVER).unwrap_or(&[]);
+    let never = given.get_strs(commands::NEVER).unwrap_or(&[]);
+    for (place, words) in places.iter().zip(never.iter()) {
+        placed.push((*place, Question::Never(words)))?;
+    }
+    placed.sort_by_key(|one| one.0)?;
+    let mut questions = Vec::with_capacity(alloc, placed.len())?;
+    for (_, question) in placed.as_slice() {
+        questions.push(*question)?;
+    }
+    Ok(questions)
 }
 
 /// The number that an option gives, or the one where it isn't given; `None` where what is given is no number.

@@ -3,7 +3,10 @@
 //! answers, and why it can't.
 #![tactic(auto)]
 
+mod answers;
+mod bound;
 mod configuration;
+mod end_questions;
 mod file_writer;
 mod input_files;
 mod json;
@@ -28,7 +31,9 @@ mod scripts;
 mod search_progress;
 pub mod unfinished;
 mod unreadable;
+mod verdict;
 
+pub use crate::bound::Bound;
 pub use crate::configuration::read_config;
 pub use crate::file_writer::FileWriter;
 pub use crate::input_files::InputFiles;

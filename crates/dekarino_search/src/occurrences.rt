@@ -1,14 +1,14 @@
-//! Whether a call of scripts gets a reply that a question admits in some order.
+//! Whether some order is as a question asks.
 ghost use Rattle.std.specs.Prelude.{◌≡◌, length};
 ghost use Rattle.apex_ports.specs.Sound.{IsSound};
 
-use crate::outcome::Outcome;
 use crate::progress::Progress;
-use crate::questions::question_in;
+use crate::questions::AskedOf;
 use crate::script_outcomes::unfinished_by;
 use crate::search_progress::SearchProgress;
 use crate::unfinished::Unfinished;
-use apex_groups::order_giving_apart;
+use crate::verdict::Verdict;
+use apex_groups::{order_giving_apart, order_to_end};
 use apex_module::Config;
 use apex_orders::Order;
 use apex_orders::step::step;
@@ -16,46 +16,48 @@ use apex_ports::{Ports, Script};
 use apex_types::OutOfMemory;
 use apex_words::push_logged;
 use dekarino_command_line::Question;
-use dekarino_texts::LineNumbers;
 use std::alloc::{AllocError, Global};
 
-/// The text if no order gives such a reply.
-const NEVER: &[u8] = b"never\n";
+/// The text if no order is.
+const NEVER: &str = "never\n";
 
-/// The answer to a question: an order in which the call gets an admitted reply, as a log, or that there is none.
+/// The answer to a question, with the text that is printed.
+#[derive(Drop)]
+pub(crate) struct Answer {
+    pub(crate) verdict: Verdict,
+    pub(crate) text: String,
+}
+
+/// The answer to a question: an order in which the call gets an admitted reply, or that leads to such an end, as a log; or
+/// that there is none.
 pub(crate) fn find_occurrence<'a, P: Progress>(
     alloc: Global,
     config: &Config,
     scripts: &mut [Script],
-    lines: &[LineNumbers],
     states: usize,
-    question: Question<'a>,
+    question: &Question<'a>,
+    asked: &AskedOf,
     progress: &mut P,
-) -> Result<Outcome, Unfinished<'a>>
+) -> Result<Answer, Unfinished<'a>>
     requires { length scripts.old ≡ length config.now.partitions }
+    ensures same { scripts.new ≡ scripts.old }
 {
-    let (words, wanted) = match question {
-        Question::When(words) => (words, true),
-        Question::Never(words) => (words, false),
-    };
-    let asked = match question_in(alloc, config, scripts, lines, words) {
-        Ok(asked) => asked,
-        Err(unfinished) => return Err(unfinished),
-    };
     let mut progress = SearchProgress { progress };
-    let order = match order_giving_apart(alloc, config, scripts, &asked, states, &mut progress) {
+    let found = match asked {
+        AskedOf::Call(asked) => {
+            order_giving_apart(alloc, config, scripts, asked, states, &mut progress)
+        }
+        AskedOf::End(asked) => order_to_end(alloc, config, scripts, asked, states, &mut progress),
+    };
+    let order = match found {
         Ok(order) => order,
         Err(fault) => return Err(unfinished_by(fault, states)),
     };
-    let occurs = order.is_some();
-    let Ok(text) = answer_text(alloc, config, scripts, order) else {
-        return Err(Unfinished::from(AllocError));
-    };
-    Ok(if occurs == wanted {
-        Outcome::Done(text)
-    } else {
-        Outcome::Negative(text)
-    })
+    let verdict = Verdict::of(order.is_some(), question.is_wanted());
+    match answer_text(alloc, config, scripts, order) {
+        Ok(text) => Ok(Answer { verdict, text }),
+        Err(_) => Err(Unfinished::from(AllocError)),
+    }
 }
 
 fn answer_text(
@@ -63,12 +65,12 @@ fn answer_text(
     config: &Config,
     scripts: &[Script],
     order: Option<Order>,
-) -> Result<Vec<u8>, OutOfMemory>
+) -> Result<String, OutOfMemory>
     requires { length scripts.now ≡ length config.now.partitions }
 {
     match order {
-        Some(order) => Ok(order_text(alloc, config, scripts, &order)?.into_bytes()),
-        None => Ok(Vec::from_slice(alloc, NEVER)?),
+        Some(order) => order_text(alloc, config, scripts, &order),
+        None => Ok(String::from_str(alloc, NEVER)?),
     }
 }
 

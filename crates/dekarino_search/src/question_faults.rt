@@ -1,4 +1,5 @@
 //! Why words are no question, in words.
+use crate::end_questions::COUNTS;
 use crate::unfinished::Unfinished;
 use apex_module::Config;
 use apex_refusals::nearest;
@@ -7,7 +8,7 @@ use apex_words::refusals_of;
 use dekarino_texts::LineNumbers;
 use std::alloc::{AllocError, Global};
 
-/// Why words are no question `NAME:LINE = REPLY`.
+/// Why words are no question `NAME:LINE = REPLY` or `CHANNEL COUNT OP NUMBER`.
 #[derive(Clone, Copy)]
 pub(crate) enum QuestionFault<'a> {
     /// They have another form.
@@ -30,6 +31,18 @@ pub(crate) enum QuestionFault<'a> {
     /// No row of the service gives the reply.
     NotGiven {
         service: Service,
+    },
+    /// No queuing channel has the name.
+    NoChannel {
+        name: &'a str,
+    },
+    /// What is said to be a count is none.
+    NoCount {
+        said: &'a str,
+    },
+    /// What is said to be a number is none.
+    NoNumber {
+        said: &'a str,
     },
 }
 
@@ -67,7 +80,9 @@ fn reason_of(
 ) -> Result<String, AllocError> {
     let mut text = String::new(alloc);
     match fault {
-        QuestionFault::Form => text.push_str("expected NAME:LINE = REPLY")?,
+        QuestionFault::Form => text.push_str(
+            "expected NAME:LINE = REPLY or CHANNEL COUNT OP NUMBER",
+        )?,
         QuestionFault::NoPartition { name } => {
             write!(text, "no partition is called {name}; there are")?;
             push_partitions(&mut text, config)?;
@@ -94,6 +109,12 @@ fn reason_of(
             text.push_str("no row of the reply table gives that; ")?;
             push_replies(&mut text, service)?;
         }
+        QuestionFault::NoChannel { name } => {
+            write!(text, "no queuing channel is called {name}; there are")?;
+            push_channels(&mut text, config)?;
+        }
+        QuestionFault::NoCount { said } => push_no_count(alloc, &mut text, said)?,
+        QuestionFault::NoNumber { said } => write!(text, "{said} is no number")?,
     }
     Ok(text)
 }
@@ -105,6 +126,31 @@ fn push_partitions(text: &mut String, config: &Config) -> Result<(), AllocError>
         write!(text, "{mark} {}", config.partition_name(p).text())?;
     }
     Ok(())
+}
+
+/// Writes the names of the queuing channels, each behind a space.
+fn push_channels(text: &mut String, config: &Config) -> Result<(), AllocError> {
+    let mut mark = "";
+    for c in 0..config.channels() {
+        let channel = config.channel(c);
+        if channel.kind.is_queuing() {
+            write!(text, "{mark} {}", channel.name.text())?;
+            mark = ",";
+        }
+    }
+    if mark.is_empty() {
+        text.push_str(" none")?;
+    }
+    Ok(())
+}
+
+/// Writes that a word is no count, and what it was meant to be.
+fn push_no_count(alloc: Global, text: &mut String, said: &str) -> Result<(), AllocError> {
+    write!(text, "{said} is no count; ")?;
+    match nearest(alloc, said.as_bytes(), &COUNTS)? {
+        Some(word) => write!(text, "did you mean {word}?"),
+        None => text.push_str("there are accepted, received, cleared and waiting"),
+    }
 }
 
 /// Writes on which lines the calls of a script are.

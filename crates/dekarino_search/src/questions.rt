@@ -6,8 +6,10 @@ ghost use Rattle.apex_ports.specs.History.{History};
 ghost use Rattle.apex_ports.specs.ReplyTable.{reply_to};
 ghost use Rattle.apex_orders.specs.Outcomes.{Admits};
 
+use crate::end_questions::read_end;
 use crate::question_faults::{QuestionFault, question_error};
 use crate::unfinished::Unfinished;
+use apex_groups::AskedEnd;
 use apex_logs::read_reply;
 use apex_module::Config;
 use apex_orders::{Admitted, Asked};
@@ -18,15 +20,24 @@ use apex_words::{can_give, can_give_code};
 use dekarino_texts::LineNumbers;
 use std::alloc::Global;
 
-/// The question that words `NAME:LINE = REPLY` ask of the call on that line of the partition's script. A return code alone
-/// means every reply with that code.
+/// What a question asks.
+#[derive(Drop)]
+pub(crate) enum AskedOf {
+    /// Whether a call gets a reply.
+    Call(Asked),
+    /// Whether all calls lead to an end.
+    End(AskedEnd),
+}
+
+/// The question that words ask: `CHANNEL COUNT OP NUMBER` if they have no colon, else `NAME:LINE = REPLY`, of the call on
+/// that line of the partition's script. A return code alone means every reply with that code.
 pub(crate) fn question_in<'a>(
     alloc: Global,
     config: &Config,
     scripts: &[Script],
     lines: &[LineNumbers],
     words: &'a str,
-) -> Result<Asked, Unfinished<'a>> {
+) -> Result<AskedOf, Unfinished<'a>> {
     match read_question(config, scripts, lines, words) {
         Ok(asked) => Ok(asked),
         Err(fault) => Err(question_error(alloc, config, lines, words, fault)),
@@ -34,6 +45,20 @@ pub(crate) fn question_in<'a>(
 }
 
 fn read_question<'a>(
+    config: &Config,
+    scripts: &[Script],
+    lines: &[LineNumbers],
+    words: &'a str,
+) -> Result<AskedOf, QuestionFault<'a>> {
+    if words.split_once(':').is_none() {
+        let asked = read_end(config, words)?;
+        return Ok(AskedOf::End(asked));
+    }
+    let asked = read_call(config, scripts, lines, words)?;
+    Ok(AskedOf::Call(asked))
+}
+
+fn read_call<'a>(
     config: &Config,
     scripts: &[Script],
     lines: &[LineNumbers],

@@ -1,9 +1,10 @@
 //! What scripts can come to over every order of their calls.
 ghost use Rattle.std.specs.Prelude.{◌≡◌, length};
 
+use crate::answers::answers_to;
+use crate::bound::Bound;
 use crate::configuration::read_config;
 use crate::json_outcomes::OutcomeObjects;
-use crate::occurrences::find_occurrence;
 use crate::outcome::Outcome;
 use crate::progress::Progress;
 use crate::scripts::{Scripts, read_scripts};
@@ -20,15 +21,15 @@ use dekarino_command_line::{Form, Question};
 use dekarino_texts::{LineNumbers, OutcomeText, walk_outcomes};
 use std::alloc::{AllocError, Global};
 
-/// What the scripts that the arguments name can come to, on the configuration in a file: all of it, or the answer to a
-/// question. The search gives up above `states` states.
+/// What the scripts that the arguments name can come to, on the configuration in a file: all of it, or the answers to
+/// questions. A search gives up above `states` states.
 pub fn outcomes_of_scripts<'a, O: Opener, P: Progress>(
     alloc: Global,
     opener: &O,
     config: &'a str,
     arguments: &[&'a str],
     states: usize,
-    question: Option<Question<'a>>,
+    questions: &[Question<'a>],
     form: Form,
     progress: &mut P,
 ) -> Result<Outcome, Unfinished<'a>> {
@@ -36,8 +37,8 @@ pub fn outcomes_of_scripts<'a, O: Opener, P: Progress>(
     let Scripts { scripts, lines } = read_scripts(alloc, opener, &config, arguments, form)?;
     let mut scripts = unpack_all(alloc, scripts.as_slice())?;
     let (scripts, lines) = (scripts.as_mut_slice(), lines.as_slice());
-    if let Some(question) = question {
-        return find_occurrence(alloc, &config, scripts, lines, states, question, progress);
+    if !questions.is_empty() {
+        return answers_to(alloc, &config, scripts, lines, states, questions, progress);
     }
     let mut progress = SearchProgress { progress };
     let found = match all_outcomes_apart(alloc, &config, scripts, states, &mut progress) {
@@ -75,7 +76,7 @@ fn outcomes_text(
 /// Why a search whose bound was this number of states ended without an answer.
 pub(crate) fn unfinished_by<'a>(fault: OrdersFault, states: usize) -> Unfinished<'a> {
     match fault {
-        OrdersFault::TooManyStates => Unfinished::TooManyStates { states },
+        OrdersFault::TooManyStates => Unfinished::Undecided(Bound::States(states)),
         OrdersFault::OutOfMemory => Unfinished::from(AllocError),
     }
 }

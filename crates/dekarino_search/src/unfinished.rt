@@ -4,6 +4,7 @@ ghost use Rattle.apex_files.specs.declared.refusal.Refusal.TheVariants.{Text};
 ghost use Rattle.dekarino_search.specs.declared.unfinished.Unfinished.TheVariants.{FaultyLog, Refused};
 ghost use Rattle.dekarino_search.specs.Unfinished.{log_refusal, out_of_memory};
 
+use crate::bound::Bound;
 use apex_files::Refusal;
 use apex_logs::{FaultyLine, LogError};
 use apex_texts::Fault;
@@ -55,10 +56,8 @@ pub enum Unfinished<'a> {
         words: &'a str,
         reason: String,
     },
-    /// The orders of scripts lead to more states than this bound.
-    TooManyStates {
-        states: usize,
-    },
+    /// A search gave up above this bound.
+    Undecided(Bound),
 }
 
 impl<'a> From<FaultyLine> for Unfinished<'a> {

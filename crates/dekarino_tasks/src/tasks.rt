@@ -9,7 +9,7 @@ use apex_texts::Fault;
 use dekarino_command_line::{Files, Origin, Start, Task, WordsFault, task_of, version_text};
 use dekarino_drawings::CALL_LIMIT;
 use dekarino_search::{
-    FileWriter, Outcome, Progress, TOO_LONG, Unfinished, UnreadableFile, departures_of_log,
+    Bound, FileWriter, Outcome, Progress, TOO_LONG, Unfinished, UnreadableFile, departures_of_log,
     order_of_logs, outcomes_of_scripts,
 };
 use dekarino_texts::Reading;
@@ -108,7 +108,7 @@ fn finish<W: Write, E: Write>(
         Err(Unfinished::BadQuestion { words, reason }) => {
             return bad_question(words, &reason, errors);
         }
-        Err(Unfinished::TooManyStates { states }) => return too_many_states(states, errors),
+        Err(Unfinished::Undecided(bound)) => return undecided(bound, errors),
     };
     if let Err(error) = write_whole(output, text.as_slice()) {
         return match error.kind() {
@@ -200,9 +200,9 @@ fn bad_question<E: Write>(words: &str, reason: &str, errors: &mut E) -> u8 {
     MISUSED
 }
 
-/// Writes that the orders of scripts lead to more states than the bound, and answers the status.
-fn too_many_states<E: Write>(states: usize, errors: &mut E) -> u8 {
-    let _ = writeln!(errors, "undecided: more than {states} states");
+/// Writes above which bound a search gave up, and answers the status.
+fn undecided<E: Write>(bound: Bound, errors: &mut E) -> u8 {
+    let _ = writeln!(errors, "{bound}");
     UNDECIDED
 }
 
@@ -266,7 +266,7 @@ fn perform<'a, R: Threads + Wait + Sync, O: Opener + FileWriter, P: Progress, W:
             config,
             scripts,
             states,
-            question,
+            questions,
             form,
         } => outcomes_of_scripts(
             alloc,
@@ -274,7 +274,7 @@ fn perform<'a, R: Threads + Wait + Sync, O: Opener + FileWriter, P: Progress, W:
             config,
             scripts.as_slice(),
             states,
-            question,
+            questions.as_slice(),
             form,
             progress,
         ),

@@ -3,7 +3,6 @@ pub mod ExplanationLemmas
 pub mod HandedLemmas
 pub mod JudgedLineLemmas
 pub mod NoteLemmas
-pub mod OrderLemmas
 pub mod OutcomeLemmas
 pub mod RemarkLemmas
 pub mod ScriptLineLemmas

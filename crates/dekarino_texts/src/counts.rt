@@ -4,9 +4,9 @@ ghost use Rattle.apex_ports.specs.Sound.{IsSound};
 ghost use Rattle.apex_orders.specs.Orders.{history_of};
 ghost use Rattle.dekarino_texts.specs.Counts.{counts_after, lesser, greater, only, widened, ranges_over};
 
+use apex_groups::ports_after;
 use apex_module::Config;
 use apex_orders::Order;
-use apex_orders::step::step;
 use apex_ports::{Ports, Script};
 use apex_types::OutOfMemory;
 use std::alloc::Global;
@@ -120,26 +120,4 @@ fn counts_of(ports: &Ports, c: usize) -> Counts
         cleared: ports.cleared_count(c),
         waiting: ports.waiting_count(c) as u64,
     }
-}
-
-/// New ports after the calls of the scripts in this order. A number that is no partition's has no script, and calls
-/// nothing.
-fn ports_after(
-    alloc: Global,
-    config: &Config,
-    scripts: &[Script],
-    order: &Order,
-) -> Result<Ports, OutOfMemory>
-    requires { length scripts.now ≡ length config.now.partitions }
-    ensures config { IfOk result (λ ports. ports.config ≡ config.now) }
-    ensures history { IfOk result
-        (λ ports. ports.history ≡ history_of config.now scripts.now order.now) }
-{
-    let mut ports = Ports::new(alloc, config.copy()?)?;
-    for p in order.partitions() {
-        if *p < scripts.len() {
-            let _ = step(&mut ports, scripts, *p);
-        }
-    }
-    Ok(ports)
 }

@@ -5,9 +5,9 @@ use Rattle.apex_ports.specs.PortsView.{PortsView}
 use Rattle.apex_ports.specs.Sound.{IsSound}
 use Rattle.apex_orders.specs.Orders.{history_of, next_entries}
 use Rattle.apex_orders.proofs.Walks.{continued-append}
-use Rattle.dekarino_texts.proofs.OrderLemmas.{without_script}
-use Rattle.dekarino_texts.proofs.counts.ports_after.Goals as goal
-use Rattle.dekarino_texts.proofs.counts.ports_after.Goals.{then-p-scripts, else-p-scripts}
+use Rattle.apex_groups.proofs.OrderLemmas.{without_script}
+use Rattle.apex_groups.proofs.after.ports_after.Goals as goal
+use Rattle.apex_groups.proofs.after.ports_after.Goals.{then-p-scripts, else-p-scripts}
 
 pub loop-p-preserved : goal.loop-p-preserved
 loop-p-preserved c =

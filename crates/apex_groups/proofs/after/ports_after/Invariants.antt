@@ -1,7 +1,7 @@
 use Rattle.std.proofs.Common.{◌≡◌, take}
 use Rattle.apex_ports.specs.Sound.{IsSound}
 use Rattle.apex_orders.specs.Orders.{history_of}
-use Rattle.dekarino_texts.proofs.counts.ports_after.Given as goal
+use Rattle.apex_groups.proofs.after.ports_after.Given as goal
 
 abbrev pub invariant-loop-p : goal.invariant-loop-p
 invariant-loop-p l = record {

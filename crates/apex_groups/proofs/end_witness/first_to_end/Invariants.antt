@@ -1,0 +1,8 @@
+use Rattle.std.proofs.Common.{◌≡◌, ℕ, ◌<◌, List, slice_get, Some}
+use Rattle.apex_orders.specs.Orders.{history_of}
+use Rattle.apex_groups.specs.Ends.{IsSuchEnd}
+use Rattle.apex_groups.proofs.end_witness.first_to_end.Given as goal
+
+abbrev pub invariant-loop-index : goal.invariant-loop-index
+invariant-loop-index l =
+    (k : ℕ) (order : List ℕ) → k < l.index → slice_get l.orders k ≡ Some order → ¬ IsSuchEnd l.config l.asked (history_of l.config l.scripts order)

@@ -1,0 +1,52 @@
+-- Questions about what a channel counts after all calls.
+use Rattle.std.specs.Prelude.{ℕ, ◌≡◌, ◌<◌, ◌≤◌, List, length, slice_get, Option, Some, None}
+use Rattle.apex_module.specs.Configuration.{Configuration}
+use Rattle.apex_ports.specs.Channels.{accepted_on, received_on, cleared_on, waiting_on}
+use Rattle.apex_ports.specs.Counts.{count_of}
+use Rattle.apex_ports.specs.History.{History}
+use Rattle.apex_orders.specs.Lists.{Has}
+use Rattle.apex_orders.specs.Orders.{Scripts, IsWay, history_of}
+use Rattle.apex_groups.specs.declared.asked_end.AskedEnd.{AskedEnd}
+use Rattle.apex_groups.specs.declared.asked_end.Comparison.{Comparison}
+use Rattle.apex_groups.specs.declared.asked_end.Comparison.TheVariants as comparison
+use Rattle.apex_groups.specs.declared.asked_end.Count.{Count}
+use Rattle.apex_groups.specs.declared.asked_end.Count.TheVariants as count
+
+-- how many messages the channel accepted, how many were received or cleared, or how many wait
+abbrev pub count_after : Configuration → History → ℕ → Count → ℕ
+count_after config history c count.Accepted = count_of (accepted_on config c history)
+count_after config history c count.Received = count_of (received_on config c history)
+count_after config history c count.Cleared = count_of (cleared_on config c history)
+count_after config history c count.Waiting = length (waiting_on config c history)
+
+-- the number compares so with the other
+abbrev pub Compares : Comparison → ℕ → ℕ → Type 0
+Compares comparison.Equal a b = a ≡ b
+Compares comparison.AtMost a b = a ≤ b
+Compares comparison.AtLeast a b = b ≤ a
+Compares comparison.Less a b = a < b
+Compares comparison.More a b = b < a
+
+-- the history has the end that is asked for
+abbrev pub IsSuchEnd : Configuration → AskedEnd → History → Type 0
+IsSuchEnd config asked history =
+    Compares asked.comparison (count_after config history asked.channel asked.count) asked.number
+
+-- the order at the index leads to such an end; `None` if no order does
+abbrev pub FindsEnd : Configuration → Scripts → AskedEnd → List (List ℕ) → Option ℕ → Type 0
+FindsEnd config scripts asked orders (Some index) =
+    (order : List ℕ) × (slice_get orders index ≡ Some order) × IsSuchEnd config asked (history_of config scripts order)
+FindsEnd config scripts asked orders None =
+    (order : List ℕ) → Has orders order → ¬ IsSuchEnd config asked (history_of config scripts order)
+
+-- the order makes all calls, and leads to such an end
+pub record LeadsToEnd (config : Configuration) (scripts : Scripts) (asked : AskedEnd) (order : List ℕ) : Type 0 where
+  pub is_way : IsWay config scripts (history_of config scripts order)
+  pub such : IsSuchEnd config asked (history_of config scripts order)
+
+-- there is such a channel, and some way of all calls has such an end
+pub record HasSuchEnd (config : Configuration) (scripts : Scripts) (asked : AskedEnd) : Type 0 where
+  pub channel : asked.channel < length config.channels
+  pub way : History
+  pub is_way : IsWay config scripts way
+  pub such : IsSuchEnd config asked way

@@ -1,0 +1,109 @@
+//! The answers to the questions of `--when` and `--never`.
+ghost use Rattle.std.specs.Prelude.{◌≡◌, length};
+
+use crate::occurrences::find_occurrence;
+use crate::outcome::Outcome;
+use crate::progress::Progress;
+use crate::questions::{AskedOf, question_in};
+use crate::unfinished::Unfinished;
+use crate::verdict::Verdict;
+use apex_module::Config;
+use apex_ports::Script;
+use dekarino_command_line::Question;
+use dekarino_texts::LineNumbers;
+use std::alloc::{AllocError, Global};
+
+/// The answers to questions, in the order given. Of several questions, a line with the question begins each answer, also
+/// one that is undecided. A search for each gives up above `states` states.
+pub(crate) fn answers_to<'a, P: Progress>(
+    alloc: Global,
+    config: &Config,
+    scripts: &mut [Script],
+    lines: &[LineNumbers],
+    states: usize,
+    questions: &[Question<'a>],
+    progress: &mut P,
+) -> Result<Outcome, Unfinished<'a>>
+    requires { length scripts.old ≡ length config.now.partitions }
+{
+    let all_asked = match all_asked_in(alloc, config, scripts, lines, questions) {
+        Ok(all_asked) => all_asked,
+        Err(unfinished) => return Err(unfinished),
+    };
+    let all_asked = all_asked.as_slice();
+    match (questions, all_asked) {
+        ([question], [asked]) => {
+            let found = find_occurrence(alloc, config, scripts, states, question, asked, progress);
+            match found {
+                Ok(answer) => Ok(answer.verdict.outcome(answer.text.into_bytes())),
+                Err(unfinished) => Err(unfinished),
+            }
+        }
+        _ => several_answers(
+            alloc, config, scripts, states, questions, all_asked, progress,
+        ),
+    }
+}
+
+/// What the questions ask.
+fn all_asked_in<'a>(
+    alloc: Global,
+    config: &Config,
+    scripts: &[Script],
+    lines: &[LineNumbers],
+    questions: &[Question<'a>],
+) -> Result<Vec<AskedOf>, Unfinished<'a>> {
+    let mut all_asked = Vec::new(alloc);
+    for question in questions {
+        let asked = match question_in(alloc, config, scripts, lines, question.words()) {
+            Ok(asked) => asked,
+            Err(unfinished) => return Err(unfinished),
+        };
+        match all_asked.push(asked) {
+            Ok(()) => {}
+            Err(refused) => return Err(Unfinished::from(AllocError::from(refused))),
+        }
+    }
+    Ok(all_asked)
+}
+
+/// The answers, each behind a line with its question.
+fn several_answers<'a, P: Progress>(
+    alloc: Global,
+    config: &Config,
+    scripts: &mut [Script],
+    states: usize,
+    questions: &[Question<'a>],
+    all_asked: &[AskedOf],
+    progress: &mut P,
+) -> Result<Outcome, Unfinished<'a>>
+    requires { length scripts.old ≡ length config.now.partitions }
+{
+    let mut text = String::new(alloc);
+    let mut verdict = Verdict::Yes;
+    for (question, asked) in questions.iter().zip(all_asked.iter()) {
+        push_question(&mut text, question)?;
+        match find_occurrence(alloc, config, scripts, states, question, asked, progress) {
+            Ok(answer) => {
+                verdict = verdict.and(answer.verdict);
+                text.push_str(answer.text.as_str())?;
+            }
+            Err(Unfinished::Undecided(bound)) => {
+                verdict = verdict.and(Verdict::Undecided);
+                writeln!(text, "{bound}")?;
+            }
+            Err(unfinished) => return Err(unfinished),
+        }
+    }
+    Ok(verdict.outcome(text.into_bytes()))
+}
+
+/// Writes a line with the option and the words of a question.
+fn push_question(text: &mut String, question: &Question<'_>) -> Result<(), AllocError> {
+    let option = if question.is_wanted() {
+        "when"
+    } else {
+        "never"
+    };
+    writeln!(text, "--{option} '{}'", question.words())
+}

@@ -1,0 +1,51 @@
+//! What answers to questions come to together.
+ghost use Rattle.std.specs.Prelude.{◌≡◌, ◌≢◌, ◌↔◌, ◌⊎◌};
+ghost use Rattle.dekarino_search.specs.declared.verdict.Verdict.TheVariants.{No, Undecided, Yes};
+
+use crate::outcome::Outcome;
+
+/// What an answer comes to.
+#[derive(Clone, Copy, Debug, PartialEq, Eq)]
+pub(crate) enum Verdict {
+    /// It is as asked.
+    Yes,
+    /// It isn't.
+    No,
+    /// A search ended at its bound.
+    Undecided,
+}
+
+impl Verdict {
+    /// What an answer to whether something occurs comes to, if it is to occur or is never to.
+    pub(crate) fn of(occurs: bool, wanted: bool) -> Verdict
+        ensures yes { (result ≡ Yes) ↔ (occurs ≡ wanted) }
+        ensures decided { result ≢ Undecided }
+    {
+        if occurs == wanted {
+            Verdict::Yes
+        } else {
+            Verdict::No
+        }
+    }
+
+    /// What two answers come to together.
+    pub(crate) fn and(self, other: Verdict) -> Verdict
+        ensures no { (result ≡ No) ↔ ((self ≡ No) ⊎ (other ≡ No)) }
+        ensures yes { (result ≡ Yes) ↔ ((self ≡ Yes) × (other ≡ Yes)) }
+    {
+        match (self, other) {
+            (Verdict::No, _) | (_, Verdict::No) => Verdict::No,
+            (Verdict::Undecided, _) | (_, Verdict::Undecided) => Verdict::Undecided,
+            (Verdict::Yes, Verdict::Yes) => Verdict::Yes,
+        }
+    }
+
+    /// The outcome of a task with this verdict and this text.
+    pub(crate) fn outcome(self, text: Vec<u8>) -> Outcome {
+        match self {
+            Verdict::Yes => Outcome::Done(text),
+            Verdict::No => Outcome::Negative(text),
+            Verdict::Undecided => Outcome::Undecided(text),
+        }
+    }
+}
