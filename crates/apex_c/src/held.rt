@@ -2,8 +2,8 @@
 ghost use Rattle.std.specs.Prelude.{◌≡◌, ◌≢◌, Some, None};
 ghost use Rattle.apex_c.specs.Held.{PortsHeld, ports_coded, held_owns};
 
-use apex_ports::Ports;
 use crate::parts::Parts;
+use apex_ports::Ports;
 use std::alloc::Global;
 use std::marker::Model;
 

@@ -105,7 +105,7 @@ pub extern "C" fn apex_judge_call(
         let held = judge.old.held.judge in
         let judged = judged_in (length buffer.old) held partition (moment_of at) asked given in
         result ≢ NO_MEMORY → IsShownFor judged
-            departure.old departure.new buffer.old buffer.new words.old words.new }
+        departure.old departure.new buffer.old buffer.new words.old words.new }
     ensures judge_kept { result ≡ NO_MEMORY → judge.new.held.judge ≡ judge.old.held.judge }
     ensures places_kept { result ≡ NO_MEMORY → (departure.new ≡ departure.old)
         × (buffer.new ≡ buffer.old) × (words.new ≡ words.old) }

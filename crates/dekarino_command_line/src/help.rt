@@ -84,8 +84,7 @@ Example:
   $ ./dekarino judge examples/recorded/config.toml FMS=examples/recorded/fms.log DSP=examples/recorded/dsp.log
   9 calls, as the standard says in some order";
 
-pub(crate) const TIME_OUTS: &str =
-    "Gives a time-out to each send and receive whose line has none";
+pub(crate) const TIME_OUTS: &str = "Gives a time-out to each send and receive whose line has none";
 
 pub(crate) const OWN_IDS: &str =
     "Reads identifiers in the log as those that the system gave its ports";
@@ -116,11 +115,12 @@ Example:
   $ ./dekarino orders examples/orders/config.toml FMS=examples/orders/fms.script DSP=examples/orders/dsp.script
   FMS:2 10 create-queuing NAV_OUT 4 1 0 0 -> NO_ERROR id 1
   FMS:3 30 send 1 0a0b -> NO_ERROR
-  FMS:4 50 send 1 0c0d -> NOT_AVAILABLE | NO_ERROR
+  * FMS:4 50 send 1 0c0d -> NOT_AVAILABLE | NO_ERROR
   DSP:2 20 create-queuing NAV_IN 4 1 1 0 -> NO_ERROR id 1
-  DSP:3 40 receive 1 -> NOT_AVAILABLE | NO_ERROR message 0a0b
+  * DSP:3 40 receive 1 -> NOT_AVAILABLE | NO_ERROR message 0a0b
   queuing NAV accepted 1..2 received 0..1 waiting 0..1
-  11 states, 3 ends";
+  11 states, 3 ends
+  2 calls depend on the order";
 
 pub(crate) const STATES: &str = "Gives up above this many states [default: 100000]";
 

@@ -250,10 +250,7 @@ fn judge_in<'a>(alloc: Global, given: &ArgMatches<'a>) -> Result<Task<'a>, Words
         return Err(judge_fault(alloc, "--steps takes a number"));
     };
     let Some(logs) = files_in(alloc, given, commands::LOGS)? else {
-        return Err(judge_fault(
-            alloc,
-            "give one log, or only arguments NAME=LOG",
-        ));
+        return Err(judge_fault(alloc, "give one log, or only arguments NAME=LOG"));
     };
     let (config, form) = (config_in(alloc, given)?, form_in(given));
     let (first, whole, time_outs, own_ids) = (
