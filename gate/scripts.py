@@ -15,7 +15,8 @@ TESTS = {
     "gate": (), "judge_apart": (), "hostile_sizes": (), "sizes": (), "largest_configurations": (), "prebuilt": (),
     "python": ("c_interface",), "page": ("python",), "python_installed": ("page",), "package": ("python_installed",),
     "c_builds": ("package",), "serve": ("c_builds",), "runs": (), "judge": (), "judge_readings": (),
-    "departures_of_one_lie": (), "run_cases": (), "examples": (), "dekarino": (), "mistakes": (), "drawings": (), "documents": ("serve",), "terminal": (),
+    "departures_of_one_lie": (), "run_cases": (), "examples": (), "dekarino": (), "mistakes": (),
+    "drawings": (), "documents": ("serve",), "terminal": (),
 }
 # Those that need the toolchain, or more minutes, and the words that they are run with.
 WHOLE = {"edits": (), "sweep_memory": ("all",)}
