@@ -1,5 +1,5 @@
-/* The functions of apex_ports.h that c_calls needs, over a bare ring of messages under one mutex. They check nothing but
- * the length and the room: no handle, partition, port, mode or direction. */
+/* The functions of apex_ports.h that c_calls needs, over a bare ring of messages under one mutex. They check the length
+ * and the room alone: no handle, partition, port, mode or direction. */
 #include "../c/apex_ports.h"
 
 #include <pthread.h>

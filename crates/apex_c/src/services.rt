@@ -217,7 +217,8 @@ fn receive(
     ensures ports { ports.new ≡ ports_with ports.old partition at (call.ReceiveQueuing id) }
     ensures buffer { let reply = reply_of_ports ports.old partition at (call.ReceiveQueuing id) in
         buffer.new ≡ buffer_after (message_in (Some reply)) buffer.old }
-    ensures message_length { let reply = reply_of_ports ports.old partition at (call.ReceiveQueuing id) in
+    ensures message_length { let asked = call.ReceiveQueuing id in
+        let reply = reply_of_ports ports.old partition at asked in
         message_length.new ≡ length_after (message_in (Some reply)) message_length.old }
 {
     match ports.receive(partition, at, id, buffer) {
@@ -255,7 +256,8 @@ fn read(
     ensures ports { ports.new ≡ ports_with ports.old partition at (call.ReadSampling id) }
     ensures buffer { let reply = reply_of_ports ports.old partition at (call.ReadSampling id) in
         buffer.new ≡ buffer_after (message_in (Some reply)) buffer.old }
-    ensures message_length { let reply = reply_of_ports ports.old partition at (call.ReadSampling id) in
+    ensures message_length { let asked = call.ReadSampling id in
+        let reply = reply_of_ports ports.old partition at asked in
         message_length.new ≡ length_after (message_in (Some reply)) message_length.old }
     ensures validity { let reply = reply_of_ports ports.old partition at (call.ReadSampling id) in
         validity.new ≡ validity_after (Some reply) validity.old }

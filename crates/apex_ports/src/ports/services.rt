@@ -1,4 +1,4 @@
-//! The services of messages by the standard's names: a message stays with the caller, and no call or reply is made of it.
+//! Services by the standard's names: a message stays with the caller, and no call or reply is made of it.
 //! Each is the event of `call`: the reply table's reply, and one entry more in the history.
 ghost use Rattle.std.specs.Prelude.{◌≡◌, ◌<◌, ◌≤◌, ◌∷◌, ◌++◌, [], length, drop};
 ghost use Rattle.apex_types.specs.declared.call.Call.TheVariants as call;
