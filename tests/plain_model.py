@@ -34,7 +34,8 @@ class Shown:
 
     def copy(self):
         other = Shown(self.module)
-        other.mode, other.created, other.last, other.sample = dict(self.mode), {*self.created}, dict(self.last), dict(self.sample)
+        other.mode, other.created = dict(self.mode), {*self.created}
+        other.last, other.sample = dict(self.last), dict(self.sample)
         other.waiting = {name: [*messages] for name, messages in self.waiting.items()}
         return other
 

@@ -31,8 +31,7 @@ impl DeadEnds {
     pub(crate) fn new(alloc: Global, config: &Config) -> DeadEnds
         ensures { (logs : Logs) → AreDead config.now logs result.keys }
     {
-        let numbers = config.partitions().saturating_add(config.channels());
-        let size = numbers.saturating_mul(8).saturating_add(PLACE);
+        let size = numbers_of(config).saturating_mul(8).saturating_add(PLACE);
         DeadEnds {
             keys: BTreeSet::new(alloc),
             room: MEMORY / size,
@@ -71,6 +70,11 @@ impl DeadEnds {
     }
 }
 
+/// How many numbers a key has.
+fn numbers_of(config: &Config) -> usize {
+    config.partitions().saturating_add(config.channels())
+}
+
 /// The key of the calls made so far.
 fn key_of(
     alloc: Global,
@@ -81,7 +85,8 @@ fn key_of(
     requires { IsWalk config.now logs.now walk.now }
     ensures { IfOk result (λ key. HasKey config.now walk.now.judge.log key.items) }
 {
-    let mut key = Vec::from_slice(alloc, walk.made.as_slice())?;
+    let mut key = Vec::with_capacity(alloc, numbers_of(config))?;
+    key.extend_from_slice(walk.made.as_slice())?;
     for channel in 0..config.channels() {
         key.push(walk.judge.waiting_count(channel))?;
     }
