@@ -83,12 +83,12 @@ pub enum Files<'a> {
     OfPartitions(Vec<&'a str>),
 }
 
-/// Whether a call gets a reply in some order: `NAME:LINE = REPLY`.
+/// A question about all orders: `NAME:LINE = REPLY` or `CHANNEL COUNT OP NUMBER`.
 #[derive(Clone, Copy, Debug, PartialEq, Eq)]
 pub enum Question<'a> {
-    /// It is to get it in some order.
+    /// Some order is to have such a reply or such an end.
     When(&'a str),
-    /// It is to get it in none.
+    /// No order is to have one.
     Never(&'a str),
 }
 
@@ -100,7 +100,7 @@ impl<'a> Question<'a> {
         }
     }
 
-    /// Whether the reply is to be got.
+    /// Whether some order is to have what is asked for.
     pub fn is_wanted(&self) -> bool {
         matches!(self, Question::When(_))
     }

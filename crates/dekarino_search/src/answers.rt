@@ -13,8 +13,8 @@ use dekarino_command_line::Question;
 use dekarino_texts::LineNumbers;
 use std::alloc::{AllocError, Global};
 
-/// The answers to questions, in the order given. Of several questions, a line with the question begins each answer, also
-/// one that is undecided. A search for each gives up above `states` states.
+/// The answers to questions, in the order given. Each of several is below a line with its question, also an undecided
+/// one. Each has a search of its own, which gives up above `states` states.
 pub(crate) fn answers_to<'a, P: Progress>(
     alloc: Global,
     config: &Config,

@@ -28,8 +28,8 @@ pub(crate) struct Answer {
     pub(crate) text: String,
 }
 
-/// The answer to a question: an order in which the call gets an admitted reply, or that leads to such an end, as a log; or
-/// that there is none.
+/// The answer to a question: as a log an order in which the call gets an admitted reply, or one that leads to such an
+/// end; or that there is none.
 pub(crate) fn find_occurrence<'a, P: Progress>(
     alloc: Global,
     config: &Config,

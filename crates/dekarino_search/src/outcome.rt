@@ -5,9 +5,9 @@
 pub enum Outcome {
     /// The task is done; if it was a question, the answer is yes.
     Done(Vec<u8>),
-    /// The answer is no: replies of a log depart from the standard, no order has the replies of logs, or a call gets no
-    /// reply that it was to get, or one that it was never to get.
+    /// The answer is no: replies of a log depart from the standard, no order has the replies of logs, or no order is as it
+    /// was to be in some, or one is as it was never to be.
     Negative(Vec<u8>),
-    /// A search ended at its bound without an answer.
+    /// A search ended at its bound without an answer, and no other answer is no.
     Undecided(Vec<u8>),
 }

@@ -29,8 +29,8 @@ pub(crate) enum AskedOf {
     End(AskedEnd),
 }
 
-/// The question that words ask: `CHANNEL COUNT OP NUMBER` if they have no colon, else `NAME:LINE = REPLY`, of the call on
-/// that line of the partition's script. A return code alone means every reply with that code.
+/// The question that words ask: `CHANNEL COUNT OP NUMBER` if they have no colon, else `NAME:LINE = REPLY`, of the call
+/// on that line of the partition's script. A return code alone means every reply with that code.
 pub(crate) fn question_in<'a>(
     alloc: Global,
     config: &Config,

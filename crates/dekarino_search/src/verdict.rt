@@ -16,7 +16,7 @@ pub(crate) enum Verdict {
 }
 
 impl Verdict {
-    /// What an answer to whether something occurs comes to, if it is to occur or is never to.
+    /// What an answer comes to, by whether what is asked for occurs, and whether it is to.
     pub(crate) fn of(occurs: bool, wanted: bool) -> Verdict
         ensures yes { (result ≡ Yes) ↔ (occurs ≡ wanted) }
         ensures decided { result ≢ Undecided }
