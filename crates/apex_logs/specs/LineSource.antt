@@ -11,7 +11,6 @@ use Rattle.apex_logs.specs.declared.line_source.LogStep.{LogStep}
 use Rattle.apex_logs.specs.declared.line_source.LogStep.TheVariants as steps
 use Rattle.apex_logs.specs.declared.line_source.StepError.{StepError}
 use Rattle.apex_logs.specs.declared.line_source.StepError.TheVariants.{Fault, Unread}
-use Rattle.apex_logs.specs.declared.log_fault.LogFault.{LogFault}
 use Rattle.apex_logs.specs.declared.time_out.TimeOut.{TimeOut}
 use Rattle.apex_logs.specs.LogLine.{entry_of_line, ends_calls}
 

@@ -85,7 +85,6 @@ fn read_piece<R: Read>(reader: &mut R, piece: &mut Vec<u8>) -> Result<(), ReadEr
         (Consumes (R.remaining reader.old) (R.remaining reader.new) piece.new.items) }
     ensures end { OnOk result (length piece.new.items ≡ 0 → IsAtEnd (R.remaining reader.new)) }
 {
-    piece.clear();
     piece.resize(PIECE_BYTES, 0)?;
     for _ in 0..usize::MAX {
         match reader.read(piece.as_mut_slice()) {
@@ -94,9 +93,13 @@ fn read_piece<R: Read>(reader: &mut R, piece: &mut Vec<u8>) -> Result<(), ReadEr
                 return Ok(());
             }
             Err(error) if error.kind() == ErrorKind::Interrupted => {}
-            Err(error) => return Err(ReadError::Io(error)),
+            Err(error) => {
+                piece.clear();
+                return Err(ReadError::Io(error));
+            }
         }
     }
+    piece.clear();
     Err(ReadError::Io(io::Error::from(ErrorKind::Interrupted)))
 }
 

@@ -1,4 +1,4 @@
-use Rattle.std.proofs.Common.{rules, ◌++◌, sym, ap, ◌∙◌, refl}
+use Rattle.std.proofs.Common.{rules, ◌++◌, ap, ◌∙◌, refl}
 use Rattle.apex_logs.proofs.LineSourceLemmas.{is_part, has_none}
 use Rattle.apex_logs.proofs.line_reader.push_part.Goals as goal
 
