@@ -1,5 +1,5 @@
 -- Judging a log, line by line.
-use Rattle.std.proofs.Common.{◌≡◌, ℕ, ◌+◌, ◌≤◌, true, false, List, [], ◌∷◌, ◌++◌, Option, Some, None, Result, Ok, Err, IfSome, inl, inr, refl, sym, ap, ◌∙◌, subst, append-nil, append_assoc}
+use Rattle.std.proofs.Common.{◌≡◌, ℕ, ◌+◌, ◌≤◌, true, false, List, [], ◌∷◌, ◌++◌, Some, None, Result, Ok, Err, IfSome, inl, inr, refl, sym, ap, ◌∙◌, subst, append-nil, append_assoc}
 use Rattle.apex_module.specs.Configuration.{Configuration}
 use Rattle.apex_ports.specs.declared.history.Entry.{Entry}
 use Rattle.apex_ports.specs.History.{History}
@@ -15,7 +15,7 @@ use Rattle.apex_logs.specs.declared.log_fault.LogFault.{LogFault}
 use Rattle.apex_logs.specs.declared.time_out.MaxWait.{MaxWait}
 use Rattle.apex_logs.specs.declared.time_out.TimeOut.{TimeOut}
 use Rattle.apex_logs.specs.LineSource.{IsFaultyStep, KnownLines, LeavesLines}
-use Rattle.apex_logs.specs.Log.{before, entries_from}
+use Rattle.apex_logs.specs.Log.{entries_from}
 use Rattle.apex_logs.specs.LogLine.{entry_of_line, ends_calls}
 use Rattle.apex_logs.specs.Polled.{polled_entry}
 use Rattle.apex_logs.specs.TimeOut.{max_wait_of}

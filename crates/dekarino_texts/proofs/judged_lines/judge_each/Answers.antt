@@ -1,4 +1,4 @@
-use Rattle.std.proofs.Common.{◌≡◌, ◌+◌, ◌≤◌, [], ◌∷◌, false, length, None, Some, Ok, refl, ap, ◌∙◌, rules, arith}
+use Rattle.std.proofs.Common.{◌≡◌, ◌+◌, [], length, refl, ap, ◌∙◌, rules, arith}
 use Rattle.std.proofs.lemmas.List.{length-replicate}
 use Rattle.apex_judge.specs.Departures.{instead_of}
 use Rattle.apex_judge.specs.OwnIds.{entry_in_ours}
