@@ -14,7 +14,6 @@ use Rattle.apex_types.specs.declared.validity.Validity.TheVariants.{Invalid, Val
 use Rattle.apex_texts.specs.declared.service.Service.{Service}
 use Rattle.apex_texts.specs.declared.service.Service.TheVariants as service
 use Rattle.apex_c.specs.Asked.{message_asked}
-use Rattle.apex_c.specs.AskedRow.{service_numbered}
 use Rattle.apex_c.specs.declared.answer.TheConstants.{NO_REPLY, NO_SERVICE, NOT_MADE}
 use Rattle.apex_c.specs.declared.replies.NumberedReply.{NumberedReply}
 
