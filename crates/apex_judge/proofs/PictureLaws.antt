@@ -25,6 +25,7 @@ use Rattle.apex_ports.proofs.Stays.{sample_stays, sample_changes}
 use Rattle.apex_judge.specs.declared.subject.Subject.{Subject}
 use Rattle.apex_judge.specs.Picture.{Picture, opening, waiting_at, sample_at, seen_in, reply_in}
 use Rattle.apex_judge.specs.Replies.{agrees}
+use Rattle.apex_judge.specs.Shown.{waiting_shown}
 use Rattle.apex_judge.specs.Steps.{sample_after, with_effects, judged, picture_after, picture_of}
 use Rattle.apex_judge.specs.Subjects.{subject_of, with_doubt}
 use Rattle.apex_judge.specs.Waiting.{waiting_after}
@@ -117,3 +118,7 @@ lawful_tells config h sound =
     let after = sound-push config g e.partition e.at e.call e.reply was.0 lawful.0 lawful.1 in
     (after, subst (Tells config (g ++ e ∷ [])) (sym (picture_of-append config g e)) (step_tells config g e (picture_of config g) was.0 after lawful.1 was.1)))
     [] h sound.lawful (sound-nil config sound.valid, nothing_told config)).1
+
+-- a lawful log shows what waits on each channel
+pub shows_what_waits : (config : Configuration) (h : History) (c : ℕ) → IsSound config h → waiting_shown config c h ≡ waiting_on config c h
+shows_what_waits config h c sound = (lawful_tells config h sound).waiting c

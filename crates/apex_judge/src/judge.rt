@@ -49,8 +49,7 @@ impl<A: Allocator> Judge<A> {
     ghost use Rattle.apex_ports.specs.ReplyTable.{reply_of};
     ghost use Rattle.apex_judge.specs.Departures.{instead_of};
     ghost use Rattle.apex_judge.specs.Replies.{agrees};
-    ghost use Rattle.apex_judge.specs.Shown.{shown, row_shown, reply_shown};
-    ghost use Rattle.apex_judge.specs.Waiting.{waiting_shown};
+    ghost use Rattle.apex_judge.specs.Shown.{shown, row_shown, reply_shown, waiting_shown};
 
     /// The configuration.
     pub fn config(&self) -> &Config

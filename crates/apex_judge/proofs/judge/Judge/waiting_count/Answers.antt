@@ -1,6 +1,6 @@
 use Rattle.std.proofs.Common.{◌<◌, List, ℕ, length, sym, ap, subst, ◌∙◌}
 use Rattle.apex_judge.specs.JudgeView.{JudgeView}
-use Rattle.apex_judge.specs.Waiting.{waiting_shown}
+use Rattle.apex_judge.specs.Shown.{waiting_shown}
 use Rattle.apex_judge.proofs.Lookups.{channel_at}
 use Rattle.apex_judge.proofs.judge.Judge.waiting_count.Goals as goal
 
