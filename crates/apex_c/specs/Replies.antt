@@ -41,9 +41,9 @@ received_reply (Ok message) = Ok (reply.Received message)
 received_reply (Err number) = Err number
 
 abbrev pub read_reply : Option Validity → Result (List ℕ) ℕ → Result Reply ℕ
-read_reply None message = Err NO_REPLY
+read_reply validity (Err number) = Err number
+read_reply None (Ok message) = Err NO_REPLY
 read_reply (Some validity) (Ok message) = Ok (reply.Read message validity)
-read_reply (Some validity) (Err number) = Err number
 
 abbrev pub queuing_status_reply : NumberedReply → Option Direction → Result Reply ℕ
 queuing_status_reply given None = Err NO_REPLY

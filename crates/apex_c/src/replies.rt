@@ -129,11 +129,11 @@ impl NumberedReply {
         ensures { let validity = validity_numbered self.now.validity in
             result ≡ read_reply validity (message_asked message.now) }
     {
-        let Some(validity) = validity_numbered(self.validity) else {
-            return Err(NO_REPLY);
-        };
         let message = message_in(message)?;
-        Ok(Reply::Read { message, validity })
+        match validity_numbered(self.validity) {
+            Some(validity) => Ok(Reply::Read { message, validity }),
+            None => Err(NO_REPLY),
+        }
     }
 
     fn queuing_status(&self) -> Result<Reply, u32>

@@ -40,7 +40,7 @@ module _ (config : Configuration) (h : History) (e : Entry) where
       ∙ ap (λ (reply : Reply). with_doubt e.partition (subject_of config e reply) false (with_effects config e before)) (sym (agrees_is standard e.reply test)))
 
   pub after_departing : (expected : Reply) → expected ≡ reply_in config (picture_of config h) e.partition e.at e.call → agrees expected e.reply ≡ false
-      → picture_of config (h ++ e ∷ []) ≡ with_doubt e.partition (subject_of config e expected) true (when_departing config e expected (is_believed config e (subject_of config e expected) (picture_of config h)) (picture_of config h))
+      → picture_of config (h ++ e ∷ []) ≡ with_doubt e.partition (subject_of config e expected) true (when_departing config e expected (is_believed config e expected (subject_of config e expected) (picture_of config h)) (picture_of config h))
   after_departing expected is test =
       picture_of-append config h e
       ∙ (ap (λ (reply : Reply). judged config e reply (subject_of config e reply) (agrees reply e.reply) before) (sym is)

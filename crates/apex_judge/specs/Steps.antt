@@ -59,10 +59,18 @@ abbrev pub receives_waiting : Configuration → Picture → ℕ → Call → Rep
 receives_waiting config picture p (ReceiveQueuing id) reply = is_among (waiting_at picture (port_of config p id)) reply
 receives_waiting config picture p call reply = false
 
--- an entry that departs is believed where what it is about is doubted, and where it receives a message that waits
-abbrev pub is_believed : Configuration → Entry → Subject → Picture → Bool
-is_believed config entry subject picture =
-    is_doubted picture entry.partition subject || receives_waiting config picture entry.partition entry.call entry.reply
+abbrev pub is_receipt : Reply → Bool
+is_receipt (Received message) = true
+is_receipt _ = false
+
+-- a receive of a message that waits, where the standard has a message too
+abbrev pub receives_later : Configuration → Picture → ℕ → Call → Reply → Reply → Bool
+receives_later config picture p call standard reply = is_receipt standard && receives_waiting config picture p call reply
+
+-- an entry that departs is believed if what it is about is doubted, and if it receives a message that waits behind the oldest
+abbrev pub is_believed : Configuration → Entry → Reply → Subject → Picture → Bool
+is_believed config entry standard subject picture =
+    is_doubted picture entry.partition subject || receives_later config picture entry.partition entry.call standard entry.reply
 
 -- after an entry that departs: as it is logged, if it is believed, or else as though the standard's reply were logged
 abbrev pub when_departing : Configuration → Entry → Reply → Bool → Picture → Picture
@@ -73,7 +81,7 @@ when_departing config entry standard believed picture =
 abbrev pub judged : Configuration → Entry → Reply → Subject → Bool → Picture → Picture
 judged config entry standard subject true picture = with_doubt entry.partition subject false (with_effects config entry picture)
 judged config entry standard subject false picture =
-    with_doubt entry.partition subject true (when_departing config entry standard (is_believed config entry subject picture) picture)
+    with_doubt entry.partition subject true (when_departing config entry standard (is_believed config entry standard subject picture) picture)
 
 -- after an entry, where the standard has this reply
 abbrev pub picture_by : Configuration → Entry → Reply → Picture → Picture

@@ -5,7 +5,7 @@ ghost use Rattle.apex_ports.specs.History.{entry_of};
 ghost use Rattle.apex_judge.specs.Kept.{IsShown, Shows, doubted_of};
 ghost use Rattle.apex_judge.specs.Replies.{agrees};
 ghost use Rattle.apex_judge.specs.Shown.{reply_shown};
-ghost use Rattle.apex_judge.specs.Steps.{picture_of, is_believed, receives_waiting, when_departing};
+ghost use Rattle.apex_judge.specs.Steps.{picture_of, is_believed, is_receipt, receives_later, receives_waiting, when_departing};
 ghost use Rattle.apex_judge.specs.Subjects.{subject_of, with_doubt};
 
 use crate::partition::PartitionState;
@@ -82,7 +82,7 @@ impl<A: Allocator + Copy> State<A> {
         ensures shown { let picture = picture_of config.now self.old.log in
             let entry = entry_of partition at call.now reply.now in
             let subject = subject_of config.now entry standard.now in
-            let believed = is_believed config.now entry subject picture in
+            let believed = is_believed config.now entry standard.now subject picture in
             let departed = when_departing config.now entry standard.now believed picture in
             IfOk result (λ _.
             Shows config.now (with_doubt partition subject true departed) self.new) }
@@ -93,10 +93,32 @@ impl<A: Allocator + Copy> State<A> {
         if self.partitions[partition].is_doubted(subject) {
             return self.believe(config, partition, at, call, reply, subject);
         }
-        if self.receives_waiting(config, partition, call, reply) {
+        if self.receives_later(config, partition, call, reply, standard) {
             return self.believe(config, partition, at, call, reply, subject);
         }
         self.note(config, partition, at, call, standard, subject, true)
+    }
+
+    // Whether an entry receives a message that waits, where the standard has a message too.
+    fn receives_later(
+        &mut self,
+        config: &Config,
+        partition: usize,
+        call: &Call,
+        reply: &Reply,
+        standard: &Reply,
+    ) -> bool
+        requires { IsShown config.now self.old.log self.old }
+        ensures test { let picture = picture_of config.now self.old.log in result
+            ≡ receives_later config.now picture partition call.now standard.now reply.now }
+        ensures shown { IsShown config.now self.new.log self.new }
+        ensures log { self.new.log ≡ self.old.log }
+    {
+        if is_receipt(standard) {
+            self.receives_waiting(config, partition, call, reply)
+        } else {
+            false
+        }
     }
 
     // Whether an entry receives a message that waits.
@@ -124,6 +146,13 @@ impl<A: Allocator + Copy> State<A> {
         };
         self.channels[c].has(message)
     }
+}
+
+// Whether a reply has a received message.
+fn is_receipt(reply: &Reply) -> bool
+    ensures { result ≡ is_receipt reply.now }
+{
+    matches!(reply, Reply::Received(_))
 }
 
 // The channel of a port.

@@ -2,7 +2,7 @@ use Rattle.std.proofs.Common.{◌≡◌, ◌||◌, true, false, IfOk, sym, ap, s
 use Rattle.apex_ports.specs.History.{entry_of}
 use Rattle.apex_judge.specs.Kept.{Shows, doubted_of}
 use Rattle.apex_judge.specs.Picture.{Picture}
-use Rattle.apex_judge.specs.Steps.{picture_of, receives_waiting, is_believed, when_departing}
+use Rattle.apex_judge.specs.Steps.{picture_of, receives_later, is_believed, when_departing}
 use Rattle.apex_judge.specs.Subjects.{subject_of, is_doubted, with_doubt}
 use Rattle.apex_judge.specs.declared.subject.Subject.{Subject}
 use Rattle.apex_judge.proofs.EntrySteps.{doubts_alike}
@@ -21,12 +21,12 @@ returns-then-is_doubted-clause-shown g c =
     let alike = doubts_alike config before p c.index.result.now c.args.at c.args.call.now c.args.reply.now standard partition in
     let doubt : is_doubted before p (subject_of config entry standard) ≡ true =
     sym alike ∙ (ap (λ (one : Subject). doubted_of c.index.result.now one) (sym subject) ∙ (sym c.is_doubted.ensures ∙ c.if-is_doubted.true)) in
-    let test : is_believed config entry (subject_of config entry standard) before ≡ true = λ i. doubt i || receives_waiting config before p entry.call entry.reply in
+    let test : is_believed config entry standard (subject_of config entry standard) before ≡ true = λ i. doubt i || receives_later config before p entry.call standard entry.reply in
     subst (λ (one : Subject × Picture). IfOk c.believe.result (λ _. Shows config (with_doubt p one.0 true one.1) c.believe.new.self))
     (λ i. (subject i, when_departing config entry standard (sym test i) before)) c.believe.ensures.shown
 
-pub returns-then-receives_waiting-clause-shown : goal.returns-then-receives_waiting-clause-shown
-returns-then-receives_waiting-clause-shown g c =
+pub returns-then-receives_later-clause-shown : goal.returns-then-receives_later-clause-shown
+returns-then-receives_later-clause-shown g c =
     let config = c.args.config.now in
     let p = c.args.partition in
     let before = picture_of config c.args.self.now.log in
@@ -37,11 +37,11 @@ returns-then-receives_waiting-clause-shown g c =
     let alike = doubts_alike config before p c.index.result.now c.args.at c.args.call.now c.args.reply.now standard partition in
     let doubt : is_doubted before p (subject_of config entry standard) ≡ false =
     sym alike ∙ (ap (λ (one : Subject). doubted_of c.index.result.now one) (sym subject) ∙ (sym c.is_doubted.ensures ∙ c.if-is_doubted.false)) in
-    let receives : receives_waiting config before p entry.call entry.reply ≡ true = sym c.receives_waiting.ensures.test ∙ c.if-receives_waiting.true in
-    let test : is_believed config entry (subject_of config entry standard) before ≡ true = λ i. doubt i || receives i in
-    let log = c.receives_waiting.ensures.log in
-    subst (λ (one : Subject × Picture). IfOk c.believe-then-receives_waiting.result (λ _. Shows config (with_doubt p one.0 true one.1) c.believe-then-receives_waiting.new.self))
-    (λ i. (subject i, when_departing config entry standard (sym test i) (picture_of config (log i)))) c.believe-then-receives_waiting.ensures.shown
+    let receives : receives_later config before p entry.call standard entry.reply ≡ true = sym c.receives_later.ensures.test ∙ c.if-receives_later.true in
+    let test : is_believed config entry standard (subject_of config entry standard) before ≡ true = λ i. doubt i || receives i in
+    let log = c.receives_later.ensures.log in
+    subst (λ (one : Subject × Picture). IfOk c.believe-then-receives_later.result (λ _. Shows config (with_doubt p one.0 true one.1) c.believe-then-receives_later.new.self))
+    (λ i. (subject i, when_departing config entry standard (sym test i) (picture_of config (log i)))) c.believe-then-receives_later.ensures.shown
 
 pub returns-clause-shown : goal.returns-clause-shown
 returns-clause-shown g c =
@@ -55,8 +55,8 @@ returns-clause-shown g c =
     let alike = doubts_alike config before p c.index.result.now c.args.at c.args.call.now c.args.reply.now standard partition in
     let doubt : is_doubted before p (subject_of config entry standard) ≡ false =
     sym alike ∙ (ap (λ (one : Subject). doubted_of c.index.result.now one) (sym subject) ∙ (sym c.is_doubted.ensures ∙ c.if-is_doubted.false)) in
-    let receives : receives_waiting config before p entry.call entry.reply ≡ false = sym c.receives_waiting.ensures.test ∙ c.if-receives_waiting.false in
-    let test : is_believed config entry (subject_of config entry standard) before ≡ false = λ i. doubt i || receives i in
-    let log = c.receives_waiting.ensures.log in
+    let receives : receives_later config before p entry.call standard entry.reply ≡ false = sym c.receives_later.ensures.test ∙ c.if-receives_later.false in
+    let test : is_believed config entry standard (subject_of config entry standard) before ≡ false = λ i. doubt i || receives i in
+    let log = c.receives_later.ensures.log in
     subst (λ (one : Subject × Picture). IfOk c.note.result (λ _. Shows config (with_doubt p one.0 true one.1) c.note.new.self))
     (λ i. (subject i, when_departing config entry standard (sym test i) (picture_of config (log i)))) c.note.ensures.shown
