@@ -210,7 +210,7 @@ def _explained(programs: Programs, config: bytes, trace: bytes) -> Told:
 
 
 def _judged(programs: Programs, config: bytes, log: bytes) -> Told:
-    ran = programs.run("judge", "--json", config, log)
+    ran = programs.run("judge", "--json", "--whole", config, log)
     lines = ran.told()
     departures = [{key: _exact(it) for key, it in line.items()} for line in lines if "logged" in line]
     mistakes = [_mistake(line, ran.paths[1]) for line in lines if "place" in line]
@@ -269,6 +269,7 @@ def _run(programs: Programs, config: bytes, source: Source, states: int) -> Told
             # (a log is refused whole)
             explained["calls"], calls, known = [], [], 0
             explained.update(said=judged["said"], mistakes=judged["mistakes"], is_whole=False)
+            judged["departures"] = []
     told.update(explained, departures=judged["departures"], judged=judged["judged"], known=known)
     told["calls"] = _table_of(calls)
     told.update(_arrows(programs, config, lines, calls, known, explained["is_whole"]))

@@ -79,8 +79,9 @@ class Run {
     const {keys, rows} = told.calls;
     this.calls = rows.map((row, place) => this.readCall(place, Object.fromEntries(keys.map((key, at) => [key, row[at]]))));
     const byLine = new Map(this.calls.map(call => [call.line, call]));
-    for (const departure of told.departures) byLine.get(departure.line).departure = departure;
-    for (const [line, replies] of told.orders ? told.orders.calls : []) byLine.get(line).replies = replies;
+    const note = (line, more) => Object.assign(byLine.get(line) || {}, more);
+    for (const departure of told.departures) note(departure.line, {departure});
+    for (const [line, replies] of told.orders ? told.orders.calls : []) note(line, {replies});
     this.readArrows();
     this.counts = [...module.channels.values()].filter(it => it.kind === "queuing").map(it => this.countsOf(it));
   }
