@@ -2,35 +2,28 @@
 import ctypes
 import weakref
 from types import TracebackType
-from typing import Any, Callable, Dict, NamedTuple, Optional, Tuple, Type, TypeVar, Union
+from typing import Any, Callable, Optional, Tuple, Type, TypeVar
 
 from . import _library
 from ._codes import Code, Direction, Validity
 from ._errors import NoCallError
-from ._library import MOMENT_LIMIT, NUMBER_LIMIT, number
+from ._given import Argument, given_call, given_reply, service_named, whole
+from ._library import MOMENT_LIMIT
 from ._lock import end_call, lock, refuse_within_a_call
 from ._module import Module
 from ._program import Departure
 from ._replies import AnyValue, QueuingStatus, Sample, SamplingStatus, reply_words
 from ._rows import Row
-from ._services import SERVICES, Service
+from ._services import Service
 from ._texts import Text, bytes_of
 
 # enough bytes for the words of any row
 WORDS_ROOM = 512
-Argument = Union[int, str, bytes]
 Value = TypeVar("Value")
 NO_CALLS = {_library.NOT_OPEN: "the judge is closed",
             _library.TOO_LONG: f"a message has more than {_library.MESSAGE_LIMIT} bytes",
             _library.NO_NAME: "a name has 1 to 30 ASCII letters, digits and `_`",
             _library.NO_REPLY: "the service has no reply with this code and value"}
-
-
-class _Given(NamedTuple):
-    """A reply as the library takes it: its numbers, and its message."""
-
-    fields: _library.ReplyFields
-    message: bytes
 
 
 class Judge:
@@ -73,13 +66,14 @@ class Judge:
         The service has the standard's name, and the arguments have the names of a trace: `id`, `message`, `name`, `size`,
         `depth`, `direction`, `discipline`, `refresh`, `mode`. The value is what comes with NO_ERROR: an identifier, a
         received message, a Sample, or a status. A call that waited is given with the reply that it would have had without
-        a time-out: NOT_AVAILABLE in the place of TIMED_OUT."""
+        a time-out: NOT_AVAILABLE in the place of TIMED_OUT. What is no call or no reply of the service raises NoCallError,
+        what is of a wrong type TypeError, and nothing is noted."""
         if partition not in self.partitions:
             raise NoCallError(f"there is no partition {partition}")
-        called = _service(service, arguments)
-        fields, sent = _call(called, arguments)
-        given = _reply(code, value)
-        moment = number(at, MOMENT_LIMIT, "the moment")
+        called = service_named(service, arguments)
+        fields, sent = given_call(called, arguments)
+        given = given_reply(called, code, value)
+        moment = whole(at, MOMENT_LIMIT, "the moment")
         caller = self._lent, self.partitions.index(partition), moment, ctypes.byref(fields), sent, len(sent)
 
         def judged() -> Optional[Departure]:
@@ -88,7 +82,7 @@ class Judge:
             self.calls += 1
             if answer == 0:
                 return None
-            logged = reply_words(code, value)
+            logged = reply_words(given.code, given.value)
             return Departure(self.calls, moment, partition, called.word, logged, *self._shown(called))
 
         return self._within(judged)
@@ -117,47 +111,6 @@ class Judge:
                 return what()
         finally:
             end_call()
-
-
-def _service(name: str, arguments: Dict[str, Argument]) -> Service:
-    """The service of this name, which takes these arguments."""
-    service = SERVICES.get(name)
-    if service is None:
-        raise NoCallError(f"there is no service {name}")
-    if set(service.arguments) != set(arguments):
-        raise NoCallError(f"{name} takes {', '.join(service.arguments)}, and not {', '.join(arguments) or 'nothing'}")
-    return service
-
-
-def _call(service: Service, arguments: Dict[str, Argument]) -> Tuple[_library.CallFields, bytes]:
-    """The numbers of a call, and the name or the message that it is made with."""
-    numbers, sent = {}, b""
-    for name, argument in arguments.items():
-        if isinstance(argument, str):
-            sent = argument.encode("ascii", "replace")
-        elif isinstance(argument, bytes):
-            sent = argument
-        else:
-            limit = 2**64 - 1 if name == "refresh" else NUMBER_LIMIT
-            numbers[name] = number(argument, limit, name)
-    return _library.CallFields(service=service.number, **numbers), sent
-
-
-def _reply(code: Code, value: AnyValue) -> _Given:
-    """A reply as the library takes it."""
-    fields: Dict[str, Any] = {"code": code}
-    message = b""
-    if isinstance(value, Sample):
-        message, fields["validity"] = value
-    elif isinstance(value, QueuingStatus):
-        fields.update(value._asdict())
-    elif isinstance(value, SamplingStatus):
-        fields.update(refresh=value.refresh, size=value.size, direction=value.direction, validity=value.last_validity)
-    elif isinstance(value, bytes):
-        message = value
-    elif value is not None:
-        fields["id"] = number(value, NUMBER_LIMIT, "the identifier")
-    return _Given(_library.ReplyFields(**fields), message)
 
 
 def _value(service: Service, numbers: Any, message: bytes) -> AnyValue:

@@ -109,7 +109,7 @@ class Partition(_Caller):
         return SamplingPort(self._server, self._index, self.name, id)
 
 
-def _bytes_of(message: Message) -> bytes:
+def message_bytes(message: Message) -> bytes:
     """The bytes of a message."""
     try:
         return bytes(memoryview(message))
@@ -131,13 +131,13 @@ class _Port(_Caller):
 
     def _pass_on(self, call: Call, message: Message, at: Optional[int]) -> Reply[None]:
         """Makes a call that sends a message."""
-        sent = message if type(message) is bytes else _bytes_of(message)
+        sent = message if type(message) is bytes else message_bytes(message)
         answer, _ = self._server.serve(call, at, sent, self.id, sent, len(sent))
         return call.accepted if answer is call.service.accepted else Reply(answer, None, call.asked)
 
     def _pass_all_on(self, call: Call, messages: Iterable[Message], at: Optional[int]) -> List[Reply[None]]:
         """Makes a call for each message."""
-        sent = [it if type(it) is bytes else _bytes_of(it) for it in messages]
+        sent = [it if type(it) is bytes else message_bytes(it) for it in messages]
         if max(map(len, sent), default=0) > MESSAGE_LIMIT:
             raise NoCallError(NO_CALLS[TOO_LONG])
         replies: List[Reply[None]] = []
