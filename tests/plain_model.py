@@ -132,14 +132,14 @@ class Shown:
 
     def add(self, at, partition, call, words, reply):
         """What an entry shows, lawful or not: the first reply that departs is a mistake of the log, and what departs while
-        the same port or mode is doubted is believed, as is a message that is received and waits."""
+        the same port or mode is doubted is believed, as is a message that waits and is received in place of another."""
         standard = self.reply(at, partition, call, *words)
         subject = self.subject(partition, call, words, reply, standard)
         if reply == standard:
             self.follow(at, partition, call, words, reply)
             self.doubted.discard(subject)
             return
-        if subject in self.doubted or self.receives_waiting(partition, call, words, reply):
+        if subject in self.doubted or self.receives_later(partition, call, words, reply, standard):
             self.believe(at, partition, call, words, reply)
         else:
             self.follow(at, partition, call, words, standard)
@@ -163,11 +163,12 @@ class Shown:
         number = self.number_about(partition, call, words)
         return (partition, number) if number else None
 
-    def receives_waiting(self, partition, call, words, reply):
-        message, ports = re.fullmatch(r"NO_ERROR message (\S+)", reply), self.module.partitions[partition]
-        if call != "receive" or not message or not 1 <= int(words[0]) <= len(ports):
+    def receives_later(self, partition, call, words, reply, standard):
+        """Whether a receive has a message that waits, and the standard has one too."""
+        received = [re.fullmatch(r"NO_ERROR message (\S+)", it) for it in (standard, reply)]
+        if call != "receive" or not all(received):
             return False
-        return message[1] in self.waiting[ports[int(words[0]) - 1][3]]
+        return received[1][1] in self.waiting[self.port(partition, int(words[0]), "queuing")[3]]
 
     def believe(self, at, partition, call, words, reply):
         """What a reply shows that is believed, though it departs."""
