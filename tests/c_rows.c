@@ -161,7 +161,7 @@ static bool same_reply(const struct apex_reply *a, const struct apex_reply *b) {
  * and the words, and all begins anew, since the judge may believe what it was told. */
 static void judge_reply(const struct asked *it, const struct apex_reply *reply, uint32_t row, const uint8_t *words,
                         uint64_t length) {
-    if (any(100) != 0) {
+    if (any(1000) != 0) {
         expect(judge(it, reply) == 0, "the judge has the same reply");
         expect(all_filled(&departure, sizeof departure) && all_filled(standard, sizeof standard) &&
                all_filled(said, WORDS), "a reply that is the standard's leaves the places as they were");
