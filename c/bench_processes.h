@@ -157,7 +157,7 @@ bool bench_load_partition(const char *file, const char *entry, uint32_t partitio
 enum bench_action { BENCH_IGNORE = 0, BENCH_IDLE = 1, BENCH_COLD_START = 2, BENCH_WARM_START = 3 };
 bool bench_on_error(uint32_t partition, enum bench_action action);
 
-/* The moment goes on by so many nanoseconds with each service of a process: by 0 at first. */
+/* Each service of a process takes this many nanoseconds; 0 at first. */
 void bench_service_time(SYSTEM_TIME_TYPE nanoseconds);
 
 /* The bench reports a process that runs without a service for this many seconds of the machine's

@@ -1,5 +1,5 @@
-/* c_watch CONFIG: a process that runs without a service is told once, after 10 seconds of the machine's clock or as many
- * as bench_watch says; by the rules of docs/C.md. Takes 17 seconds. What the host says is in c_watch.told.txt. */
+/* c_watch CONFIG: a process that runs without a service is told once, after 10 seconds of the machine's clock or after
+ * those given to bench_watch; by the rules of docs/C.md. Takes 17 seconds. What the host says is in c_watch.told.txt. */
 #include "c_process_test.h"
 
 #include <stdatomic.h>
@@ -30,7 +30,7 @@ static void runs_on(void) {
     while (atomic_load(&told) == 0) {
     }
     const double ran = clock_now() - start;
-    expect(ran >= watched - 0.1 && ran < watched + 6, "it is told after so many seconds");
+    expect(ran >= watched - 0.1 && ran < watched + 6, "it is told after the seconds that were asked for");
     leave('r');
     STOP_SELF();
 }
@@ -40,7 +40,7 @@ static void running_main(void) {
     set_mode(NORMAL);
 }
 
-/* Makes a service often enough, and is told for the first time alone that it makes none for longer. */
+/* Calls a service in time, and then none for longer: only that is told. */
 static void calls_now_and_then(void) {
     for (int i = 0; i < 5; i++) {
         leave('c');
