@@ -1,13 +1,13 @@
-# Checks whether a program or a static library is built from the sources, and by the toolchain, that are there now, and
-# unpacks the prebuilt programs if they are those of these sources. For the scripts 'apexports', 'dekarino', 'package',
-# 'python/build' and 'c/build' and for 'test', which set root to the checkout.
+# Checks whether a program or a static library is built from the present sources by the present toolchain, and unpacks
+# the prebuilt programs if they are those of these sources. It is for the scripts 'apexports', 'dekarino', 'package',
+# 'python/build', 'c/build' and 'test', which set root to the checkout.
 
 # Prints the names of all programs, the crates with a main.
 programs() {
     (cd "$root/crates" && for main in */src/main.rt; do printf '%s\n' "${main%%/*}"; done)
 }
 
-# of_program NAME: what follows is asked of this program.
+# of_program NAME: the functions below are then about this program.
 of_program() {
     name=$1
     crate=$root/crates/$name
@@ -17,14 +17,14 @@ of_program() {
 }
 of_program apexports
 
-# of_library NAME: what follows is asked of this static library.
+# of_library NAME: the functions below are then about this static library.
 of_library() {
     of_program "$1"
     program=$crate/out/lib$name.a
     kind=-f
 }
 
-# of_each COMMAND..: the command is run for each program and then for the static library, up to the first that fails.
+# of_each COMMAND..: runs the command for each program and then for the static library, up to the first failure.
 of_each() {
     for each in $(programs); do
         of_program "$each" && "$@" || return
@@ -32,8 +32,8 @@ of_each() {
     of_library apex_c && "$@"
 }
 
-# Sets toolchain to the folder of the command rt, and puts that first into the search path. If there is none, it is what
-# the last build recorded of its toolchain.
+# Sets toolchain to the folder of the command rt, and puts that first into the search path. If there is none, toolchain is
+# what the last build recorded about its toolchain.
 find_toolchain() {
     for rt in "$(command -v rt)" "${RATTLE_KIT:-/opt/rattle}/bin/rt"; do
         toolchain=$(readlink -f -- "$rt" 2> /dev/null)
@@ -44,26 +44,25 @@ find_toolchain() {
     return 1
 }
 
-# archive [FILE..]: all sources, and the files, as one stream of bytes. Its order is that of no locale, so that it is the
-# same in each.
+# archive [FILE..]: all sources, and the files, as one stream of bytes, in the same order in every locale.
 archive() (
     export LC_ALL=C
     cd "$root" && TAR_OPTIONS='' exec tar -c --format=gnu --sort=name --mtime=@0 --owner=:0 --group=:0 --mode=0 \
         crates.txt crates/*/src crates/*/specs crates/*/proofs "$@"
 )
 
-# archive_built [FILE]: all that the toolchain itself compares before it builds, and the file.
+# archive_built [FILE]: everything that the toolchain itself compares before it builds, and the file.
 archive_built() {
     archive "$@" -C "$toolchain" WHAT
 }
 
-# Whether the program is the one of the last record, and all that it was built from is as it was.
+# Whether the program is the one of the last record, and everything from which it was built is unchanged.
 is_built() {
     test "$kind" "$program" && [ -f "$record/archive" ] &&
         archive_built "${program#"$root/"}" 2> /dev/null | cmp -s - "$record/archive"
 }
 
-# record_build FILE: records that the program was built from what the archive in the file has, if that is still there,
+# record_build FILE: records that the program was built from the archive in the file, if the sources are still the same,
 # and the line of the toolchain.
 record_build() {
     mkdir -p "$record" && archive_built "${program#"$root/"}" > "$record/archive.$$" &&
@@ -83,23 +82,23 @@ print_not_built() {
     is_built || printf ' %s' "${program##*/}"
 }
 
-# The prebuilt programs, and the shared object of the C interface: the archive that holds them, and the text that names
-# the sources and the toolchain that they were proved with, and the SHA-256 of each.
+# The prebuilt programs, and the shared object of the C interface: their archive, and the text that names their sources,
+# the toolchain that proved them, and the SHA-256 of each.
 packed=prebuilt/x86_64-linux.tar.gz
 origin=prebuilt/BUILT_FROM
 
-# Prints the SHA-256 and the name of each source, in an order of no locale.
+# Prints the SHA-256 and the name of each source, in the same order in every locale.
 list_sources() (
     export LC_ALL=C
     cd "$root" && find crates.txt crates/*/src crates/*/specs crates/*/proofs ! -type d | sort | xargs sha256sum
 )
 
-# origin_of WORD: prints what the text says of the sources or of the toolchain.
+# origin_of WORD: prints what the text says about the sources or about the toolchain.
 origin_of() {
     sed -n "s/^$1 //p" "$root/$origin"
 }
 
-# Prints the folders that the prebuilt programs may be unpacked in, the first choice first.
+# Prints the folders in which the prebuilt programs may be unpacked, the first choice first.
 places() {
     printf '%s\n' "$root/out/prebuilt"
     [ -z "${XDG_CACHE_HOME:-${HOME:-}}" ] ||
@@ -107,13 +106,13 @@ places() {
     shared_place
 }
 
-# Prints the last of these folders. It is below one that all can write.
+# Prints the last of these folders. It is below one to which everyone can write.
 shared_place() {
     [ -d "${TMPDIR:-}" ] || TMPDIR=/tmp
     printf '%s\n' "$TMPDIR/dekarino-$(id -u)/$(origin_of sources)"
 }
 
-# is_own FOLDER: whether nobody else made the folder, if others could have.
+# is_own FOLDER: whether this user made the folder, if others could have.
 is_own() {
     [ "$1" = "$(shared_place)" ] || return 0
     [ -O "${1%/*}" ] && [ ! -L "${1%/*}" ] && [ "$(stat -c %a "${1%/*}")" = 700 ]
@@ -123,7 +122,7 @@ archive_unpacked() {
     archive "$origin" -C "$place" apexports dekarino libdekarino.so
 }
 
-# Whether the prebuilt programs of just these sources are unpacked, as they were when they were compared. Sets place to
+# Whether the prebuilt programs of exactly these sources are unpacked, unchanged since they were compared. Sets place to
 # their folder.
 is_unpacked() {
     [ -f "$root/$origin" ] || return
@@ -136,7 +135,7 @@ END
     return 1
 }
 
-# Makes the first of the folders that can be made, and a folder for this run in it. Sets place and new to these.
+# Makes the first folder that can be made, and a folder for this run in it. Sets place and new to these.
 find_place() {
     while read -r place; do
         (umask 077 && mkdir -p "${place%/*}") 2> /dev/null && mkdir -p "$place" 2> /dev/null && is_own "$place" &&
@@ -153,7 +152,7 @@ first_other_source() {
         LC_ALL=C sort | head -n 1
 }
 
-# Unpacks into the folder new, compares, and puts what was compared into place. If that fails, why says it.
+# Unpacks into the folder new, compares, and moves the files into place. If that fails, why has the reason.
 unpack_into_place() {
     why="and $packed is damaged: what it holds is not what $origin names"
     gzip -dc "$root/$packed" > "$new/packed" 2> /dev/null && grep '^[0-9a-f]\{64\}  ' "$root/$origin" > "$new/sums" &&
@@ -165,8 +164,8 @@ unpack_into_place() {
     archive_unpacked > "$new/archive" && mv -f "$new/archive" "$place/archive"
 }
 
-# Unpacks the prebuilt programs if they are those of these sources. If it does not, why says the reason, if there are
-# prebuilt programs.
+# Unpacks the prebuilt programs if they are those of these sources. If not, why has the reason, if there are prebuilt
+# programs.
 unpack() {
     why=
     [ -f "$root/$origin" ] && [ -f "$root/$packed" ] || return

@@ -1,15 +1,15 @@
-# Makes what is handed out of what was built, for the scripts 'package', 'prebuilt/update', 'python/build' and 'c/build',
-# which set root and have fail: programs without symbols, and the libraries of the C interface. By the toolchain's own
-# tools, so that the bytes and the C library that they need depend on it alone.
+# Makes the files to hand out from the built ones: programs without symbols, and the libraries of the C interface. It is
+# for the scripts 'package', 'prebuilt/update', 'python/build' and 'c/build', which set root and have fail. It uses only
+# the toolchain's own tools, so the bytes and the C library that they need depend only on the toolchain.
 
-# set_version: the version, which is the first one of the changes, and the name of the shared object.
+# set_version: the version, which is the first one in CHANGES.md, and the name of the shared object.
 set_version() {
     version=$(sed -n 's/^## \([0-9][0-9.]*\)$/\1/p' "$root/CHANGES.md" | head -n 1)
     soname=libdekarino.so.${version%.*}
     [ -n "$version" ]
 }
 
-# end_by_signals: a signal ends the script by its exit, so that what it cleans up at its end is cleaned up then too.
+# end_by_signals: a signal ends the script by its exit, so that it cleans up then too.
 end_by_signals() {
     trap 'exit 129' HUP
     trap 'exit 130' INT
@@ -25,8 +25,8 @@ strip_to() {
     return "$stripped"
 }
 
-# make_libraries LIBRARY FOLDER: all objects that a program in C has to link, in one archive, and these as a shared
-# object that shows the functions of apex_ports.h alone.
+# make_libraries LIBRARY FOLDER: all objects that a program in C must link, in one archive, and the same as a shared
+# object that exports only the functions of apex_ports.h.
 make_libraries() {
     tools=$toolchain/toolchain
     {
@@ -39,9 +39,9 @@ make_libraries() {
             --whole-archive "$2/libdekarino.a" --no-whole-archive "$tools/lib/libc.so.6" -o "$2/$soname"
 }
 
-# provide_shared_object FOLDER: leaves libdekarino.so in the folder: made of the static library if that is built from
-# the sources that are there, else the prebuilt one if it is of these sources, else of the library that is proved and
-# built now.
+# provide_shared_object FOLDER: leaves libdekarino.so in the folder. It is made from the static library if that is built
+# from the present sources; otherwise it is the prebuilt one if that is of these sources; otherwise it is made from the
+# library that is proved and built now.
 provide_shared_object() {
     set_version || fail "CHANGES.md has no line '## VERSION'"
     mkdir -p "$1" && work=$(mktemp -d "$1/building.XXXXXX") || fail "$1 cannot be written"
@@ -60,5 +60,5 @@ provide_shared_object() {
     else
         (cd "$crate" && rt lib >&2) && make_libraries "$program" "$work"
     fi && mv -f "$work/$soname" "$1/libdekarino.so" ||
-        fail "the shared object could not be made: mend what is said above, and run this again"
+        fail "the shared object could not be made: fix what is reported above, and run this again"
 }

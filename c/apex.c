@@ -1,4 +1,4 @@
-/* The services of apex.h: each is one call of apex_ports.h, made behind a lock. */
+/* The services of apex.h: each makes one call of apex_ports.h while it holds a lock. */
 #include "apex_host.h"
 
 #include <pthread.h>
@@ -79,7 +79,7 @@ static RETURN_CODE_TYPE timed_return_code(uint32_t answer, SYSTEM_TIME_TYPE time
     return answer == NOT_AVAILABLE && time_out != 0 ? TIMED_OUT : return_code(answer);
 }
 
-/* Whether each of the places is there: the return code says so if one isn't. */
+/* Whether no place is null: the return code says so if one is. */
 static bool are_there(RETURN_CODE_TYPE *code, const void *place, const void *other) {
     if (code != NULL && (place == NULL || other == NULL)) {
         *code = INVALID_PARAM;

@@ -187,10 +187,11 @@ void bench_tell_to(void (*sink)(const char *line));
  * apex_call_words has them now; empty if there are none. They hold until the thread's next call of this function. */
 const char *bench_last_words(void);
 
-/* Makes a name of a text, of which 30 bytes count, and fills it with zeros. */
+/* Makes a name from the first 30 bytes of a text, filled up with zeros. */
 void bench_name(NAME_TYPE name, const char *text);
 
-/* From bench_report.c: keeps each call from now on, beginning with none; or keeps no more. False if memory was refused. */
+/* From bench_report.c: drops the kept calls and, if asked, keeps each call from now on. False if memory
+ * ran out. */
 bool bench_keep_calls(bool is_wanted);
 
 /* Writes the report that `apexports replay` prints of the calls so far; its lines of calls are those that were kept.

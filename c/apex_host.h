@@ -23,7 +23,7 @@ struct apex_made {
     const struct apex_sampling_port_status *sampling;
 };
 
-/* After a call of the ports, and how many processes wait at a port; both behind the lock. */
+/* After a call of the ports, and the number of processes that wait at a port; both with the lock. */
 struct apex_host {
     void (*made)(const struct apex_made *made);
     WAITING_RANGE_TYPE (*waiting)(struct apex_handle *module, uint32_t partition, uint32_t id);
@@ -34,7 +34,7 @@ struct apex_process {
     /* Before a service: whether it may be called now, and whether it may wait. */
     bool (*enter)(const char *service, RETURN_CODE_TYPE *code);
     bool (*may_wait)(SYSTEM_TIME_TYPE time_out, RETURN_CODE_TYPE *code);
-    /* Lets the caller wait for a message, which comes to the place, or for room for one. */
+    /* Lets the caller wait for a message, which is written to the place, or for room for one. */
     RETURN_CODE_TYPE (*wait)(bool is_send, uint32_t id, SYSTEM_TIME_TYPE time_out, APEX_BYTE *place,
                              uint32_t *length);
     /* After a service by which another process may be ready, and after an accepted mode. */
@@ -42,8 +42,8 @@ struct apex_process {
     void (*mode_set)(OPERATING_MODE_TYPE mode);
 };
 
-/* Null without a host; in a thread that is no process of it; where calls aren't kept; without
- * faults. A fault that meets a message answers in place of the ports, asked behind the lock. */
+/* Null without a host, in a thread that is no process of it, if calls aren't kept, or without faults.
+ * A fault that meets a message answers instead of the ports. To be called with the lock held. */
 extern const struct apex_host *apex_host;
 extern _Thread_local const struct apex_process *apex_process;
 extern void (*apex_keep)(const struct apex_made *made);
@@ -52,7 +52,7 @@ extern bool (*apex_fault)(struct apex_made *made);
 /* Whether a service is called with a name. */
 bool apex_has_name(uint32_t service);
 
-/* Hand a call on to the first two. To be called behind the lock. */
+/* Hand a call on to the first two. To be called with the lock held. */
 void apex_note(const struct apex_made *made);
 void apex_note_named(struct apex_made made, const char *name, uint32_t id);
 void apex_note_message(struct apex_made made, const void *bytes, size_t length);
@@ -64,7 +64,7 @@ void apex_note_status(struct apex_made made, const struct apex_queuing_port_stat
 /* After a call that a fault refuses the thread has no words of a refusal. */
 void apex_forget_words(void);
 
-/* Keeps as a comment, where calls are kept, what becomes of a message that is no call. */
+/* Keeps as a comment what becomes of a message that is no call, if calls are kept. */
 void apex_keep_comment(const struct apex_made *made, uint32_t channel, const char *what);
 
 /* Says a line on standard error, or to the bench's sink; and each line of a text. */

@@ -25,8 +25,8 @@
 extern "C" {
 #endif
 
-/* The most bytes that a message can have, and a name. */
-enum { APEX_MESSAGE_LIMIT = 1024, APEX_NAME_LIMIT = 30 };
+/* The most bytes that a message can have, a name, and a line of a log. */
+enum { APEX_MESSAGE_LIMIT = 1024, APEX_NAME_LIMIT = 30, APEX_LINE_LIMIT = 65536 };
 
 /* The ports of a module, or none. */
 struct apex_handle {
@@ -39,7 +39,7 @@ enum {
     APEX_NOT_MADE = 7,      /* the partition is in IDLE: the call wasn't made, and is recorded so */
     APEX_NOT_OPEN = 8,      /* the handle isn't open; nothing changed */
     APEX_NO_PARTITION = 9,  /* the module has no partition of the number; nothing changed */
-    APEX_TOO_LONG = 10,     /* the message has more than APEX_MESSAGE_LIMIT bytes; nothing changed */
+    APEX_TOO_LONG = 10,     /* more than APEX_MESSAGE_LIMIT bytes, or APEX_LINE_LIMIT in a line; nothing changed */
     APEX_NO_NAME = 11,      /* the text isn't 1 to 30 letters, digits or _; nothing changed */
     APEX_SHORT_BUFFER = 12, /* the buffer has fewer bytes than the longest message or name; nothing changed */
     APEX_NO_CHANNEL = 13,   /* a reader's answer: the module has no channel of the number */
@@ -48,9 +48,10 @@ enum {
     APEX_UNKNOWN_NAME = 16, /* a reader's answer: nothing has the name */
     APEX_NO_MESSAGE = 17,   /* apex_waiting_message's answer: no message of the index waits */
     APEX_NO_SERVICE = 18,   /* an answer to what is asked of a call: no service has the number */
-    APEX_NO_MEMORY = 19,    /* an answer of apex_call_words and apex_judge_call: memory was refused; nothing changed */
-    APEX_DEPARTS = 20,      /* apex_judge_call's answer: the reply isn't the standard's */
-    APEX_NO_REPLY = 21      /* apex_judge_call's answer: no reply of the service has the values; nothing changed */
+    APEX_NO_MEMORY = 19,    /* an answer of apex_call_words and a judge: memory was refused; nothing changed */
+    APEX_DEPARTS = 20,      /* a judge's answer: the reply isn't the standard's */
+    APEX_NO_REPLY = 21,     /* apex_judge_call's answer: no reply of the service has the values; nothing changed */
+    APEX_FAULTY_LINE = 22   /* apex_judge_line's answer: the line can't be read; the judge stays as it was */
 };
 
 /* What apex_open answers beside 0, and 1 to 10 for a fault of the configuration (docs/FORMATS.md). */
@@ -375,6 +376,34 @@ uint32_t apex_judge_call(struct apex_judge *judge, uint32_t partition, uint64_t 
                          const uint8_t *bytes, size_t bytes_length, const struct apex_reply *reply,
                          const uint8_t *message, size_t message_length, struct apex_departure *departure,
                          uint8_t *buffer, size_t buffer_length, uint8_t *words, size_t words_room);
+
+/* The kinds of a line of a log: it is blank or a comment, it has a call, or its first word is `after`, which ends the
+ * calls of a log. */
+enum { APEX_NO_CALL = 0, APEX_CALL = 1, APEX_CALLS_END = 2 };
+
+/* What a line of a log is: its kind; how long its call may wait, 0 (not at all), 1 (for some time) or 2 (until it can be
+ * served); and the number of its fault (docs/FORMATS.md) with the column, from 1 and in bytes. What it hasn't is 0. */
+struct apex_line {
+    uint64_t column;
+    uint32_t kind;
+    uint32_t wait;
+    uint32_t fault;
+};
+
+/* Judges a line of a log, as `dekarino judge` does after the lines before it, and notes its call. A line feed may end the
+ * line. If `time_outs` isn't 0, each send and receive whose line says no time-out has one. Answers 0 where the reply is
+ * the standard's, and for a line without a call, or APEX_DEPARTS, with the places of `departure` as apex_judge_call sets
+ * them. There a call that would still wait (`wait` is 2) has the row of an empty or a full queue, and NOT_AVAILABLE.
+ * Answers APEX_FAULTY_LINE if the line can't be read, and notes nothing: `departure` has the length of the words, and
+ * `words`, if it has room for all of them, what is wrong, what was found and what was expected. After each of these
+ * three `line` is set. Where it answers another number nothing changes: APEX_SHORT_BUFFER if `buffer` has fewer than
+ * APEX_MESSAGE_LIMIT bytes, APEX_TOO_LONG if there is more than one line, or one of more than APEX_LINE_LIMIT bytes,
+ * APEX_NOT_OPEN, the first that applies; or APEX_NO_MEMORY.
+ * The end of the calls is no end for a judge: its caller stops there.
+ * Assumed: each pointer to bytes points to as many as the length behind it. */
+uint32_t apex_judge_line(struct apex_judge *judge, const uint8_t *text, size_t text_length, uint32_t time_outs,
+                         struct apex_line *line, struct apex_departure *departure, uint8_t *buffer,
+                         size_t buffer_length, uint8_t *words, size_t words_room);
 
 #ifdef __cplusplus
 }

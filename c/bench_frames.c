@@ -55,7 +55,7 @@ static bool is_before(const struct bench_process *one, const struct bench_proces
     return mine != others ? mine < others : one->turn < other->turn;
 }
 
-/* The process that runs next; null where none will by itself. */
+/* The process that runs next; null if none runs by itself. */
 static struct bench_process *next_process(struct bench_host_partition *partition) {
     struct bench_process *main_process = &partition->process[BENCH_MAIN];
     struct bench_process *handler = &partition->process[BENCH_HANDLER], *first = NULL;
@@ -90,7 +90,7 @@ static int64_t late_from(const struct bench_process *process) {
     return process->is_started && !process->is_late ? process->deadline : BENCH_NEVER;
 }
 
-/* The process whose deadline passes first, before a moment; null where none does. */
+/* The process whose deadline passes first, before a moment; null if there is none. */
 static struct bench_process *first_late(struct bench_host_partition *partition,
                                         SYSTEM_TIME_TYPE moment) {
     struct bench_process *first = partition->is_normal ? bench_least(partition, late_from) : NULL;
@@ -104,7 +104,7 @@ void bench_yield(void) {
     }
 }
 
-/* A deadline is missed from the nanosecond behind it. */
+/* A deadline is missed from the next nanosecond on. */
 static void miss_deadline(struct bench_process *process) {
     bench_go_on_to(from_now(process->deadline + 1));
     process->is_late = true;
@@ -123,7 +123,7 @@ static void end_partition(struct bench_host_partition *partition) {
     partition->has_handler = false;
 }
 
-/* Does what a change of the partition's mode asks for; false where it can't. */
+/* Does what a change of the partition's mode asks for; false if it can't. */
 static bool follow_mode(struct bench_host_partition *partition) {
     OPERATING_MODE_TYPE mode;
     if (!bench_expects(bench_find_mode(partition->number, &mode), "bench_run_frame",
@@ -284,7 +284,7 @@ bool bench_on_error(uint32_t partition, enum bench_action action) {
     return is_so;
 }
 
-/* The partition whose window begins next, before the moment; null where none does. */
+/* The partition whose window begins next, before the moment; null if there is none. */
 static struct bench_host_partition *next_window(SYSTEM_TIME_TYPE before) {
     struct bench_host_partition *next = NULL;
     for (uint32_t p = 0; p < BENCH_PARTITIONS; p++) {

@@ -1,6 +1,5 @@
-/* For benches, and outside of what is proved: what the files bench_*.c have between them. One
- * thread runs at a time, a process's or the bench's: it has the turn, and what stands here is its
- * own meanwhile. */
+/* For benches, and outside of what is proved: what the files bench_*.c share. One thread runs at a
+ * time, a process's or the bench's: it has the turn, and only it uses these data meanwhile. */
 #ifndef BENCH_HOST_H
 #define BENCH_HOST_H
 
@@ -24,14 +23,14 @@ struct bench_queue {
 
 /* How a process waits. */
 struct bench_wait {
-    const struct bench_queue *at; /* null where it doesn't wait */
+    const struct bench_queue *at; /* null if it doesn't wait */
     SYSTEM_TIME_TYPE deadline;
     PRIORITY_TYPE priority;
     int64_t order;
     APEX_BYTE *message;
     uint32_t length;
     RETURN_CODE_TYPE code; /* that its service answers */
-    /* At a port: which, and since when it is granted a message or room; 0 where it isn't yet. */
+    /* At a port: which, and since when it is granted a message or room; 0 if it isn't yet. */
     bool is_send;
     uint32_t id;
     int64_t granted;
@@ -98,7 +97,7 @@ extern struct bench_host bench_host;
 extern const struct apex_host bench_hooks;
 extern const struct apex_process bench_process_hooks;
 
-/* The process that the calling thread is; null where it is none. */
+/* The process that the calling thread is; null if it is none. */
 extern _Thread_local struct bench_process *bench_self;
 
 /* For each process of a partition but the main process and the error handler. */
@@ -110,25 +109,25 @@ extern _Thread_local struct bench_process *bench_self;
 
 void bench_go_on_to(SYSTEM_TIME_TYPE moment);
 
-/* Lets a process run until it waits or ends; false where there is no thread for it. */
+/* Lets a process run until it waits or ends; false if there is no thread for it. */
 bool bench_give_turn(struct bench_process *process);
 
 /* The calling process gives the turn to the bench, until it has it again; or for good. */
 void bench_give_turn_back(void);
 _Noreturn void bench_end_self(void);
 
-/* Makes a process DORMANT, and ends its thread where it waits. */
+/* Makes a process DORMANT, and ends its thread at the point where it waits. */
 void bench_stop(struct bench_process *process);
 
-/* Counts a service of the calling process, and takes its time; false where the thread is ending. A
+/* Counts a service of the calling process, and takes its time; false if the thread is ending. A
  * process whose partition has left NORMAL ends here. */
 bool bench_enter(const char *service, RETURN_CODE_TYPE *code);
 
-/* Says a line: what says it, of which process, what there is to say, and a message. */
+/* Says a line: who says it, about which process, the words, and a message. */
 void bench_tell(const struct bench_process *process, const char *service, const char *what,
                 const APEX_BYTE *message, int32_t length);
 
-/* Whether what a function of the bench's expects is so; where it isn't, a line says why. */
+/* Whether the requirement of a bench's function is met; if not, a line says why. */
 bool bench_expects(bool is_so, const char *function, const char *why);
 
 /* bench_frames.c: which process runs when. */
@@ -136,11 +135,11 @@ bool bench_expects(bool is_so, const char *function, const char *why);
 /* Whether the module is open and has the partition; its mode. */
 bool bench_find_mode(uint32_t partition, OPERATING_MODE_TYPE *mode);
 
-/* The process of a partition whose key is the least; null where all have BENCH_NEVER. */
+/* The process of a partition with the least key; null if all have BENCH_NEVER. */
 struct bench_process *bench_least(struct bench_host_partition *partition,
                                   int64_t (*key)(const struct bench_process *process));
 
-/* The moment from which a process is to run, BENCH_NEVER where there is none yet. */
+/* The moment from which a process is to run; BENCH_NEVER if there is none yet. */
 SYSTEM_TIME_TYPE bench_runs_at(const struct bench_process *process);
 
 /* Makes a process ready at a moment, behind those that are ready by then; at a release point, with
@@ -152,7 +151,7 @@ void bench_release(struct bench_process *process, SYSTEM_TIME_TYPE moment);
  * first: a periodic one with the partition's next window. */
 SYSTEM_TIME_TYPE bench_first_release(const struct bench_process *process);
 
-/* Gives the turn where another process is to run before the calling one, which keeps its place. */
+/* Gives up the turn if another process is to run before the calling one, which keeps its place. */
 void bench_yield(void);
 
 /* bench_processes.c: what the services have in common. */

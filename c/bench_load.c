@@ -15,7 +15,7 @@ static bool expects(bool is_so, const char *what, const char *why) {
     return bench_expects(is_so, "bench_load_partition", line);
 }
 
-/* Copies a file to one of a name of its own, which the place gets; false where the errno says why
+/* Copies a file to one with a new name, which is written to the place; false if the errno says why
  * not. */
 static bool copy_file(const char *file, char *place) {
     static char bytes[65536];

@@ -1,5 +1,5 @@
 /* The host for processes, plain C outside of what is proved: buffers, blackboards, semaphores and
- * events of a partition. Of each kind a process takes something where there is some, or waits. */
+ * events of a partition. A process takes something from an object if it has some, or waits. */
 #include "bench_host.h"
 
 #include <stdlib.h>
@@ -36,7 +36,7 @@ static struct bench_list *own_list(enum bench_kind kind) {
     return &lists[bench_own()->number][kind];
 }
 
-/* The identifier of the object of a name; 0 where there is none. */
+/* The identifier of the object with a name; 0 if there is none. */
 static APEX_INTEGER id_of(enum bench_kind kind, const char *name) {
     APEX_INTEGER id = own_list(kind)->count;
     while (id > 0 && strncmp(own_list(kind)->object[id - 1].name, name, MAX_NAME_LENGTH) != 0) {
@@ -45,7 +45,7 @@ static APEX_INTEGER id_of(enum bench_kind kind, const char *name) {
     return id;
 }
 
-/* Creates an object that has the fields of another, which are in range or not. */
+/* Creates an object with the fields of another, which may be out of range. */
 static void create(const char *service, enum bench_kind kind, const char *name,
                    struct bench_object made, bool is_in_range, APEX_INTEGER *place,
                    RETURN_CODE_TYPE *code) {
@@ -63,7 +63,7 @@ static void create(const char *service, enum bench_kind kind, const char *name,
     }
 }
 
-/* The services that find an object of a name. */
+/* The services that find an object by its name. */
 #define GET_ID(KIND)                                                                               \
     void GET_##KIND##_ID(KIND##_NAME_TYPE name, KIND##_ID_TYPE *id, RETURN_CODE_TYPE *code) {      \
         if (bench_is_served(__func__, name == NULL ? NULL : id, code) &&                           \
@@ -76,7 +76,7 @@ GET_ID(BLACKBOARD)
 GET_ID(SEMAPHORE)
 GET_ID(EVENT)
 
-/* The object that a service is called for; null where the return code says why not. */
+/* The object that a service is called for; null if the return code says why not. */
 static struct bench_object *find(const char *service, enum bench_kind kind, APEX_INTEGER id,
                                  const void *place, RETURN_CODE_TYPE *code) {
     const bool is_there = bench_is_served(service, place, code) &&
@@ -110,14 +110,14 @@ static void put_message(struct bench_message *message, const APEX_BYTE *bytes,
     memcpy(message->bytes, bytes, (size_t)length);
 }
 
-/* Puts a message to the place of one that waits or is called for one; what its length is. */
+/* Copies a message and its length to the places of a process that waits or calls for one. */
 static MESSAGE_SIZE_TYPE get_message(const struct bench_message *message, APEX_BYTE *bytes) {
     memcpy(bytes, message->bytes, (size_t)message->length);
     return message->length;
 }
 
-/* Ends the wait of the first that waits for an object, with a message where it has some; false
- * where none waits. */
+/* Ends the wait of the first process that waits for an object, with a message if the object has
+ * some; false if none waits. */
 static bool serve_first(struct bench_object *object, const struct bench_message *message) {
     struct bench_process *taker = bench_first_at(&object->takers);
     if (taker == NULL) {
@@ -130,7 +130,7 @@ static bool serve_first(struct bench_object *object, const struct bench_message 
     return true;
 }
 
-/* Likewise of all that wait at a blackboard or an event. */
+/* The same for all that wait at a blackboard or an event. */
 static void serve_all(struct bench_object *object) {
     while (serve_first(object, object->messages)) {
     }
@@ -151,8 +151,8 @@ static MESSAGE_SIZE_TYPE take_oldest(struct bench_object *buffer, APEX_BYTE *pla
     return length;
 }
 
-/* Takes what an object has for the caller, a message to its places. Where it has nothing the caller
- * waits, and what it waited for is its own then. */
+/* Takes what an object has for the caller, and copies a message to the caller's places. If the
+ * object has nothing, the caller waits, and then gets what it waited for. */
 static void take(const char *service, enum bench_kind kind, APEX_INTEGER id,
                  SYSTEM_TIME_TYPE time_out, APEX_BYTE *place, MESSAGE_SIZE_TYPE *length,
                  RETURN_CODE_TYPE *code) {
@@ -173,7 +173,7 @@ static void take(const char *service, enum bench_kind kind, APEX_INTEGER id,
     if (length != NULL) {
         *length = taken;
     }
-    bench_yield(); /* where a sender was served */
+    bench_yield(); /* if a sender was served */
 }
 
 static bool is_discipline(QUEUING_DISCIPLINE_TYPE discipline) {

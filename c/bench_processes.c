@@ -1,5 +1,5 @@
 /* The host for processes, plain C outside of what is proved: the services of processes, of time and
- * of a partition. Of what a service requires the first that isn't so gives its return code. */
+ * of a partition. The first requirement of a service that isn't met gives its return code. */
 #include "bench_host.h"
 
 #include <string.h>
@@ -44,8 +44,8 @@ bool bench_is_periodic(const struct bench_process *process) {
     return process->attributes.PERIOD != INFINITE_TIME_VALUE;
 }
 
-/* The process of the caller's partition that a service is called for; null where the return code
- * says why not. */
+/* The process of the caller's partition that a service is called for; null if the return code says
+ * why not. */
 static struct bench_process *find_served(const char *service, PROCESS_ID_TYPE id, const void *place,
                                          RETURN_CODE_TYPE *code) {
     const bool is_there = bench_is_served(service, place, code) &&
@@ -53,7 +53,7 @@ static struct bench_process *find_served(const char *service, PROCESS_ID_TYPE id
     return is_there ? &bench_own()->process[id] : NULL;
 }
 
-/* Likewise, another than the caller. */
+/* The same, for a process other than the caller. */
 static struct bench_process *find_other(const char *service, PROCESS_ID_TYPE id,
                                         RETURN_CODE_TYPE *code) {
     struct bench_process *it = find_served(service, id, code, code);
@@ -76,7 +76,7 @@ static bool are_in_range(const PROCESS_ATTRIBUTE_TYPE *a) {
            a->NAME[0] != '\0';
 }
 
-/* The process of a name in the caller's partition; null where there is none. */
+/* The process with a name in the caller's partition; null if there is none. */
 static struct bench_process *find_named(const char *name) {
     BENCH_EACH(each, bench_own()) {
         if (strncmp(each->attributes.NAME, name, MAX_NAME_LENGTH) == 0) {
@@ -153,7 +153,7 @@ void STOP(PROCESS_ID_TYPE id, RETURN_CODE_TYPE *code) {
 
 /* Suspending. */
 
-/* Where processes wait that have suspended themselves. */
+/* The queue of processes that have suspended themselves. */
 static const struct bench_queue suspended = {FIFO};
 
 static bool can_be_suspended(const struct bench_process *process) {
@@ -165,7 +165,7 @@ static bool is_suspended(const struct bench_process *process) {
     return process->is_suspended || bench_waits_at(process, &suspended);
 }
 
-/* The process to suspend or resume, which is suspended or not; null where the return code says why
+/* The process to suspend or resume, which is suspended or not; null if the return code says why
  * not. */
 static struct bench_process *find_suspended(const char *service, PROCESS_ID_TYPE id, bool is_so,
                                             RETURN_CODE_TYPE *code) {
@@ -237,7 +237,7 @@ void UNLOCK_PREEMPTION(LOCK_LEVEL_TYPE *level, RETURN_CODE_TYPE *code) {
     }
 }
 
-/* What is asked of processes and of the partition. */
+/* Questions about processes and the partition. */
 
 void GET_MY_ID(PROCESS_ID_TYPE *id, RETURN_CODE_TYPE *code) {
     if (bench_is_served(__func__, id, code) && bench_needs(is_created(), INVALID_MODE, code)) {

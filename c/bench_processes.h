@@ -2,8 +2,8 @@
  * names, types and orders of parameters of ARINC Specification 653 Part 1 (APEX). The files
  * bench_*.c run them as threads, one at a time.
  *
- * Below the services stand the functions by which a bench says when a partition has its windows,
- * and steps them. docs/C.md has what is done, each return code, and what is not done. */
+ * Below the services are the functions by which a bench says when a partition has its windows, and
+ * steps them. docs/C.md says what is done, each return code, and what is not done. */
 #ifndef BENCH_PROCESSES_H
 #define BENCH_PROCESSES_H
 
@@ -31,7 +31,7 @@ typedef void (*SYSTEM_ADDRESS_TYPE)(void);
 typedef enum { SOFT = 0, HARD = 1 } DEADLINE_TYPE;
 
 typedef struct {
-    SYSTEM_TIME_TYPE PERIOD; /* INFINITE_TIME_VALUE where the process is aperiodic */
+    SYSTEM_TIME_TYPE PERIOD; /* INFINITE_TIME_VALUE if the process is aperiodic */
     SYSTEM_TIME_TYPE TIME_CAPACITY;
     SYSTEM_ADDRESS_TYPE ENTRY_POINT;
     STACK_SIZE_TYPE STACK_SIZE;
@@ -140,20 +140,20 @@ struct bench_partition {
 };
 
 /* Gives a partition of the open module its windows. Answers false, changes nothing and says why on
- * standard error where it has some already or the module lacks it, where a window doesn't lie in
- * one period or overlaps another partition's, where there is no entry, or after the first frame. */
+ * standard error if the partition has windows already or the module lacks it, if a window doesn't
+ * lie in one period or overlaps another partition's, if there is no entry, or after the first frame. */
 bool bench_add_partition(uint32_t partition, const struct bench_partition *how);
 
-/* Gives a partition its windows whose code is a shared object, with the name of its main process;
- * the entry of `how` is not looked at. Each start and restart loads a copy of the file, so that its
- * data are as the file has them, and two partitions share none. The services come from the program,
- * which is linked with -rdynamic. Answers as bench_add_partition, and false where the file can't be
- * loaded or has no such function. */
+/* Gives a partition whose code is a shared object its windows. `entry` is the name of its main
+ * process; the entry of `how` is ignored. Each start and restart loads a copy of the file. So its
+ * data are as in the file, and two partitions share none. The services come from the program, which
+ * is linked with -rdynamic. Answers as bench_add_partition, and false if the file can't be loaded
+ * or has no such function. */
 bool bench_load_partition(const char *file, const char *entry, uint32_t partition,
                           const struct bench_partition *how);
 
-/* What is done with a partition's errors that no error handler takes: nothing, where no other is
- * named, or its mode is set. False for a partition that wasn't added, or another number. */
+/* Names what is done about a partition's errors that no error handler takes: nothing, which is the
+ * default, or its mode is set. False for a partition that wasn't added, or an unknown action. */
 enum bench_action { BENCH_IGNORE = 0, BENCH_IDLE = 1, BENCH_COLD_START = 2, BENCH_WARM_START = 3 };
 bool bench_on_error(uint32_t partition, enum bench_action action);
 
@@ -164,12 +164,12 @@ void bench_service_time(SYSTEM_TIME_TYPE nanoseconds);
  * clock: 10 by default, never if 0. */
 void bench_watch(unsigned seconds);
 
-/* A fault of a channel that the bench injects. It meets messages that the ports would accept: of
- * those that are sent or written from the moment `from` on, and before `until` where that isn't 0,
- * from the `first` on (1, where it is 0) `count` messages, or all where that is 0. */
+/* A fault of a channel that the bench injects. It meets messages that the ports would accept, and
+ * that are sent or written from the moment `from` on and, unless `until` is 0, before `until`. It
+ * meets `count` of them, or all if that is 0, beginning with number `first`, or 1 if that is 0. */
 enum bench_fault_kind {
     BENCH_DROP = 0,  /* the message is answered NO_ERROR, and lost */
-    BENCH_DELAY = 1, /* NO_ERROR, and sent as a window begins that is `delay` later or more */
+    BENCH_DELAY = 1, /* NO_ERROR, and sent when a window begins, `delay` later or more */
     BENCH_FULL = 2   /* it is answered as if the queue were full */
 };
 struct bench_fault {
@@ -179,18 +179,19 @@ struct bench_fault {
     SYSTEM_TIME_TYPE from, until, delay;
 };
 
-/* Injects a fault until bench_end_processes. Of several that meet a message the one that was added
- * first counts. Answers false and says why where there are 64 already, no partition was added, the
- * module isn't open or lacks the channel, or the fault is none. */
+/* Injects a fault until bench_end_processes. If several meet a message, the one added first counts.
+ * Answers false and says why if there are 64 already, no partition was added, the module isn't open
+ * or lacks the channel, or the fault isn't valid. */
 bool bench_add_fault(const struct bench_fault *fault);
 
-/* Runs all windows of the next `length` nanoseconds, which has to be a multiple of each partition's
+/* Runs all windows of the next `length` nanoseconds, which must be a multiple of each partition's
  * period. Afterwards the moment is that much later; the first frame begins at 0. Answers false and
- * says why on standard error where the length is none or no partition was added, and also where the
- * module is closed or a thread cannot be had: no frame is run then until bench_end_processes. */
+ * says why on standard error if the length is no such multiple or no partition was added; also if
+ * the module is closed or a thread can't be started, and then no frame runs until
+ * bench_end_processes. */
 bool bench_run_frame(SYSTEM_TIME_TYPE length);
 
-/* Ends all processes wherever they wait, and forgets the partitions: the next frame is the first
+/* Ends all processes, also those that wait, and forgets the partitions: the next frame is the first
  * again. To be called before bench_close. */
 void bench_end_processes(void);
 

@@ -120,7 +120,7 @@ bool bench_keep_calls(bool is_wanted) {
     return is_so;
 }
 
-/* Whether what was kept is there as a text. */
+/* Whether the kept calls are all there as a text. */
 static bool is_kept(void) { return kept != NULL && fflush(kept) == 0 && !ferror(kept); }
 
 bool bench_log(FILE *file) {

@@ -100,7 +100,7 @@ static void start_condition(void) {
     pthread_condattr_destroy(&how);
 }
 
-/* Ends the thread where it is. What its functions hold isn't given back, as where a process of a
+/* Ends the thread at its present point. What its functions hold isn't freed, as when a process of a
  * target is stopped. */
 static _Noreturn void leave_thread(void) {
     is_ending = true;
@@ -185,7 +185,7 @@ static void join_thread(struct bench_process *process) {
     process->has_thread = false;
 }
 
-/* Waits for the end of a process's turn, and says once where it makes no service for long. */
+/* Waits for the end of a process's turn, and says once if it calls no service for long. */
 static void watch_turn(const struct bench_process *process) {
     bool is_watched = watch_seconds > 0;
     unsigned long seen = 0;

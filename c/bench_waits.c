@@ -21,7 +21,7 @@ static bool is_served_before(const struct bench_wait *one, const struct bench_wa
                : one->order < other->order;
 }
 
-/* How many processes are at a queue in such a way, and the first of them, null without any. */
+/* The number of processes that wait at a queue in such a way, and the first, null without any. */
 static WAITING_RANGE_TYPE look_at(const struct bench_queue *queue,
                                   bool (*is_there)(const struct bench_process *process,
                                                    const struct bench_queue *queue),
@@ -75,7 +75,7 @@ RETURN_CODE_TYPE bench_wait_at(const struct bench_queue *queue, SYSTEM_TIME_TYPE
 
 /* Waiting at a port. */
 
-/* The queue at a partition's queuing port, and its channel; null where there is none. */
+/* The queue at a partition's queuing port, and its channel; null if there is none. */
 static struct bench_queue *find_queue(struct apex_handle *module, uint32_t partition, uint32_t id,
                                       uint32_t *channel) {
     struct apex_configured_port shown;

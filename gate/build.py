@@ -22,7 +22,7 @@ HERE = os.path.dirname(os.path.realpath(__file__))
 ROOT = os.path.dirname(HERE)
 # The seconds that a command may take to end after the signal.
 SECONDS_TO_END = 10
-# What is not on the longest chain gets the processors that the chain leaves.
+# Crates that are not on the longest chain get the processors that the chain leaves.
 BEHIND = ["nice", "-n", "19"]
 
 
@@ -49,7 +49,7 @@ class Build:
         print(f"{self.name}: {text}", file=sys.stderr, flush=True)
 
     def prepare(self):
-        """Makes the folders that are written, or ends if one cannot be made."""
+        """Makes the folders that builds write to, or ends the script if one cannot be made."""
         os.makedirs(self.logs, exist_ok=True)
         for it in [self.logs, *(f"{self.folder(crate)}/out" for crate in self.names)]:
             with contextlib.suppress(OSError):
@@ -94,7 +94,7 @@ class Build:
         return status
 
     def end(self):
-        """Ends all commands, which end what they began, and begins no other."""
+        """Ends all commands, which end those that they started, and starts no others."""
         with self.lock:
             self.ends, left = True, [*self.running.values()]
         for it in left:
@@ -125,8 +125,8 @@ class Build:
         return done
 
     def stored(self):
-        """Returns the seconds that crates take. Of one that was proved before, from other sources, most is taken over,
-        so the table says nothing of it."""
+        """Returns the seconds that crates take. A crate that was proved before, from other sources, is left out: most of its
+        proof is reused, so the table doesn't apply."""
         def was_proved(crate):
             return any(os.path.exists(f"{self.folder(crate)}/out/{it}") for it in ("rlib/stamp", f"{crate}.stamp"))
 
@@ -149,7 +149,7 @@ class Build:
 
 
 def build(root, name, words):
-    """Builds the program, says what failed, and returns what prove() does."""
+    """Builds the program, says what failed, and returns the result of prove()."""
     kit = crates.toolchain()
     if kit is None:
         failures.refuse(name, "there is no command rt: put the toolchain's bin folder into PATH, or name the "

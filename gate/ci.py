@@ -1,5 +1,4 @@
-"""Runs the toolchain's own gate, `rt ci`, and shows what it says. For a crate that is proved, it shows the lines of rt
-alone."""
+"""Runs the toolchain's own gate, `rt ci`, and shows its output. For a crate that is proved, it shows only rt's lines."""
 import os
 import re
 import subprocess
@@ -20,13 +19,13 @@ class Gate:
     """One run of `rt ci`: its counts, and how much time of the processors it took."""
 
     def __init__(self, kit, folder, log, usage_of, counts, parts):
-        """folder: the repository; log: the file that gets all lines; usage_of: what looks on; counts: what passed and
-        failed; parts: the names of each crate and of the tests of each."""
+        """folder: the repository; log: the file that gets all lines; usage_of: measures processor time; counts: what passed
+        and failed; parts: the names of each crate and of the tests of each."""
         self.kit, self.folder, self.log, self.usage, self.counts, self.parts = kit, folder, log, usage_of, counts, parts
         self.block, self.closing, self.proved, self.seconds, self.lock = None, None, 0, 0, threading.Lock()
 
     def run(self, clock, shown):
-        """Runs it in the time that the clock leaves, and shows how far it is. Returns whether all passed."""
+        """Runs it in the time that the clock leaves, and shows its progress. Returns whether all passed."""
         self.shown, self.usage.begun = shown, self.begun
         status = self.follow(clock)
         if self.closing is None:
@@ -73,7 +72,7 @@ class Gate:
                 self.shown.begin(part)
 
     def take(self, line):
-        """Shows the line now, keeps it back until it is known how its crate ended, or takes it for the closing line."""
+        """Shows the line now, or holds it back until its crate has ended, or keeps it as the closing line."""
         closing, ended = CLOSING.fullmatch(line), ENDED.match(line)
         if closing:
             self.closing = closing.groups()

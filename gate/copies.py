@@ -5,7 +5,7 @@ import os
 import shutil
 import subprocess
 
-# What a crate has and the toolchain's gate does not get.
+# The parts of a crate that the toolchain's gate does not get.
 APART = ("must-fail", "out")
 NAMES = ("crates.txt", "HANDLES", "BUILD.bazel", "MODULE.bazel")
 # The shell's words that archive the sources of the folder $2, as built_from.sh of the checkout $1 does, and those that
@@ -15,7 +15,7 @@ RECORD = 'root=$1 && . "$1/built_from.sh" && find_toolchain && "of_$2" "$3" && r
 
 
 def is_read(inside):
-    """Whether the toolchain's gate looks at the file: at each below crates/, elsewhere for what may not be there."""
+    """Whether the toolchain's gate looks at the file: at each below crates/, and elsewhere for files that are not allowed."""
     parts = inside.split(os.sep)
     if parts[0] == "crates":
         return len(parts) < 3 or parts[2] not in APART
@@ -28,7 +28,7 @@ def copy_file(source, to):
 
 
 def copy_sources(root, to):
-    """Copies what the toolchain's gate reads, less the must-fail edits."""
+    """Copies what the toolchain's gate reads, without the must-fail edits."""
     # (a folder .git ends its search for the top of a repository)
     os.makedirs(f"{to}/.git")
     for at, folders, files in os.walk(root):
@@ -53,7 +53,7 @@ def copy_edits(root, to):
 
 
 def take_back(copy, root, name, file):
-    """Puts what was made in the copy of a crate into the checkout."""
+    """Copies what was made in the copy of a crate into the checkout."""
     to = f"{root}/crates/{name}/out/{file}"
     os.makedirs(os.path.dirname(to), exist_ok=True)
     shutil.copy2(f"{copy}/crates/{name}/out/{file}", f"{to}.new")

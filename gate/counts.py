@@ -1,4 +1,4 @@
-"""What a verification counts, and the time that it has."""
+"""The counts of a verification, and its time."""
 import threading
 import time
 
@@ -37,7 +37,7 @@ class Counts:
 
 
 class Clock:
-    """The minutes that a verification has, or None for as many as it takes."""
+    """The minutes that a verification may take; None if it has no limit."""
 
     def __init__(self, minutes=None):
         self.minutes = minutes
@@ -51,7 +51,7 @@ class Clock:
         return self.left() == 0
 
     def when_up(self, work):
-        """Has the work done once the time is up. Returns what cancels it."""
+        """Does the work when the time is up. Returns a function that cancels this."""
         if self.ends is None:
             return lambda: None
         timer = threading.Timer(self.left(), work)

@@ -5,14 +5,14 @@ import re
 import shutil
 import time
 
-# What nearly every proof takes at most. The toolchain itself takes fewer jobs if memory is short.
+# The memory that is enough for nearly every proof. The toolchain itself takes fewer jobs if memory is short.
 MEMORY_EACH = 3_000_000_000
 # More jobs than these gain nothing in a crate of the usual size.
 MOST_JOBS = 4
-# A chain of at least so much of the longest one decides with it how long all takes.
+# A chain of at least this part of the longest one also decides how long everything takes.
 NEARLY = 0.75
-# A control group's limits, of its second and its first version: the file of the limit, and the file and form of what
-# goes with it, which is what the group holds already, or the period of its quota.
+# The limits of a control group, for versions 2 and 1 of control groups: the file of the limit, and the file and form of
+# its second value: the memory that the group already uses, or the period of its quota.
 MEMORY_LIMITS = [
     ("/sys/fs/cgroup/memory.max", "/sys/fs/cgroup/memory.stat", r"^anon (\d+)"),
     ("/sys/fs/cgroup/memory/memory.limit_in_bytes", "/sys/fs/cgroup/memory/memory.stat", r"^total_rss (\d+)"),
@@ -40,7 +40,7 @@ def programs(root):
 
 
 def below(crates, name):
-    """Returns the crates that the crate uses, also through others, lowest first."""
+    """Returns the crates that the crate uses, directly or through others, lowest first."""
     found = []
     for it in crates[name]:
         found += [each for each in [*below(crates, it), it] if each not in found]
@@ -97,10 +97,10 @@ def lanes():
 
 
 class Task:
-    """What is done in one lane: after the tasks with these names, in about these seconds."""
+    """A piece of work for one lane, to be done after the tasks with these names, in about this number of seconds."""
 
     def __init__(self, after, seconds, work):
-        """The work gets how many jobs it may use, and returns whether it went well."""
+        """The work gets the number of jobs that it may use, and returns whether it succeeded."""
         self.after, self.seconds, self.work = after, seconds, work
 
 

@@ -1,4 +1,4 @@
-"""What a script says if it cannot build or try a program: what happened, where, and what to do."""
+"""The message of a script that cannot build or try a program: what happened, where, and what to do."""
 import os
 import re
 import shutil
@@ -8,12 +8,12 @@ import tempfile
 
 import toolchain
 
-# The status of what fails in a script, and not in the program.
+# The status of a failure in a script rather than in the program.
 STATUS = 125
-# If a disk has less room than this, a proof that failed counts as failed for lack of room.
+# If a disk has less room than this, a failed proof counts as failed because the disk is full.
 LEAST_ROOM = 1 << 20
 TAIL = 40
-# Lines of the toolchain that say nothing of a failure.
+# Lines of the toolchain that say nothing about a failure.
 COUNTS = re.compile(r"(library|statements|crate) \w+: modules loaded=|logic /")
 
 
@@ -77,4 +77,4 @@ def of_crate(what, folder, log, status, line):
                       f"memory: end other programs, or give it fewer processors, as by 'taskset -c 0', {again}")
     older = "" if line == toolchain.WANTED else f", or take the toolchain '{toolchain.WANTED}'"
     return said, (f"{what} failed with the status {status}; its last lines are above, and all are in {log}: "
-                  f"mend it{older}, {again}")
+                  f"fix it{older}, {again}")

@@ -1,14 +1,14 @@
-"""Copies of functions, beside them and under names of their own, with the same clauses and the same proof. So several
-edits of one function are tried in one check. The crate's own functions call no copy."""
+"""Copies of functions under other names, with the same clauses and the same proof. So several edits of one function can
+be tried in one check. The crate's own functions call no copy."""
 import re
 
-# What the name of a copy ends in: before the number of its edit, and at a copy without an edit.
-WITH_EDIT, AS_IT_STANDS = "_with_edit_", "_as_it_stands"
+# The endings of a copy's name: with an edit, whose number follows, and without one.
+WITH_EDIT, UNCHANGED = "_with_edit_", "_unchanged"
 
 
 def can_be_copied(edit, sources):
-    """Whether the edit changes one function that can have a copy under another name: none of a trait, and none whose
-    proof is also another's."""
+    """Whether the edit changes exactly one function, and this can be copied under another name: it belongs to no trait,
+    and doesn't share its proof."""
     if not edit.functions or len(edit.functions) != 1:
         return False
     (of,) = edit.functions
@@ -18,10 +18,10 @@ def can_be_copied(edit, sources):
 
 
 class FunctionCopy:
-    """A copy of a function: its name, and the lines that it has in the file, once it is written."""
+    """A copy of a function: its name and, once it is written, its lines in the file."""
 
     def __init__(self, function, ending, changed, sources):
-        """changed: the lines of the function's file that are other in the copy, by their numbers."""
+        """changed: the lines of the function's file that differ in the copy, by their numbers."""
         self.function, self.name, self.changed = function, function.name + ending, changed
         self.proofs = function.proofs(sources)
         self.own_proofs = self.proofs[: -len(function.name) - 1] + self.name + "/"
@@ -46,7 +46,7 @@ class FunctionCopy:
 
 
 class Copies:
-    """The copies of one check: one for each of the edits, and an unchanged one of each function that they change."""
+    """The copies of one check: one for each edit, and an unchanged one of each function that the edits change."""
 
     def __init__(self, crate, edits, sources):
         self.crate, self.sources, self.of_edits, self.whole = crate, sources, {}, {}
@@ -54,7 +54,7 @@ class Copies:
             (of,) = edit.functions
             changed = edit.changes[of.path]
             self.of_edits[edit] = FunctionCopy(of, f"{WITH_EDIT}{number}", changed, sources)
-            self.whole.setdefault((of.path, of.head), FunctionCopy(of, AS_IT_STANDS, {}, sources))
+            self.whole.setdefault((of.path, of.head), FunctionCopy(of, UNCHANGED, {}, sources))
 
     def all(self):
         return [*self.of_edits.values(), *self.whole.values()]
@@ -63,7 +63,7 @@ class Copies:
         return [it.prover_name() for it in self.all()]
 
     def written(self, texts):
-        """Returns the texts with the copies' own beside them, where texts are those of the files that are changed."""
+        """Returns the texts with those of the copies. texts: the changed files."""
         texts = dict(texts)
         for path in {it.function.path for it in self.all()}:
             made, lines = [], self.sources[path].split("\n")
@@ -106,7 +106,7 @@ class Copies:
         """Whether one of the placed lines is of the edit's copy, or of the unchanged one."""
         return any(it.copy in (self.of_edits[edit], self.whole_of(edit)) for it in lines)
 
-    def stands(self, edit, told):
+    def is_whole_proved(self, edit, report):
         """Whether the check proved all of the unchanged copy of the function that the edit changes."""
         whole = self.whole_of(edit)
-        return whole.prover_name() in told.proved_but_for_calls() and all(it.copy is not whole for it in told.goals())
+        return whole.prover_name() in report.proved_but_for_calls() and all(it.copy is not whole for it in report.goals())

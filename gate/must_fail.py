@@ -19,7 +19,7 @@ HEADING = """\
 # The crates whose must-fail edits were all refused, the oldest trial first, each with the SHA-256 of all that the verdicts
 # rest on; written by ./test all.
 """
-# The scripts that judge an edit.
+# The scripts that decide about an edit.
 JUDGES = ("must_fail.py", "edits.py", "trials.py", "function_copies.py", "said.py", "toolchain.py")
 PARTS = ("src", "specs", "proofs")
 # Many checks run side by side, each with one job: each further one would load the libraries again.
@@ -27,7 +27,7 @@ ONE_JOB = ["--jobs", "1"]
 
 
 class TimeIsUp(Exception):
-    """The time of the verification is up, so what a check says counts for nothing."""
+    """The time of the verification is up, so the result of a check doesn't count."""
 
 
 def files_below(folder):

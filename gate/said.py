@@ -1,10 +1,10 @@
-"""What a check of a crate said: the goals that were not proved, by their places, and what could not be read."""
+"""The report of a check of a crate: the goals that were not proved, by their places, and what could not be read."""
 import re
 
 PLACED = re.compile(r"(?:note: )?(?:\./)?((?:src|specs|proofs)/\S+?):(\d+):\d+: (.*)")
-# What the prover says of a goal in a source file that it tried and did not prove.
+# The prover's words about a goal in a source file that it tried and did not prove.
 OPEN_GOAL = re.compile(r"it is not proved that |` found no proof")
-# What it says of a text that it can't read, or that names what is not there. Its quotations are taken out before.
+# Its words about a text that it can't read, or that uses a name that doesn't exist. Quotations are removed before.
 UNREADABLE = re.compile(
     r"is not in scope|has no field|has no ``|is no name|operand is missing|expected the end|cannot continue|"
     r"was not admitted"
@@ -29,7 +29,7 @@ class Line:
         return self.said.startswith("error[")
 
     def is_unreadable(self):
-        """Whether the prover could not read a clause, a definition or a proof, or found a name that is not there."""
+        """Whether the prover could not read a clause, a definition or a proof, or a name in it doesn't exist."""
         error = re.match(r"error: (?:`[^`]*`: )?(.*)", self.said)
         has_declaration = self.said.startswith("error: `")
         quoted_out = re.sub(r"`[^`]*`", "``", error[1]) if error else ""

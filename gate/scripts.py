@@ -22,7 +22,7 @@ TESTS = {
 }
 # Those that need the toolchain, or more minutes, and the words that they are run with.
 WHOLE = {"edits": (), "sweep_memory": ("all",)}
-# The status of a script that can try nothing here.
+# The status of a script that cannot run its tests here.
 SKIPPED = 77
 SAID_SKIPPED = re.compile(r"^(\w+: SKIPPED: .*)$", re.M)
 
@@ -33,7 +33,7 @@ class Scripts:
     def __init__(self, root, counts, clock, is_whole):
         self.root, self.counts, self.clock, self.is_whole, self.minutes = root, counts, clock, is_whole, {}
         self.running = set()
-        # (what would change how the scripts find their parts)
+        # (variables that would change where the scripts find their parts)
         self.environment = {it: text for it, text in os.environ.items() if it not in ("CDPATH", "PYTHONSAFEPATH")}
 
     def tasks(self, shown, libraries=()):

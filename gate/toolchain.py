@@ -24,7 +24,7 @@ def version(folder):
 
 
 def number_of(line):
-    """Returns what orders the toolchains, as (13, 'b'), or None if the line has another form."""
+    """Returns a key that orders toolchains, as (13, 'b'), or None if the line has another form."""
     found = re.match(r"rattle-kit-(\d+)([a-z]*) ", line)
     return (int(found[1]), found[2]) if found else None
 
@@ -43,7 +43,7 @@ def loaded(folder):
         loader.exec_module(made)
         return made if callable(made.rtlib.lock) and callable(made.rtlib.Crate.is_built) else None
     except Exception:
-        # (what another toolchain's rt does when it is read is not known)
+        # (reading another toolchain's rt could do anything)
         return None
 
 
@@ -54,7 +54,7 @@ def proved(rt, root, names):
             known = {it: rt.rtlib.Crate(f"{root}/crates/{it}", root, {}) for it in names}
             return [it for it, crate in known.items() if crate.is_built()]
     except (Exception, SystemExit):
-        # (rt says itself what is wrong, once it is run)
+        # (when rt runs, it says itself what is wrong)
         return []
 
 

@@ -1,12 +1,12 @@
-"""Tries the must-fail edits of a crate: many in one check, where each changes another function or a copy of one, and
-then alone each edit that such a check does not decide. An edit counts as refused only if the prover names a goal that
-it did not prove."""
+"""Tries the must-fail edits of a crate: first many in one check, if each changes another function or a copy of one, and
+then each edit that this doesn't decide alone. An edit counts as refused only if the prover names a goal that it did not
+prove."""
 import edits
 import function_copies
 
 
 class Verdict:
-    """Whether the prover refuses the crate with an edit for its meaning, and what the gate says of it."""
+    """Whether the prover refuses the crate with an edit because of its meaning, and the words for that."""
 
     def __init__(self, is_refused, words):
         self.is_refused, self.words = is_refused, words
@@ -31,21 +31,21 @@ def own_lines(edit, lines, sources):
     return [it for it in lines if it.copy is None and is_own(it)]
 
 
-def judged_alone(told):
+def judged_alone(report):
     """Returns the verdict of a check of the whole crate with one edit."""
-    if told.status == 0:
+    if report.status == 0:
         return Verdict(False, "NOT REFUSED: the crate is still proved with this edit")
-    wrong = told.wrong_shapes()
+    wrong = report.wrong_shapes()
     if wrong:
         return by_shape(wrong[0])
-    if not told.is_judged():
-        return Verdict(False, f"no verdict: {told.last[:300]}")
-    if told.goals():
-        return refused(told.goals()[0])
-    unreadable = [it for it in told.lines if it.is_unreadable()]
+    if not report.is_judged():
+        return Verdict(False, f"no verdict: {report.last[:300]}")
+    if report.goals():
+        return refused(report.goals()[0])
+    unreadable = [it for it in report.lines if it.is_unreadable()]
     if unreadable:
         return by_shape(unreadable[0])
-    return Verdict(False, f"no goal is named that was not proved: {told.last[:300]}")
+    return Verdict(False, f"no goal is named that was not proved: {report.last[:300]}")
 
 
 class Trials:
@@ -69,16 +69,16 @@ class Trials:
         return self.verdicts
 
     def alone(self, edit):
-        """Returns the verdict on an edit that is tried alone: by the function that it says it breaks, if that has a goal
-        that is not proved, or else by the whole crate."""
+        """Returns the verdict on an edit that is tried alone. If the edit names the function that it breaks, and that has a
+        goal that is not proved, this decides; otherwise the whole crate does."""
         texts = edits.merged([edit], self.sources)
-        told = edit.breaks and self.checked(texts, [edit.breaks])
-        if told and told.is_judged() and told.goals() and not told.wrong_shapes():
-            return refused(told.goals()[0])
+        report = edit.breaks and self.checked(texts, [edit.breaks])
+        if report and report.is_judged() and report.goals() and not report.wrong_shapes():
+            return refused(report.goals()[0])
         return judged_alone(self.checked(texts, []))
 
     def round(self):
-        """Tries all that is left and changes only bodies, many in each check, but none twice with the same others."""
+        """Tries all remaining edits that change only bodies, many in each check, but none twice with the same others."""
         found = [it for it in edits.batches(self.left) if it[0].functions]
         can_be_copied = lambda it: it not in self.in_place and function_copies.can_be_copied(it, self.sources)
         beside = [it for batch in found[1:] for it in batch if can_be_copied(it)]
@@ -93,21 +93,21 @@ class Trials:
         """Tries in one check the edits of the batch in place, and those beside in copies of their functions."""
         copies, names = function_copies.Copies(self.crate, beside, self.sources), self.names(batch)
         texts = copies.written(edits.merged(batch, self.sources))
-        told = self.checked(texts, names and [*names, *copies.names()])
-        if names and told.status == 2:
+        report = self.checked(texts, names and [*names, *copies.names()])
+        if names and report.status == 2:
             # (the prover knows one of the functions by another name)
-            told = self.checked(texts, [])
-        copies.place(told.lines)
-        if told.is_judged():
-            self.tell_goals(batch, told)
-            self.tell_copies(copies, told)
+            report = self.checked(texts, [])
+        copies.place(report.lines)
+        if report.is_judged():
+            self.tell_goals(batch, report)
+            self.tell_copies(copies, report)
             return
         # the line says which edit the front end refuses, and the others are tried without it
-        of_shape = told.wrong_shapes()
+        of_shape = report.wrong_shapes()
         wrong = {edit: own_lines(edit, of_shape, self.sources) for edit in batch}
         for edit in [it for it in batch if wrong[it]]:
             self.end(edit, by_shape(wrong[edit][0]))
-        # (that of a copy may be for the copy, so its edit waits to be tried in place)
+        # (a copy may be refused only because it is a copy, so its edit waits to be tried in place)
         in_place = [it for it in beside if copies.are_named(it, of_shape)]
         self.in_place += in_place
         rest = [it for it in batch if not wrong[it]]
@@ -115,19 +115,19 @@ class Trials:
         if (len(rest) < len(batch) or in_place) and len(rest) + len(rest_beside) > 1:
             self.try_batch(rest, rest_beside)
 
-    def tell_copies(self, copies, told):
+    def tell_copies(self, copies, report):
         """Ends the trial of each edit whose copy has a goal that is not proved, if the unchanged function has none."""
         for edit in copies.of_edits:
-            own = copies.own(edit, told.goals())
-            if own and copies.stands(edit, told):
+            own = copies.own(edit, report.goals())
+            if own and copies.is_whole_proved(edit, report):
                 self.end(edit, refused(own[0]))
 
-    def tell_goals(self, batch, told):
-        """Ends the trial of each edit that has a goal of its own. If a function that no edit changes has one too, a
-        caller's goal may be open for what it calls, so that no such edit is counted."""
-        goals = {edit: own_lines(edit, told.goals(), self.sources) for edit in batch}
-        has_stray = any(it.copy is None and all(it not in own for own in goals.values()) for it in told.goals())
-        callers = told.callers()
+    def tell_goals(self, batch, report):
+        """Ends the trial of each edit that has a goal of its own. If a function that no edit changes has an open goal too,
+        a caller's goal may be open because of what it calls, so no edit of a caller is counted."""
+        goals = {edit: own_lines(edit, report.goals(), self.sources) for edit in batch}
+        has_stray = any(it.copy is None and all(it not in own for own in goals.values()) for it in report.goals())
+        callers = report.callers()
         for edit in [it for it in batch if goals[it]]:
             names = self.names([edit])
             if not has_stray or names and not callers & set(names):

@@ -21,7 +21,7 @@ NOTICE = "not proved: this answer is from an unproved build"
 # The commands whose words name no file, those that take words NAME=FILE, and the options with a word behind them that
 # names none.
 NO_PATHS, OF_SCRIPTS = ("rows", "help"), ("run", "explain", "orders", "judge")
-VALUED = ("--states", "--when", "--never", "--steps")
+VALUED = ("--seconds", "--memory", "--states", "--when", "--never")
 # What the toolchain writes after a program that ended.
 ENDED = re.compile(rb"^run=ended status=(\d+) .*proved=no\n\Z", re.M)
 OF_TOOLCHAIN = re.compile(rb"(^(interpreter|checked|races): .*\n)*\Z", re.M)
@@ -92,7 +92,7 @@ def spoken(name):
 
 
 def stop(number, _):
-    """Ends the run, and has a second signal change nothing."""
+    """Ends the run. A second signal changes nothing."""
     for it in SIGNALS:
         signal.signal(it, signal.SIG_IGN)
     raise Stopped(number)
@@ -109,13 +109,13 @@ def try_program(kit, name, words):
 
 
 def why_not(said):
-    """Returns why there is no answer of the program."""
+    """Returns why the program gave no answer."""
     instead = "run the same without --unproved, which has no such limit"
     if TOO_MUCH.search(said):
         return f"an unproved build may write 1 MiB at most, and this answer is longer: {instead}"
     if TOO_LONG.search(said):
         return f"an unproved build may run for 60 seconds at most, and this run takes longer: {instead}"
-    return "the unproved build gave no answer, and the toolchain says above why: mend that, and run this again"
+    return "the unproved build gave no answer, and the toolchain says above why: fix that, and run this again"
 
 
 def answer(name, words, folder):

@@ -9,7 +9,7 @@ KINDS = ("proof", "tests", "edits")
 
 
 def kind_of(words):
-    """Returns what the words of the prover's command are for: a crate's proof, its tests, or its must-fail edits."""
+    """Returns the purpose of the prover's command, from its words: a crate's proof, its tests, or its must-fail edits."""
     return "tests" if "--test" in words else "edits" if "--incremental" in words else "proof"
 
 

@@ -1,5 +1,5 @@
-"""By what pip and build install and pack the package 'dekarino' from this folder: offline, and with nothing but Python
-(PEP 517, PEP 660). A wheel and an archive of sources have the shared object and the programs with them; in a checkout
+"""The backend with which pip and build install and pack the package 'dekarino' from this folder: offline, and with only
+Python (PEP 517, PEP 660). A wheel and an archive of sources contain the shared object and the programs. In a checkout
 python/build makes these."""
 import base64
 import gzip
@@ -14,7 +14,7 @@ import zipfile
 HERE = pathlib.Path(__file__).resolve().parent
 ROOT = HERE.parent
 LIBRARY, PROGRAMS = "libdekarino.so", ["apexports", "dekarino"]
-# What they are built from.
+# The record of what they are built from.
 RECORD = "BUILT_FROM"
 # The libraries that a wheel for manylinux may link.
 LINKED = {"libc.so.6"}
@@ -28,7 +28,7 @@ ENTRY_POINTS = "[pytest11]\ndekarino = dekarino.pytest_plugin\n"
 
 
 def version():
-    """The version that the package itself has."""
+    """The version in the package itself."""
     return re.search(r'^__version__ = "(.*)"$', (HERE / "dekarino/__init__.py").read_text(), re.M)[1]
 
 
@@ -49,7 +49,7 @@ def sources():
 
 
 def built():
-    """The shared object, and the programs that are there: of an archive of sources, of an unpacked package, or made
+    """The shared object, and the programs if they exist: from an archive of sources, from an unpacked package, or made
     now."""
     names = [LIBRARY, *PROGRAMS, RECORD]
     places = {name: HERE / "dekarino" for name in names}
@@ -63,7 +63,7 @@ def built():
 
 
 def record_of(folder):
-    """Where it is said what the files of a folder are built from: beside the prebuilt ones, if they are those."""
+    """The path of the record of what a folder's files are built from: beside the prebuilt ones, if they are those."""
     digests = [hashlib.sha256(path.read_bytes()).hexdigest() for path in folder.iterdir() if path.name != RECORD]
     prebuilt = ROOT / "prebuilt"
     text = (prebuilt / RECORD).read_text() if (prebuilt / RECORD).is_file() else ""
@@ -71,39 +71,39 @@ def record_of(folder):
 
 
 def build():
-    """Makes what is built, in a checkout."""
+    """Makes the shared object and the programs, in a checkout."""
     if subprocess.run([HERE / "build"], stdin=subprocess.DEVNULL, check=False).returncode:
         raise SystemExit(f"there is no shared object to install: see what {HERE / 'build'} says above")
 
 
 def tag(binaries):
-    """The tag of a wheel with these files: that of the newest glibc that they ask for, if they link nothing else."""
+    """The tag of a wheel with these files: that of the newest glibc that they need, if they link nothing else."""
     asked = {int(it) for content in binaries for it in re.findall(rb"GLIBC_2\.(\d+)", content)}
     linked = {it.decode() for content in binaries for it in re.findall(rb"\0(lib[\w+-]+\.so\.\d+)(?=\0)", content)}
     return f"py3-none-{f'manylinux_2_{max(asked)}_x86_64' if asked and linked <= LINKED else 'linux_x86_64'}"
 
 
 def build_wheel(wheel_directory, config_settings=None, metadata_directory=None):
-    """Makes what pip unpacks."""
+    """Makes the wheel that pip unpacks."""
     parts = {name: path.read_bytes() for name, path in {**sources(), **built()}.items()}
     found = tag([content for name, content in parts.items() if name in binaries()])
     return write_wheel(wheel_directory, found, parts)
 
 
 def build_editable(wheel_directory, config_settings=None, metadata_directory=None):
-    """Makes what pip unpacks for a package that is used from this folder."""
+    """Makes the wheel that pip unpacks for an editable install from this folder."""
     if not (ROOT / RECORD).exists():
         build()
     return write_wheel(wheel_directory, "py3-none-any", {"dekarino.pth": f"{HERE}\n".encode()})
 
 
 def binaries():
-    """The names of what is built."""
+    """The names of the built files."""
     return {f"dekarino/{name}" for name in (LIBRARY, *PROGRAMS)}
 
 
 def write_wheel(folder, found_tag, parts):
-    """Writes a wheel of the parts, and gives its name."""
+    """Writes a wheel of the parts, and returns its name."""
     name = f"dekarino-{version()}"
     pure = str(found_tag.endswith("any")).lower()
     texts = {"METADATA": metadata(), "entry_points.txt": ENTRY_POINTS,
@@ -122,13 +122,13 @@ def write_wheel(folder, found_tag, parts):
 
 
 def digest(content):
-    """The digest that the record of an installed file has."""
+    """The digest of an installed file, as its record has it."""
     found = base64.urlsafe_b64encode(hashlib.sha256(content).digest())
     return "sha256=" + found.rstrip(b"=").decode()
 
 
 def build_sdist(sdist_directory, config_settings=None):
-    """Makes an archive from which the same wheel is built anywhere: with what is built."""
+    """Makes an archive of sources with the built files, from which the same wheel is built anywhere."""
     name = f"dekarino-{version()}"
     own = {it: HERE / it for it in ("pyproject.toml", "backend.py", "README.md")}
     parts = {it: path.read_bytes() for it, path in {**own, **sources(), **built()}.items()}

@@ -64,14 +64,14 @@ class Browser:
             asked["sessionId"] = self.session
         os.write(self.write_end, json.dumps(asked).encode() + b"\0")
         while True:
-            told = self.next_told(SECONDS)
-            if told.get("id") == self.number:
-                if "error" in told:
-                    raise RuntimeError(f"{method}: {told['error']}")
-                return told["result"]
-            self.events.append(told)
+            message = self.next_message(SECONDS)
+            if message.get("id") == self.number:
+                if "error" in message:
+                    raise RuntimeError(f"{method}: {message['error']}")
+                return message["result"]
+            self.events.append(message)
 
-    def next_told(self, seconds):
+    def next_message(self, seconds):
         end = time.monotonic() + seconds
         while b"\0" not in self.text:
             if not select.select([self.read_end], [], [], max(0, end - time.monotonic()))[0]:
@@ -80,15 +80,15 @@ class Browser:
             if not some:
                 raise RuntimeError("the browser ended")
             self.text += some
-        told, _, self.text = self.text.partition(b"\0")
-        return json.loads(told)
+        message, _, self.text = self.text.partition(b"\0")
+        return json.loads(message)
 
     def run(self, script):
         """Evaluates an expression in the page, awaits it, and returns its value."""
-        told = self.ask("Runtime.evaluate", expression=script, awaitPromise=True, returnByValue=True)
-        if "exceptionDetails" in told:
-            raise RuntimeError(f"{script}: {told['exceptionDetails']}")
-        return told["result"].get("value")
+        message = self.ask("Runtime.evaluate", expression=script, awaitPromise=True, returnByValue=True)
+        if "exceptionDetails" in message:
+            raise RuntimeError(f"{script}: {message['exceptionDetails']}")
+        return message["result"].get("value")
 
     def open(self, address):
         self.ask("Page.navigate", url=address)
@@ -141,9 +141,9 @@ class Browser:
     def complaints(self):
         """What the page logged as wrong, and what it threw."""
         kinds = ("Runtime.exceptionThrown", "Log.entryAdded")
-        return [told["params"] for told in self.events if told.get("method") in kinds
-                and told["params"].get("entry", {}).get("level", "error") == "error"]
+        return [message["params"] for message in self.events if message.get("method") in kinds
+                and message["params"].get("entry", {}).get("level", "error") == "error"]
 
     def requests(self):
         """The addresses that were asked for."""
-        return [told["params"]["request"]["url"] for told in self.events if told.get("method") == "Network.requestWillBeSent"]
+        return [it["params"]["request"]["url"] for it in self.events if it.get("method") == "Network.requestWillBeSent"]

@@ -11,7 +11,7 @@ static void sends(APEX_BYTE byte, SYSTEM_TIME_TYPE time_out, RETURN_CODE_TYPE wa
     IS(wanted, SEND_BUFFER, FIRST, &byte, 1, time_out);
 }
 
-/* Receives a message, which has to be this byte where it comes. */
+/* Receives a message, which must be this byte if it comes. */
 static void receives(SYSTEM_TIME_TYPE time_out, RETURN_CODE_TYPE wanted, APEX_BYTE byte) {
     APEX_BYTE message[4] = {0};
     MESSAGE_SIZE_TYPE length = MINE;
@@ -118,7 +118,8 @@ static void no_process(void) {
     expect(id == MINE, "the place for the identifier");
 }
 
-/* In NORMAL nothing is created; a lock of preemption lets nobody wait, and who is served runs when it is given back. */
+/* In NORMAL nothing is created. While preemption is locked no process may wait, and one that is served runs after the
+ * unlock. */
 
 static void locks(void) {
     BUFFER_NAME_TYPE name = "LATE";

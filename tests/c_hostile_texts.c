@@ -16,19 +16,19 @@ int main(void) {
     for (int key = 0; key < KEYS; key++) {
         length += (size_t)sprintf(text + length, "k%05d = 1\n", key);
     }
-    uint64_t told = 0;
+    uint64_t written = 0;
     const clock_t before = clock();
-    const uint32_t answer = apex_configuration_mistakes((const uint8_t *)text, length, lines, sizeof lines, &told);
+    const uint32_t answer = apex_configuration_mistakes((const uint8_t *)text, length, lines, sizeof lines, &written);
     const double seconds = (double)(clock() - before) / CLOCKS_PER_SEC;
     expect(answer == 2, "the form is the fault");
     expect(seconds <= LIMIT, "it takes at most two seconds");
     /* (the array `partition` is missing, which is a place before those of the keys) */
     const char *end = "and 79981 more\n";
     unsigned count = 0;
-    for (uint64_t at = 0; at < told; at++) {
+    for (uint64_t at = 0; at < written; at++) {
         count += lines[at] == '\n';
     }
-    expect(count == 21 && told >= strlen(end) && memcmp(lines + told - strlen(end), end, strlen(end)) == 0,
+    expect(count == 21 && written >= strlen(end) && memcmp(lines + written - strlen(end), end, strlen(end)) == 0,
            "20 lines and how many more there are");
     printf("%d unknown keys\n", KEYS);
     return 0;

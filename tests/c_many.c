@@ -1,8 +1,8 @@
 /* c_many CONFIG FRAMES LOG [PIECE]: a module of six partitions with 14 processes of four priorities: servers that wait, an
  * error handler, processes that suspend and resume, and a partition that restarts. Prints the report of all calls, and
- * on standard error what the processes counted; writes a log of the calls. With a piece it keeps the calls of so many
- * frames at a time, and the report has no lines of calls: sanitizers take long for a long text in memory. Each
- * partition has its window once in each 100 nanoseconds. */
+ * on standard error what the processes counted; writes a log of the calls. With PIECE it keeps the calls of that many
+ * frames at a time, and the report has no lines of calls, since sanitizers are slow with a long text in memory. Each
+ * partition has one window in each 100 nanoseconds. */
 #include "../c/bench_processes.h"
 #include "c_test.h"
 

@@ -18,7 +18,7 @@ static void start_others(void) {
     leave('l');
     IS(NO_ERROR, START, 2); /* higher */
     leave('l');
-    IS(NO_ERROR, START, 3); /* equal, behind the process that was ready before */
+    IS(NO_ERROR, START, 3); /* equal, after the process that was ready before */
     leave('l');
     STOP_SELF();
 }

@@ -149,9 +149,9 @@ static bool check(const struct reader *reader, const struct asked *a) {
     const size_t written = answer == 0 && reader->limit > 0 ? after.number : 0;
     expect(written <= reader->limit, "the length of what is in the buffer");
     for (size_t i = written; i < a->length; i++) {
-        expect(a->buffer[i] == FILL, "no byte is written behind what is told");
+        expect(a->buffer[i] == FILL, "no byte is written after the answer");
     }
-    expect(answer == 0 || memcmp(&before, &after, sizeof after) == 0, "places stay where nothing is told");
+    expect(answer == 0 || memcmp(&before, &after, sizeof after) == 0, "places are unchanged if there is no answer");
     if (answer == 0 && reader->name_of != NULL) {
         check_found(reader, a, after.number);
     }
@@ -172,7 +172,7 @@ static void ask_all(void) {
     static const uint32_t numbers[] = {0, 1, 2, 3, 4, 5, 31, 32, 1u << 31, UINT32_MAX};
     static const size_t lengths[] = {0, 1, 29, 30, 31, 1023, 1024, 1025};
     for (size_t r = 0; r < sizeof readers / sizeof *readers; r++) {
-        unsigned long told = 0;
+        unsigned long answers = 0;
         for (size_t i = 0; i < ASKED; i++) {
             const uint64_t pick = any(1u << 30);
             const char *name = names[pick % 12];
@@ -181,12 +181,12 @@ static void ask_all(void) {
             struct apex_handle *const handle = &handles[pick / 9600 % HANDLES];
             uint8_t *const text = memory(strlen(name)), *const buffer = memory(length);
             memcpy(text, name, strlen(name));
-            told += check(&readers[r], &(struct asked){handle, number, number, other, other, text, strlen(name), length,
+            answers += check(&readers[r], &(struct asked){handle, number, number, other, other, text, strlen(name), length,
                                                        buffer});
             free(text);
             free(buffer);
         }
-        expect(told > 0 && told < ASKED, "some of the questions have an answer");
+        expect(answers > 0 && answers < ASKED, "some of the questions have an answer");
     }
 }
 

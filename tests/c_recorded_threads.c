@@ -10,7 +10,7 @@
 #include <string.h>
 
 enum { THREADS = 4, CALLS = 5000 };
-static uint32_t given, taken, told;
+static uint32_t given, taken, reports;
 
 static void fails(const char *why, const char *text) {
     fprintf(stderr, "%s: %s\n", why, text);
@@ -56,7 +56,7 @@ static int sink(void *context, const char *text, size_t length) {
         return 0;
     }
     __atomic_fetch_add(&taken, 1, __ATOMIC_RELAXED);
-    __atomic_fetch_add(&told, lost, __ATOMIC_RELAXED);
+    __atomic_fetch_add(&reports, lost, __ATOMIC_RELAXED);
     return 1;
 }
 
@@ -87,8 +87,8 @@ int main(void) {
     for (int i = 0; i < THREADS; i++) {
         pthread_join(threads[i], NULL);
     }
-    if (taken + told + apex_record_lost() != THREADS * CALLS || given != THREADS * CALLS) {
-        fprintf(stderr, "%u taken, %u told as lost, %u lost\n", taken, told, apex_record_lost());
+    if (taken + reports + apex_record_lost() != THREADS * CALLS || given != THREADS * CALLS) {
+        fprintf(stderr, "%u taken, %u reported as lost, %u lost\n", taken, reports, apex_record_lost());
         return 1;
     }
     return 0;

@@ -65,7 +65,7 @@ static bool is_opening_refused(const uint8_t *text, size_t length, unsigned long
     const bool was_refused = refused > 0;
     refuse(0, 0);
     if (was_refused) {
-        expect(answer == APEX_OUT_OF_MEMORY, "a refused opening answers want of memory");
+        expect(answer == APEX_OUT_OF_MEMORY, "a refused opening answers that memory ran out");
         expect(apex_partition_mode(&handle, 0, &mode) == APEX_NOT_OPEN && mode == 7, "the handle stays closed");
         expect(held == 0, "a refused opening gives all memory back");
         expect(apex_close(&handle) == APEX_NOT_OPEN, "there is nothing to close");
@@ -124,15 +124,15 @@ static unsigned long tell_without_memory(const uint8_t *text, size_t length, tel
     for (int all = 0; all < 2; all++) {
         bool was_refused = true;
         for (unsigned long from = 1; was_refused; from++) {
-            uint64_t told = 77;
+            uint64_t written = 77;
             memset(buffer, 7, sizeof buffer);
             refuse(from, all ? -1UL : from + 1);
-            const uint32_t answer = tell(&handle, buffer, sizeof buffer, &told);
+            const uint32_t answer = tell(&handle, buffer, sizeof buffer, &written);
             was_refused = refused > 0;
             refuse(0, 0);
             expect(held == held_before, "telling gives all memory back");
-            expect(answer == (was_refused ? no_memory : right), "telling answers want of memory, or what it has to");
-            expect((told == 77 && buffer[0] == 7) == was_refused, "want of memory changes nothing");
+            expect(answer == (was_refused ? no_memory : right), "telling answers that memory ran out, or what it must");
+            expect((written == 77 && buffer[0] == 7) == was_refused, "running out of memory changes nothing");
             tried += was_refused;
         }
     }
@@ -170,6 +170,32 @@ static unsigned long judge_without_memory(const uint8_t *text, size_t length) {
     }
     expect(apex_judge_close(&judge) == 0 && held == 0, "closing the judge gives all memory back");
     return openings + calls;
+}
+
+/* Judges a line with all requests refused from each on, until none is. What was refused is not noted, and the judge gives
+ * the same answer afterwards. Gives how often memory was refused. */
+static unsigned long judge_line_without_memory(const uint8_t *config, size_t length, const char *text, uint32_t right) {
+    static uint8_t message[APEX_MESSAGE_LIMIT], said[512];
+    struct apex_judge judge;
+    struct apex_departure departure = {.row = 77, .words_length = 77};
+    struct apex_line line = {.kind = 77};
+    unsigned long tried = 0;
+    memset(&judge, 0, sizeof judge);
+    refuse(0, 0);
+    expect(apex_judge_open(&judge, config, length) == 0, "a judge of lines is opened");
+    const long held_before = held;
+    for (bool was_refused = true; was_refused; tried += was_refused) {
+        refuse(tried + 1, -1UL);
+        const uint32_t answer = apex_judge_line(&judge, (const uint8_t *)text, strlen(text), 0, &line, &departure, message,
+                                                sizeof message, said, sizeof said);
+        was_refused = refused > 0;
+        refuse(0, 0);
+        expect(answer == (was_refused ? APEX_NO_MEMORY : right), "a line is judged, or memory was refused");
+        expect((line.kind == 77) == was_refused && (departure.words_length == 77) == was_refused, "and nothing else changes");
+        expect(held == held_before, "judging gives all memory back");
+    }
+    expect(apex_judge_close(&judge) == 0 && held == 0, "closing the judge of lines gives all memory back");
+    return tried;
 }
 
 /* Calls and readers on open ports, which ask for no memory. */
@@ -217,11 +243,12 @@ int main(int count, char **words) {
         all++;
     }
     call_without_memory(text, length);
-    const unsigned long told = tell_without_memory(text, length, tell_words, 0, APEX_NO_MEMORY) +
+    const unsigned long answers = tell_without_memory(text, length, tell_words, 0, APEX_NO_MEMORY) +
                                tell_without_memory(text, length, tell_fault, 3, APEX_OUT_OF_MEMORY) +
                                tell_without_memory(text, length, tell_mistakes, 3, APEX_OUT_OF_MEMORY) +
                                tell_without_memory(text, length, tell_opening, 3, APEX_OUT_OF_MEMORY) +
-                               judge_without_memory(text, length);
-    printf("%lu openings with one request refused, %lu with all from one on; %lu refused tellings\n", one, all, told);
+                               judge_without_memory(text, length) +
+                               judge_line_without_memory(text, length, "0 NONE mode 3 -> NO_ERROR", APEX_FAULTY_LINE);
+    printf("%lu openings with one request refused, %lu with all from one on; %lu refused tellings\n", one, all, answers);
     return 0;
 }

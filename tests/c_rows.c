@@ -158,7 +158,7 @@ static bool same_reply(const struct apex_reply *a, const struct apex_reply *b) {
 }
 
 /* The reply that a call got is the standard's. At times another code is judged: then the departure has the reply, the row
- * and the words, and all begins anew, since the judge may believe what it was told. */
+ * and the words, and all begins anew, since the judge may believe what was logged. */
 static void judge_reply(const struct asked *it, const struct apex_reply *reply, uint32_t row, const uint8_t *words,
                         uint64_t length) {
     if (any(1000) != 0) {
@@ -206,11 +206,11 @@ static uint32_t ask(const struct asked *it, uint32_t *row, uint8_t *words, uint6
     if (answer == 0 && *length > 0) {
         const size_t room = (size_t)any(*length);
         uint8_t *buffer = malloc(room > 0 ? room : 1);
-        uint64_t told = 0;
+        uint64_t needed = 0;
         expect(buffer != NULL, "memory for a buffer");
         memset(buffer, FILL, room);
-        expect(apex_call_words(h, p, it->at, &it->call, it->bytes, it->length, buffer, room, &told) ==
-                       APEX_SHORT_BUFFER && told == *length, "a short buffer is told with the length of the words");
+        expect(apex_call_words(h, p, it->at, &it->call, it->bytes, it->length, buffer, room, &needed) ==
+                       APEX_SHORT_BUFFER && needed == *length, "a short buffer gets the length of the words");
         for (size_t i = 0; i < room; i++) {
             expect(buffer[i] == FILL, "a short buffer stays as it was");
         }
@@ -312,13 +312,13 @@ static void expect_explained(uint32_t answer, const uint8_t *path, uint64_t path
 static void print_fault(void) {
     static uint8_t path[256], lines[65536];
     uint8_t byte = FILL;
-    uint64_t path_length = 0, lines_length = 0, told = 0;
+    uint64_t path_length = 0, lines_length = 0, needed = 0;
     const uint32_t answer = apex_configuration_fault(config, config_length, path, sizeof path, &path_length);
     expect(apex_configuration_mistakes(config, config_length, lines, sizeof lines, &lines_length) == answer,
            "both tell the fault");
     expect(apex_open(&module, config, config_length) == answer && apex_close(&module) == (answer == 0 ? 0 : 8),
            "an opening has the same answer");
-    expect(apex_configuration_fault(config, config_length, &byte, 1, &told) == answer && told == path_length &&
+    expect(apex_configuration_fault(config, config_length, &byte, 1, &needed) == answer && needed == path_length &&
                byte == FILL, "a short buffer stays as it was");
     expect_explained(answer, path, path_length, lines, lines_length);
     printf("%u\n%.*s\n%.*s", (unsigned)answer, (int)path_length, (const char *)path, (int)lines_length,

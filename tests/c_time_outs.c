@@ -269,7 +269,7 @@ static void bench_restarts(void) {
     has_left("m@50 w@50 n@150 ");
 }
 
-/* A process that is stopped where it waits waits no more, and from its entry point on it waits anew. */
+/* A process that is stopped while it waits no longer waits. Started again, it waits anew. */
 
 static void waits_again(void) {
     leave('w');

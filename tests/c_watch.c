@@ -1,16 +1,16 @@
-/* c_watch CONFIG: a process that runs without a service is told once, after 10 seconds of the machine's clock or after
+/* c_watch CONFIG: a process that runs without a service is reported once, after 10 seconds of the machine's clock or after
  * those given to bench_watch; by the rules of docs/C.md. Takes 17 seconds. What the host says is in c_watch.told.txt. */
 #include "c_process_test.h"
 
 #include <stdatomic.h>
 #include <time.h>
 
-static atomic_uint told;
+static atomic_uint reported;
 static unsigned watched;
 
 static void hear(const char *line) {
     fprintf(stderr, "%s\n", line);
-    atomic_fetch_add(&told, 1);
+    atomic_fetch_add(&reported, 1);
 }
 
 static double clock_now(void) {
@@ -27,10 +27,10 @@ static void run_for(double seconds) {
 static void runs_on(void) {
     leave('s');
     const double start = clock_now();
-    while (atomic_load(&told) == 0) {
+    while (atomic_load(&reported) == 0) {
     }
     const double ran = clock_now() - start;
-    expect(ran >= watched - 0.1 && ran < watched + 6, "it is told after the seconds that were asked for");
+    expect(ran >= watched - 0.1 && ran < watched + 6, "it is reported after the seconds that were asked for");
     leave('r');
     STOP_SELF();
 }
@@ -40,18 +40,18 @@ static void running_main(void) {
     set_mode(NORMAL);
 }
 
-/* Calls a service in time, and then none for longer: only that is told. */
+/* Calls a service in time, and then none for longer: only that is reported. */
 static void calls_now_and_then(void) {
     for (int i = 0; i < 5; i++) {
         leave('c');
         run_for(0.5);
     }
-    expect(atomic_load(&told) == 0, "it isn't told who makes services");
+    expect(atomic_load(&reported) == 0, "a process that calls services is not reported");
     for (int i = 0; i < 2; i++) {
         leave('d');
         run_for(2.5);
     }
-    expect(atomic_load(&told) == 1, "it is told once");
+    expect(atomic_load(&reported) == 1, "it is reported once");
     STOP_SELF();
 }
 
@@ -62,10 +62,10 @@ static void calling_main(void) {
 
 static void is_told(void (*entry)(void), unsigned after, const char *wanted) {
     watched = after;
-    atomic_store(&told, 0);
+    atomic_store(&reported, 0);
     run_frames(entry, 1);
     has_left(wanted);
-    expect(atomic_load(&told) == 1, "it is told once");
+    expect(atomic_load(&reported) == 1, "it is reported once");
 }
 
 int main(int count, char **words) {

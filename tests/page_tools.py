@@ -1,4 +1,4 @@
-"""What the tests of the page share: checks, pages that are written or served, and what is looked at in each."""
+"""What the tests of the page share: checks, pages that are written or served, and checks of every page."""
 import contextlib
 import json
 import os
@@ -54,7 +54,7 @@ def texts(page, selector):
 
 
 def calm(page, what):
-    """Looks whether the page complained or asked for anything."""
+    """Fails if the page logged an error or requested anything."""
     equal(page.complaints(), [], f"complaints of {what}")
     asked = [it for it in page.requests() if not it.startswith(("file:", "data:", "blob:", "http://127.0.0.1:", "about:"))]
     equal(asked, [], f"requests of {what}")
@@ -112,8 +112,8 @@ def served(work, *words, end=os.kill):
     try:
         yield process.stdout.readline().split()[0]
         end(process.pid, signal.SIGINT)
-        told, said = process.communicate(timeout=20)
-        equal((process.returncode, told, said, list(folder.iterdir())), (0, "", "", []), "the end by Ctrl-C")
+        output, errors = process.communicate(timeout=20)
+        equal((process.returncode, output, errors, list(folder.iterdir())), (0, "", "", []), "the end by Ctrl-C")
         with contextlib.suppress(ProcessLookupError):
             os.killpg(process.pid, 0)
             check(False, "a process is left")

@@ -1,5 +1,5 @@
-"""A plain model of a module's ports, which shares nothing with the programs: what entries show, lawful or not, and what
-the standard has for a call after them."""
+"""A plain model of a module's ports, which shares nothing with the programs: what entries show, lawful or not, and the
+standard's reply to a call after them."""
 import re
 
 MODES = ["IDLE", "COLD_START", "WARM_START", "NORMAL"]

@@ -48,7 +48,7 @@ static uint32_t exchange(uint32_t *place, uint32_t value) {
 enum { NAME_BYTES = 30, MESSAGE_BYTES = 1024 };
 
 /* A line in its place, and in front of it room for what is known only when the call has returned. LINE_BYTES is enough
- * for the longest lines, which stand below without their messages. */
+ * for the longest lines, which are listed below without their messages. */
 #define LONGEST_LOST "# 4294967295 lines before this one were not taken\n"
 #define LONGEST_MOMENT "# 9223372036854775807"
 enum { FRONT_BYTES = sizeof LONGEST_LOST - 1 + sizeof LONGEST_MOMENT - 1, LINE_BYTES = 2160 };
@@ -197,7 +197,7 @@ static void put_time_out(struct text *text, int64_t time_out) {
     }
 }
 
-/* Words, or null where the standard has none. */
+/* Words, or null if the standard has none. */
 static const char *code_word(RETURN_CODE_TYPE code) {
     return code == NO_ERROR         ? "NO_ERROR"
            : code == NO_ACTION      ? "NO_ACTION"
@@ -250,7 +250,7 @@ static int put_code(struct text *text, const RETURN_CODE_TYPE *code) {
     return *code == NO_ERROR;
 }
 
-/* In the place of values that no log can have. Then NO_ERROR stands alone, which departs. */
+/* Instead of values that no log can have. Then NO_ERROR has no values, which departs. */
 #define LEFT_OUT " (its values fit no log)"
 
 /* The value of a place, which the system has filled if it answered NO_ERROR. */
@@ -284,7 +284,7 @@ static void start(struct text *line, const char *call) {
     put_text(line, call);
 }
 
-/* Hands the line to the sink, behind how many were lost. */
+/* Hands the line to the sink, after a comment with the number of lost lines. */
 static void hand_on(struct text *line, uint64_t at) {
     const uint32_t before = APEX_RECORD_EXCHANGE(&lost, 0);
     put(line, '\n');

@@ -29,11 +29,11 @@ typedef int (*apex_record_sink)(void *context, const char *text, size_t length);
  * sink takes are counted; the next text that one takes begins with a comment that says how many there were. */
 void apex_record_to(apex_record_sink sink, void *context);
 
-/* Says in the log that the partition was restarted in this mode, COLD_START or WARM_START: where its START_CONDITION is
- * another than NORMAL_START, behind apex_record_to and before all other calls. */
+/* Says in the log that the partition was restarted in this mode, COLD_START or WARM_START. Call it if the
+ * START_CONDITION isn't NORMAL_START, after apex_record_to and before all other calls. */
 void apex_record_restarted(OPERATING_MODE_TYPE mode);
 
-/* How many lines no sink has taken, and no comment has reported yet. */
+/* The number of lines that no sink has taken and no comment has reported yet. */
 uint32_t apex_record_lost(void);
 
 /* The twelve services, each by the name that a macro makes of it. */

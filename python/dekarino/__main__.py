@@ -7,16 +7,16 @@ import sys
 from typing import List, Optional
 
 from ._errors import LibraryError
-from ._gathering import Programs, Source, Told, Undecided, gather
+from ._gathering import Programs, Source, Facts, Undecided, gather
 from ._page import page
 from ._serving import serve
 
-# `orders` is asked within this many states.
+# The maximum number of states that `orders` searches.
 STATES = 20_000
 
 
 class _Failed(Exception):
-    """What is said on standard error, and the status."""
+    """A text for standard error, and the status."""
 
     def __init__(self, said: str, status: int) -> None:
         super().__init__(said)
@@ -30,11 +30,11 @@ def _read(path: str) -> Source:
         raise _Failed(f"cannot read {path}: {error.strerror}", 3) from None
 
 
-def _refusal(source: str, told: Told) -> List[str]:
+def _refusal(source: str, facts: Facts) -> List[str]:
     """A line for each mistake of a text."""
     places = [(":".join(str(it) for it in (source, mistake["line"], mistake["column"]) if it is not None), mistake["words"])
-              for mistake in told["mistakes"]]
-    return [f"{place}: {words}" for place, words in places] + [told["said"]]
+              for mistake in facts["mistakes"]]
+    return [f"{place}: {words}" for place, words in places] + [facts["said"]]
 
 
 def _view(options: argparse.Namespace) -> None:
@@ -42,12 +42,12 @@ def _view(options: argparse.Namespace) -> None:
     config = _read(options.config)
     runs = [_read(options.trace), *([_read(options.orders)] if options.orders else [])]
     programs = Programs()
-    told = gather(programs, config, runs, STATES)
-    for name, each in [(options.config, told["config"]), *((run["name"], run) for run in told["runs"])]:
+    facts = gather(programs, config, runs, STATES)
+    for name, each in [(options.config, facts["config"]), *((run["name"], run) for run in facts["runs"])]:
         if each["mistakes"] or (each["said"] and not each.get("is_whole")):
             raise _Failed("\n".join(_refusal(name, each)), 1)
     made = datetime.datetime.now(datetime.timezone.utc).strftime("%Y-%m-%d %H:%M UTC")
-    written = page(f"{options.trace} - Dekarino", {"program": programs.told(), "live": False, "made": made, **told})
+    written = page(f"{options.trace} - Dekarino", {"program": programs.described(), "live": False, "made": made, **facts})
     try:
         pathlib.Path(options.output).write_bytes(written)
     except OSError as error:
@@ -93,7 +93,7 @@ def _options() -> argparse.ArgumentParser:
 
 
 def main(words: Optional[List[str]] = None) -> int:
-    """Does what the words ask, and returns the status."""
+    """Does what the command line asks for, and returns the status."""
     options = _options().parse_args(words)
     try:
         options.do(options)

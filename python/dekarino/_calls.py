@@ -11,20 +11,20 @@ _SERVICES, _CODES = tuple(SERVICES.values()), tuple(Code)
 
 
 class Calls:
-    """The calls in their order, in 21 bytes each and their values. The library's functions append each answer as they
-    return, and nothing can come between; what belongs to it is noted after that. So a call whose noting was broken off,
-    by an interrupt, is found by its answer."""
+    """The calls in their order. Each takes 21 bytes and its value. The library's functions append each answer as they
+    return, and nothing can interrupt that. The call's other data are noted afterwards, so an answer without them shows that
+    an interrupt came between."""
 
     def __init__(self, is_kept: bool) -> None:
         self.is_kept = is_kept
         self.answers = bytearray()
-        # Of each call that is noted: where its value ends among the values. There are as many as calls are noted.
+        # For each noted call: where its value ends among the values.
         self.ends = array("Q")
         self._moments, self._askers, self._values = array("Q"), array("I"), bytearray()
         self._add = self._moments.append, self._askers.append, self.ends.append
 
     def note(self, moment: int, asker: int, value: bytes) -> None:
-        """Notes the first answer that is not, or drops it where no call is kept."""
+        """Notes the first answer that isn't noted yet, or drops it if no calls are kept."""
         if not self.is_kept:
             del self.answers[0]
             return
@@ -36,7 +36,7 @@ class Calls:
         add_end(len(self._values))
 
     def note_all(self, moment: int, asker: int, values: Sequence[bytes]) -> None:
-        """Notes the first answers that are not, one for each value, all by one caller at one moment."""
+        """Notes the first answers that aren't noted yet, one for each value, all by one caller at one moment."""
         count, end = len(values), len(self._values)
         if not self.is_kept:
             del self.answers[:count]
@@ -47,11 +47,11 @@ class Calls:
         self.ends.extend(array("Q", accumulate(map(len, values), initial=end))[1:])
 
     def drop(self) -> None:
-        """Drops the first answer that is not noted."""
+        """Drops the first answer that isn't noted yet."""
         del self.answers[len(self.ends)]
 
     def take_back(self) -> None:
-        """Takes back what was noted of a call without its end; where no call is kept, all of it."""
+        """Removes what was noted for a call without its end; if no calls are kept, removes everything."""
         if not self.is_kept:
             self.answers.clear()
         count = len(self.ends)

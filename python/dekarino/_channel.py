@@ -6,8 +6,8 @@ from ._server import Server
 
 
 class Channel:
-    """A channel: its size in bytes, its depth in messages, which is 0 of a sampling channel, and what it has passed on.
-    The counts of a sampling channel are 0."""
+    """A channel: its size in bytes, its depth in messages, and what it has passed on. A sampling channel has depth 0, and
+    its counts are 0."""
 
     def __init__(self, server: Server, index: int, name: str) -> None:
         self._server, self._index, self.name = server, index, name
@@ -26,30 +26,30 @@ class Channel:
 
     @property
     def accepted(self) -> int:
-        """How many messages the channel accepted."""
+        """The number of messages that the channel accepted."""
         return self._count("accepted_count")
 
     @property
     def received(self) -> int:
-        """How many of them were received."""
+        """The number of messages that were received."""
         return self._count("received_count")
 
     @property
     def cleared(self) -> int:
-        """How many of them were cleared."""
+        """The number of messages that were cleared."""
         return self._count("cleared_count")
 
     @property
     def waiting(self) -> int:
-        """How many of them wait."""
+        """The number of messages that wait."""
         return self._count("waiting_count")
 
     @property
     def messages(self) -> Tuple[bytes, ...]:
-        """The messages that wait, the oldest first."""
+        """The messages that wait, oldest first."""
         return self._server.read(lambda: self._server.waiting(self._index))
 
     @property
     def sample(self) -> Optional[WrittenSample]:
-        """What a sampling channel holds; None before its first write, and of a queuing channel."""
+        """The sample that a sampling channel holds; None before its first write, and for a queuing channel."""
         return self._server.read(lambda: self._server.sample(self._index))

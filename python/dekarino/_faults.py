@@ -1,11 +1,11 @@
-"""Opening a module, and why a configuration is refused."""
+"""Opens modules, and finds out why a configuration is refused."""
 import ctypes
 from typing import Any
 
 from . import _library
 from ._errors import FAULTS, ConfigError
 
-# enough bytes for the path of any place, and for the lines of most texts: a text is read again for more
+# enough bytes for the path of any place, and for the lines of most texts; for longer lines the text is read again
 PATH_ROOM, LINES_ROOM = 256, 65536
 
 
@@ -26,7 +26,7 @@ def open_module(handle: Any, text: bytes) -> None:
 
 
 def _all_lines(text: bytes, length: ctypes.c_uint64) -> Any:
-    """A buffer with lines of this length, of a text that is refused."""
+    """A buffer with the lines, of this length, about a refused text."""
     buffer = ctypes.create_string_buffer(length.value)
     mistakes = _library.library().function("configuration_mistakes")
     if mistakes(text, len(text), buffer, len(buffer), ctypes.byref(length)) == _library.OUT_OF_MEMORY:

@@ -1,4 +1,4 @@
-"""Where the shared object and the programs are. In a checkout they are made of its sources, or refused."""
+"""Finds the shared object and the programs. In a checkout they must be made from its sources."""
 import functools
 import hashlib
 import os
@@ -12,8 +12,8 @@ ROOT = FOLDER.parent.parent
 
 
 def find(name: str) -> pathlib.Path:
-    """The path of the shared object or of a program: what python/build put into a checkout, what is in an unpacked
-    package, or what is installed beside this."""
+    """The path of the shared object or of a program: made by python/build in a checkout, in an unpacked package, or
+    installed beside this file."""
     if (ROOT / "crates").is_dir() and (ROOT / "python/build").is_file():
         return _of_the_sources(name)
     if (ROOT / "BUILT_FROM").is_file() and (ROOT / "python/dekarino").is_dir():
@@ -27,7 +27,7 @@ def find(name: str) -> pathlib.Path:
 
 @functools.lru_cache(maxsize=None)
 def _of_the_sources(name: str) -> pathlib.Path:
-    """The path of what python/build made, if it made it of the sources of this checkout."""
+    """The path of what python/build made, if it made it from the sources of this checkout."""
     path, command = ROOT / "python/out" / name, f"run {ROOT}/python/build"
     if not path.is_file():
         raise LibraryError(f"there is no {name} at {path}: {command}")

@@ -1,5 +1,5 @@
-"""What the program `dekarino` says of a configuration and of traces or logs, gathered for the page of `view` and `serve`.
-Nothing is decided here: lines of JSON are sorted by what they are about."""
+"""Gathers what the program `dekarino` says about a configuration and about traces or logs, for the page of `view` and
+`serve`. It decides nothing: it sorts lines of JSON by their subject."""
 import contextlib
 import hashlib
 import json
@@ -13,12 +13,12 @@ from typing import Any, Dict, Iterator, List, Optional, Sequence, Set, Tuple, Un
 from ._library import FOLDER, ROOT
 from ._program import find_program
 
-Told = Dict[str, Any]
-# The orders of longer traces are not asked for.
+Facts = Dict[str, Any]
+# The orders of a trace with more calls are not searched.
 MOST_ORDERED = 500
-# The greatest whole number that JavaScript has exactly.
+# The greatest whole number that JavaScript can represent exactly.
 MOST_EXACT = 2**53 - 1
-# (a time-out stands behind the arguments of a call that waits)
+# (a time-out follows the arguments of a call that may wait)
 TIME_OUT = re.compile(rb"[ \t]+timeout[ \t]+(?:\d+|infinite)[ \t]*$")
 
 
@@ -33,7 +33,7 @@ class Source:
     name: str
     content: bytes
 
-    def told(self) -> Told:
+    def described(self) -> Facts:
         return {"name": self.name, "bytes": len(self.content), "sha256": hashlib.sha256(self.content).hexdigest()}
 
 
@@ -46,13 +46,13 @@ class Ran:
     said: str
     paths: List[str]
 
-    def told(self) -> List[Told]:
+    def objects(self) -> List[Facts]:
         return [json.loads(line) for line in self.lines]
 
 
 class Programs:
-    """Runs the program `dekarino`, at most `most` at once, each for at most `seconds`. Texts are handed over in memory, so
-    that nothing is left of them."""
+    """Runs the program `dekarino`: at most `most` runs at once, each for at most `seconds`. Texts are passed in memory, so
+    that no file of them is left."""
 
     def __init__(self, most: int = 4, seconds: Optional[float] = None) -> None:
         self.path = str(find_program("dekarino"))
@@ -77,12 +77,12 @@ class Programs:
                 given.append(paths[-1] if isinstance(word, bytes) else f"{word[0]}={paths[-1]}")
             process = stack.enter_context(self._start(given, descriptors))
             try:
-                told, said = process.communicate(timeout=self.seconds)
+                output, said = process.communicate(timeout=self.seconds)
             except subprocess.TimeoutExpired:
                 raise Undecided(f"it took more than {self.seconds:g} seconds") from None
             if process.returncode < 0:
                 raise Undecided(f"the program was ended by the signal {-process.returncode}")
-        return Ran(process.returncode, told.splitlines(), said.rstrip("\n"), paths)
+        return Ran(process.returncode, output.splitlines(), said.rstrip("\n"), paths)
 
     @contextlib.contextmanager
     def _turn(self) -> Iterator[None]:
@@ -110,7 +110,7 @@ class Programs:
             process.communicate()
 
     def stop(self) -> None:
-        """Ends what runs, and starts nothing more."""
+        """Ends the running programs, and starts no more."""
         with self.lock:
             self.is_stopped = True
             ending = list(self.running)
@@ -118,17 +118,17 @@ class Programs:
             process.kill()
             process.wait()
 
-    def told(self) -> Told:
+    def described(self) -> Facts:
         with open(self.path, "rb") as file:
             digest = hashlib.sha256(file.read()).hexdigest()
         return {"version": self.run("--version").lines[0], "sha256": digest, "origin": _origin(digest)}
 
 
 def _origin(digest: str) -> List[str]:
-    """What a checkout, an unpacked package or an installed one says of the sources and the toolchain of its programs."""
+    """What a checkout, an unpacked package or an installed one says about the sources and the toolchain of its programs."""
     for path in (ROOT / "prebuilt/BUILT_FROM", ROOT / "python/out/BUILT_FROM", ROOT / "BUILT_FROM", FOLDER / "BUILT_FROM"):
         text = path.read_text() if path.is_file() else ""
-        # (of an unpacked package one text is of all; a checkout may have built its own)
+        # (an unpacked package has one text for all its programs; a checkout may have built its own)
         if digest in text or text.startswith("dekarino "):
             return re.findall(r"^(?:sources|toolchain|commit|proved by) .*", text, re.M)
     return []
@@ -147,22 +147,22 @@ def _exact(value: Any) -> Any:
     return str(value) if isinstance(value, int) and value > MOST_EXACT else value
 
 
-def _mistake(line: Told, path: str) -> Told:
+def _mistake(line: Facts, path: str) -> Facts:
     """A place of a refused text, without its path."""
     found = re.fullmatch(rf"(?:{re.escape(path)}:)?(?:(\d+):)?(?:(\d+):)? ?(.*)", line["place"], re.S)
     line_at, column, words = found.groups() if found else (None, None, line["place"])
     return {"line": line_at and int(line_at), "column": column and int(column), "words": words}
 
 
-def _configuration(programs: Programs, config: Source) -> Tuple[Told, List[Told]]:
+def _configuration(programs: Programs, config: Source) -> Tuple[Facts, List[Facts]]:
     """The configuration as the programs describe it, and the lines of its table."""
     ran = programs.run("table", "--json", config.content)
-    lines = [{key: _exact(it) for key, it in line.items()} for line in ran.told()]
-    told: Told = {**config.told(), "text": config.content.decode(errors="replace"), "said": ran.said, "mistakes": []}
+    lines = [{key: _exact(it) for key, it in line.items()} for line in ran.objects()]
+    facts: Facts = {**config.described(), "text": config.content.decode(errors="replace"), "said": ran.said, "mistakes": []}
     if ran.status != 0:
-        told["mistakes"] = [_mistake(line, ran.paths[0]) for line in lines if "place" in line]
+        facts["mistakes"] = [_mistake(line, ran.paths[0]) for line in lines if "place" in line]
         lines = []
-    return told, lines
+    return facts, lines
 
 
 # ---- traces and logs
@@ -177,7 +177,7 @@ def is_log(content: bytes) -> bool:
 
 
 def _without_replies(content: bytes) -> Tuple[List[bytes], List[List[Optional[str]]]]:
-    """The lines of a log's calls as those of a trace, and what stands behind the arrow of each call: reply and note."""
+    """The lines of a log's calls as lines of a trace, and what follows the arrow of each call: its reply and its note."""
     lines: List[bytes] = []
     logged: List[List[Optional[str]]] = []
     for line in content.split(b"\n"):
@@ -193,14 +193,14 @@ def _without_replies(content: bytes) -> Tuple[List[bytes], List[List[Optional[st
     return lines, logged
 
 
-def _table_of(lines: Sequence[Told]) -> Told:
-    """Objects of the same keys as one list of keys and a row for each."""
+def _table_of(lines: Sequence[Facts]) -> Facts:
+    """Objects with the same keys, as one list of keys and a row for each object."""
     return {"keys": list(lines[0]) if lines else [], "rows": [[_exact(it) for it in line.values()] for line in lines]}
 
 
-def _explained(programs: Programs, config: bytes, trace: bytes) -> Told:
+def _explained(programs: Programs, config: bytes, trace: bytes) -> Facts:
     ran = programs.run("explain", "--json", config, trace)
-    lines = ran.told()
+    lines = ran.objects()
     return {
         "calls": [line for line in lines if "service" in line],
         "remarks": [{key: _exact(it) for key, it in line.items()} for line in lines if "remark" in line],
@@ -209,30 +209,30 @@ def _explained(programs: Programs, config: bytes, trace: bytes) -> Told:
     }
 
 
-def _judged(programs: Programs, config: bytes, log: bytes) -> Told:
+def _judged(programs: Programs, config: bytes, log: bytes) -> Facts:
     ran = programs.run("judge", "--json", "--whole", config, log)
-    lines = ran.told()
+    lines = ran.objects()
     departures = [{key: _exact(it) for key, it in line.items()} for line in lines if "logged" in line]
     mistakes = [_mistake(line, ran.paths[1]) for line in lines if "place" in line]
     counts = [line for line in lines if "departures" in line]
     return {"departures": departures, "judged": counts[0] if counts else None, "said": ran.said, "mistakes": mistakes}
 
 
-def _arrows(programs: Programs, config: bytes, lines: List[bytes], calls: List[Told], known: int, is_whole: bool) -> Told:
-    """The arrows between the first `known` calls. What waits in the end is said of the whole."""
+def _arrows(programs: Programs, config: bytes, lines: List[bytes], calls: List[Facts], known: int, is_whole: bool) -> Facts:
+    """The arrows between the first `known` calls. The waiting messages are those at the end of the trace."""
     if known == 0:
         return {"arrows": [], "waits": []}
     ran = programs.run("draw", "--json", config, b"\n".join(lines[: calls[known - 1]["line"]]))
     if ran.status != 0:
         raise Undecided(ran.said)
-    told, = ran.told()
-    arrows = [[it["from"], it["to"], int(it["kind"] == "sample")] for it in told["arrows"]]
-    return {"arrows": arrows, "waits": told["waiting"] if is_whole and known == len(calls) else None}
+    facts, = ran.objects()
+    arrows = [[it["from"], it["to"], int(it["kind"] == "sample")] for it in facts["arrows"]]
+    return {"arrows": arrows, "waits": facts["waiting"] if is_whole and known == len(calls) else None}
 
 
-def _orders(programs: Programs, config: bytes, lines: List[bytes], calls: List[Told], states: int) -> Told:
-    """What every order of the calls can come to, each partition's calls being a script. A script's lines keep their
-    numbers."""
+def _orders(programs: Programs, config: bytes, lines: List[bytes], calls: List[Facts], states: int) -> Facts:
+    """The replies and the ends of all orders of the calls, with each partition's calls as its script. A script's lines
+    keep their numbers."""
     if len(calls) > MOST_ORDERED:
         return {"said": f"not asked for: the trace has more than {MOST_ORDERED} calls", "calls": [], "groups": []}
     scripts: Dict[str, List[bytes]] = {}
@@ -245,23 +245,23 @@ def _orders(programs: Programs, config: bytes, lines: List[bytes], calls: List[T
         ran = programs.run("orders", "--json", "--states", str(states), config, *texts)
     except Undecided as why:
         return {"said": f"undecided: {why}", "calls": [], "groups": []}
-    told = ran.told() if ran.status == 0 else []
-    replies = [[line["line"], line["replies"]] for line in told if "replies" in line]
-    return {"said": ran.said, "calls": replies, "groups": [line for line in told if "states" in line]}
+    facts = ran.objects() if ran.status == 0 else []
+    replies = [[line["line"], line["replies"]] for line in facts if "replies" in line]
+    return {"said": ran.said, "calls": replies, "groups": [line for line in facts if "states" in line]}
 
 
-def _run(programs: Programs, config: bytes, source: Source, states: int) -> Told:
-    """What is told of a trace or a log."""
-    told: Told = {**source.told(), "kind": "log" if is_log(source.content) else "trace", "logged": None}
+def _run(programs: Programs, config: bytes, source: Source, states: int) -> Facts:
+    """All that the page shows of a trace or a log."""
+    facts: Facts = {**source.described(), "kind": "log" if is_log(source.content) else "trace", "logged": None}
     lines = source.content.split(b"\n")
-    judged: Told = {"departures": [], "judged": None}
-    if told["kind"] == "log":
-        lines, told["logged"] = _without_replies(source.content)
+    judged: Facts = {"departures": [], "judged": None}
+    if facts["kind"] == "log":
+        lines, facts["logged"] = _without_replies(source.content)
         judged = _judged(programs, config, source.content)
     explained = _explained(programs, config, b"\n".join(lines))
     calls = explained["calls"]
     known = len(calls)
-    if told["kind"] == "log":
+    if facts["kind"] == "log":
         first = min((it["line"] for it in judged["departures"]), default=None)
         known = known if first is None else sum(call["line"] < first for call in calls)
         explained["remarks"] = [] if first is not None else explained["remarks"]
@@ -270,17 +270,17 @@ def _run(programs: Programs, config: bytes, source: Source, states: int) -> Told
             explained["calls"], calls, known = [], [], 0
             explained.update(said=judged["said"], mistakes=judged["mistakes"], is_whole=False)
             judged["departures"] = []
-    told.update(explained, departures=judged["departures"], judged=judged["judged"], known=known)
-    told["calls"] = _table_of(calls)
-    told.update(_arrows(programs, config, lines, calls, known, explained["is_whole"]))
+    facts.update(explained, departures=judged["departures"], judged=judged["judged"], known=known)
+    facts["calls"] = _table_of(calls)
+    facts.update(_arrows(programs, config, lines, calls, known, explained["is_whole"]))
     is_ordered = calls and explained["is_whole"]
-    told["orders"] = _orders(programs, config, lines, calls, states) if is_ordered else None
-    return told
+    facts["orders"] = _orders(programs, config, lines, calls, states) if is_ordered else None
+    return facts
 
 
-def gather(programs: Programs, config: Source, runs: Sequence[Source], states: int) -> Told:
+def gather(programs: Programs, config: Source, runs: Sequence[Source], states: int) -> Facts:
     """All that the page shows."""
-    told, table = _configuration(programs, config)
-    is_read = not told["mistakes"] and not told["said"]
-    return {"config": told, "table": table,
+    facts, table = _configuration(programs, config)
+    is_read = not facts["mistakes"] and not facts["said"]
+    return {"config": facts, "table": table,
             "runs": [_run(programs, config.content, source, states) for source in runs] if is_read else []}

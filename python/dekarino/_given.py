@@ -1,5 +1,5 @@
-"""What is given to a judge, checked before the library is called: a call and its arguments, and a reply. A wrong type
-raises TypeError, and what is no call or no reply of the service raises NoCallError."""
+"""Checks what is given to a judge before the library is called: a call with its arguments, and a reply. A wrong type
+raises TypeError. What isn't a call, or isn't a reply of the service, raises NoCallError."""
 from enum import IntEnum
 from typing import Any, Dict, Mapping, NamedTuple, Tuple, Type, TypeVar, Union
 
@@ -14,13 +14,13 @@ from ._services import SERVICES, Service
 REFRESH_LIMIT = 2**64 - 1
 Argument = Union[int, str, Message]
 Kind = TypeVar("Kind", bound=IntEnum)
-# What comes with NO_ERROR, by the word of the service; other services with a name give an identifier.
+# The data with NO_ERROR, by the word of the service; other services with a name give an identifier.
 GIVEN = {"read": "a Sample", "receive": "a message", "queuing-status": "a QueuingStatus",
          "sampling-status": "a SamplingStatus"}
 
 
 class GivenCall(NamedTuple):
-    """A call as the library takes it: its service and numbers, and the name or the message that it is made with."""
+    """A call as the library takes it: its service, its numbers, and its name or its message."""
 
     fields: _library.CallFields
     sent: bytes
@@ -71,14 +71,14 @@ def given_reply(service: Service, code: Any, value: Any) -> GivenReply:
 
 
 def whole(value: Any, limit: int, what: str) -> int:
-    """The number, if it is one from 0 to the limit. A truth value is none."""
+    """The number, if it is from 0 to the limit. A truth value is not a number."""
     if isinstance(value, bool):
         raise TypeError(f"{what} is a whole number, and not bool")
     return number(value, limit, what)
 
 
 def _accepted(service: Service, value: Any) -> Tuple[AnyValue, Dict[str, int], bytes]:
-    """What comes with NO_ERROR; its numbers, and its message."""
+    """The data with NO_ERROR: numbers, and a message."""
     word, is_named = service.word, "name" in service.arguments
     if word == "read" and isinstance(value, Sample):
         sample = Sample(_message(value.message), _one_of(Validity, value.validity, "the validity"))
@@ -115,7 +115,7 @@ def _sampling_status(status: SamplingStatus) -> SamplingStatus:
 
 
 def _one_of(kind: Type[Kind], value: Any, what: str) -> Kind:
-    """The member of this number."""
+    """The member with this number."""
     found = whole(value, NUMBER_LIMIT, what)
     try:
         return kind(found)
@@ -124,7 +124,7 @@ def _one_of(kind: Type[Kind], value: Any, what: str) -> Kind:
 
 
 def _name(name: Any) -> bytes:
-    """A name; what is not ASCII is no name in the library."""
+    """A name. The library takes no name that isn't ASCII."""
     if isinstance(name, str):
         return name.encode("ascii", "replace")
     if isinstance(name, bytes):
@@ -133,7 +133,7 @@ def _name(name: Any) -> bytes:
 
 
 def _message(message: Any) -> bytes:
-    """The bytes of a message, which is of one of the three types."""
+    """The bytes of a message, which has one of the three types."""
     if not isinstance(message, (bytes, bytearray, memoryview)):
         raise TypeError(f"a message is bytes, bytearray or memoryview, and not {type(message).__name__}")
     return message_bytes(message)

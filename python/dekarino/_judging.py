@@ -6,19 +6,25 @@ from typing import Any, Callable, Optional, Tuple, Type, TypeVar
 
 from . import _library
 from ._codes import Code, Direction, Validity
-from ._errors import NoCallError
+from ._errors import LogError, NoCallError
 from ._given import Argument, given_call, given_reply, service_named, whole
 from ._library import MOMENT_LIMIT
 from ._lock import end_call, lock, refuse_within_a_call
 from ._module import Module
-from ._program import Departure
+from ._program import Departure, value_said
 from ._replies import AnyValue, QueuingStatus, Sample, SamplingStatus, reply_words
 from ._rows import Row
-from ._services import Service
-from ._texts import Text, bytes_of
+from ._services import SERVICES, Service
+from ._texts import Line, Text, bytes_of, bytes_of_line
 
-# enough bytes for the words of any row
-WORDS_ROOM = 512
+# enough bytes for the words of any row, and for most of a fault: a faulty line is judged again for more
+WORDS_ROOM = 4096
+# The most bytes of a line of a log, and the number of the fault of a longer one.
+LINE_LIMIT, TOO_LONG_LINE = 65536, 13
+# The kinds of a line, and the wait of a call that waits until it can be served.
+CALL, CALLS_END = 1, 2
+INFINITE = 2
+SERVICE_OF = {service.word: service for service in SERVICES.values()}
 Value = TypeVar("Value")
 NO_CALLS = {_library.NOT_OPEN: "the judge is closed",
             _library.TOO_LONG: f"a message has more than {_library.MESSAGE_LIMIT} bytes",
@@ -40,12 +46,17 @@ class Judge:
         if functions.function("judge_open")(self._lent, text, len(text)) != 0:
             raise MemoryError("memory was refused")
         weakref.finalize(self, functions.function("judge_close"), self._lent).atexit = False
-        self._close, self._judge = map(functions.function, ("judge_close", "judge_call"))
-        self._departure = _library.DepartureFields()
+        self._close, self._judge, self._judge_line = map(functions.function, ("judge_close", "judge_call", "judge_line"))
+        self._line, self._departure = _library.LineFields(), _library.DepartureFields()
         self._message = ctypes.create_string_buffer(_library.MESSAGE_LIMIT)
-        self._words = ctypes.create_string_buffer(WORDS_ROOM)
-        self._places = (ctypes.byref(self._departure), self._message, len(self._message), self._words, len(self._words))
-        self.calls = 0
+        self._set_room(WORDS_ROOM)
+        self.calls, self.lines = 0, 0
+
+    def _set_room(self, room: int) -> None:
+        """Makes room for words of this length."""
+        self._words = ctypes.create_string_buffer(room)
+        self._places = ctypes.byref(self._departure), self._message, len(self._message), self._words, room
+        self._line_places = ctypes.byref(self._line), *self._places
 
     def close(self) -> None:
         """Closes the judge. If it is closed, nothing is done."""
@@ -87,6 +98,65 @@ class Judge:
 
         return self._within(judged)
 
+    @property
+    def has_ended(self) -> bool:
+        """Whether the last line that was judged ends the calls of its log, by the word `after`."""
+        return bool(self._line.kind == CALLS_END)
+
+    def add_line(self, line: Line, *, time_outs: bool = False) -> Optional[Departure]:
+        """Judges a line of a log, and notes its call. Returns None if the reply is the standard's, and for a line without
+        a call, or else the departure, whose line is the number of the lines so far. With `time_outs` a send or a receive
+        whose line says no time-out has one. A line that can't be read raises LogError, and nothing is noted."""
+        text = line if type(line) is bytes else bytes_of_line(line)
+        refuse_within_a_call()
+        try:
+            with lock:
+                return self._judged(text, time_outs)
+        finally:
+            end_call()
+
+    def _judged(self, text: bytes, time_outs: bool) -> Optional[Departure]:
+        """What a line is judged. The lock is held."""
+        answer = self._judge_line(self._lent, text, len(text), time_outs, *self._line_places)
+        if answer == _library.FAULTY_LINE and self._departure.words_length > len(self._words):
+            self._set_room(self._departure.words_length)
+            self._judge_line(self._lent, text, len(text), time_outs, *self._line_places)
+        if answer in (_library.NO_MEMORY, _library.NOT_OPEN):
+            self._need_call(answer)
+        self.lines += 1
+        if answer == _library.FAULTY_LINE:
+            raise self._faulty()
+        if answer == _library.TOO_LONG:
+            raise self._too_long(text)
+        self.calls += self._line.kind == CALL
+        return None if answer == 0 else self._departure_of(text)
+
+    def _faulty(self) -> LogError:
+        """Why the last line can't be read. The lock is held."""
+        said = self._said()
+        words, said = said.split(": ", 1)
+        found, expected = said.split("; expected ", 1)
+        return LogError(self.lines, self._line.fault, words, self._line.column, found, expected)
+
+    def _too_long(self, text: bytes) -> LogError:
+        """Why such a text is no line."""
+        end = text.find(b"\n")
+        if 0 <= end < len(text) - 1 and end <= LINE_LIMIT:
+            return LogError(self.lines, TOO_LONG_LINE, "line too long", end + 1, "a line feed", "the end of the line")
+        return LogError(self.lines, TOO_LONG_LINE, "line too long", LINE_LIMIT + 1, f"more than {LINE_LIMIT} bytes",
+                        "the end of the line")
+
+    def _departure_of(self, text: bytes) -> Departure:
+        """The departure of the last line. The lock is held."""
+        asked, _, behind = text.decode("ascii").partition("->")
+        moment, partition, word, *_ = asked.split()
+        first, *rest = behind.partition("(")[0].split()
+        logged = reply_words(Code.NOT_MADE, None) if first == "not" else reply_words(Code[first], value_said(rest))
+        expected, row, words = self._shown(SERVICE_OF[word])
+        if self._line.wait == INFINITE and row in (Row.QUEUE_FULL, Row.QUEUE_EMPTY):
+            expected = "the call would still wait"
+        return Departure(self.lines, int(moment), partition, word, logged, expected, row, words)
+
     def _need_call(self, answer: int) -> None:
         """Raises what the library's answer stands for, if the call wasn't judged."""
         if answer == _library.NO_MEMORY:
@@ -100,8 +170,11 @@ class Judge:
         code = Code(numbers.code)
         message = ctypes.string_at(self._message, departure.message_length)
         value = _value(service, numbers, message) if code is Code.NO_ERROR else None
-        words = ctypes.string_at(self._words, min(departure.words_length, WORDS_ROOM)).decode("ascii")
-        return reply_words(code, value), Row(departure.row), words
+        return reply_words(code, value), Row(departure.row), self._said()
+
+    def _said(self) -> str:
+        """The words that the library gave. The lock is held."""
+        return ctypes.string_at(self._words, min(self._departure.words_length, len(self._words))).decode("ascii")
 
     def _within(self, what: Callable[[], Value]) -> Value:
         """What the library answers between two other calls of it."""

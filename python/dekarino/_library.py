@@ -1,4 +1,4 @@
-"""The shared object: where it is, and the functions of c/apex_ports.h that it shows."""
+"""The shared object: where it is, and those functions of c/apex_ports.h that it exports."""
 import ctypes
 import functools
 import operator
@@ -15,9 +15,9 @@ MESSAGE_LIMIT = 1024
 MOMENT_LIMIT = 2**63 - 1
 NUMBER_LIMIT = 2**32 - 1
 
-# What a function answers beside the return codes and NOT_MADE.
+# What a function can return besides the return codes and NOT_MADE.
 NOT_OPEN, NO_PARTITION, TOO_LONG, NO_NAME = 8, 9, 10, 11
-NO_MEMORY, DEPARTS, NO_REPLY = 19, 20, 21
+NO_MEMORY, DEPARTS, NO_REPLY, FAULTY_LINE = 19, 20, 21, 22
 OUT_OF_MEMORY = 11
 
 _handle = ctypes.c_void_p
@@ -45,7 +45,7 @@ class SamplingFields(ctypes.Structure):
 
 
 class CallFields(ctypes.Structure):
-    """A call that is asked about: its service, and the numbers that it is made with."""
+    """A call that is asked about: its service and its numbers."""
 
     _fields_ = [("refresh", _u64), ("service", _u32), ("id", _u32), ("size", _u32), ("depth", _u32),
                 ("direction", _u32), ("discipline", _u32), ("mode", _u32)]
@@ -58,26 +58,32 @@ class JudgeHandle(ctypes.Structure):
 
 
 class ReplyFields(ctypes.Structure):
-    """A reply that is judged: its code, and the numbers that come with it."""
+    """A reply that is judged: its code and its numbers."""
 
     _fields_ = [("refresh", _u64), ("code", _u32), ("id", _u32), ("waiting", _u32), ("depth", _u32), ("size", _u32),
                 ("direction", _u32), ("validity", _u32)]
 
 
 class DepartureFields(ctypes.Structure):
-    """What the standard has for a call that departs."""
+    """The standard's reply to a call that departs."""
 
     _fields_ = [("words_length", _u64), ("standard", ReplyFields), ("row", _u32), ("message_length", _u32)]
 
 
+class LineFields(ctypes.Structure):
+    """What a line of a log is: its kind, how long its call may wait, and its fault."""
+
+    _fields_ = [("column", _u64), ("kind", _u32), ("wait", _u32), ("fault", _u32)]
+
+
 class PortFields(ctypes.Structure):
-    """What the configuration says of a port."""
+    """What the configuration says about a port."""
 
     _fields_ = [("refresh", _u64), ("channel", _u32), ("direction", _u32), ("is_queuing", ctypes.c_bool)]
 
 
 class ChannelFields(ctypes.Structure):
-    """What the configuration says of a channel."""
+    """What the configuration says about a channel."""
 
     _fields_ = [("size", _u32), ("depth", _u32), ("is_queuing", ctypes.c_bool)]
 
@@ -123,17 +129,18 @@ PARAMETERS: Dict[str, Tuple[Any, ...]] = {
     "judge_open": (_handle, _text, _length),
     "judge_close": (_handle,),
     "judge_call": (*_caller, _place, _text, _length, _place, _text, _length, _place, _place, _length, _place, _length),
+    "judge_line": (_handle, _text, _length, _u32, _place, _place, _place, _length, _place, _length),
 }
 
 
 def find_library() -> pathlib.Path:
-    """The path of the shared object: the one that DEKARINO_LIBRARY names, or else the one that is found."""
+    """The path of the shared object: that in DEKARINO_LIBRARY, or else the one that is found."""
     named = os.environ.get("DEKARINO_LIBRARY")
     return pathlib.Path(named) if named else find("libdekarino.so")
 
 
 class Library:
-    """The functions of the shared object, each by its name without `apex_`. A call of one lets other threads run."""
+    """The functions of the shared object, each by its name without `apex_`. Other threads can run during a call."""
 
     def __init__(self, path: pathlib.Path) -> None:
         try:
@@ -143,30 +150,30 @@ class Library:
             raise LibraryError(f"{path} is no shared object of the C interface: {error}") from error
 
     def _function(self, name: str, result: Any) -> Any:
-        """A function of its own for each request."""
+        """A new function object for each request."""
         function = self._loaded[f"apex_{name}"]
         function.argtypes, function.restype = PARAMETERS[name], result
         return function
 
     def function(self, name: str) -> Callable[..., int]:
-        """The function of the name."""
+        """The function with the name."""
         function: Callable[..., int] = self._functions[name]
         return function
 
     def function_into(self, name: str, answers: bytearray) -> Callable[..., None]:
-        """The function of the name, which appends its answer before any more of Python is run."""
+        """The function with the name, which appends its answer before any other Python code runs."""
         function: Callable[..., None] = self._function(name, answers.append)
         return function
 
 
 @functools.lru_cache(maxsize=None)
 def library() -> Library:
-    """The library, which is loaded where it is first asked for."""
+    """The library, which is loaded when it is first needed."""
     return Library(find_library())
 
 
 def number(value: int, limit: int, what: str) -> int:
-    """The number, where it is one from 0 to the limit."""
+    """The number, if it is from 0 to the limit."""
     found = operator.index(value)
     if not 0 <= found <= limit:
         raise NoCallError(f"{what} is {found}; it must be 0 to {limit}")

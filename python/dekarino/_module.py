@@ -11,20 +11,20 @@ from ._texts import Text, bytes_of
 
 
 class Module:
-    """The ports of a module of a configuration, which is the path of a file, or its text as bytes. Any thread may call;
-    one call is served at a time. Its calls are kept for its report, or else it has none."""
+    """The ports of a module. Its configuration is the path of a file, or its text as bytes. Any thread may call; one call
+    is served at a time. The module has a report only if it keeps its calls."""
 
     def __init__(self, config: Text, *, keep_calls: bool = True) -> None:
         self._server = Server(bytes_of(config), keep_calls)
 
     @classmethod
     def open(cls, config: Text, *, keep_calls: bool = True) -> "Module":
-        """Opens the module of a configuration."""
+        """Opens a module with a configuration."""
         return cls(config, keep_calls=keep_calls)
 
     def close(self) -> None:
-        """Closes the module. Of one that is closed, nothing is done. From within a call, as by a `__del__` or a signal
-        handler that interrupts it, the module is closed when the call ends."""
+        """Closes the module. If it is already closed, nothing happens. If a `__del__` or a signal handler calls this during
+        a call of the module, the module is closed when that call ends."""
         self._server.close()
 
     def __enter__(self) -> "Module":
@@ -46,7 +46,7 @@ class Module:
         return self._server.closed
 
     def at(self, moment: int) -> None:
-        """Sets the moment of all calls that follow without one of their own, in nanoseconds. It is 0 at first."""
+        """Sets the moment, in nanoseconds, of all later calls that have none of their own. It is 0 at first."""
         self._server.need_open()
         self._server.moment = number(moment, MOMENT_LIMIT, "the moment")
 
@@ -62,15 +62,15 @@ class Module:
         return self._server.read(lambda: self._server.names("channel"))
 
     def partition(self, name: str) -> Partition:
-        """The partition of the name."""
+        """The partition with the name."""
         return Partition(self._server, self._server.read(lambda: self._server.find("partition", name)), name)
 
     def channel(self, name: str) -> Channel:
-        """The channel of the name."""
+        """The channel with the name."""
         return Channel(self._server, self._server.read(lambda: self._server.find("channel", name)), name)
 
     def report(self) -> str:
-        """The report that the program `apexports` prints of the calls so far; of a closed module, of all calls."""
+        """The report of the calls so far, as the program `apexports` prints it; for a closed module, of all calls."""
         if not self._server.calls.is_kept:
             raise NoCallError("the module keeps no calls, as keep_calls=False asks, and so it has no report")
         return "".join(f"{line}\n" for line in self._server.read(self._server.report_lines))

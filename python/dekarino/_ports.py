@@ -1,4 +1,4 @@
-"""A partition and its ports: the twelve services. Each is served behind the lock of the modules."""
+"""A partition and its ports: the twelve services. Each call holds the lock of the modules."""
 from functools import cached_property
 from itertools import repeat
 from typing import Iterable, List, NoReturn, Optional, Tuple, Union
@@ -12,12 +12,12 @@ from ._server import NO_CALLS, Call, Server
 from ._services import Places
 
 Message = Union[bytes, bytearray, memoryview]
-# How many calls of a list are made at once.
+# The number of calls of a list that are made at once.
 AT_ONCE = 64
 
 
 class _Caller:
-    """Who calls: a partition, by itself or through a port."""
+    """A caller: a partition, by itself or through a port."""
 
     def __init__(self, server: Server, index: int, partition: str) -> None:
         self._server, self._index = server, index
@@ -31,7 +31,7 @@ class _Caller:
 
 
 class Partition(_Caller):
-    """A partition of a module. `at` of a call is its moment in nanoseconds; without it, it is that of the module."""
+    """A partition of a module. `at` is the moment of a call in nanoseconds; without it, the call has the module's."""
 
     def __init__(self, server: Server, index: int, name: str) -> None:
         super().__init__(server, index, name)
@@ -47,16 +47,16 @@ class Partition(_Caller):
 
     @property
     def calls(self) -> int:
-        """How many calls the partition made, those that were not made in IDLE included."""
+        """The number of calls of the partition, including those that were not made since it was in IDLE."""
         return self._server.read(lambda: self._server.count("call_count", self._index))
 
     @property
     def ports(self) -> Tuple[ConfiguredPort, ...]:
-        """What the configuration says of the partition's ports, in the order of their identifiers."""
+        """What the configuration says about the partition's ports, in the order of their identifiers."""
         return self._server.read(lambda: self._server.ports(self._index))
 
     def port(self, name: str) -> ConfiguredPort:
-        """What the configuration says of the port of the name."""
+        """What the configuration says about the port with the name."""
         ports = self.ports
         for it in ports:
             if it.name == name:
@@ -66,14 +66,14 @@ class Partition(_Caller):
 
     def create_queuing_port(self, name: str, *, size: int, depth: int, direction: int, discipline: int = 0,
                             at: Optional[int] = None) -> "QueuingPort":
-        """CREATE_QUEUING_PORT. The port, or ApexError is raised."""
+        """CREATE_QUEUING_PORT. Returns the port, or raises ApexError."""
         given = {"size": size, "depth": depth, "direction": direction, "discipline": discipline}
         numbers = {what: number(it, NUMBER_LIMIT, what) for what, it in given.items()}
         return self.queuing_port(self._named("CREATE_QUEUING_PORT", name, at, **numbers).check())
 
     def create_sampling_port(self, name: str, *, size: int, direction: int, refresh: int,
                              at: Optional[int] = None) -> "SamplingPort":
-        """CREATE_SAMPLING_PORT, the refresh period in nanoseconds. The port, or ApexError is raised."""
+        """CREATE_SAMPLING_PORT, with the refresh period in nanoseconds. Returns the port, or raises ApexError."""
         numbers = {"size": number(size, NUMBER_LIMIT, "size"),
                    "direction": number(direction, NUMBER_LIMIT, "direction"),
                    "refresh": number(refresh, MOMENT_LIMIT, "refresh")}
@@ -101,11 +101,11 @@ class Partition(_Caller):
         return Reply(self._server.serve(call, at, b"", wanted)[0], None, call.asked)
 
     def queuing_port(self, id: int) -> "QueuingPort":
-        """The queuing port of an identifier, whether there is one or not. No service is called."""
+        """The queuing port with an identifier, whether it exists or not. No service is called."""
         return QueuingPort(self._server, self._index, self.name, id)
 
     def sampling_port(self, id: int) -> "SamplingPort":
-        """The sampling port of an identifier, whether there is one or not. No service is called."""
+        """The sampling port with an identifier, whether it exists or not. No service is called."""
         return SamplingPort(self._server, self._index, self.name, id)
 
 
@@ -150,8 +150,8 @@ class _Port(_Caller):
 
 
 class QueuingPort(_Port):
-    """A queuing port of a partition. Every time-out is zero. `at` of a call is its moment in nanoseconds; without it,
-    it is that of the module."""
+    """A queuing port of a partition. Every time-out is zero. `at` is the moment of a call in nanoseconds; without it, the
+    call has the module's."""
 
     @cached_property
     def _send(self) -> Call:
@@ -174,7 +174,7 @@ class QueuingPort(_Port):
         return self._pass_on(self._send, message, at)
 
     def send_many(self, messages: Iterable[Message], *, at: Optional[int] = None) -> List[Reply[None]]:
-        """SEND_QUEUING_MESSAGE for each of the messages; the replies in their order."""
+        """SEND_QUEUING_MESSAGE for each of the messages. Returns the replies in the same order."""
         return self._pass_all_on(self._send, messages, at)
 
     def receive(self, *, at: Optional[int] = None) -> ReceiveReply:
@@ -185,7 +185,7 @@ class QueuingPort(_Port):
         return ReceiveReply(answer, message, call.asked)
 
     def receive_many(self, count: int, *, at: Optional[int] = None) -> List[ReceiveReply]:
-        """RECEIVE_QUEUING_MESSAGE, `count` times; the replies in their order."""
+        """RECEIVE_QUEUING_MESSAGE, `count` times. Returns the replies in order."""
         call, replies = self._receive, []
         for begin in range(0, number(count, NUMBER_LIMIT, "the count"), AT_ONCE):
             some = min(AT_ONCE, count - begin)
@@ -207,8 +207,8 @@ class QueuingPort(_Port):
 
 
 class SamplingPort(_Port):
-    """A sampling port of a partition. `at` of a call is its moment in nanoseconds; without it, it is that of the
-    module."""
+    """A sampling port of a partition. `at` is the moment of a call in nanoseconds; without it, the call has the
+    module's."""
 
     @cached_property
     def _write(self) -> Call:
@@ -227,7 +227,7 @@ class SamplingPort(_Port):
         return self._pass_on(self._write, message, at)
 
     def write_many(self, messages: Iterable[Message], *, at: Optional[int] = None) -> List[Reply[None]]:
-        """WRITE_SAMPLING_MESSAGE for each of the messages; the replies in their order."""
+        """WRITE_SAMPLING_MESSAGE for each of the messages. Returns the replies in the same order."""
         return self._pass_all_on(self._write, messages, at)
 
     def read(self, *, at: Optional[int] = None) -> ReadReply:

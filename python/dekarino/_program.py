@@ -16,13 +16,13 @@ from ._replies import AnyValue, QueuingStatus, Sample, SamplingStatus
 from ._rows import Row
 from ._texts import Text, path_of
 
-# The status of `dekarino judge` where replies depart.
+# The status of `dekarino judge` if replies depart.
 DEPARTS = 4
 
 
 @dataclass(frozen=True)
 class ReportedCall:
-    """The line of a call, numbered from 1."""
+    """The line of a call. Calls are numbered from 1."""
 
     number: int
     at: int
@@ -43,7 +43,7 @@ class ReportedPartition:
 
 @dataclass(frozen=True)
 class ReportedQueuing:
-    """The line of a queuing channel; `waiting` has the messages, the oldest first."""
+    """The line of a queuing channel; `waiting` has the messages that wait, oldest first."""
 
     name: str
     accepted: int
@@ -54,7 +54,7 @@ class ReportedQueuing:
 
 @dataclass(frozen=True)
 class ReportedSampling:
-    """The line of a sampling channel; message and moment are None where it was never written."""
+    """The line of a sampling channel; message and moment are None if it was never written."""
 
     name: str
     message: Optional[bytes]
@@ -75,8 +75,8 @@ def _message(word: str) -> bytes:
     return b"" if word == "-" else bytes.fromhex(word)
 
 
-def _value(words: List[str]) -> AnyValue:
-    """What stands behind a code."""
+def value_said(words: List[str]) -> AnyValue:
+    """The value after a code."""
     if not words:
         return None
     if words[0] == "id":
@@ -92,7 +92,7 @@ def _value(words: List[str]) -> AnyValue:
 def _call(words: List[str]) -> ReportedCall:
     is_made = words[4] != "not"
     return ReportedCall(int(words[0]), int(words[1]), words[2], words[3],
-                        Code[words[4]] if is_made else Code.NOT_MADE, _value(words[5:]) if is_made else None)
+                        Code[words[4]] if is_made else Code.NOT_MADE, value_said(words[5:]) if is_made else None)
 
 
 def _queuing(words: List[str]) -> ReportedQueuing:
@@ -114,8 +114,8 @@ def read_report(text: str) -> Report:
 
 @dataclass(frozen=True)
 class Departure:
-    """A reply of a log that is not the standard's: its line in the log, from 1, and its call. `logged` and `expected`
-    are replies as a report has them; `row` gives the expected one, and `words` say why where it refuses the call."""
+    """A reply of a log that isn't the standard's: its line in the log, from 1, and its call. `logged` and `expected` are
+    replies as in a report. `row` gives the expected one, and `words` say why, if it refuses the call."""
 
     line: int
     at: int
@@ -125,14 +125,6 @@ class Departure:
     expected: str
     row: Row
     words: str
-
-
-@dataclass(frozen=True)
-class Judgement:
-    """A judged log: how many calls it has, and where their replies depart from the standard, in the log's order."""
-
-    calls: int
-    departures: Tuple[Departure, ...]
 
 
 def find_program(name: str) -> pathlib.Path:
@@ -154,46 +146,45 @@ def _file(text: Text) -> Iterator[str]:
 
 
 def _run(program: str, *words: str) -> Tuple[int, str, str]:
-    """The status of a program, and what it writes on its two outputs."""
+    """The status of a program, and what it writes to its two outputs."""
     ran = subprocess.run([str(find_program(program)), *words], stdin=subprocess.DEVNULL, stdout=subprocess.PIPE,
                          stderr=subprocess.PIPE)
     return ran.returncode, ran.stdout.decode("ascii"), ran.stderr.decode(errors="replace").rstrip("\n")
 
 
 def _refusal(status: int, said: str) -> Exception:
-    """What is raised where a program refuses its texts."""
+    """The exception for a program that refuses its texts."""
     fault = re.match(r"(?:config|(trace|log) line (\d+)) fault (\d+): (.*)", said)
     if fault is None:
         return ProgramError(f"the program ended with the status {status}: {said}")
     if fault[1] is None:
         return ConfigError(int(fault[3]), fault[4])
-    kind = TraceError if fault[1] == "trace" else LogError
-    return kind(int(fault[2]), int(fault[3]), fault[4])
+    line, number, words = int(fault[2]), int(fault[3]), fault[4]
+    return TraceError(line, number, words) if fault[1] == "trace" else LogError(line, number, words)
 
 
 def replay(config: Text, trace: Text) -> Report:
-    """Replays a trace by the program. Each text is the path of a file, or is given as bytes."""
+    """Replays a trace with the program. Each text is the path of a file, or bytes."""
     with _file(config) as config_path, _file(trace) as trace_path:
-        status, told, said = _run("apexports", "replay", config_path, trace_path)
+        status, output, said = _run("apexports", "replay", config_path, trace_path)
     if status != 0:
         raise _refusal(status, said)
-    return read_report(told)
+    return read_report(output)
 
 
 def _departure(line: str) -> Departure:
-    """What a line of a judged log says."""
+    """The departure in a line of JSON."""
     it = json.loads(line)
     return Departure(it["line"], it["at"], it["partition"], it["service"], it["logged"], it["standard"],
                      Row[it["row"].upper().replace(" ", "_")], it["words"])
 
 
-def judge(config: Text, log: Text, *, time_outs: bool = False, own_ids: bool = False) -> Judgement:
-    """Judges a recorded log by the program. Each text is the path of a file, or is given as bytes. With `time_outs` each
-    send and receive whose line says no time-out has one; with `own_ids` identifiers are those of the system."""
-    options = ["--time-outs"] * time_outs + ["--own-ids"] * own_ids
+def judge_by_program(config: Text, log: Text, time_outs: bool) -> Tuple[int, Tuple[Departure, ...]]:
+    """How many calls a recorded log has, and its departures, by the program. Identifiers are those of the system."""
+    options = ["--time-outs"] * time_outs + ["--own-ids"]
     with _file(config) as config_path, _file(log) as log_path:
-        status, told, said = _run("dekarino", "judge", "--json", *options, config_path, log_path)
+        status, output, said = _run("dekarino", "judge", "--json", *options, config_path, log_path)
     if status not in (0, DEPARTS):
         raise _refusal(status, said)
-    *departures, counts = told.splitlines()
-    return Judgement(json.loads(counts)["calls"], tuple(map(_departure, departures)))
+    *departures, counts = output.splitlines()
+    return json.loads(counts)["calls"], tuple(map(_departure, departures))

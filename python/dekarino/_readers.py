@@ -1,4 +1,4 @@
-"""What a module has: its names, what its configuration says, and how its partitions and channels are."""
+"""What a module has: its names, its configuration, and the state of its partitions and channels."""
 import ctypes
 from typing import Any, Iterator, NamedTuple, Optional, Tuple
 
@@ -10,7 +10,7 @@ from ._services import Places
 
 
 class ConfiguredPort(NamedTuple):
-    """What the configuration says of a port. The refresh period, in nanoseconds, is 0 of a queuing port."""
+    """What the configuration says about a port. The refresh period is in nanoseconds, and 0 for a queuing port."""
 
     id: int
     name: str
@@ -21,20 +21,20 @@ class ConfiguredPort(NamedTuple):
 
 
 class WrittenSample(NamedTuple):
-    """The message that a sampling channel holds, and the moment of its writing."""
+    """The message that a sampling channel holds, and the moment it was written."""
 
     message: bytes
     at: int
 
 
 def named(name: str) -> Tuple[bytes, int]:
-    """A name and its length, as C takes them; what is not ASCII is no name there."""
+    """A name and its length, as C takes them. A name that isn't ASCII is none there."""
     word = name.encode("ascii", "replace")
     return word, len(word)
 
 
 class Readers:
-    """The readers of an open module. The lock is held where one is called."""
+    """The readers of an open module. Whoever calls one holds the lock."""
 
     def __init__(self) -> None:
         self.functions = _library.library()
@@ -45,14 +45,14 @@ class Readers:
         self.count_place = ctypes.byref(self._count)
 
     def ask(self, reader: str, *arguments: Any) -> int:
-        """What a reader answers."""
+        """The answer of a reader."""
         answer = self.functions.function(reader)(self.lent, *arguments)
         if answer == _library.NOT_OPEN:
             raise NoCallError("the module is closed")
         return answer
 
     def number(self, reader: str, *asked: int) -> int:
-        """A number of what the module has."""
+        """A number that the module has."""
         self.ask(reader, *asked, self.places.number)
         return int(self.places.numbers[0])
 
@@ -62,12 +62,12 @@ class Readers:
         return self._count.value
 
     def message(self, reader: str, *asked: int) -> bytes:
-        """A name or a message of what the module has; no bytes of what it hasn't."""
+        """A name or a message that the module has; no bytes if it doesn't have it."""
         answer = self.ask(reader, *asked, self.places.buffer, _library.MESSAGE_LIMIT, self.places.number)
         return b"" if answer else self.places.message(0)
 
     def name(self, reader: str, *asked: int) -> str:
-        """A name, which is empty of what the module hasn't."""
+        """A name; empty if the module doesn't have it."""
         return self.message(reader, *asked).decode("ascii")
 
     def names(self, kind: str) -> Tuple[str, ...]:
@@ -75,36 +75,36 @@ class Readers:
         return tuple(self.name(f"{kind}_name", it) for it in range(self.number(f"{kind}_count")))
 
     def find(self, kind: str, name: str) -> int:
-        """The number of the partition or of the channel of the name."""
+        """The number of the partition or of the channel with the name."""
         if self.ask(f"find_{kind}", *named(name), self.places.number) == 0:
             return int(self.places.numbers[0])
         names = ", ".join(self.names(kind)) or "none"
         raise NoCallError(f"there is no {kind} {name}; the {kind}s are {names}")
 
     def port(self, partition: int, id: int) -> ConfiguredPort:
-        """What the configuration says of a port that is there."""
+        """What the configuration says about a port that exists."""
         it = _library.PortFields()
         self.ask("port_configuration", partition, id, ctypes.byref(it))
         return ConfiguredPort(id, self.name("port_name", partition, id), it.is_queuing, Direction(it.direction),
                               self.name("channel_name", it.channel), it.refresh)
 
     def ports(self, partition: int) -> Tuple[ConfiguredPort, ...]:
-        """What the configuration says of a partition's ports."""
+        """What the configuration says about a partition's ports."""
         return tuple(self.port(partition, id) for id in range(1, self.number("port_count", partition) + 1))
 
     def channel(self, channel: int) -> _library.ChannelFields:
-        """What the configuration says of a channel."""
+        """What the configuration says about a channel."""
         it = _library.ChannelFields()
         self.ask("channel_configuration", channel, ctypes.byref(it))
         return it
 
     def waiting(self, channel: int) -> Tuple[bytes, ...]:
-        """The messages that wait on a channel, the oldest first."""
+        """The messages that wait on a channel, oldest first."""
         count = self.count("waiting_count", channel)
         return tuple(self.message("waiting_message", channel, it) for it in range(count))
 
     def sample(self, channel: int) -> Optional[WrittenSample]:
-        """What a sampling channel holds."""
+        """The sample that a sampling channel holds."""
         answer = self.ask("last_sample", channel, self.places.buffer, _library.MESSAGE_LIMIT, self.places.number,
                           self.count_place)
         return None if answer else WrittenSample(self.places.message(0), self._count.value)

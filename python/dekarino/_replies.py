@@ -1,4 +1,4 @@
-"""What a service answers: a code, and the values that come with it."""
+"""The replies of services: a code, and its values."""
 from typing import Generic, NamedTuple, NoReturn, Optional, Tuple, TypeVar, Union, cast
 
 from ._codes import Code, Direction, Validity
@@ -7,14 +7,14 @@ from ._rows import Row
 
 
 class Sample(NamedTuple):
-    """What a read gives."""
+    """The value of a read."""
 
     message: bytes
     validity: Validity
 
 
 class QueuingStatus(NamedTuple):
-    """What the status of a queuing port gives."""
+    """The status of a queuing port."""
 
     waiting: int
     depth: int
@@ -23,7 +23,7 @@ class QueuingStatus(NamedTuple):
 
 
 class SamplingStatus(NamedTuple):
-    """What the status of a sampling port gives; the refresh period in nanoseconds."""
+    """The status of a sampling port. The refresh period is in nanoseconds."""
 
     refresh: int
     size: int
@@ -31,14 +31,14 @@ class SamplingStatus(NamedTuple):
     last_validity: Validity
 
 
-# What comes with NO_ERROR: nothing, an identifier, a received message, or one of those above.
+# The value with NO_ERROR: none, an identifier, a received message, or one of those above.
 AnyValue = Union[None, int, bytes, Sample, QueuingStatus, SamplingStatus]
 Value = TypeVar("Value")
 Status = TypeVar("Status", QueuingStatus, SamplingStatus)
 
 
 class Asked(NamedTuple):
-    """Who asked for which service."""
+    """A caller and the service that it called."""
 
     partition: str
     port: Optional[str]
@@ -46,7 +46,7 @@ class Asked(NamedTuple):
 
 
 class Answer(NamedTuple):
-    """What a service answered, and why: the code, the row of the reply table that gave it, and the row's words."""
+    """A service's answer, and why: the code, the row of the reply table that gave it, and the row's words."""
 
     code: Code
     row: Row
@@ -54,12 +54,12 @@ class Answer(NamedTuple):
 
 
 def message_word(message: bytes) -> str:
-    """A message as a trace and a report have it."""
+    """A message as in a trace and a report."""
     return message.hex() or "-"
 
 
 def reply_words(code: Code, value: AnyValue) -> str:
-    """A reply as the program's report has it."""
+    """A reply as in the program's report."""
     if code is Code.NOT_MADE:
         return "not made"
     if value is None:
@@ -78,8 +78,8 @@ def reply_words(code: Code, value: AnyValue) -> str:
 
 
 class Reply(Generic[Value]):
-    """A service's reply. `str` gives it in the words of the program's report. Two replies are equal where they are of
-    one service and have the same code, row, words and value."""
+    """A service's reply. `str` gives it in the words of the program's report. Two replies are equal if they are of the
+    same service and have the same code, row, words and value."""
 
     __slots__ = ("_answer", "value", "_asked")
     value: Optional[Value]
@@ -101,11 +101,11 @@ class Reply(Generic[Value]):
 
     @property
     def words(self) -> str:
-        """The words of that row: why the call wasn't made or was refused. Those of an accepted call are empty."""
+        """The words of that row: why the call wasn't made or was refused. They are empty for an accepted call."""
         return self._answer.words
 
     def check(self) -> Value:
-        """The value where the code is NO_ERROR; otherwise ApexError is raised."""
+        """The value if the code is NO_ERROR; otherwise raises ApexError."""
         if self.code is not Code.NO_ERROR:
             asked = self._asked
             raise ApexError(self.code, asked.partition, asked.port, asked.service, self.row, self.words)
@@ -133,7 +133,7 @@ class Reply(Generic[Value]):
 
 
 class IdReply(Reply[int]):
-    """The reply that has a port's identifier."""
+    """The reply with a port's identifier."""
 
     __slots__ = ()
 
@@ -167,7 +167,7 @@ class ReadReply(Reply[Sample]):
 
 
 class StatusReply(Reply[Status]):
-    """What the replies with a port's status have in common."""
+    """The common parts of the replies with a port's status."""
 
     __slots__ = ()
 
@@ -181,7 +181,7 @@ class StatusReply(Reply[Status]):
 
 
 class QueuingStatusReply(StatusReply[QueuingStatus]):
-    """The reply that has the status of a queuing port."""
+    """The reply with the status of a queuing port."""
 
     __slots__ = ()
 
@@ -195,7 +195,7 @@ class QueuingStatusReply(StatusReply[QueuingStatus]):
 
 
 class SamplingStatusReply(StatusReply[SamplingStatus]):
-    """The reply that has the status of a sampling port."""
+    """The reply with the status of a sampling port."""
 
     __slots__ = ()
 

@@ -1,11 +1,11 @@
-"""The rows of the reply table: why a service answers what it answers."""
+"""The rows of the reply table: why a service gives its reply."""
 from enum import IntEnum
 from typing import Dict
 
 
 class Row(IntEnum):
-    """The rows, with the numbers of c/apex_ports.h: a call that isn't made, the checks that refuse a call, and from
-    CREATED on the accepted calls."""
+    """The rows, with the numbers of c/apex_ports.h: a call that isn't made, the checks that refuse a call, and, from
+    CREATED on, the accepted calls."""
 
     IN_IDLE = 0
     NOT_CONFIGURED = 1
@@ -40,7 +40,7 @@ class Row(IntEnum):
     MODE_SET = 30
 
 
-# The row of an accepted call of each service; the services stand in the order of their numbers.
+# The row of an accepted call of each service. The services are in the order of their numbers.
 ACCEPTED: Dict[str, Row] = {
     "CREATE_SAMPLING_PORT": Row.CREATED,
     "WRITE_SAMPLING_MESSAGE": Row.WRITTEN,

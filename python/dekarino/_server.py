@@ -1,4 +1,4 @@
-"""Serves the calls of a module: behind the lock, by the library, each noted, and each refusal with its reason."""
+"""Serves the calls of a module: with the lock, by the library. Each call is noted, and each refusal with its reason."""
 import ctypes
 import weakref
 from collections import deque
@@ -18,9 +18,9 @@ from ._rows import Row
 from ._services import NOTHING, SERVICES, Places, Service
 
 CODES, ROWS = tuple(Code), tuple(Row)
-# How many of the last calls are there with their words.
+# The number of the last calls that are kept with their words.
 LAST = 20
-# Why the library answers that there is no call.
+# Why the library returns that there is no such call.
 NO_CALLS = {_library.NOT_OPEN: "the module is closed", _library.NO_PARTITION: "there is no such partition",
             _library.TOO_LONG: f"the message has more than {_library.MESSAGE_LIMIT} bytes",
             _library.NO_NAME: "a name has 1 to 30 ASCII letters, digits and `_`"}
@@ -28,8 +28,8 @@ Value = TypeVar("Value")
 
 
 class Call(NamedTuple):
-    """A call that a partition can make, again and again: its names, its numbers, the library's function, and the reply
-    where it is accepted and gives nothing. `asker` is one number of partition and service."""
+    """A call that a partition can make repeatedly: its names, its numbers, the library's function, and the reply if it is
+    accepted and gives no value. `asker` is a number for the partition and the service together."""
 
     asked: Asked
     service: Service
@@ -40,18 +40,16 @@ class Call(NamedTuple):
     accepted: Reply[None]
 
 
-# Calls that are made at once, and where: the moment, what each sends, the places, how many were noted before.
+# Calls that are made at once: their moment, what each sends, the places, and the number of calls noted before.
 Made = Tuple[Call, int, Sequence[bytes], Places, int]
-# The answer, and what the service gives with it.
+# The answer of the service and its value.
 Served = Tuple[Answer, Any]
-# A call that was noted: what was sent by all that were made at once, its index among them, the call, the moment, the
-# answer, and the value.
+# A noted call: what all calls made at once sent, its index among them, the call, the moment, the answer, and the value.
 Noted = Tuple[Sequence[bytes], int, Call, int, Answer, AnyValue]
 
 
 class Server(Readers):
-    """Serves the calls of a module's partitions, and lets what it has be read. It is closed where nothing refers to
-    it."""
+    """Serves the calls of a module's partitions, and reads the module. It closes when nothing refers to it any more."""
 
     def __init__(self, text: bytes, is_kept: bool) -> None:
         super().__init__()
@@ -72,12 +70,12 @@ class Server(Readers):
         return not self.handle.is_open
 
     def need_open(self) -> None:
-        """Raises NoCallError where the module is closed."""
+        """Raises NoCallError if the module is closed."""
         if self.closed:
             raise NoCallError(NO_CALLS[_library.NOT_OPEN])
 
     def close(self) -> None:
-        """Closes the module; from within a call, when that ends."""
+        """Closes the module; if it is within a call, when the call ends."""
         if is_held():
             later.append(self.close)
             return
@@ -89,7 +87,7 @@ class Server(Readers):
             self.functions.function("close")(self.lent)
 
     def read(self, what: Callable[[], Value]) -> Value:
-        """What is read between two calls."""
+        """Reads the module between two calls."""
         refuse_within_a_call()
         try:
             with lock:
@@ -116,7 +114,7 @@ class Server(Readers):
                     Reply(service.accepted, None, asked))
 
     def serve(self, call: Call, at: Optional[int], sent: bytes, *arguments: Any) -> Served:
-        """Makes a call that sends a message or a name, with the arguments behind the moment."""
+        """Makes a call that sends a message or a name, with the arguments after the moment."""
         if is_held():
             refuse_within_a_call()
         try:
@@ -136,18 +134,18 @@ class Server(Readers):
 
     def serve_all(self, call: Call, at: Optional[int], sent: Sequence[bytes], places: Places,
                   *arguments: Iterable[Any]) -> List[Served]:
-        """Makes a call as often as something is sent, with the arguments of each behind the moment."""
+        """Makes a call for each thing that is sent, with the call's arguments after the moment."""
         def serve() -> List[Served]:
             self.need_open()
             moment = self.moment if at is None else number(at, MOMENT_LIMIT, "the moment")
             self._made = call, moment, sent, places, len(self.calls.ends)
-            # (all of them are made before any more of Python is run)
+            # (all of them are made before any other Python code runs)
             deque(map(call.function, repeat(self.lent), repeat(call.partition), repeat(moment), *arguments), maxlen=0)
             return self._note_all(len(sent))
         return self.read(serve)
 
     def _note(self, index: int) -> Served:
-        """Notes the first call that is not noted, which is that of the index among those that were made at once."""
+        """Notes the first call that isn't noted yet: the one with the index among those that were made at once."""
         call, moment, sent, places, _ = self._made
         calls, given = self.calls, call.service.given
         code, value, packed = calls.answers[len(calls.ends)], None, b""
@@ -180,7 +178,8 @@ class Server(Readers):
         return [*zip(repeat(answer), values)]
 
     def _note_rest(self) -> int:
-        """Notes the calls that were made and are not noted, since an interrupt came first. How many are noted then."""
+        """Notes the calls that were made and aren't noted yet since an interrupt came first. Returns the number of noted
+        calls."""
         calls = self.calls
         calls.take_back()
         while len(calls.answers) != len(calls.ends):
@@ -194,12 +193,12 @@ class Server(Readers):
         return len(calls.ends)
 
     def _why(self, call: Call, moment: int, code: Code, sent: bytes) -> Answer:
-        """Why a call was refused, which may be asked after it as before."""
+        """Why a call was refused. This can be asked after the call as well as before it."""
         asked = self.lent, call.partition, moment, ctypes.byref(call.fields), sent, len(sent)
         buffer = self.places.buffer
         self._call_row(*asked, self.places.number)
         answer = self._call_words(*asked, buffer, _library.MESSAGE_LIMIT, self.count_place)
-        # (there are no words where memory was refused)
+        # (there are no words if memory ran out)
         words = ctypes.string_at(buffer, self._count.value).decode("ascii") if answer == 0 else ""
         return Answer(code, ROWS[self.places.numbers[0]], words)
 
@@ -209,7 +208,7 @@ class Server(Readers):
 
 
 def _line(sent: Sequence[bytes], index: int, call: Call, moment: int, answer: Answer, value: AnyValue) -> str:
-    """The line of a call, with its words behind the service as `arguments` names them."""
+    """The line of a call, with its words after the service as `arguments` names them."""
     words = [str(moment), call.asked.partition, call.service.word]
     for it in call.service.arguments:
         words.append(sent[index].decode("ascii") if it == "name" else

@@ -1,4 +1,4 @@
-"""The twelve services: what a trace calls them, and how the values that they give are read, packed and unpacked."""
+"""The twelve services: their words in a trace, and how the values that they give are read, packed and unpacked."""
 import ctypes
 import struct
 from typing import Any, Callable, Dict, Iterable, NamedTuple, Tuple
@@ -10,7 +10,7 @@ from ._rows import ACCEPTED, SERVICE_NUMBERS
 
 
 class Places:
-    """Where the library writes what calls give: as many messages and numbers as there are calls, and one status."""
+    """Where the library writes what calls give: a message and a number for each call, and one status."""
 
     def __init__(self, calls: int = 1) -> None:
         self.buffer = ctypes.create_string_buffer(MESSAGE_LIMIT * calls)
@@ -29,7 +29,7 @@ class Places:
         return _addresses(self.numbers, ctypes.sizeof(ctypes.c_uint32))
 
     def message(self, index: int) -> bytes:
-        """The message that a call gave."""
+        """The message from a call."""
         begin = MESSAGE_LIMIT * index
         return self._view[begin : begin + self.numbers[index]].tobytes()
 
@@ -41,8 +41,8 @@ def _addresses(parts: Any, size: int) -> Iterable[int]:
 
 
 class Given(NamedTuple):
-    """What a service gives with NO_ERROR: how it is taken from the places by the number of the call, packed, and
-    unpacked."""
+    """The value that a service gives with NO_ERROR: how it is read from the places by the number of the call, packed,
+    and unpacked."""
 
     take: Callable[[Places, int], AnyValue]
     pack: Callable[[Any], bytes]
@@ -82,8 +82,8 @@ _SAMPLING_STATUS = Given(_take_sampling, lambda value: _SAMPLING.pack(*value), _
 
 
 class Service(NamedTuple):
-    """A service: its name and number, its word and the words behind it in a trace, what it gives, and the answer to an
-    accepted call."""
+    """A service: its name and number, its word in a trace and the words after it, its value, and the answer to an accepted
+    call."""
 
     name: str
     number: int

@@ -1,4 +1,4 @@
-"""The page of `serve`: a server on the loopback address that answers its own page alone."""
+"""The page of `serve`: a server on the loopback address that answers only its own page."""
 import contextlib
 import hmac
 import http.server
@@ -12,7 +12,7 @@ from typing import Any, Callable, Dict, Iterator, List, Optional, Tuple
 from ._gathering import Programs, Source, Undecided, gather
 from ._page import page
 
-# The most bytes of a request, the most connections at once, the most seconds without a byte, and the bounds of programs.
+# The maximum bytes of a request, connections at once, and seconds without a byte; and the bounds of programs.
 MOST_BYTES = 4 * 2**20
 MOST_CONNECTIONS = 16
 IDLE_SECONDS = 10
@@ -34,7 +34,7 @@ TRACE = b"""10 FMS create-queuing NAV_OUT 4 2 0 0
 
 
 class Refused(Exception):
-    """A request that isn't answered: its status, and why."""
+    """A refused request: its status, and why."""
 
 
 class Server(http.server.ThreadingHTTPServer):
@@ -48,7 +48,7 @@ class Server(http.server.ThreadingHTTPServer):
         self.token = secrets.token_urlsafe(24)
         self.hosts = [f"{name}:{self.server_port}" for name in ("127.0.0.1", "localhost")]
         self.programs = Programs(PROGRAMS, PROGRAM_SECONDS)
-        self.program = self.programs.told()
+        self.program = self.programs.described()
         self.given = {"config": config, "run": run}
         self.connections = threading.BoundedSemaphore(MOST_CONNECTIONS)
 
@@ -69,7 +69,7 @@ class Server(http.server.ThreadingHTTPServer):
             self.connections.release()
 
     def handle_error(self, request: Any, client_address: Any) -> None:
-        """A browser that goes away in the middle is no news."""
+        """A browser that closes the connection early isn't reported."""
         if not isinstance(sys.exc_info()[1], OSError):
             super().handle_error(request, client_address)
 
@@ -106,7 +106,7 @@ class Handler(http.server.BaseHTTPRequestHandler):
             self.respond(200, kind, content)
 
     def check_sender(self) -> None:
-        """Refuses whoever isn't the page itself."""
+        """Refuses requests that aren't from the page itself."""
         host: List[str] = self.headers.get_all("Host", [])
         origin: List[str] = self.headers.get_all("Origin", [])
         if len(host) != 1 or host[0] not in self.server.hosts:
@@ -131,8 +131,8 @@ class Handler(http.server.BaseHTTPRequestHandler):
             raise Refused(403, "only the page itself asks this")
         asked = self.body()
         sources = [Source(asked["names"][it], asked[it].encode(errors="replace")) for it in ("config", "run")]
-        told = self.gathered_of(lambda: self.server.shown(*sources))
-        return "application/json", json.dumps(told, separators=(",", ":")).encode()
+        facts = self.gathered_of(lambda: self.server.shown(*sources))
+        return "application/json", json.dumps(facts, separators=(",", ":")).encode()
 
     def gathered_of(self, make: Callable[[], Dict[str, Any]]) -> Dict[str, Any]:
         try:
@@ -141,10 +141,10 @@ class Handler(http.server.BaseHTTPRequestHandler):
             raise Refused(503, f"undecided: {why}") from None
 
     def body(self) -> Dict[str, Any]:
-        """The texts of a request: strings of these keys and no other."""
+        """The texts of a request: strings at these keys."""
         length = self.headers.get("Content-Length", "")
         if "Transfer-Encoding" in self.headers or not (length.isascii() and length.isdigit()):
-            raise Refused(411, "the length is not told")
+            raise Refused(411, "the length is missing")
         if len(length) > 9 or int(length) > MOST_BYTES:
             raise Refused(413, f"the texts have more than {MOST_BYTES} bytes")
         try:
@@ -172,7 +172,7 @@ class Handler(http.server.BaseHTTPRequestHandler):
         return "dekarino"
 
     def log_message(self, format: str, *args: Any) -> None:
-        """Nothing is written of a request."""
+        """Requests are not logged."""
 
 
 class _Ended(Exception):
@@ -181,7 +181,7 @@ class _Ended(Exception):
 
 @contextlib.contextmanager
 def _until_signal() -> Iterator[None]:
-    """Ctrl-C and the signals that end a program end what stands in here."""
+    """Ctrl-C and the signals that end a program end the block."""
     def end(number: int, frame: Any) -> None:
         raise _Ended
 

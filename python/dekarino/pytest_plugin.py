@@ -1,11 +1,11 @@
-"""The plugin for pytest: a fixture that opens modules, and a failed test shows their last calls with their words."""
+"""The plugin for pytest: a fixture opens modules, and a failed test shows their last calls with their words."""
 import importlib
 from typing import Any, Callable, Iterator
 
 from ._module import Module
 from ._texts import Text
 
-# (its types are not there where the package is checked without pytest)
+# (its types are missing if the package is checked without pytest)
 _pytest: Any = importlib.import_module("pytest")
 # The modules that a test opened.
 _OPENED = _pytest.StashKey()

@@ -131,11 +131,15 @@ class Judged(unittest.TestCase):
 
     def test_refusals(self):
         with self.assertRaises(dekarino.LogError) as raised:
-            dekarino.judge(BOTH, b"\n1 FMS receive 1\n")
+            next(dekarino.judge(BOTH, b"\n1 FMS receive 1\n"))
+        self.assertEqual(str(raised.exception), "log line 2 fault 10: no reply, column 16: the line ends; "
+                                                "expected `->` and the reply")
+        with self.assertRaises(dekarino.LogError) as raised:
+            dekarino.judge(BOTH, b"\n1 FMS receive 1\n", own_ids=True)
         self.assertEqual(str(raised.exception), "log line 2 fault 10: no reply")
         with self.assertRaises(dekarino.ConfigError) as raised:
             dekarino.judge(b"nothing", b"")
-        self.assertEqual((raised.exception.number, raised.exception.place), (1, None))
+        self.assertEqual((raised.exception.number, raised.exception.place), (1, "configuration"))
 
 
 if __name__ == "__main__":

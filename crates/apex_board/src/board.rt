@@ -203,7 +203,7 @@ impl<A: Allocator> Board<A> {
     pub fn tell(&self, observers: &mut [Observer<A>])
         requires { AreObservers self.now.published observers.old }
         ensures observers { AreObservers self.now.published observers.new }
-        ensures told { KnowAll (sampling_of self.now.published) observers.new }
+        ensures learned { KnowAll (sampling_of self.now.published) observers.new }
         ensures published { ArePublished self.now.config self.now.log self.now.published }
     {
         self.publishers.tell(observers);

@@ -1,4 +1,4 @@
--- What C asks for: a call, or the number that says why it is none. Where it is none, nothing changes.
+-- What C asks for: a call, or the number that says why it isn't one. If it isn't one, nothing changes.
 use Rattle.std.specs.Prelude.{ℕ, nat_lt, if◌then◌else◌, List, length, Option, None, Result, Ok, Err}
 use Rattle.apex_types.specs.Name.{name_of}
 use Rattle.apex_types.specs.declared.call.Call.{Call}
@@ -24,7 +24,7 @@ abbrev pub asked_ports : PortsHeld → ℕ → Moment → Asked → PortsHeld
 asked_ports ports p at (Ok call) = ports_after ports p at call
 asked_ports ports p at (Err number) = ports
 
--- the reply, where a call is asked for and a partition of the ports makes it
+-- the reply, if a call is asked for and a partition of the ports makes it
 abbrev pub asked_reply : PortsHeld → ℕ → Moment → Asked → Option Reply
 asked_reply ports p at (Ok call) = reply_in ports p at call
 asked_reply ports p at (Err number) = None
@@ -35,7 +35,7 @@ abbrev pub with_name : (List ℕ → Call) → Result (List ℕ) NameFault → A
 with_name call (Ok name) = Ok (call name)
 with_name call (Err fault) = Err NO_NAME
 
--- the name that a text is, or the number that says that it is none
+-- the name that a text gives, or the number that says that it gives none
 abbrev pub name_asked : Result (List ℕ) NameFault → Result (List ℕ) ℕ
 name_asked (Ok name) = Ok name
 name_asked (Err fault) = Err NO_NAME
@@ -69,7 +69,7 @@ send id message = with_message (λ bytes. call.SendQueuing id bytes) message
 abbrev pub write : ℕ → List ℕ → Asked
 write id message = with_message (λ bytes. call.WriteSampling id bytes) message
 
--- ---- calls that give a message into a buffer of so many bytes, which may be too few for the longest
+-- ---- calls that write a message into a buffer of this many bytes, which may be too few for the longest
 
 abbrev pub with_buffer : ℕ → Call → Asked
 with_buffer bytes call = if nat_lt bytes MESSAGE_LIMIT then Err SHORT_BUFFER else Ok call

@@ -28,7 +28,7 @@ reply_of_ports ports p at call = reply_to ports.config ports.history p at call
 abbrev pub ports_with : PortsView → ℕ → Moment → Call → PortsView
 ports_with ports p at call = record ports { history = ports.history ++ entry_of p at call (reply_of_ports ports p at call) ∷ [] }
 
--- the reply to a call of a partition; none where the handle isn't open, or the module hasn't the partition
+-- the reply to a call of a partition; none if the handle isn't open, or the module lacks the partition
 abbrev pub reply_in : PortsHeld → ℕ → Moment → Call → Option Reply
 reply_in None p at call = None
 reply_in (Some ports) p at call =

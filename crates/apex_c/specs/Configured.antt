@@ -55,7 +55,7 @@ port_name held p id = port_in (λ port. port.name) held p id
 abbrev pub channel_name : PortsHeld → ℕ → Found (List ℕ)
 channel_name held c = channel_in (λ channel. channel.name) held c
 
--- those for a buffer of so many bytes
+-- those for a buffer of this many bytes
 
 abbrev pub partition_name_in : ℕ → PortsHeld → ℕ → Found (List ℕ)
 partition_name_in bytes held p = for_buffer NAME_LIMIT bytes (partition_name held p)

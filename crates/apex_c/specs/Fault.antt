@@ -29,7 +29,7 @@ abbrev pub path_in : Result Configuration RefusalData → Found (List ℕ)
 path_in (Ok config) = Err OPENED
 path_in (Err refusal) = Ok (first_path refusal.places)
 
--- some lines are put where a text is refused
+-- if a text is refused, some lines are written
 abbrev pub AreLinesOf : Result Configuration RefusalData → List ℕ → List ℕ → ℕ → Type 0
 AreLinesOf (Ok config) old_buffer new_buffer new_length = Unit {0}
 AreLinesOf (Err refusal) old_buffer new_buffer new_length = IsText old_buffer new_buffer new_length

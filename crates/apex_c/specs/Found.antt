@@ -27,6 +27,6 @@ abbrev pub in_channel : {X : Type 0} → PortsHeld → ℕ → (PortsView → Fo
 in_channel held c find =
     in_ports held (λ ports. if nat_lt c (length ports.config.channels) then find ports else Err NO_CHANNEL)
 
--- found for a buffer of so many bytes, where these are no fewer than it may take
+-- found for a buffer of this many bytes, if these are enough for it
 abbrev pub for_buffer : {X : Type 0} → ℕ → ℕ → Found X → Found X
 for_buffer most bytes found = if nat_lt bytes most then Err SHORT_BUFFER else found

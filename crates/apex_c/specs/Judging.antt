@@ -44,7 +44,7 @@ of_given held p (Err number) reply find = Err number
 of_given held p (Ok call) (Err number) find = Err number
 of_given held p (Ok call) (Ok reply) find = in_judge held p (λ judge. find judge call reply)
 
--- what the standard has in place of the reply, if that is another, for a buffer of this many bytes
+-- what the standard has instead of the reply, if they differ, for a buffer of this many bytes
 abbrev pub judged_in : ℕ → JudgeHeld → ℕ → Moment → Asked → Result Reply ℕ → Found (Option Expected)
 judged_in room held p at asked reply = for_buffer MESSAGE_LIMIT room
     (of_given held p asked reply (λ judge call reply. instead_of judge.config judge.log (entry_of p at call reply)))
@@ -73,7 +73,7 @@ pub record IsShown (expected : Expected) (new : Departure) (old_buffer new_buffe
   pub message_length : new.message_length ≡ length_after (message_in (Some expected.reply)) 0
   pub words : IsText old_words new_words new.words_length
 
--- the places of a call that was judged: those of its departure, and as they were if it is none
+-- the places of a call that was judged: those of its departure; unchanged if it doesn't depart
 abbrev pub IsShownFor : Found (Option Expected) → Departure → Departure → List ℕ → List ℕ → List ℕ → List ℕ → Type 0
 IsShownFor (Ok (Some expected)) old new old_buffer new_buffer old_words new_words =
     IsShown expected new old_buffer new_buffer old_words new_words

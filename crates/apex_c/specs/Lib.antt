@@ -6,6 +6,7 @@ pub mod Fault
 pub mod Found
 pub mod Held
 pub mod HeldJudge
+pub mod JudgedLine
 pub mod Judging
 pub mod Law
 pub mod Opening

@@ -1,4 +1,4 @@
--- What C is given of a reply, each in its place. A place stays as it was given where the reply has nothing for it.
+-- What C gets from a reply, each in its place. A place is unchanged if the reply has nothing for it.
 use Rattle.std.specs.Prelude.{ℕ, List, length, drop, ◌++◌, Option, Some, None}
 use Rattle.apex_types.specs.Direction.{number_of}
 use Rattle.apex_types.specs.Validity.{number_of as validity_number}

@@ -37,7 +37,7 @@ count_on Waiting ports c = length (waiting_on ports.config c ports.history)
 abbrev pub count_in : ChannelCount → PortsHeld → ℕ → Found ℕ
 count_in which held c = in_channel held c (λ ports. Ok (count_on which ports c))
 
--- ---- messages, for a buffer of so many bytes
+-- ---- messages, for a buffer of this many bytes
 
 -- the message of an index among those that wait on a channel
 abbrev pub waiting_in : ℕ → PortsHeld → ℕ → ℕ → Found (List ℕ)

@@ -72,7 +72,7 @@ reply_coded given message service None = Err NO_REPLY
 reply_coded given message service (Some code.NoError) = accepted_reply given message service
 reply_coded given message service (Some other) = Ok (reply.Code other)
 
--- the reply of a service, or the number that says why it is none
+-- the reply of a service, or the number that says why it isn't one
 abbrev pub reply_of_service : NumberedReply → List ℕ → Service → Result Reply ℕ
 reply_of_service given message service =
     if given.code == NOT_MADE then Ok reply.NotMade else reply_coded given message service (code_numbered given.code)
@@ -81,7 +81,7 @@ abbrev pub reply_of_found : NumberedReply → List ℕ → Option Service → Re
 reply_of_found given message None = Err NO_SERVICE
 reply_of_found given message (Some service) = reply_of_service given message service
 
--- ---- the numbers of a reply; a value that it hasn't is 0
+-- ---- the numbers of a reply; a value that it lacks is 0
 
 abbrev pub nothing : NumberedReply
 nothing = record { refresh = 0; code = 0; id = 0; waiting = 0; depth = 0; size = 0; direction = 0; validity = 0 }

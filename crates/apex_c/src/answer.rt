@@ -45,5 +45,8 @@ pub const DEPARTS: u32 = 20;
 /// No reply of the service has the values.
 pub const NO_REPLY: u32 = 21;
 
+/// A line of a log can't be read.
+pub const FAULTY_LINE: u32 = 22;
+
 /// A reader has read.
 pub const READ: u32 = 0;

@@ -35,7 +35,7 @@ pub struct AskedCall {
 }
 
 impl AskedCall {
-    /// The call, with the name or the message that the bytes are, or the number that says why there is none.
+    /// The call, with the name or the message in the bytes, or the number that says why there is none.
     pub(crate) fn with(&self, bytes: &[u8]) -> Result<Call, u32>
         ensures { result ≡ call_asked self.now bytes.now }
     {

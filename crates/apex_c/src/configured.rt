@@ -64,7 +64,7 @@ pub struct ConfiguredPort {
     pub is_queuing: bool,
 }
 
-/// What the configuration says of a partition's port of an identifier, in its place if the answer is `READ`. Answers
+/// What the configuration says about a partition's port with an identifier, in its place if the answer is `READ`. Answers
 /// `READ`, `NOT_OPEN`, `NO_PARTITION` or `NO_PORT`.
 #[unsafe(no_mangle)]
 pub extern "C" fn apex_port_configuration(
@@ -102,7 +102,7 @@ pub struct ConfiguredChannel {
     pub is_queuing: bool,
 }
 
-/// What the configuration says of a channel, in its place if the answer is `READ`. Answers `READ`, `NOT_OPEN` or
+/// What the configuration says about a channel, in its place if the answer is `READ`. Answers `READ`, `NOT_OPEN` or
 /// `NO_CHANNEL`.
 #[unsafe(no_mangle)]
 pub extern "C" fn apex_channel_configuration(

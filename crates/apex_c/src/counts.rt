@@ -70,8 +70,8 @@ pub extern "C" fn apex_cleared_count(
     read_count(alloc, handle, channel, ChannelCount::Cleared, count)
 }
 
-/// How many messages wait on a channel; 0 on a sampling channel. It is put in its place where the answer
-/// is `READ`. Answers `READ`, `NOT_OPEN` or `NO_CHANNEL`.
+/// The number of messages that wait on a channel; 0 for a sampling channel. It is written to its place if the answer is
+/// `READ`. Answers `READ`, `NOT_OPEN` or `NO_CHANNEL`.
 #[unsafe(no_mangle)]
 pub extern "C" fn apex_waiting_count(
     alloc: Global,

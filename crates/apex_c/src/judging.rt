@@ -131,7 +131,7 @@ pub extern "C" fn apex_judge_call(
     }
 }
 
-// The reply that C gives to a call, or the number that says why it is none.
+// The reply that C gives to a call, or the number that says why it isn't one.
 fn reply_given(call: &AskedCall, reply: &NumberedReply, message: &[u8]) -> Result<Reply, u32>
     ensures { result ≡ reply_given call.now reply.now message.now }
 {
@@ -143,8 +143,8 @@ fn reply_given(call: &AskedCall, reply: &NumberedReply, message: &[u8]) -> Resul
 
 // What the standard has for a call that departs, with the words of its row.
 #[derive(Drop)]
-struct Departs {
-    expected: Expected,
+pub(crate) struct Departs {
+    pub(crate) expected: Expected,
     words: String,
 }
 
@@ -188,7 +188,7 @@ fn judged(
 }
 
 // Judges a call of a partition and notes it. If memory is refused, the log is what it was.
-fn judged_by(
+pub(crate) fn judged_by(
     alloc: Global,
     judge: &mut Judge,
     partition: usize,
@@ -231,7 +231,12 @@ fn words_of(
 }
 
 // Puts a departure into the places of C.
-fn show(departs: &Departs, departure: &mut Departure, buffer: &mut [u8], words: &mut [u8])
+pub(crate) fn show(
+    departs: &Departs,
+    departure: &mut Departure,
+    buffer: &mut [u8],
+    words: &mut [u8],
+)
     requires { MESSAGE_LIMIT ≤ length buffer.old }
     ensures { IsShown departs.now.expected departure.new buffer.old buffer.new words.old words.new }
 {

@@ -13,6 +13,7 @@ pub mod handle;
 pub mod held;
 pub mod held_judge;
 pub mod judge_handle;
+pub mod judged_line;
 pub mod judging;
 pub mod law;
 pub mod modes;

@@ -81,7 +81,7 @@ impl NumberedReply {
         }
     }
 
-    /// The reply of a service, with the message that the bytes are, or the number that says why it is none.
+    /// The reply of a service, with the message in the bytes, or the number that says why it isn't one.
     pub(crate) fn of_service(&self, service: Service, message: &[u8]) -> Result<Reply, u32>
         ensures { result ≡ reply_of_service self.now message.now service }
     {

@@ -72,7 +72,7 @@ impl From<io::Error> for WordsFault {
     }
 }
 
-/// The words that the program was started with, its own name first.
+/// The words with which the program was started, its own name first.
 pub fn words_given<R: Env + AllocGlobal>(rt: &R) -> Result<Vec<String>, WordsFault> {
     Ok(env::args(rt)?.collect(rt.alloc())?)
 }

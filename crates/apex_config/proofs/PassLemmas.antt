@@ -22,7 +22,7 @@ use Rattle.apex_module.specs.EqualityLaws.{direction_decides}
 use Rattle.apex_module.proofs.PortLemmas.{port_at_suc}
 use Rattle.apex_config.specs.Places.{unless, at_each}
 use Rattle.apex_config.specs.Text.{PortText, PartitionText, ChannelText, ConfigText}
-use Rattle.apex_config.specs.Passes.{at_ports, is_name, stood_before, repeated, is_within, is_from_one_to, is_from_one_to_if_any, index_of_channel, channel_of_port, is_of_kind, is_end, end_count, may_have_several, is_alone, too_many_ports, passes}
+use Rattle.apex_config.specs.Passes.{at_ports, is_name, occurred_before, repeated, is_within, is_from_one_to, is_from_one_to_if_any, index_of_channel, channel_of_port, is_of_kind, is_end, end_count, may_have_several, is_alone, too_many_ports, passes}
 use Rattle.apex_config.specs.Meaning.{natural, channel_kind_of, port_kind_of, port_of_text, partition_of_text, configuration_of}
 use Rattle.apex_config.proofs.Indexes.{no_index, same_index, any_at, part-le-sum_by, one_part, some_part}
 
@@ -63,7 +63,7 @@ to_map f xs i x found = slice_get-map f xs i ∙ ap (option_map f) found
 
 -- ---- where a port is
 
-pub record StandsAt (text : ConfigText) (p id : ℕ) (port : Port) : Type 0 where
+pub record IsPortAt (text : ConfigText) (p id : ℕ) (port : Port) : Type 0 where
   pub partition : PartitionText
   pub entry : PortText
   pub index : ℕ
@@ -72,18 +72,18 @@ pub record StandsAt (text : ConfigText) (p id : ℕ) (port : Port) : Type 0 wher
   pub is : port ≡ port_of_text text.channels entry
   pub numbered : id ≡ suc index
 
-stands_in : (text : ConfigText) (p : ℕ) (o : Option PartitionText) (id : ℕ) (port : Port) → slice_get text.partitions p ≡ o
-    → port_at (ports_of_partition (option_map (partition_of_text text.channels) o)) id ≡ Some port → StandsAt text p id port
-stands_in text p None zero port is found = absurd cc
-stands_in text p None (suc id) port is found = no_index id port (sym (port_at_suc [] id) ∙ found)
-stands_in text p (Some partition) zero port is found = absurd cc
-stands_in text p (Some partition) (suc id) port is found =
+is_port_in : (text : ConfigText) (p : ℕ) (o : Option PartitionText) (id : ℕ) (port : Port) → slice_get text.partitions p ≡ o
+    → port_at (ports_of_partition (option_map (partition_of_text text.channels) o)) id ≡ Some port → IsPortAt text p id port
+is_port_in text p None zero port is found = absurd cc
+is_port_in text p None (suc id) port is found = no_index id port (sym (port_at_suc [] id) ∙ found)
+is_port_in text p (Some partition) zero port is found = absurd cc
+is_port_in text p (Some partition) (suc id) port is found =
     let at = from_map (port_of_text text.channels) partition.ports id port (sym (port_at_suc (map (port_of_text text.channels) partition.ports) id) ∙ found) in
     record { partition = partition; entry = at.0; index = id; found = is; inside = at.1; is = at.2; numbered = refl }
 
-pub stands_at : (text : ConfigText) (p id : ℕ) (port : Port) → port_of (configuration_of text) p id ≡ Some port → StandsAt text p id port
-stands_at text p id port found =
-    stands_in text p (slice_get text.partitions p) id port refl
+pub is_port_at : (text : ConfigText) (p id : ℕ) (port : Port) → port_of (configuration_of text) p id ≡ Some port → IsPortAt text p id port
+is_port_at text p id port found =
+    is_port_in text p (slice_get text.partitions p) id port refl
     (ap (λ (o : Option PartitionData). port_at (ports_of_partition o) id) (sym (slice_get-map (partition_of_text text.channels) text.partitions p)) ∙ found)
 
 found_from : (text : ConfigText) (p i : ℕ) (partition : PartitionText) (entry : PortText) → slice_get text.partitions p ≡ Some partition → slice_get partition.ports i ≡ Some entry
@@ -92,7 +92,7 @@ found_from text p i partition entry here inside =
     ap (λ (o : Option PartitionData). port_at (ports_of_partition o) (suc i)) (to_map (partition_of_text text.channels) text.partitions p partition here)
     ∙ (port_at_suc (map (port_of_text text.channels) partition.ports) i ∙ to_map (port_of_text text.channels) partition.ports i entry inside)
 
-pub port_found : (text : ConfigText) (find : ℕ → ℕ → PortText → List Place) (p id : ℕ) (port : Port) (at : StandsAt text p id port) → at_ports find text.partitions ≡ [] → find p at.index at.entry ≡ []
+pub port_found : (text : ConfigText) (find : ℕ → ℕ → PortText → List Place) (p id : ℕ) (port : Port) (at : IsPortAt text p id port) → at_ports find text.partitions ≡ [] → find p at.index at.entry ≡ []
 port_found text find p id port at none =
     found_at (find p) at.partition.ports at.index at.entry (found_at (λ (p : ℕ) (partition : PartitionText). at_each (find p) 0 partition.ports) text.partitions p at.partition none at.found) at.inside
 
@@ -151,7 +151,7 @@ get_take (x ∷ xs) (suc j) (suc i) before = get_take xs j i (omega (arith, befo
 
 not_before : (part : ℕ → Part) (names : List (List ℕ)) (i j : ℕ) (name : List ℕ) → repeated part names ≡ [] → slice_get names i ≡ Some name → slice_get names j ≡ Some name → i < j → false ≡ true
 not_before part names i j name once here there before =
-    let new : not (list_any (λ other. bytes_eq other name) (take j names)) ≡ true = unless_empty _ _ (found_at (stood_before part names) names j name once there) in
+    let new : not (list_any (λ other. bytes_eq other name) (take j names)) ≡ true = unless_empty _ _ (found_at (occurred_before part names) names j name once there) in
     sym (not-true (list_any (λ other. bytes_eq other name) (take j names)) new)
     ∙ any_at (λ other. bytes_eq other name) (take j names) i name (get_take names j i before ∙ here) ((bytes_eq-Decides name name).1 refl)
 
@@ -200,13 +200,13 @@ pub counts : (b : Bool) → 1 ≤ cond b 1 0 → b ≡ true
 counts true h = refl
 counts false h = absurd (omega arith)
 
-end_counted : (text : ConfigText) (direction : Direction) (c p id : ℕ) (port : Port) (at : StandsAt text p id port) → is_end text.channels direction c at.entry ≡ true → 1 ≤ ends_in text.channels direction c at.partition
+end_counted : (text : ConfigText) (direction : Direction) (c p id : ℕ) (port : Port) (at : IsPortAt text p id port) → is_end text.channels direction c at.entry ≡ true → 1 ≤ ends_in text.channels direction c at.partition
 end_counted text direction c p id port at end =
     omega (arith, counted (is_end text.channels direction c at.entry) end, part-le-sum_by (λ (x : PortText). cond (is_end text.channels direction c x) 1 0) at.partition.ports at.index at.entry at.inside)
 
 -- two ports that are each the only end are one port
 pub one_end : (text : ConfigText) (direction : Direction) (c : ℕ) → end_count text.channels direction c text.partitions ≤ 1
-    → (p id : ℕ) (port : Port) (q jd : ℕ) (other : Port) (at : StandsAt text p id port) (ot : StandsAt text q jd other)
+    → (p id : ℕ) (port : Port) (q jd : ℕ) (other : Port) (at : IsPortAt text p id port) (ot : IsPortAt text q jd other)
     → is_end text.channels direction c at.entry ≡ true → is_end text.channels direction c ot.entry ≡ true → (p ≡ q) × (id ≡ jd)
 one_end text direction c few p id port q jd other at ot end also =
     let same : p ≡ q = one_part (ends_in text.channels direction c) text.partitions p q at.partition ot.partition few at.found ot.found (end_counted text direction c p id port at end) (end_counted text direction c q jd other ot also) in

@@ -22,7 +22,7 @@ use Rattle.apex_config.specs.Text.{PortText, PartitionText, ChannelText, ConfigT
 use Rattle.apex_config.specs.Passes.{at_ports, is_name, bad_port_name, bad_partition_names, bad_channel_name, bad_names, part_in, repeated, repeated_port_names, repeated_names, is_within, is_from_one_to, is_from_one_to_if_any, bad_refresh, bad_channel_numbers, bad_numbers, index_of_channel, channel_of_port, unknown_channel, unknown_channels, is_of_kind, other_kind, other_kinds, end_count, may_have_several, without_end, is_alone, one_of_several, wrong_ends, too_many_ports, bad_counts, passes}
 use Rattle.apex_config.specs.Meaning.{channel_kind_of, port_kind_of, channel_of_text, partition_of_text, configuration_of, RefusalData, refused_by, first_refusal}
 use Rattle.apex_config.proofs.Indexes.{same_index}
-use Rattle.apex_config.proofs.PassLemmas.{append_empty, unless_empty, found_at, from_map, to_map, StandsAt, stands_at, port_found, IsName-from, within, within_natural, refresh_from, depth_from, few_in, distinct_at, linked_in, is_end_from, one_end, some_end, alone}
+use Rattle.apex_config.proofs.PassLemmas.{append_empty, unless_empty, found_at, from_map, to_map, IsPortAt, is_port_at, port_found, IsName-from, within, within_natural, refresh_from, depth_from, few_in, distinct_at, linked_in, is_end_from, one_end, some_end, alone}
 
 -- ---- all passes
 
@@ -62,7 +62,7 @@ partition_names text pass p partition found =
     let both = append_empty _ _ (found_at bad_partition_names text.partitions p partition (names_empty text pass).0 found) in
     (unless_empty (is_name partition.name) _ both.0, both.1)
 
-port_name_is : (text : ConfigText) → PassesAll text → (p id : ℕ) (port : Port) (at : StandsAt text p id port) → is_name at.entry.name ≡ true
+port_name_is : (text : ConfigText) → PassesAll text → (p id : ℕ) (port : Port) (at : IsPortAt text p id port) → is_name at.entry.name ≡ true
 port_name_is text pass p id port at =
     unless_empty (is_name at.entry.name) _ (found_at (bad_port_name p) at.partition.ports at.index at.entry (partition_names text pass p at.partition at.found).1 at.inside)
 
@@ -89,7 +89,7 @@ channel_numbers text pass c channel found =
     let both = append_empty _ _ (found_at bad_channel_numbers text.channels c channel (numbers_empty text pass).1 found) in
     (unless_empty (is_from_one_to SIZE_LIMIT channel.size) _ both.0, unless_empty (is_from_one_to_if_any DEPTH_LIMIT channel.depth) _ both.1)
 
-linked : (text : ConfigText) → PassesAll text → (p id : ℕ) (port : Port) (at : StandsAt text p id port)
+linked : (text : ConfigText) → PassesAll text → (p id : ℕ) (port : Port) (at : IsPortAt text p id port)
     → (channel : ChannelText) × (channel_of_port text.channels at.entry ≡ Some channel) × (is_queuing_port (port_kind_of at.entry.refresh) ≡ is_queuing_channel (channel_kind_of channel.depth))
 unfolding unknown_channels other_kinds
 linked text pass p id port at =
@@ -105,14 +105,14 @@ end_of_channel : (text : ConfigText) (direction : Direction) → wrong_ends dire
     → 1 ≤ end_count text.channels direction c text.partitions
 end_of_channel text direction none c channel found = leb-true 1 _ (unless_empty _ _ (found_at (without_end direction text) text.channels c channel (ends_empty text direction none).0 found))
 
-few_ends : (text : ConfigText) (direction : Direction) → wrong_ends direction text ≡ [] → (p id : ℕ) (port : Port) (at : StandsAt text p id port)
+few_ends : (text : ConfigText) (direction : Direction) → wrong_ends direction text ≡ [] → (p id : ℕ) (port : Port) (at : IsPortAt text p id port)
     → at.entry.direction ≡ direction → may_have_several direction (channel_of_port text.channels at.entry) ≡ false
     → end_count text.channels direction (index_of_channel text.channels at.entry.channel) text.partitions ≤ 1
 few_ends text direction none p id port at same single =
     alone text direction at.entry same single (unless_empty (is_alone direction text at.entry) _ (port_found text (one_of_several direction text) p id port at (ends_empty text direction none).1))
 
 -- two ends of one direction that are on one channel that may have only one
-same_end : (text : ConfigText) (direction : Direction) → wrong_ends direction text ≡ [] → (p id : ℕ) (port : Port) (q jd : ℕ) (other : Port) (at : StandsAt text p id port) (ot : StandsAt text q jd other)
+same_end : (text : ConfigText) (direction : Direction) → wrong_ends direction text ≡ [] → (p id : ℕ) (port : Port) (q jd : ℕ) (other : Port) (at : IsPortAt text p id port) (ot : IsPortAt text q jd other)
     → port.direction ≡ direction → other.direction ≡ direction → port.channel ≡ other.channel → may_have_several direction (channel_of_port text.channels at.entry) ≡ false → (p ≡ q) × (id ≡ jd)
 same_end text direction none p id port q jd other at ot here there same single =
     let first : at.entry.direction ≡ direction = sym (ap (λ (x : Port). x.direction) at.is) ∙ here in
@@ -189,7 +189,7 @@ partition_name_is text pass p name found =
     let at = from_map (λ (x : PartitionText). x.name) text.partitions p name (partition_named_at text p name found) in
     subst IsName (sym at.2) (IsName-from at.0.name (partition_names text pass p at.0 at.1).0)
 
-ports_distinct : (text : ConfigText) → PassesAll text → (p id jd : ℕ) (port other : Port) → StandsAt text p id port → StandsAt text p jd other → port.name ≡ other.name → id ≡ jd
+ports_distinct : (text : ConfigText) → PassesAll text → (p id jd : ℕ) (port other : Port) → IsPortAt text p id port → IsPortAt text p jd other → port.name ≡ other.name → id ≡ jd
 ports_distinct text pass p id jd port other at ot same =
     let partition : ot.partition ≡ at.partition = same_index text.partitions p ot.partition at.partition ot.found at.found in
     let inside : slice_get at.partition.ports ot.index ≡ Some ot.entry = ap (λ (x : PartitionText). slice_get x.ports ot.index) (sym partition) ∙ ot.inside in
@@ -215,7 +215,7 @@ single channel queuing = by_depth channel.depth queuing
     by_depth None h = absurd (false≢true h)
     by_depth (Some depth) h = refl
 
-one_destination_of : (text : ConfigText) → PassesAll text → (p id : ℕ) (port : Port) (q jd : ℕ) (other : Port) → StandsAt text p id port → StandsAt text q jd other
+one_destination_of : (text : ConfigText) → PassesAll text → (p id : ℕ) (port : Port) (q jd : ℕ) (other : Port) → IsPortAt text p id port → IsPortAt text q jd other
     → port.direction ≡ Destination → other.direction ≡ Destination → port.channel ≡ other.channel → is_queuing_port port.kind ≡ true → (p ≡ q) × (id ≡ jd)
 one_destination_of text pass p id port q jd other at ot here there same queuing =
     let channel = linked text pass p id port at in
@@ -223,12 +223,12 @@ one_destination_of text pass p id port q jd other at ot here there same queuing 
     same_end text Destination pass.destinations p id port q jd other at ot here there same
     (ap (may_have_several Destination) channel.1 ∙ single channel.0 (sym channel.2 ∙ kind))
 
-one_source_of : (text : ConfigText) → PassesAll text → (p id : ℕ) (port : Port) (q jd : ℕ) (other : Port) → StandsAt text p id port → StandsAt text q jd other
+one_source_of : (text : ConfigText) → PassesAll text → (p id : ℕ) (port : Port) (q jd : ℕ) (other : Port) → IsPortAt text p id port → IsPortAt text q jd other
     → port.direction ≡ Source → other.direction ≡ Source → port.channel ≡ other.channel → (p ≡ q) × (id ≡ jd)
 one_source_of text pass p id port q jd other at ot here there same =
     same_end text Source pass.sources p id port q jd other at ot here there same (ap (may_have_several Source) (linked text pass p id port at).1)
 
-linked_from : (text : ConfigText) → PassesAll text → (p id : ℕ) (port : Port) → StandsAt text p id port
+linked_from : (text : ConfigText) → PassesAll text → (p id : ℕ) (port : Port) → IsPortAt text p id port
     → (channel : Channel) × (channel_of (configuration_of text) port.channel ≡ Some channel) × KindsAgree port channel
 linked_from text pass p id port at =
     let channel = linked text pass p id port at in
@@ -247,7 +247,7 @@ IsConfiguration-from text accepted =
           (few_in text p (slice_get text.partitions p) refl (counts_empty text pass).1);
       few_channels = subst (λ (n : ℕ). n ≤ CHANNEL_LIMIT) (sym (length-map text.channels channel_of_text)) (leb-true (length text.channels) CHANNEL_LIMIT (counts_empty text pass).2);
       refresh = λ p id port found.
-          let at = stands_at text p id port found in
+          let at = is_port_at text p id port found in
           subst (λ (x : Port). IsRefresh x.kind) (sym at.is)
           (refresh_from at.entry.refresh (unless_empty (is_from_one_to_if_any REFRESH_LIMIT at.entry.refresh) _ (port_found text bad_refresh p id port at (numbers_empty text pass).0)));
       size = λ c channel found.
@@ -258,18 +258,18 @@ IsConfiguration-from text accepted =
           subst (λ (x : Channel). IsDepth x.kind) (sym at.2) (depth_from at.0.depth (channel_numbers text pass c at.0 at.1).1);
       partition_name = partition_name_is text pass;
       port_name = λ p id port found.
-          let at = stands_at text p id port found in
+          let at = is_port_at text p id port found in
           subst (λ (x : Port). IsName x.name) (sym at.is) (IsName-from at.entry.name (port_name_is text pass p id port at));
       channel_name = λ c channel found.
           let at = from_map channel_of_text text.channels c channel found in
           subst (λ (x : Channel). IsName x.name) (sym at.2) (IsName-from at.0.name (channel_name_is text pass c at.0 at.1));
       distinct_partitions = λ p q name here there.
           distinct_at (part_in entries.Partitions) (map (λ (x : PartitionText). x.name) text.partitions) p q name (distinct_empty text pass).0 (partition_named_at text p name here) (partition_named_at text q name there);
-      distinct_ports = λ p id jd port other here there same. ports_distinct text pass p id jd port other (stands_at text p id port here) (stands_at text p jd other there) same;
+      distinct_ports = λ p id jd port other here there same. ports_distinct text pass p id jd port other (is_port_at text p id port here) (is_port_at text p jd other there) same;
       distinct_channels = channels_distinct text pass;
-      linked = λ p id port found. linked_from text pass p id port (stands_at text p id port found);
-      one_source = λ p id port q jd other here there source also same. one_source_of text pass p id port q jd other (stands_at text p id port here) (stands_at text q jd other there) source also same;
+      linked = λ p id port found. linked_from text pass p id port (is_port_at text p id port found);
+      one_source = λ p id port q jd other here there source also same. one_source_of text pass p id port q jd other (is_port_at text p id port here) (is_port_at text q jd other there) source also same;
       has_source = λ c channel found. some_end text Source c (end_of_channel text Source pass.sources c (from_map channel_of_text text.channels c channel found).0 (from_map channel_of_text text.channels c channel found).1);
-      one_destination = λ p id port q jd other here there destination also same queuing. one_destination_of text pass p id port q jd other (stands_at text p id port here) (stands_at text q jd other there) destination also same queuing;
+      one_destination = λ p id port q jd other here there destination also same queuing. one_destination_of text pass p id port q jd other (is_port_at text p id port here) (is_port_at text q jd other there) destination also same queuing;
       has_destination = λ c channel found. some_end text Destination c (end_of_channel text Destination pass.destinations c (from_map channel_of_text text.channels c channel found).0 (from_map channel_of_text text.channels c channel found).1);
     }

@@ -56,12 +56,12 @@ part_in (entries.PortsOf p) i = part.Port p i
 part_in entries.Channels i = part.Channel i
 
 -- the entry with this number, if its name occurred before
-abbrev pub stood_before : (ℕ → Part) → List (List ℕ) → ℕ → List ℕ → List Place
-stood_before part names i name = unless (not (list_any (λ other. bytes_eq other name) (take i names))) (at (part i) key.Name)
+abbrev pub occurred_before : (ℕ → Part) → List (List ℕ) → ℕ → List ℕ → List Place
+occurred_before part names i name = unless (not (list_any (λ other. bytes_eq other name) (take i names))) (at (part i) key.Name)
 
 -- the entries that have the name of an earlier one
 abbrev pub repeated : (ℕ → Part) → List (List ℕ) → List Place
-repeated part names = at_each (stood_before part names) 0 names
+repeated part names = at_each (occurred_before part names) 0 names
 
 -- no two ports of one partition have the same name
 abbrev pub repeated_port_names : ℕ → PartitionText → List Place

@@ -1,4 +1,4 @@
--- What a document says of a configuration if its form is right. Names, numbers and links may be wrong.
+-- What a document says about a configuration if its form is right. Names, numbers and links may be wrong.
 use Rattle.std.specs.Prelude.{ℕ, ℤ, pos, Bool, if◌then◌else◌, List, [], map, codes, unwrap_or, Option, Some, None}
 use Rattle.std.specs.Str.{bytes_eq}
 use Rattle.apex_types.specs.declared.direction.Direction as direction

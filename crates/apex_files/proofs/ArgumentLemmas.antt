@@ -1,4 +1,4 @@
--- Arguments NAME=FILE, one after the other: what one of them names, and what the files give after one more.
+-- Arguments NAME=FILE, one after the other: the partition that one names, and what the files give after one more.
 use Rattle.std.proofs.Common.{◌≡◌, ◌≢◌, ℕ, ◌<◌, ◌==◌, Bool, true, false, List, [], ◌∷◌, ◌++◌, length, take, set, get_or, replicate, Some, None, Result, Ok, Err, Vec, Global, Bor, refl, sym, ap, ◌∙◌, subst, arith, length-set, get_or-set_same, get_or-set_other, append-nil}
 use Rattle.std.specs.Prelude.{IfSome}
 use Rattle.std.specs.Result.{IsErr, IsErrAnd}

@@ -1,4 +1,4 @@
--- A reader that is read from twice.
+-- A reader from which two reads are made.
 use Rattle.std.proofs.Common.{ℕ, List, ◌++◌, Option, Some, None, sym, ap, ◌∙◌, append_assoc}
 use Rattle.std.specs.Io.KnownBytes.{Consumes}
 

@@ -1,4 +1,4 @@
--- An output that is given a text in pieces.
+-- A text that is written to an output in pieces.
 use Rattle.std.proofs.Common.{◌≡◌, ℕ, ◌-◌, Bool, true, false, List, [], ◌∷◌, ◌++◌, length, take, Option, Some, None, Result, Ok, Err, OnOk, suc-ne-zero, refl, sym, ap, ◌∙◌, subst, arith, append_assoc}
 use Rattle.std.specs.Prelude.{if◌then◌else◌}
 use Rattle.std.specs.Io.KnownBytes.{Appends}
@@ -6,7 +6,7 @@ use Rattle.std.proofs.lemmas.List.{length-append}
 use Rattle.std.proofs.Math.Seq.{take-append_seam}
 use Rattle.apex_files.specs.Terminal.{is_escaped, escape, escaped_after}
 
--- an output was given of a whole text all but what is left
+-- all of a text but the rest was written to an output
 abbrev pub Owes : Option (List ℕ) → Option (List ℕ) → List ℕ → List ℕ → Type 0
 Owes None new whole left = Unit {0}
 Owes (Some xs) None whole left = ⊥
@@ -41,7 +41,7 @@ module _ (before byte : ℕ) (after rest : List ℕ) (is : rest ≡ byte ∷ aft
   step b test = rw (is, test) refl
 
   module _ (old output : Option (List ℕ)) (whole plain waiting : List ℕ) (split : waiting ≡ plain ++ rest) (owes : Owes old output whole (plain ++ escaped_after before rest)) where
-    -- a byte that is written as it is waits with those before it
+    -- a byte that is written unchanged waits with those before it
     pub waits : is_escaped before byte after ≡ false → (x : List ℕ) × (waiting ≡ x ++ after) × Owes old output whole (x ++ escaped_after byte after)
     waits test =
         let left : plain ++ escaped_after before rest ≡ (plain ++ byte ∷ []) ++ escaped_after byte after =
@@ -53,7 +53,7 @@ module _ (before byte : ℕ) (after rest : List ℕ) (is : rest ≡ byte ∷ aft
         let count : length (plain ++ rest) - length rest ≡ length plain = omega (arith, length-append plain rest) in
         rw (split, count) (take-append_seam plain rest)
 
-    -- what waited is written, and then the escape
+    -- the waiting bytes are written, and then the escape
     pub is_written : (middle end : Option (List ℕ)) → is_escaped before byte after ≡ true → Appends output middle (take (length waiting - length rest) waiting) → Appends middle end (escape byte)
         → (x : List ℕ) × (after ≡ x ++ after) × Owes old end whole (x ++ escaped_after byte after)
     is_written middle end test first second =
@@ -61,7 +61,7 @@ module _ (before byte : ℕ) (after rest : List ℕ) (is : rest ≡ byte ∷ aft
         let written = owes_less old output middle whole plain (escape byte ++ escaped_after byte after) (subst (λ (bytes : List ℕ). Owes old output whole bytes) left owes) (subst (λ (bytes : List ℕ). Appends output middle bytes) waited first) in
         ([], refl, owes_less old middle end whole (escape byte) (escaped_after byte after) written second)
 
--- where no byte is left, what waits is the rest
+-- if no byte is left, the waiting bytes are the rest
 pub ends : {E X : Type 0} (before : ℕ) (rest : List ℕ) (old output end : Option (List ℕ)) (whole plain waiting : List ℕ) → length rest ≡ 0 → waiting ≡ plain ++ rest
     → Owes old output whole (plain ++ escaped_after before rest) → (answer : Result X E) → OnOk answer (Appends output end waiting) → OnOk answer (Appends old end whole)
 unfolding escaped_after

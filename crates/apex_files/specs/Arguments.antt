@@ -1,4 +1,4 @@
--- What arguments NAME=FILE name, and what the files give to the partitions.
+-- The partitions that arguments NAME=FILE name, and what the files give to them.
 use Rattle.std.specs.Prelude.{◌≡◌, ℕ, ◌==◌, Bool, false, if◌then◌else◌, List, [], ◌∷◌, length, Option, Some, None, IfSome, All}
 use Rattle.std.specs.List.{slice_get, filter, list_any, before_first, after_first}
 use Rattle.std.specs.Borrow.{Bor}
@@ -15,11 +15,11 @@ is_equals_sign byte = byte == 61
 abbrev pub name_in : List ℕ → List ℕ
 name_in argument = before_first is_equals_sign argument
 
--- the path after the first equals sign, in which there may be more of them
+-- the path after the first equals sign; it may contain further equals signs
 abbrev pub path_in : List ℕ → List ℕ
 path_in argument = after_first is_equals_sign argument
 
--- the partition that an argument names; none where it has no equals sign, or no partition's name before it
+-- the partition that an argument names; none if it has no equals sign, or no partition's name before it
 abbrev pub partition_in : Configuration → List ℕ → Option ℕ
 partition_in config argument =
     if list_any is_equals_sign argument then partition_named config (name_in argument) else None
@@ -42,13 +42,14 @@ NamesPartition config argument = (p : ℕ) × (partition_in config argument.now 
 
 -- ---- what the files give
 
--- what a partition is given by the arguments that name it: what is given without a file, or with one file what its text says for that partition; two are refused
+-- what the arguments that name a partition give to it: `nothing` if there are none; what the file's text says for the
+-- partition if there is one; two are refused
 abbrev pub IsGivenBy : {X : Type 0} → (ℕ → List ℕ → X → Type 0) → X → FileBytes → ℕ → Arguments → X → Type 0
 IsGivenBy Says nothing files p [] given = given ≡ nothing
 IsGivenBy Says nothing files p (argument ∷ []) given = IfSome (files (path_in argument.now)) (λ bytes. Says p bytes given)
 IsGivenBy Says nothing files p (argument ∷ other ∷ more) given = ⊥
 
--- what each partition is given by the one argument that names it, or without one; each argument names a partition
+-- what the one argument that names a partition, or its absence, gives to each partition; each argument names a partition
 pub record AreGiven {X : Type 0} (Says : ℕ → List ℕ → X → Type 0) (nothing : X) (files : FileBytes) (config : Configuration) (arguments : Arguments) (all : List X) : Type 0 where
   pub count : length all ≡ length config.partitions
   pub named : All (NamesPartition config) arguments

@@ -8,7 +8,7 @@ use Rattle.apex_files.specs.declared.files.FileFault.TheVariants.{Unreadable, Ou
 use Rattle.apex_files.specs.declared.files.Obstacle.TheVariants.{NotFound, PermissionDenied, IsFolder, TooLarge, NotEnded, System}
 use Rattle.apex_files.specs.declared.files.TheConstants.{FILE_LIMIT}
 
--- the fault by the kind of an error of the system and its number: running out of memory is told apart from every other
+-- the fault for the kind and the number of a system's error: running out of memory is a fault of its own
 abbrev pub file_fault : ErrorKind → Option ℤ → FileFault
 file_fault kinds.OutOfMemory number = OutOfMemory
 file_fault kinds.NotFound number = Unreadable NotFound
@@ -16,13 +16,14 @@ file_fault kinds.PermissionDenied number = Unreadable PermissionDenied
 file_fault kinds.IsADirectory number = Unreadable IsFolder
 file_fault kind number = Unreadable (System number)
 
--- of a reader whose bytes are known: more than the limit were read where the fault says so, and no more where it says that there was no end
+-- for a reader whose bytes are known: more bytes than the limit were read if the fault says so, and no more if the fault
+-- says that they didn't end
 abbrev pub IsReadUpTo : FileFault → Option (List ℕ) → Option (List ℕ) → Type 0
 IsReadUpTo (Unreadable TooLarge) old new = (bytes : List ℕ) × Consumes old new bytes × (FILE_LIMIT < length bytes)
 IsReadUpTo (Unreadable NotEnded) old new = (bytes : List ℕ) × Consumes old new bytes × (length bytes ≤ FILE_LIMIT)
 IsReadUpTo fault old new = Unit {0}
 
--- of a file whose bytes are known: it is told as too large only with more bytes than the limit
+-- for a file whose bytes are known: it is reported as too large only if it has more bytes than the limit
 abbrev pub IsFaultOf : FileFault → List ℕ → Type 0
 IsFaultOf (Unreadable TooLarge) bytes = FILE_LIMIT < length bytes
 IsFaultOf fault bytes = Unit {0}

@@ -2,10 +2,10 @@
 use Rattle.std.proofs.Common.{◌≡◌, refl}
 use Rattle.apex_files.specs.declared.files.TheConstants.{FILE_LIMIT, READ_LIMIT}
 
--- bytes of a file
+-- the maximum number of bytes of a file
 pub FILE_LIMIT-is : FILE_LIMIT ≡ 16777216
 FILE_LIMIT-is = refl
 
--- reads of a file
+-- the maximum number of reads of a file
 pub READ_LIMIT-is : READ_LIMIT ≡ 16777217
 READ_LIMIT-is = refl

@@ -1,4 +1,4 @@
--- What a file at a path gives, where its bytes are known: the bytes, the configuration that they are, or a refusal.
+-- What a file at a path gives if its bytes are known: the bytes, the configuration that they give, or a refusal.
 use Rattle.std.specs.Prelude.{◌≡◌, ℕ, List, Option, Result, Ok, Err, IfSome}
 use Rattle.std.specs.Global.{Vec}
 use Rattle.apex_module.specs.Configuration.{Configuration}
@@ -9,18 +9,19 @@ use Rattle.apex_files.specs.declared.files.FileFault.TheVariants.{Unreadable}
 use Rattle.apex_files.specs.declared.refusal.Refusal.{Refusal}
 use Rattle.apex_files.specs.declared.refusal.Refusal.TheVariants.{Text, File}
 
--- the bytes of the file at a path, where they are known
+-- the bytes of the file at a path, if they are known
 abbrev pub FileBytes : Type 0
 FileBytes = List ℕ → Option (List ℕ)
 
--- the bytes of the file at a path, whole; a file that can't be read is told by its path and by what kept it from being read, or memory is wanting
+-- all bytes of the file at a path; otherwise the refusal has the path and what kept the file from being read, or memory
+-- ran out
 abbrev pub IsFileRead : FileBytes → List ℕ → Result (Vec ℕ) Refusal → Type 0
 IsFileRead files path (Ok read) = IfSome (files path) (λ bytes. read.items ≡ bytes)
-IsFileRead files path (Err (File told obstacle)) = (told.now ≡ path) × IfSome (files path) (IsFaultOf (Unreadable obstacle))
+IsFileRead files path (Err (File named obstacle)) = (named.now ≡ path) × IfSome (files path) (IsFaultOf (Unreadable obstacle))
 IsFileRead files path (Err (Text faults.Memory)) = Unit {0}
 IsFileRead files path (Err refusal) = ⊥
 
--- the configuration that the bytes are, or their fault
+-- the configuration that the bytes give, or their fault
 abbrev pub IsConfigRead : Result Configuration Refusal → List ℕ → Type 0
 IsConfigRead (Ok configuration) config = config_of config ≡ Ok configuration
 IsConfigRead (Err (Text (faults.Config fault))) config = config_of config ≡ Err fault

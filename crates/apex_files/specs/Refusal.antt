@@ -1,4 +1,4 @@
--- Why the program refuses, the line that says so, and the status that it then ends with.
+-- Why the program refuses, the line that says so, and the status with which it then ends.
 use Rattle.std.specs.Prelude.{ℕ, List, ◌++◌, codes}
 use Rattle.apex_command_line.specs.declared.WordsFault.{WordsFault}
 use Rattle.apex_command_line.specs.declared.WordsFault.TheVariants as words
@@ -9,7 +9,7 @@ use Rattle.apex_texts.specs.FaultLine.{fault_line}
 use Rattle.apex_files.specs.declared.refusal.Refusal.{Refusal}
 use Rattle.apex_files.specs.declared.refusal.Refusal.TheVariants.{Usage, Argument, Text, File, Output}
 
--- 1 for a refused text, 2 for a mistake in the words, 3 for a file, memory, a worker or standard output
+-- 1 for a refused text, 2 for wrong usage, 3 for a file, memory, a worker or standard output
 abbrev pub status_of : Refusal → ℕ
 status_of (Text faults.Memory) = 3
 status_of (Text (faults.Config config_faults.OutOfMemory)) = 3
@@ -24,7 +24,7 @@ status_of (Argument word) = 2
 status_of (File path obstacle) = 3
 status_of Output = 3
 
--- want of memory is one refusal, wherever it came
+-- running out of memory is the same refusal everywhere
 abbrev pub words_refusal : WordsFault → Refusal
 words_refusal words.Usage = Usage
 words_refusal words.OutOfMemory = Text faults.Memory

@@ -13,7 +13,7 @@ use Rattle.apex_files.specs.Reading.{FileBytes}
 use Rattle.apex_files.specs.declared.refusal.Refusal.{Refusal}
 use Rattle.apex_files.specs.declared.refusal.Refusal.TheVariants.{Argument, Text, File}
 
--- the calls of a script's text, whichever partition's it is
+-- the calls of a script's text, for any partition
 abbrev pub SaysScript : ℕ → List ℕ → List (Moment × Call) → Type 0
 SaysScript p bytes script = script_of bytes ≡ Ok script
 
@@ -23,15 +23,15 @@ AreScripts files config arguments scripts = AreGiven SaysScript [] files config 
 
 -- ---- refusals
 
--- the script of partition p in the file at a path: the calls that the bytes are, or their fault with the partition's name
+-- the script of partition p in the file at a path: the calls that the bytes give, or their fault with the partition's name
 abbrev pub IsScriptFile : FileBytes → Configuration → ℕ → List ℕ → Result (List (Moment × Call)) Refusal → Type 0
 IsScriptFile files config p path (Ok calls) = IfSome (files path) (λ bytes. script_of bytes ≡ Ok calls)
 IsScriptFile files config p path (Err (Text (faults.Script name fault))) = (partition_name_of config p ≡ Some name) × IfSome (files path) (λ bytes. IsScriptRead (Err fault) (script_of bytes))
 IsScriptFile files config p path (Err (Text faults.Memory)) = Unit {0}
-IsScriptFile files config p path (Err (File told obstacle)) = told.now ≡ path
+IsScriptFile files config p path (Err (File named obstacle)) = named.now ≡ path
 IsScriptFile files config p path (Err refusal) = ⊥
 
--- the partition that an argument names, where no argument before it names that one
+-- the partition that an argument names, if no argument before it names the same one
 abbrev pub if_first : Arguments → ℕ → Option ℕ
 if_first [] p = Some p
 if_first (argument ∷ more) p = None
@@ -43,7 +43,8 @@ if_new config before (Some p) = if_first (arguments_for config p before) p
 abbrev pub new_partition_in : Configuration → Arguments → List ℕ → Option ℕ
 new_partition_in config before argument = if_new config before (partition_in config argument)
 
--- why the argument after these is refused: it names no partition, or one that is named already; or its file or the text of it is refused
+-- why the argument after these is refused: it names no partition, or one that was named before; or its file is refused, or
+-- the file's text
 abbrev pub IsRefusedAfter : FileBytes → Configuration → Arguments → Bor (List ℕ) → Refusal → Type 0
 IsRefusedAfter files config before argument refusal =
     MatchOption (new_partition_in config before argument.now) (refusal ≡ Argument argument) (λ p. IsScriptFile files config p (path_in argument.now) (Err refusal))
@@ -57,12 +58,12 @@ pub record IsFirstRefused (files : FileBytes) (config : Configuration) (argument
   pub before : AreScripts files config (take place arguments) scripts
   pub refused : IsRefusedAfter files config (take place arguments) argument refusal
 
--- the refusal of a run's arguments, which may be want of memory at any time
+-- the refusal of a run's arguments; memory may run out at any time
 abbrev pub AreArgumentsRefused : FileBytes → Configuration → Arguments → Refusal → Type 0
 AreArgumentsRefused files config arguments (Text faults.Memory) = Unit {0}
 AreArgumentsRefused files config arguments refusal = IsFirstRefused files config arguments refusal
 
--- the scripts of a run's arguments, or the refusal of one of these
+-- the scripts of a run's arguments, or the refusal of one of the arguments
 abbrev pub AreArgumentsRead : FileBytes → Configuration → Arguments → Result (Vec (List (Moment × Call))) Refusal → Type 0
 AreArgumentsRead files config arguments (Ok scripts) = AreScripts files config arguments scripts.items
 AreArgumentsRead files config arguments (Err refusal) = AreArgumentsRefused files config arguments refusal

@@ -10,23 +10,23 @@ use std::io;
 use std::io::{ErrorKind, Read};
 use std::rt::Files;
 
-/// The most bytes of a file.
+/// The maximum number of bytes of a file.
 pub const FILE_LIMIT: usize = 16_777_216;
 
-/// The most reads of a file; a file of the greatest length that gives a byte a read takes as many.
+/// The maximum number of reads of a file. A file of the maximum length that gives one byte per read takes this number.
 pub const READ_LIMIT: usize = 16_777_217;
 
-/// The bytes that are asked for in one read.
+/// The number of bytes that one read asks for.
 const PIECE_BYTES: usize = 65_536;
 
 /// Opens a path as a reader.
 pub trait Opener {
     type Reader: Read + Drop;
 
-    // The bytes of what lies at a path, where they are known.
+    // The bytes of what is at a path, if they are known.
     ghost bytes_at: { Self → List ℕ → Option (List ℕ) } = { λ _ _. None };
 
-    /// The reader of what lies at a path.
+    /// The reader of what is at a path.
     fn open(&self, path: &str) -> io::Result<Self::Reader>
         ensures { IfOk result
             (λ reader. IfSome (bytes_at self.now path.now)
@@ -52,15 +52,15 @@ impl<R: Files> Opener for SystemFiles<'_, R> {
 pub enum Obstacle {
     /// There is no such file.
     NotFound,
-    /// It may not be read.
+    /// There is no permission to read it.
     PermissionDenied,
     /// It is a folder.
     IsFolder,
     /// It has more bytes than `FILE_LIMIT`.
     TooLarge,
-    /// It had not ended after `READ_LIMIT` reads.
+    /// Its end was not reached after `READ_LIMIT` reads.
     NotEnded,
-    /// The system refused for another reason, which has this number, if it has one.
+    /// The system refused for another reason, with this error number if there is one.
     System(Option<i32>),
 }
 
@@ -69,7 +69,7 @@ pub enum Obstacle {
 pub enum FileFault {
     /// It can't be opened, a read of it failed, or its bytes or reads exceed the limits.
     Unreadable(Obstacle),
-    /// A growth of memory was refused.
+    /// An allocation failed.
     OutOfMemory,
 }
 
@@ -100,7 +100,7 @@ pub fn read_path<O: Opener>(alloc: Global, opener: &O, path: &str) -> Result<Vec
     read_all(alloc, &mut reader)
 }
 
-/// All bytes of a reader up to its end, where they are few enough and the end comes soon enough.
+/// All bytes of a reader up to its end, if they are within the limits of bytes and reads.
 pub fn read_all<R: Read>(alloc: Global, reader: &mut R) -> Result<Vec<u8>, FileFault>
     ensures whole { IfOk result
         (λ read. IfSome (R.remaining reader.old) (λ bytes. read.items ≡ bytes)) }

@@ -1,5 +1,5 @@
-//! What the programs do with files and outputs: a file is read whole, a text is written whole, and a refusal is told by
-//! its line and its status.
+//! What the programs do with files and outputs: they read a whole file, write a whole text, and report a refusal by a
+//! line and a status.
 #![tactic(auto)]
 
 pub mod files;

@@ -13,7 +13,7 @@ use apex_texts::{Fault, TraceFault};
 use apex_threads::PackedScript;
 use std::alloc::{AllocError, Global};
 
-/// A script for each partition of the configuration: that of the argument with its name, or the empty one.
+/// A script for each partition of the configuration: that of the argument that names it, or the empty one.
 pub fn scripts_named<'a, O: Opener>(
     alloc: Global,
     opener: &O,
@@ -35,7 +35,7 @@ pub fn scripts_named<'a, O: Opener>(
     Ok(scripts)
 }
 
-/// So many scripts without a call.
+/// `count` empty scripts.
 fn empty_scripts(alloc: Global, count: usize) -> Result<Vec<PackedScript>, AllocError>
     ensures { IfOk result (λ scripts. scripts.items ≡ replicate count []) }
 {

@@ -1,4 +1,4 @@
-//! Reading a script into little memory.
+//! Reads a script into little memory.
 ghost use Rattle.apex_texts.specs.Script.{IsScriptRead, script_of};
 
 use apex_texts::{TraceFault, next_line, read_script_line};

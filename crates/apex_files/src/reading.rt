@@ -1,4 +1,4 @@
-//! A file's bytes and the configuration in a file, or the refusal of them.
+//! Reads the bytes of a file, or the configuration in it.
 ghost use Rattle.std.specs.Prelude.{IfSome};
 ghost use Rattle.apex_files.specs.Reading.{IsFileRead, IsConfigRead};
 
@@ -9,7 +9,7 @@ use apex_module::Config;
 use apex_texts::Fault;
 use std::alloc::Global;
 
-/// The bytes of the file at a path, or the refusal that tells why they were not read.
+/// The bytes of the file at a path, or the refusal that says why they were not read.
 pub fn read_file<'a, O: Opener>(
     alloc: Global,
     opener: &O,

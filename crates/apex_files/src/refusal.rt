@@ -1,4 +1,4 @@
-//! Why the program refuses, with the line that says so and the status that it then ends with.
+//! Why the program refuses, with the line that says so and the status with which it then ends.
 ghost use Rattle.std.specs.Prelude.{◌≡◌, Some};
 ghost use Rattle.apex_texts.specs.declared.fault.Fault.TheVariants as faults;
 ghost use Rattle.apex_files.specs.declared.refusal.Refusal.TheVariants.{Text};
@@ -12,24 +12,24 @@ use std::alloc::AllocError;
 use std::error::Error;
 use std::fmt;
 
-/// Why the program did not do what it was asked to do. Its text is a line for standard error.
+/// Why the program refuses. Its text is a line for standard error.
 #[derive(Debug, Drop, PartialEq, Eq)]
 pub enum Refusal<'a> {
     /// The words aren't those of the usage line.
     Usage,
-    /// An argument of `run` is no `NAME=SCRIPT`, or its name is no partition's or was named before.
+    /// An argument of `run` isn't `NAME=SCRIPT`, or no partition has the name, or an earlier argument named it.
     Argument(&'a str),
-    /// A text is refused, or memory.
+    /// A text is refused, or memory ran out.
     Text(Fault),
     /// The file at a path can't be read. The line doesn't say why.
     File { path: &'a str, obstacle: Obstacle },
-    /// Standard output refused the text.
+    /// Standard output failed.
     Output,
 }
 
 impl Refusal<'_> {
-    /// The status that the program ends with: 1 for a refused text, 2 for a mistake in the words, 3
-    /// for a file, memory, a worker, an observer or standard output.
+    /// The status with which the program ends: 1 for a refused text, 2 for wrong usage, 3 for a file, memory, a worker, an
+    /// observer or standard output.
     pub fn status(&self) -> u8
         ensures { result ≡ status_of self.now }
     {

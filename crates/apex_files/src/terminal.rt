@@ -1,4 +1,4 @@
-//! An output that may be a terminal, where control characters of a text would do what they are for.
+//! An output that may be a terminal, on which the control characters of a text could move the cursor or hide text.
 ghost use Rattle.std.specs.Prelude.{◌≡◌, take, IfOk, OnOk};
 ghost use Rattle.std.specs.Io.{WritesAtMost};
 ghost use Rattle.std.specs.Io.KnownBytes.{Appends, WriteAppends};
@@ -7,8 +7,8 @@ ghost use Rattle.apex_files.specs.Terminal.{contents_of, is_control, is_second_b
 use std::io;
 use std::io::{IsTerminal, Write};
 
-/// An output that a person may look at. Where it is a terminal, each control character but the tab and the line end is
-/// written as `\x` and two digits for each of its bytes; where it is none, each byte is written as it is.
+/// An output that may be a terminal. If it is one, each control character other than the tab and the newline is written
+/// as `\x` and two digits for each of its bytes. Otherwise each byte is written unchanged.
 #[derive(Debug, Drop)]
 pub struct Shown<W> {
     output: W,
@@ -16,7 +16,7 @@ pub struct Shown<W> {
 }
 
 impl<W: Write + IsTerminal> Shown<W> {
-    /// An output, which is asked whether it is a terminal.
+    /// Wraps an output, and finds out whether it is a terminal.
     pub fn new(output: W) -> Shown<W>
         ensures { result.output ≡ output }
     {
@@ -69,7 +69,7 @@ impl<W: Write> Write for Shown<W> {
     }
 }
 
-/// Writes a text with its control characters as escapes. What needs none is written in pieces that are as long as can be.
+/// Writes a text with its control characters as escapes. What is between two escapes is written in one piece.
 fn write_escaped<W: Write>(output: &mut W, text: &[u8]) -> io::Result<()>
     ensures { OnOk result
         (Appends (W.contents output.old) (W.contents output.new) (escaped text.now)) }
@@ -90,8 +90,8 @@ fn write_escaped<W: Write>(output: &mut W, text: &[u8]) -> io::Result<()>
     output.write_all(waiting)
 }
 
-/// Whether a byte is escaped that stands between these: it is a control character, or one of the two bytes of U+0080 to
-/// U+009F, of which the second is escaped too where it stands alone.
+/// Whether a byte between these is escaped: it is a control character, or one of the two bytes of U+0080 to U+009F. The
+/// second of them is also escaped after an ASCII byte.
 fn is_escaped(before: u8, byte: u8, after: &[u8]) -> bool
     ensures { result ≡ is_escaped before byte after.now }
 {
@@ -100,7 +100,7 @@ fn is_escaped(before: u8, byte: u8, after: &[u8]) -> bool
         || is_second_byte(byte) && (before < 0x80 || before == 0xc2)
 }
 
-/// Whether a byte is a control character by itself, but no tab and no line end.
+/// Whether a byte is a control character other than the tab and the newline.
 fn is_control(byte: u8) -> bool
     ensures { result ≡ is_control byte }
 {
@@ -114,7 +114,7 @@ fn is_second_byte(byte: u8) -> bool
     0x80 <= byte && byte < 0xa0
 }
 
-/// Whether such a byte is the first of these.
+/// Whether the first of these is such a byte.
 fn begins_second_byte(bytes: &[u8]) -> bool
     ensures { result ≡ begins_second_byte bytes.now }
 {

@@ -16,7 +16,7 @@ use Rattle.apex_groups.proofs.Exchanged.{here_inside, no_list, none_outside}
 use Rattle.apex_groups.proofs.Inside.{all_inside, entries_go, entries_stay}
 use Rattle.apex_orders.specs.declared.asked.Asked.{Asked}
 use Rattle.apex_orders.specs.declared.orders_fault.OrdersFault.{OrdersFault}
-use Rattle.apex_orders.specs.declared.orders_fault.OrdersFault.TheVariants.{TooManyStates, OutOfMemory}
+use Rattle.apex_orders.specs.declared.orders_fault.OrdersFault.TheVariants.{TooManyStates, OutOfMemory, Stopped}
 use Rattle.apex_orders.specs.declared.replies.PossibleReply.{PossibleReply}
 use Rattle.apex_orders.specs.Orders.{Scripts, script_of, calls_of, IsBeginning, IsWay}
 use Rattle.apex_orders.specs.Outcomes.{AreEnds, AreReplies, CanBeAnswered, CanOccur, HasMorePoints, IsAnsweredBy, IsUndecided}
@@ -89,10 +89,12 @@ module _ (config : Configuration) (inside : ℕ → Bool) (scripts part : Script
     apart = more.apart;
   }
 
-  pub undecided_part : {X : Type 0} (bound : ℕ) (result : Result X OrdersFault) → IsUndecided config part bound result → IsUndecided config scripts bound result
-  undecided_part bound (Ok found) undecided = tt
-  undecided_part bound (Err TooManyStates) undecided = more_points bound undecided
-  undecided_part bound (Err OutOfMemory) undecided = tt
+  pub undecided_part : {X : Type 0} (can_stop : Type 0) (bound : ℕ) (result : Result X OrdersFault)
+      → IsUndecided can_stop config part bound result → IsUndecided can_stop config scripts bound result
+  undecided_part can_stop bound (Ok found) undecided = tt
+  undecided_part can_stop bound (Err TooManyStates) undecided = more_points bound undecided
+  undecided_part can_stop bound (Err Stopped) undecided = undecided
+  undecided_part can_stop bound (Err OutOfMemory) undecided = tt
 
   -- ---- ways and replies
 

@@ -30,7 +30,7 @@ pub fn order_to_end<P: Progress>(
         (λ answer. IfSome answer (λ order. LeadsToEnd config.now scripts.old asked.now order)) }
     ensures never { IfOk result
         (λ answer. IfNone answer (¬ HasSuchEnd config.now scripts.old asked.now)) }
-    ensures undecided { IsUndecided config.now scripts.old bound result }
+    ensures undecided { IsUndecided P.CanStop config.now scripts.old bound result }
 {
     if asked.channel >= config.channels() {
         return Ok(None);

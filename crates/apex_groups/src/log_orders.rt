@@ -12,13 +12,14 @@ use std::alloc::Global;
 
 /// Searches for an order of all entries of the logs as `find_order` does, but searches each group of partitions that
 /// share no channel with the others by itself, and puts the groups' orders one after another. Each group may take
-/// `steps` steps. The logs change only while a group is searched. `progress` receives from time to time how far the
-/// search is.
+/// `steps` steps, and `memory` bytes for dead ends. The logs change only while a group is searched. `progress` receives
+/// from time to time how far the search of a group is, and may end it.
 pub fn find_order_apart<P: Progress>(
     alloc: Global,
     config: &Config,
     logs: &mut [OwnLog],
     steps: u64,
+    memory: usize,
     progress: &mut P,
 ) -> Result<Answer, OutOfMemory>
     requires { length logs.old ≡ length config.now.partitions }
@@ -27,9 +28,9 @@ pub fn find_order_apart<P: Progress>(
 {
     let groups = Groups::new(alloc, config)?;
     if !groups.are_one() && groups.are_apart(config) {
-        return find_by_groups(alloc, config, &groups, logs, steps, progress);
+        return find_by_groups(alloc, config, &groups, logs, steps, memory, progress);
     }
-    find_order_with_progress(alloc, config, logs, steps, progress)
+    find_order_with_progress(alloc, config, logs, steps, memory, progress)
 }
 
 /// Searches one group after the other.
@@ -39,6 +40,7 @@ fn find_by_groups<P: Progress>(
     groups: &Groups,
     logs: &mut [OwnLog],
     steps: u64,
+    memory: usize,
     progress: &mut P,
 ) -> Result<Answer, OutOfMemory>
     requires count { length logs.old ≡ length config.now.partitions }
@@ -52,7 +54,7 @@ fn find_by_groups<P: Progress>(
         if !groups.have(config, group) {
             continue;
         }
-        match find_order_of(alloc, config, groups, group, logs, steps, progress)? {
+        match find_order_of(alloc, config, groups, group, logs, steps, memory, progress)? {
             Answer::Order(order) => add_places(&mut all, order.as_slice(), groups, group)?,
             Answer::NoOrder(longest) => {
                 add_places(&mut all, longest.as_slice(), groups, group)?;

@@ -31,6 +31,7 @@ pub(crate) fn find_order_of<P: Progress>(
     group: usize,
     logs: &mut [OwnLog],
     steps: u64,
+    memory: usize,
     progress: &mut P,
 ) -> Result<Answer, OutOfMemory>
     requires { length logs.old ≡ length config.now.partitions }
@@ -41,7 +42,7 @@ pub(crate) fn find_order_of<P: Progress>(
     let mut part = no_logs(alloc, config.partitions())?;
     let part = part.as_mut_slice();
     exchange(groups, group, logs, part);
-    let answer = find_order_with_progress(alloc, config, part, steps, progress);
+    let answer = find_order_with_progress(alloc, config, part, steps, memory, progress);
     exchange(groups, group, logs, part);
     answer
 }

@@ -39,8 +39,8 @@ pub struct OutcomesApart {
 
 /// All that can happen to the partitions' scripts, as `all_outcomes` of `apex_orders` finds it, but each group of
 /// partitions that share no channel with the others is searched by itself. It is undecided if a group leads to more
-/// states than the bound. The scripts change only while a group is searched. `progress` receives from time to time how
-/// far the search is.
+/// states than the bound, or `progress` ends a search. The scripts change only while a group is searched. `progress`
+/// receives from time to time how far the search of a group is.
 pub fn all_outcomes_apart<P: Progress>(
     alloc: Global,
     config: &Config,
@@ -54,7 +54,7 @@ pub fn all_outcomes_apart<P: Progress>(
         (λ found. AreReplies config.now scripts.old found.replies.items) }
     ensures ends { IfOk result
         (λ found. ShowAllCounts config.now scripts.old found.ends.items) }
-    ensures undecided { IsUndecided config.now scripts.old bound result }
+    ensures undecided { IsUndecided P.CanStop config.now scripts.old bound result }
 {
     let groups = Groups::new(alloc, config)?;
     if have_calls(scripts) && !groups.are_one() && groups.are_apart(config) {
@@ -81,7 +81,7 @@ fn outcomes_together<P: Progress>(
         (λ found. AreReplies config.now scripts.now found.replies.items) }
     ensures ends { IfOk result
         (λ found. ShowAllCounts config.now scripts.now found.ends.items) }
-    ensures undecided { IsUndecided config.now scripts.now bound result }
+    ensures undecided { IsUndecided P.CanStop config.now scripts.now bound result }
 {
     let found = match all_outcomes_with_progress(alloc, config, scripts, bound, progress) {
         Err(fault) => return Err(fault),
@@ -131,7 +131,7 @@ fn outcomes_by_groups<P: Progress>(
         (λ found. AreReplies config.now scripts.old found.replies.items) }
     ensures ends { IfOk result
         (λ found. ShowAllCounts config.now scripts.old found.ends.items) }
-    ensures undecided { IsUndecided config.now scripts.old bound result }
+    ensures undecided { IsUndecided P.CanStop config.now scripts.old bound result }
 {
     let mut all = OutcomesApart {
         replies: Vec::new(alloc),

@@ -41,7 +41,7 @@ pub(crate) fn outcomes_of<P: Progress>(
     ensures scripts { scripts.new ≡ scripts.old }
     ensures found { IfOk result
         (IsFoundOf config.now (in_group groups.now.of_partitions.items group) scripts.old) }
-    ensures undecided { IsUndecided config.now scripts.old bound result }
+    ensures undecided { IsUndecided P.CanStop config.now scripts.old bound result }
 {
     let mut part = no_scripts(alloc, config.partitions())?;
     let part = part.as_mut_slice();
@@ -66,7 +66,7 @@ pub(crate) fn order_of<P: Progress>(
     ensures scripts { scripts.new ≡ scripts.old }
     ensures found { let inside = in_group groups.now.of_partitions.items group in
         IfOk result (IsAnswerOf config.now inside scripts.old asked.now) }
-    ensures undecided { IsUndecided config.now scripts.old bound result }
+    ensures undecided { IsUndecided P.CanStop config.now scripts.old bound result }
 {
     let mut part = no_scripts(alloc, config.partitions())?;
     let part = part.as_mut_slice();

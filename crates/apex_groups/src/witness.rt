@@ -27,7 +27,7 @@ pub fn order_giving_apart<P: Progress>(
         (λ answer. IfSome answer (λ order. IsAnsweredBy config.now scripts.old asked.now order)) }
     ensures never { IfOk result
         (λ answer. IfNone answer (¬ CanBeAnswered config.now scripts.old asked.now)) }
-    ensures undecided { IsUndecided config.now scripts.old bound result }
+    ensures undecided { IsUndecided P.CanStop config.now scripts.old bound result }
 {
     let groups = Groups::new(alloc, config)?;
     if !groups.are_one() && groups.are_apart(config) {
@@ -53,7 +53,7 @@ fn order_in_group<P: Progress>(
         (λ answer. IfSome answer (λ order. IsAnsweredBy config.now scripts.old asked.now order)) }
     ensures never { IfOk result
         (λ answer. IfNone answer (¬ CanBeAnswered config.now scripts.old asked.now)) }
-    ensures undecided { IsUndecided config.now scripts.old bound result }
+    ensures undecided { IsUndecided P.CanStop config.now scripts.old bound result }
 {
     let group = groups.of_partition(asked.partition);
     match order_of(

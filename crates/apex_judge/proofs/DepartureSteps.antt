@@ -8,7 +8,7 @@ use Rattle.apex_judge.specs.declared.departure.Departure.{Departure}
 use Rattle.apex_judge.specs.declared.departure.Expected.{Expected}
 use Rattle.apex_judge.specs.Departures.{instead_of, departure_at, departures_after, departures_of}
 
--- a log is what stands before an index, the entry there, and the rest
+-- a log is the entries before an index, the entry there, and the rest
 pub parts_at : (log : History) (k : ℕ) (e : Entry) → slice_get log k ≡ Some e → (drop k log ≡ e ∷ drop (suc k) log) × (take (suc k) log ≡ take k log ++ e ∷ []) × (length (take k log) ≡ k)
 parts_at [] k e at = absurd (cc)
 parts_at (x ∷ log) zero e at = let same : x ≡ e = cc in (ap (λ y. y ∷ log) same, ap (λ y. y ∷ []) same, refl)

@@ -79,7 +79,7 @@ no_departure_is_lawful config log valid partitions = record {
 
 -- ---- the first departure
 
--- what the first departure of entries says, where they follow a sound log
+-- what the first departure of entries says if they follow a sound log
 record IsFirstAfter (config : Configuration) (before entries : History) (first : Departure) (k : ℕ) (entry : Entry) : Type 0 where
   here : slice_get entries k ≡ Some entry
   index : first.index ≡ length before + k

@@ -38,7 +38,7 @@ both_false a b off = (λ i. a && off i) ∙ and_false a
 other_number : (m n : ℕ) → n ≢ m → (m == n) ≡ false
 other_number m n apart = grind (arith, nat_tests)
 
--- an entry is about no partition but its own
+-- an entry concerns only its own partition
 pub effects_elsewhere : {A : Type 0} (config : Configuration) (picture : Picture) (p : ℕ) (at : Moment) (call : Call) (reply : Reply) (q : ℕ) (state : PartitionState A) → q ≢ p
     → IsPartitionShown config picture q state → IsPartitionShown config (with_effects config (entry_of p at call reply) picture) q state
 effects_elsewhere config picture p at call reply q state apart was =
@@ -70,7 +70,7 @@ evidence_elsewhere config picture p at call reply q state apart was =
       port_doubted = was.port_doubted;
     }
 
--- one partition goes along, the others are left alone
+-- the entry is applied to one partition, and leaves the others unchanged
 pub one_partition : {A : Type 0} (config : Configuration) (before after : Picture) (p : ℕ) (partitions : List (PartitionState A)) (new : PartitionState A)
     → ((q : ℕ) (state : PartitionState A) → q ≢ p → IsPartitionShown config before q state → IsPartitionShown config after q state)
     → EachAt (IsPartitionShown config before) partitions → IsPartitionShown config after p new → EachAt (IsPartitionShown config after) (set partitions p new)

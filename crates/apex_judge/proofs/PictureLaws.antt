@@ -35,7 +35,7 @@ use Rattle.apex_judge.proofs.WaitingLaws.{one_more}
 pub picture_of-append : (config : Configuration) (h : History) (e : Entry) → picture_of config (h ++ e ∷ []) ≡ picture_after config (picture_of config h) e
 picture_of-append config h e = fold-append (λ picture entry. picture_after config picture entry) opening h (e ∷ [])
 
--- the picture is what the history comes to
+-- the picture follows from the history
 pub record Tells (config : Configuration) (h : History) (picture : Picture) : Type 0 where
   pub mode : (p : ℕ) → picture.mode p ≡ mode_of p h
   pub created : (p id : ℕ) → picture.created p id ≡ is_created p id h

@@ -1,4 +1,4 @@
--- What a tally says of the messages that wait.
+-- What a tally says about the messages that wait.
 use Rattle.std.proofs.Common.{◌≡◌, ◌≤◌, ℕ, ◌+◌, Bool, cond, List, [], ◌∷◌, take, length, take_all, position, BTreeMap, Vec, Some, None, refl, ap, subst, ◌∙◌, ⊎_elim, arith}
 use Rattle.std.specs.List.{count_by, position_from}
 use Rattle.std.specs.Str.{bytes_eq}
@@ -16,7 +16,7 @@ none_from test (x ∷ xs) i none =
     (λ no. (λ j. cond (no j) (Some i) (position_from test (i + 1) xs)) ∙ none_from test xs (i + 1) (omega (arith, more, none)))
     (cases_Bool (test x))
 
--- what isn't counted where all are counted doesn't wait
+-- if all are counted, what isn't counted doesn't wait
 pub not_there : {A : Type 0} (tally : BTreeMap (Vec ℕ A) ℕ) (counted : ℕ) (messages : List (List ℕ)) (bytes : List ℕ) → IsCounted tally counted messages → counted ≡ length messages → times tally bytes ≡ 0
     → position (λ one. bytes_eq one bytes) messages ≡ None
 not_there tally counted messages bytes is all zero =

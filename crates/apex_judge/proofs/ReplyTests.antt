@@ -21,7 +21,7 @@ use Rattle.apex_judge.specs.Replies.{is_not_made, is_code, is_received, is_read_
 same_number : (n : ℕ) → (n == n) ≡ true
 same_number n = grind (arith, nat_tests)
 
--- ---- numbers stand for one thing each
+-- ---- each number means one thing
 
 abbrev code_numbered : ℕ → ReturnCode
 code_numbered n =

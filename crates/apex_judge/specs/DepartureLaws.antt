@@ -19,7 +19,7 @@ ShowsWhatIsSeen = (config : Configuration) (log : History) (p : ℕ) → IsSound
 abbrev pub HasPartitions : Configuration → History → Type 0
 HasPartitions config log = (k : ℕ) (entry : Entry) → slice_get log k ≡ Some entry → entry.partition < length config.partitions
 
--- a log of the configuration's partitions is lawful exactly where it has no departure
+-- a log of the configuration's partitions is lawful if and only if it has no departure
 pub record IsJudged (config : Configuration) (log : History) : Type 0 where
   pub none : departures_of config log ≡ [] → IsLawful config log
   pub lawful : IsLawful config log → departures_of config log ≡ []

@@ -15,7 +15,7 @@ expected_of config before entry = record {
   reply = reply_shown config before entry.partition entry.at entry.call;
 }
 
--- what the standard has in place of the logged reply, where that is another
+-- what the standard has instead of the logged reply, if they differ
 abbrev pub instead_of : Configuration → History → Entry → Option Expected
 instead_of config before entry =
     if agrees (reply_shown config before entry.partition entry.at entry.call) entry.reply then None

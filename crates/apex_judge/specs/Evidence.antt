@@ -1,4 +1,4 @@
--- What a logged reply shows, where the log is believed.
+-- What a logged reply shows if the log is believed.
 use Rattle.std.specs.Prelude.{ℕ, Bool, true, false, ◌&&◌, ◌==◌, if◌then◌else◌, List, length, Option, Some, None, unwrap_or}
 use Rattle.apex_types.specs.Mode.{mode_numbered}
 use Rattle.apex_types.specs.declared.call.Call.{Call}
@@ -90,7 +90,7 @@ created_by_call replies.NotMade = None
 created_by_call (replies.Code code) = created_by_code code
 created_by_call reply = Some true
 
--- with a message: where it is empty, INVALID_PARAM says nothing of the port
+-- with a message: if it is empty, INVALID_PARAM says nothing about the port
 abbrev pub created_by_message : List ℕ → Reply → Option Bool
 created_by_message message reply = if length message == 0 then None else created_by_call reply
 

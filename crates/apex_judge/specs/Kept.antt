@@ -1,4 +1,4 @@
--- What the state of a judge says of the log: the picture that the log gives.
+-- What the state of a judge says about the log: the picture that the log gives.
 use Rattle.std.specs.Prelude.{ℕ, ◌≡◌, ◌≤◌, ◌-◌, ◌^◌, ◌==◌, Bool, false, if◌then◌else◌, List, length, slice_get, Option, Some, None}
 use Rattle.apex_types.specs.declared.call.Call.{Call}
 use Rattle.apex_types.specs.declared.moment.Moment.{Moment}
@@ -41,7 +41,7 @@ doubted_of state Mode = state.doubted
 doubted_of state (Port id) = doubted_in (state_at state.ports.items id)
 doubted_of state Nothing = false
 
--- the state of a partition; a log can name identifiers that no port has, and what it says of them counts nowhere
+-- the state of a partition; a log can name identifiers that no port has, and what it says about them is ignored
 pub record IsPartitionShown {A : Type 0} (config : Configuration) (picture : Picture) (p : ℕ) (state : PartitionState A) : Type 0 where
   pub mode : state.mode ≡ picture.mode p
   pub mode_doubted : state.doubted ≡ picture.is_mode_doubted p
@@ -71,7 +71,7 @@ IsShown config log state = Shows config (picture_of config log) state
 
 -- ---- one more entry
 
--- whatever the picture, the partition's state goes along with an entry of it
+-- for any picture, an entry of the partition is applied to the partition's state
 abbrev pub PartitionNotes : {A : Type 0} → Call → Reply → PartitionState A → PartitionState A → Type 0
 PartitionNotes call reply old new = (config : Configuration) (picture : Picture) (p : ℕ) (at : Moment) →
     IsPartitionShown config picture p old → IsPartitionShown config (with_effects config (entry_of p at call reply) picture) p new

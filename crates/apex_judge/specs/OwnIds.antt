@@ -1,5 +1,5 @@
--- A system's own identifiers. The reply to a call that creates a port, or that asks for its identifier, tells which
--- identifier the system gave it, until the partition restarts. What is judged is the log with ours in the place of those.
+-- A system's own identifiers. The reply to a call that creates a port, or that asks for its identifier, shows which
+-- identifier the system gave it, until the partition restarts. The log is judged with our identifiers instead.
 use Rattle.std.specs.Prelude.{ℕ, Bool, true, ◌&&◌, ◌||◌, ◌==◌, if◌then◌else◌, List, [], ◌∷◌, ◌++◌, find, get_or, set, replicate, length, Option, Some, None, is_none, option_map, unwrap_or}
 use Rattle.apex_types.specs.declared.call.Call.{Call}
 use Rattle.apex_types.specs.declared.call.Call.TheVariants as calls
@@ -12,7 +12,7 @@ use Rattle.apex_judge.specs.declared.told_ids.KnownIds.{KnownIds}
 use Rattle.apex_judge.specs.declared.told_ids.ToldId.{ToldId}
 use Rattle.apex_judge.specs.declared.own_ids.Replaced.{Replaced}
 
--- ---- what was told of the ports of a partition
+-- ---- the known identifiers of a partition's ports
 
 -- our identifier of the port that has one of the system's
 abbrev pub ours_in : List ToldId → ℕ → Option ℕ
@@ -26,13 +26,13 @@ ours_of told system = unwrap_or (ours_in told system) 0
 abbrev pub system_of : List ToldId → ℕ → Option ℕ
 system_of told ours = option_map (λ one. one.system) (find (λ one. one.ours == ours) told)
 
--- neither the system's identifier nor the port was told of
+-- neither the system's identifier nor the port is known
 abbrev pub is_new : List ToldId → ℕ → ℕ → Bool
 is_new told system port = is_none (ours_in told system) && is_none (system_of told port)
 
 -- ---- identifiers in calls and replies
 
--- the identifier in a call, 0 where there is none
+-- the identifier in a call; 0 if there is none
 abbrev pub id_asked : Call → ℕ
 id_asked (calls.WriteSampling id message) = id
 id_asked (calls.ReadSampling id) = id
@@ -43,7 +43,7 @@ id_asked (calls.QueuingStatus id) = id
 id_asked (calls.ClearQueuing id) = id
 id_asked _ = 0
 
--- a call with another identifier in the place of its own, if it has one
+-- a call with another identifier instead of its own, if it has one
 abbrev pub asked_of : ℕ → Call → Call
 asked_of id (calls.WriteSampling old message) = calls.WriteSampling id message
 asked_of id (calls.ReadSampling old) = calls.ReadSampling id
@@ -54,12 +54,12 @@ asked_of id (calls.QueuingStatus old) = calls.QueuingStatus id
 asked_of id (calls.ClearQueuing old) = calls.ClearQueuing id
 asked_of id call = call
 
--- the identifier that a reply is, 0 where it is none
+-- the identifier that a reply gives; 0 if it gives none
 abbrev pub id_replied : Reply → ℕ
 id_replied (replies.Id id) = id
 id_replied _ = 0
 
--- a reply with another identifier in the place of its own, if it has one
+-- a reply with another identifier instead of its own, if it has one
 abbrev pub replied_of : ℕ → Reply → Reply
 replied_of id (replies.Id old) = replies.Id id
 replied_of id reply = reply
@@ -82,13 +82,13 @@ port_asked config partition call = port_called config partition (name_asked call
 
 -- ---- an entry in our identifiers
 
--- ours in the place of an identifier that is told for a port: that of the port, if the identifier is the port's, or if
--- neither has been told of. Another port's identifier, and another identifier of the port, become 0, which departs
+-- ours instead of an identifier that a reply gives to a port: the port's, if the identifier is known as the port's, or if
+-- neither is known. Another port's identifier, and another identifier for the port, become 0, which departs
 abbrev pub given_of : List ToldId → Option ℕ → ℕ → ℕ
 given_of told None system = 0
 given_of told (Some port) system = if (ours_of told system == port) || is_new told system port then port else 0
 
--- the entry, after what was told of its partition's ports
+-- the entry in our identifiers, given those known for its partition's ports
 abbrev pub in_ours : Configuration → List ToldId → Entry → Entry
 in_ours config told entry = record {
   partition = entry.partition;
@@ -97,9 +97,9 @@ in_ours config told entry = record {
   reply = replied_of (given_of told (port_asked config entry.partition entry.call) (id_replied entry.reply)) entry.reply;
 }
 
--- ---- what is told
+-- ---- what an entry makes known
 
--- what was told, with the identifier of a port that is new
+-- the known identifiers, with that of a new port
 abbrev pub told_with : List ToldId → Option ℕ → Reply → List ToldId
 told_with told (Some port) (replies.Id system) =
     if is_new told system port then told ++ record { system = system; ours = port } ∷ [] else told
@@ -109,7 +109,7 @@ told_with told port reply = told
 abbrev pub restarted : Call → Reply → Bool
 restarted call reply = is_code_no_error reply && is_restart (mode_asked call)
 
--- what was told after an entry of the partition
+-- the known identifiers after an entry of the partition
 abbrev pub told_after : Configuration → List ToldId → Entry → List ToldId
 told_after config told entry =
     if restarted entry.call entry.reply then []
@@ -117,12 +117,12 @@ told_after config told entry =
 
 -- ---- all partitions
 
--- what was told of the ports of each partition, if a log's identifiers are the system's
+-- the known identifiers of each partition's ports, if a log's identifiers are the system's
 pub record Own : Type 0 where
   pub on : Bool
   pub told : List (List ToldId)
 
--- nothing was told
+-- nothing is known
 abbrev pub untold : Bool → Configuration → Own
 untold on config = record { on = on; told = replicate (length config.partitions) [] }
 
@@ -133,7 +133,7 @@ told_in own partition = get_or own.told partition []
 abbrev pub entry_in_ours : Configuration → Own → Entry → Entry
 entry_in_ours config own entry = if own.on then in_ours config (told_in own entry.partition) entry else entry
 
--- what was told after an entry
+-- the known identifiers after an entry
 abbrev pub own_after : Configuration → Own → Entry → Own
 own_after config own entry =
     if own.on then record { on = true; told = set own.told entry.partition (told_after config (told_in own entry.partition) entry) }
@@ -141,7 +141,7 @@ own_after config own entry =
 
 -- ---- what was replaced
 
--- of a port that is asked for: the identifier that was told for it, and the port that has the identifier in the reply
+-- for a port that is created or asked for: its known identifier, and the port that has the identifier in the reply
 abbrev pub known_of : List ToldId → Option ℕ → ℕ → KnownIds
 known_of told None system = record { own = None; holder = None }
 known_of told (Some port) system = record { own = system_of told port; holder = ours_in told system }

@@ -1,4 +1,4 @@
--- The log that a `Past` stands for.
+-- The log that a contract sees of a `Past`.
 use Rattle.std.specs.Prelude.{[], ◌∷◌, ◌++◌}
 use Rattle.apex_judge.specs.declared.past.Latest.{Latest}
 use Rattle.apex_judge.specs.declared.past.Latest.TheVariants.{Nothing, Entry}

@@ -39,7 +39,7 @@ with_effects config entry picture = record picture {
 abbrev pub with_reply : Entry → Reply → Entry
 with_reply entry reply = record entry { reply = reply }
 
--- the port that a creation names is created, whichever identifier is logged
+-- the port that a creation names is created, with any logged identifier
 abbrev pub named_reply : Option ℕ → Reply → Reply
 named_reply port (Id id) = Id (unwrap_or port 0)
 named_reply port reply = reply
@@ -63,11 +63,11 @@ abbrev pub is_receipt : Reply → Bool
 is_receipt (Received message) = true
 is_receipt _ = false
 
--- a receive of a message that waits, where the standard has a message too
+-- a receive of a message that waits, if the standard has a message too
 abbrev pub receives_later : Configuration → Picture → ℕ → Call → Reply → Reply → Bool
 receives_later config picture p call standard reply = is_receipt standard && receives_waiting config picture p call reply
 
--- an entry that departs is believed if what it is about is doubted, and if it receives a message that waits behind the oldest
+-- an entry that departs is believed if its subject is doubted, or if it receives a waiting message other than the oldest
 abbrev pub is_believed : Configuration → Entry → Reply → Subject → Picture → Bool
 is_believed config entry standard subject picture =
     is_doubted picture entry.partition subject || receives_later config picture entry.partition entry.call standard entry.reply
@@ -83,7 +83,7 @@ judged config entry standard subject true picture = with_doubt entry.partition s
 judged config entry standard subject false picture =
     with_doubt entry.partition subject true (when_departing config entry standard (is_believed config entry standard subject picture) picture)
 
--- after an entry, where the standard has this reply
+-- after an entry, if the standard has this reply
 abbrev pub picture_by : Configuration → Entry → Reply → Picture → Picture
 picture_by config entry standard picture =
     judged config entry standard (subject_of config entry standard) (agrees standard entry.reply) picture

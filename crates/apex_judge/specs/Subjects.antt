@@ -20,7 +20,7 @@ abbrev pub id_in : Option NamedPort → Option ℕ
 id_in None = None
 id_in (Some named) = Some named.id
 
--- the identifier of the port that a call names or asks by identifier, where it is configured and of the call's kind
+-- the identifier of the port that a call uses by name or by identifier, if it is configured and of the call's kind
 abbrev pub port_about : Configuration → ℕ → Call → Option ℕ
 port_about config p (calls.CreateSampling name size direction refresh) = id_in (sampling_named config p name)
 port_about config p (calls.WriteSampling id message) = id_in (sampling_of_id config p (Some id))
@@ -44,7 +44,7 @@ abbrev pub subject_at : Option ℕ → Subject
 subject_at None = Nothing
 subject_at (Some id) = Port id
 
--- the mode, where the logged reply or the standard's is of it; otherwise the port
+-- the mode, if the logged reply or the standard's concerns it; otherwise the port
 abbrev pub subject_of : Configuration → Entry → Reply → Subject
 subject_of config entry standard =
     if is_of_mode entry.call entry.reply || is_of_mode entry.call standard then Mode

@@ -1,4 +1,4 @@
--- What a tally of messages says of the messages that wait.
+-- What a tally of messages says about the messages that wait.
 use Rattle.std.specs.Prelude.{ℕ, ◌≤◌, List, Vec, length, take}
 use Rattle.std.specs.BTreeMap.{BTreeMap, get_by}
 use Rattle.std.specs.Cmp.Lexicographic.{slice_cmp}
@@ -15,7 +15,7 @@ times tally bytes = unwrap_or (get_by (λ key. slice_cmp nat_cmp bytes key.items
 abbrev pub HasAll : {A : Type 0} → BTreeMap (Vec ℕ A) ℕ → List (List ℕ) → Type 0
 HasAll tally messages = (bytes : List ℕ) → count_by (λ one. bytes_eq one bytes) messages ≤ times tally bytes
 
--- so many messages are counted, from the oldest on
+-- this number of messages is counted, from the oldest on
 pub record IsCounted {A : Type 0} (tally : BTreeMap (Vec ℕ A) ℕ) (counted : ℕ) (messages : List (List ℕ)) : Type 0 where
   pub fits : counted ≤ length messages
   pub counts : HasAll tally (take counted messages)

@@ -27,12 +27,12 @@ finds_none config channel entry = is_code_not_available entry.reply && is_receiv
 abbrev pub empties : Configuration → ℕ → Entry → Bool
 empties config channel entry = clears config channel entry || finds_none config channel entry
 
--- what waits behind the message at the index; all where there is none
+-- what waits behind the message at the index; all if there is none
 abbrev pub behind : Option ℕ → List (List ℕ) → List (List ℕ)
 behind None waiting = waiting
 behind (Some index) waiting = drop (index + 1) waiting
 
--- what is left when a message is received: the first with its bytes is taken and all before it, nothing where none has them
+-- what is left when a message is received: the first one with its bytes and all before it are taken, none if none has them
 abbrev pub left_after : Option (List ℕ) → List (List ℕ) → List (List ℕ)
 left_after None waiting = waiting
 left_after (Some message) waiting = behind (position (λ one. bytes_eq one message) waiting) waiting

@@ -24,8 +24,7 @@ impl<A: Allocator> ChannelState<A> {
         ensures message { option_copied result ≡ slice_get self.now.waiting 0 }
         ensures short { IfSome result (λ message. length message.now ≤ MESSAGE_LIMIT) }
     {
-        let message = self.waiting.oldest()?;
-        Some(message.bytes())
+        self.waiting.oldest()
     }
 
     /// How many messages wait.
@@ -35,22 +34,25 @@ impl<A: Allocator> ChannelState<A> {
         self.waiting.len()
     }
 
-    /// Puts a message last. Where there is no memory for it, nothing changes.
-    pub(crate) fn send(&mut self, message: &Message) -> Result<(), OutOfMemory>
-        ensures waiting { IfOk result
-            (λ _. self.new.waiting ≡ self.old.waiting ++ message.now ∷ []) }
-        ensures few { IfOk result (λ _. length self.new.waiting ≤ 2 ^ 32 - 1) }
-        ensures refused { IfErr result (λ _. self.new.waiting ≡ self.old.waiting) }
-        ensures sample { self.new.sample ≡ self.old.sample }
-    {
-        if self.waiting.len() >= WAITING_LIMIT {
-            return Err(OutOfMemory);
-        }
-        self.waiting.send(message)
-    }
-
     /// Replaces the sample.
     pub(crate) fn write(&mut self, message: &Message, at: Moment)
+        ensures waiting { self.new.waiting ≡ self.old.waiting }
+        ensures sample { self.new.sample
+            ≡ Some (record { message = message.now; at = at }) }
+    {
+        match &mut self.sample {
+            Some(sample) => {
+                sample.message.copy_from(message);
+                sample.at = at;
+            }
+            None => self.write_first(message, at),
+        }
+    }
+
+    // Makes the sample where there is none.
+    // Not inlined, since a function that makes a message clears its room where it begins.
+    #[inline(never)]
+    fn write_first(&mut self, message: &Message, at: Moment)
         ensures waiting { self.new.waiting ≡ self.old.waiting }
         ensures sample { self.new.sample
             ≡ Some (record { message = message.now; at = at }) }
@@ -79,6 +81,20 @@ impl<A: Allocator> ChannelState<A> {
 }
 
 impl<A: Allocator + Copy> ChannelState<A> {
+    /// Puts a message last. Where there is no memory for it, nothing changes.
+    pub(crate) fn send(&mut self, message: &Message) -> Result<(), OutOfMemory>
+        ensures waiting { IfOk result
+            (λ _. self.new.waiting ≡ self.old.waiting ++ message.now ∷ []) }
+        ensures few { IfOk result (λ _. length self.new.waiting ≤ 2 ^ 32 - 1) }
+        ensures refused { IfErr result (λ _. self.new.waiting ≡ self.old.waiting) }
+        ensures sample { self.new.sample ≡ self.old.sample }
+    {
+        if self.waiting.len() >= WAITING_LIMIT {
+            return Err(OutOfMemory);
+        }
+        self.waiting.send(message)
+    }
+
     /// Whether a message with these bytes waits.
     pub(crate) fn has(&mut self, message: &Message) -> bool
         ensures test { let at = position (λ one. bytes_eq one message.now) self.old.waiting in
@@ -89,7 +105,7 @@ impl<A: Allocator + Copy> ChannelState<A> {
         self.waiting.index_of(message).is_some()
     }
 
-    /// Takes the first message with these bytes and all before it; nothing where none has them.
+    /// Takes the first message with these bytes and all before it; nothing if no message has them.
     pub(crate) fn receive(&mut self, message: &Message)
         ensures waiting { self.new.waiting ≡ left_after (Some message.now) self.old.waiting }
         ensures sample { self.new.sample ≡ self.old.sample }

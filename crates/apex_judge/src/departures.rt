@@ -40,7 +40,7 @@ pub fn has_partitions(config: &Config, log: &[Entry]) -> bool
     true
 }
 
-// Notes what the standard has in place of the reply at an index, where that is another.
+// Notes what the standard has instead of the reply at an index, if they differ.
 fn push_departure<A: Allocator>(
     found: &mut Vec<Departure, A>,
     index: usize,

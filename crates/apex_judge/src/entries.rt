@@ -40,8 +40,8 @@ impl<A: Allocator + Copy> State<A> {
         Ok(())
     }
 
-    /// The log gains an entry that departs, where the standard has this reply. Where there is no memory for its
-    /// message, nothing changes.
+    /// Adds an entry that departs to the log; the standard has this reply. If there is no memory for its message, nothing
+    /// changes.
     pub(crate) fn add_departing(
         &mut self,
         config: &Config,
@@ -99,7 +99,7 @@ impl<A: Allocator + Copy> State<A> {
         self.note(config, partition, at, call, standard, subject, true)
     }
 
-    // Whether an entry receives a message that waits, where the standard has a message too.
+    // Whether an entry receives a message that waits, and the standard has a message too.
     fn receives_later(
         &mut self,
         config: &Config,

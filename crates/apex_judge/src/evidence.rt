@@ -1,10 +1,10 @@
-//! What a logged reply shows, where the log is believed.
+//! What a logged reply shows if the log is believed.
 ghost use Rattle.std.specs.Prelude.{◌≡◌};
 ghost use Rattle.apex_judge.specs.Evidence.{mode_of_made, mode_by_change, mode_by_creation, mode_shown, created_by_creation, created_by_id, created_by_call, created_by_message, created_shown, last_shown, written_at};
 
 use apex_types::{Call, Message, Mode, Moment, Reply, ReturnCode, Validity};
 
-/// The mode that the reply to a call shows, where the partition was in this mode.
+/// The mode that the reply to a call shows, if the partition was in this mode.
 pub(crate) fn mode_shown(present: Mode, call: &Call, reply: &Reply) -> Mode
     ensures { result ≡ mode_shown present call.now reply.now }
 {

@@ -1,5 +1,5 @@
 //! A judge of a recorded log, entry by entry.
-ghost use Rattle.std.specs.Prelude.{◌≡◌, ◌<◌, ◌∷◌, ◌++◌, [], ◌↔◌, true, length, IfOk, IfErr, IsTrue};
+ghost use Rattle.std.specs.Prelude.{◌≡◌, ◌<◌, ◌∷◌, ◌++◌, [], ◌↔◌, true, false, length, IfOk, IfErr, IsTrue};
 
 use crate::departure::Expected;
 use crate::state::State;
@@ -10,11 +10,11 @@ use apex_types::{Call, Moment, OutOfMemory, Reply};
 use std::alloc::{Allocator, Global};
 use std::marker::Model;
 
-/// Judges the entries of a log one after another, each after what the entries before it show, and keeps of them
-/// what later entries need: the messages that wait, their bytes once more where they were counted, and what the
-/// configuration has room for.
+/// Judges the entries of a log one after another, each given what the entries before it show. It keeps only what later
+/// entries need: the messages that wait, a copy of their bytes if they were counted, and what the configuration has room
+/// for.
 ///
-/// To a contract it is its configuration and the log so far, which no run stores. The log may be any, lawful or not.
+/// A contract sees its configuration and the log so far, which no program stores. The log may be lawful or not.
 #[derive(Drop)]
 pub struct Judge<A: Allocator = Global> {
     config: Config,
@@ -34,7 +34,7 @@ impl<A: Allocator> Model for Judge<A> {
 }
 
 impl<A: Allocator + Copy> Judge<A> {
-    /// A judge before the first entry. On want of memory the configuration is dropped.
+    /// A judge before the first entry. If memory runs out, the configuration is dropped.
     pub fn new(alloc: A, config: Config) -> Result<Judge<A>, OutOfMemory>
         ensures config { IfOk result (λ judge. judge.config ≡ config) }
         ensures log { IfOk result (λ judge. judge.log ≡ []) }
@@ -47,7 +47,8 @@ impl<A: Allocator + Copy> Judge<A> {
 impl<A: Allocator> Judge<A> {
     ghost use Rattle.apex_ports.specs.History.{entry_of};
     ghost use Rattle.apex_ports.specs.ReplyTable.{reply_of};
-    ghost use Rattle.apex_judge.specs.Departures.{instead_of};
+    ghost use Rattle.apex_types.specs.declared.reply.Reply.{Reply};
+    ghost use Rattle.apex_judge.specs.Departures.{expected_of, instead_of};
     ghost use Rattle.apex_judge.specs.Replies.{agrees};
     ghost use Rattle.apex_judge.specs.Shown.{shown, row_shown, reply_shown, waiting_shown};
 
@@ -95,7 +96,7 @@ impl<A: Allocator> Judge<A> {
         self.state.agrees(&self.config, partition, row, reply)
     }
 
-    /// What the standard has in place of a logged reply, where that is another.
+    /// What the standard has instead of a logged reply, if they differ.
     pub fn instead_of(
         &self,
         partition: usize,
@@ -107,20 +108,29 @@ impl<A: Allocator> Judge<A> {
         ensures { result ≡ instead_of self.now.config self.now.log
             (entry_of partition at call.now reply.now) }
     {
-        let row = row(&self.state, &self.config, partition, at, call);
-        if self.state.agrees(&self.config, partition, row, reply) {
+        if self.agrees(partition, at, call, reply) {
             return None;
         }
-        Some(Expected {
+        Some(self.expected(partition, at, call))
+    }
+
+    // What the standard has for a call of the partition after the log.
+    fn expected(&self, partition: usize, at: Moment, call: &Call) -> Expected
+        requires { partition < length self.now.config.partitions }
+        ensures { (reply : Reply) → result ≡ expected_of self.now.config self.now.log
+            (entry_of partition at call.now reply) }
+    {
+        let row = row(&self.state, &self.config, partition, at, call);
+        Expected {
             row,
             reply: replies::reply(&self.state, &self.config, partition, row),
-        })
+        }
     }
 }
 
 impl<A: Allocator + Copy> Judge<A> {
     ghost use Rattle.apex_ports.specs.History.{entry_of};
-    ghost use Rattle.apex_judge.specs.Departures.{instead_of};
+    ghost use Rattle.apex_judge.specs.Departures.{expected_of, instead_of};
     ghost use Rattle.apex_judge.specs.Replies.{agrees};
     ghost use Rattle.apex_judge.specs.Shown.{reply_shown};
 
@@ -164,8 +174,60 @@ impl<A: Allocator + Copy> Judge<A> {
             .add_agreeing(&self.config, partition, at, call, reply)
     }
 
-    /// Judges an entry after the log, which gains it: what the standard has in place of its reply, where that is
-    /// another. Where there is no memory for its message, the log is what it was.
+    /// Adds an entry to the log if its reply is the standard's, and returns whether it is. If it isn't, or if there
+    /// is no memory for its message, the log stays as it was.
+    pub fn add_if_agreeing(
+        &mut self,
+        partition: usize,
+        at: Moment,
+        call: &Call,
+        reply: &Reply,
+    ) -> Result<bool, OutOfMemory>
+        requires { partition < length self.old.config.partitions }
+        ensures test { IfOk result (λ agreed. agreed ≡ agrees
+            (reply_shown self.old.config self.old.log partition at call.now) reply.now) }
+        ensures entry { IfOk result (λ agreed. agreed ≡ true →
+            self.new.log ≡ self.old.log ++ entry_of partition at call.now reply.now ∷ []) }
+        ensures same { IfOk result (λ agreed. agreed ≡ false → self.new.log ≡ self.old.log) }
+        ensures refused { IfErr result (λ _. self.new.log ≡ self.old.log) }
+        ensures config { self.new.config ≡ self.old.config }
+    {
+        let agreed = self.agrees(partition, at, call, reply);
+        if agreed {
+            self.add_agreeing(partition, at, call, reply)?;
+        }
+        Ok(agreed)
+    }
+
+    // Adds an entry whose reply isn't the standard's, and returns what the standard has there. If there is no memory
+    // for its message, the log stays as it was.
+    // Not inlined, since a function that makes a reply clears its room where it begins.
+    #[inline(never)]
+    fn add_departing(
+        &mut self,
+        partition: usize,
+        at: Moment,
+        call: &Call,
+        reply: &Reply,
+    ) -> Result<Expected, OutOfMemory>
+        requires partition { partition < length self.old.config.partitions }
+        requires departs { agrees
+            (reply_shown self.old.config self.old.log partition at call.now) reply.now ≡ false }
+        ensures expected { let entry = entry_of partition at call.now reply.now in
+            IfOk result (λ expected. expected ≡ expected_of self.old.config self.old.log entry) }
+        ensures entry { IfOk result (λ _. self.new.log
+            ≡ self.old.log ++ entry_of partition at call.now reply.now ∷ []) }
+        ensures refused { IfErr result (λ _. self.new.log ≡ self.old.log) }
+        ensures config { self.new.config ≡ self.old.config }
+    {
+        let expected = self.expected(partition, at, call);
+        self.state
+            .add_departing(&self.config, partition, at, call, reply, &expected.reply)?;
+        Ok(expected)
+    }
+
+    /// Judges the next entry of the log and adds it: returns what the standard has instead of its reply, if they differ. If
+    /// there is no memory for its message, the log is unchanged.
     pub fn judge(
         &mut self,
         partition: usize,
@@ -181,13 +243,10 @@ impl<A: Allocator + Copy> Judge<A> {
         ensures refused { IfErr result (λ _. self.new.log ≡ self.old.log) }
         ensures config { self.new.config ≡ self.old.config }
     {
-        let Some(expected) = self.instead_of(partition, at, call, reply) else {
-            self.state
-                .add_agreeing(&self.config, partition, at, call, reply)?;
+        if self.add_if_agreeing(partition, at, call, reply)? {
             return Ok(None);
-        };
-        self.state
-            .add_departing(&self.config, partition, at, call, reply, &expected.reply)?;
+        }
+        let expected = self.add_departing(partition, at, call, reply)?;
         Ok(Some(expected))
     }
 }

@@ -6,7 +6,7 @@ pub fn shows_what_is_seen()
     ensures { ShowsWhatIsSeen }
 {}
 
-/// The law of logs without departures: a log of the configuration's partitions is lawful exactly where it has none.
+/// The law of logs without departures: a log of the configuration's partitions is lawful if and only if it has none.
 /// There is nothing to run.
 pub fn no_departure_is_lawful()
     ensures { NoDepartureIsLawful }

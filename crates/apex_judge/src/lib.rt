@@ -1,6 +1,6 @@
-//! Judging recorded logs: where the replies of a log depart from the standard. Each entry is judged after what the
-//! entries before it show. A reply that departs is taken for a mistake of the log, and is followed as though the
-//! standard's were logged; where the same port or mode departs again, the log is believed.
+//! Judges recorded logs: finds the replies that depart from the standard. Each entry is judged given what the entries
+//! before it show. A reply that departs counts as a mistake of the log, and judging goes on as if the standard's reply
+//! were logged. If the same port or mode departs again, the log is believed.
 #![tactic(auto)]
 
 mod belief;
@@ -23,6 +23,7 @@ mod subject;
 mod tally;
 pub mod told_ids;
 mod view;
+mod waiting_message;
 
 pub use crate::departure::{Departure, Expected};
 pub use crate::departures::{has_partitions, judge_log};

@@ -10,17 +10,17 @@ use apex_types::{Call, Mode, OutOfMemory, Reply, ReturnCode};
 use std::alloc::{AllocError, Global};
 use std::marker::Model;
 
-/// The system's identifiers in an entry in which ours stand, and what was told of them before.
+/// The system's identifiers in an entry that now has ours, and what was known about them before.
 #[derive(Clone, Copy, Debug, PartialEq, Eq)]
 pub struct Replaced {
     asked: u32,
     replied: u32,
-    /// What was told before of the port that is created or asked for.
+    /// What was known before about the port that is created or asked for.
     pub known: KnownIds,
 }
 
-/// The identifiers that a log told for the ports of each partition, if the log has a system's own. To a contract it is
-/// that: whether, and lists of identifiers.
+/// The identifiers that a log gave to the ports of each partition, if the log has a system's own. A contract sees whether
+/// it has, and the lists of identifiers.
 #[derive(Debug, Drop)]
 pub struct OwnIds {
     on: bool,
@@ -47,8 +47,8 @@ impl OwnIds {
         Ok(OwnIds { on, partitions })
     }
 
-    /// Replaces the system's identifiers in the next entry of a log by ours, if the log has the system's. Where there is no
-    /// memory for an identifier that the entry tells, any entry may stand there.
+    /// Replaces the system's identifiers in the next entry of a log with ours, if the log has the system's. If there is no
+    /// memory for a new identifier, the entry is unspecified.
     pub fn enter(
         &mut self,
         config: &Config,

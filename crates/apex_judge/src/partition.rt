@@ -65,7 +65,7 @@ impl<A: Allocator> PartitionState<A> {
         }
     }
 
-    /// Replaces the state of a port, where the partition has one of the identifier.
+    /// Replaces the state of a port, if the partition has one with the identifier.
     pub(crate) fn set_port(&mut self, id: u32, port: PortState)
         ensures ports { (other : ℕ) → 0 < other → other ≤ length self.old.ports.items →
             state_at self.new.ports.items other

@@ -1,4 +1,4 @@
-//! The log of all entries, which contracts alone see: it has no bytes that a run reads.
+//! The log of all entries, which only contracts see: it has no bytes that a program reads.
 ghost use Rattle.std.specs.Prelude.{◌≡◌, ◌++◌, ◌∷◌, []};
 
 use apex_types::{Call, Moment, Reply};

@@ -1,12 +1,13 @@
 //! The messages that wait on a channel.
-ghost use Rattle.std.specs.Prelude.{◌≡◌, ◌∷◌, ◌++◌, [], length, drop, slice_get, position, Some, IfErr, IfOk, IsTrue};
+ghost use Rattle.std.specs.Prelude.{◌≡◌, ◌≤◌, ◌∷◌, ◌++◌, [], length, drop, slice_get, position, Some, IfErr, IfOk, IfSome, IsTrue};
 ghost use Rattle.std.specs.Option.{option_copied};
 ghost use Rattle.std.specs.Str.{bytes_eq};
 ghost use Rattle.apex_judge.specs.Tally.{IsCounted};
 ghost use Rattle.apex_judge.specs.Waiting.{left_after};
 
 use crate::tally::{Tally, count, times, uncount};
-use apex_types::{Message, OutOfMemory};
+use crate::waiting_message::WaitingMessage;
+use apex_types::{MESSAGE_LIMIT, Message, OutOfMemory};
 use std::alloc::Allocator;
 use std::collections::{BTreeMap, VecDeque};
 use std::marker::Model;
@@ -18,7 +19,7 @@ use std::marker::Model;
 /// messages wait at each of them.
 #[derive(Drop)]
 pub(crate) struct Queue<A: Allocator> {
-    messages: VecDeque<Message, A>,
+    messages: VecDeque<WaitingMessage<A>, A>,
     // How many messages are counted, from the oldest on.
     counted: usize,
     tally: Tally<A>,
@@ -50,7 +51,17 @@ impl<A: Allocator + Copy> Queue<A> {
         }
     }
 
-    /// Takes the first message with these bytes and all before it; nothing where none has them.
+    /// Puts a message last. Where there is no memory for it, nothing changes.
+    pub(crate) fn send(&mut self, message: &Message) -> Result<(), OutOfMemory>
+        ensures sent { IfOk result (λ _. self.new ≡ self.old ++ message.now ∷ []) }
+        ensures refused { IfErr result (λ _. self.new ≡ self.old) }
+    {
+        let waiting = WaitingMessage::of(self.alloc, message)?;
+        self.messages.push_back(waiting)?;
+        Ok(())
+    }
+
+    /// Takes the first message with these bytes and all before it; nothing if no message has them.
     pub(crate) fn receive(&mut self, message: &Message)
         ensures { self.new ≡ left_after (Some message.now) self.old }
     {
@@ -79,10 +90,12 @@ impl<A: Allocator + Copy> Queue<A> {
 
 impl<A: Allocator> Queue<A> {
     /// The oldest message.
-    pub(crate) fn oldest(&self) -> Option<&Message>
-        ensures { option_copied result ≡ slice_get self.now 0 }
+    pub(crate) fn oldest(&self) -> Option<&[u8]>
+        ensures message { option_copied result ≡ slice_get self.now 0 }
+        ensures short { IfSome result (λ message. length message.now ≤ MESSAGE_LIMIT) }
     {
-        self.messages.front()
+        let message = self.messages.front()?;
+        Some(message.bytes())
     }
 
     /// How many messages wait.
@@ -90,15 +103,6 @@ impl<A: Allocator> Queue<A> {
         ensures { result ≡ length self.now }
     {
         self.messages.len()
-    }
-
-    /// Puts a message last. Where there is no memory for it, nothing changes.
-    pub(crate) fn send(&mut self, message: &Message) -> Result<(), OutOfMemory>
-        ensures sent { IfOk result (λ _. self.new ≡ self.old ++ message.now ∷ []) }
-        ensures refused { IfErr result (λ _. self.new ≡ self.old) }
-    {
-        self.messages.push_back(message.copy())?;
-        Ok(())
     }
 
     /// Discards all messages.
@@ -135,7 +139,7 @@ impl<A: Allocator> Queue<A> {
 }
 
 // Whether the oldest message has these bytes.
-fn is_oldest<A: Allocator>(messages: &VecDeque<Message, A>, message: &Message) -> bool
+fn is_oldest<A: Allocator>(messages: &VecDeque<WaitingMessage<A>, A>, message: &Message) -> bool
     ensures { IsTrue result →
         position (λ one. bytes_eq one message.now) messages.now.items ≡ Some 0 }
 {
@@ -146,7 +150,10 @@ fn is_oldest<A: Allocator>(messages: &VecDeque<Message, A>, message: &Message) -
 }
 
 // The index of the first message with these bytes.
-fn index_of<A: Allocator>(messages: &VecDeque<Message, A>, message: &Message) -> Option<usize>
+fn index_of<A: Allocator>(
+    messages: &VecDeque<WaitingMessage<A>, A>,
+    message: &Message,
+) -> Option<usize>
     ensures { result ≡ position (λ one. bytes_eq one message.now) messages.now.items }
 {
     messages
@@ -159,7 +166,7 @@ fn index_of<A: Allocator>(messages: &VecDeque<Message, A>, message: &Message) ->
 fn count_from<A: Allocator + Copy>(
     alloc: A,
     tally: &mut Tally<A>,
-    messages: &VecDeque<Message, A>,
+    messages: &VecDeque<WaitingMessage<A>, A>,
     counted: usize,
 ) -> usize
     requires { IsCounted tally.old counted messages.now.items }

@@ -57,7 +57,7 @@ impl<A: Allocator + Copy> State<A> {
 // ---- partitions
 
 impl<A: Allocator> PartitionState<A> {
-    // Goes along with an entry of the partition, and with whether what it is about is doubted.
+    // Applies an entry of the partition, and sets whether what it is about is doubted.
     fn note_with_doubt(&mut self, call: &Call, reply: &Reply, subject: Subject, doubted: bool)
         ensures { (config : Configuration) (picture : Picture) (p : ℕ) (at : Moment) →
             let entry = entry_of p at call.now reply.now in
@@ -93,7 +93,7 @@ impl<A: Allocator> PartitionState<A> {
         }
     }
 
-    /// Goes along with an entry of the partition.
+    /// Applies an entry of the partition.
     pub(crate) fn note(&mut self, call: &Call, reply: &Reply)
         ensures { PartitionNotes call.now reply.now self.old self.new }
     {
@@ -160,7 +160,7 @@ impl<A: Allocator> PartitionState<A> {
 
 // ---- channels
 
-/// All channels go along with an entry.
+/// Applies an entry to all channels.
 pub(crate) fn note_channels<A: Allocator + Copy>(
     config: &Config,
     channels: &mut [ChannelState<A>],
@@ -197,7 +197,7 @@ pub(crate) fn note_channels<A: Allocator + Copy>(
 }
 
 // A message that was accepted waits last.
-fn note_send<A: Allocator>(
+fn note_send<A: Allocator + Copy>(
     config: &Config,
     channels: &mut [ChannelState<A>],
     partition: usize,

@@ -19,7 +19,7 @@ pub(crate) enum Subject {
     Nothing,
 }
 
-/// What an entry of a partition is about, where the standard has this reply.
+/// The subject of an entry of a partition, if the standard has this reply.
 pub(crate) fn subject_of(
     config: &Config,
     partition: usize,
@@ -54,7 +54,7 @@ fn is_of_mode(call: &Call, reply: &Reply) -> bool
     }
 }
 
-/// The identifier of the port that a call names or asks by identifier, where it is configured and of the call's kind.
+/// The identifier of the port that a call uses by name or by identifier, if it is configured and of the call's kind.
 pub(crate) fn port_about(config: &Config, partition: usize, call: &Call) -> Option<u32>
     requires { partition < length config.now.partitions }
     ensures { result ≡ port_about config.now partition call.now }
@@ -76,7 +76,7 @@ pub(crate) fn port_about(config: &Config, partition: usize, call: &Call) -> Opti
     }
 }
 
-// The identifier, where it is a sampling port's.
+// The identifier, if it is a sampling port's.
 fn sampling_id(config: &Config, partition: usize, id: Option<u32>) -> Option<u32>
     ensures { result ≡ id_in (sampling_of_id config.now partition id) }
 {
@@ -88,7 +88,7 @@ fn sampling_id(config: &Config, partition: usize, id: Option<u32>) -> Option<u32
     }
 }
 
-// The identifier, where it is a queuing port's.
+// The identifier, if it is a queuing port's.
 fn queuing_id(config: &Config, partition: usize, id: Option<u32>) -> Option<u32>
     ensures { result ≡ id_in (queuing_of_id config.now partition id) }
 {

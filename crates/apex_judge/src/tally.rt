@@ -7,8 +7,8 @@ use apex_types::OutOfMemory;
 use std::alloc::Allocator;
 use std::collections::BTreeMap;
 
-/// How often bytes are counted, where that is at least once. A tree, since the bytes come from outside: no choice of
-/// them makes a look-up slow.
+/// How often bytes were counted, if at least once. It is a tree, since the bytes come from outside: no choice of bytes
+/// makes a look-up slow.
 pub(crate) type Tally<A> = BTreeMap<Vec<u8, A>, usize, A>;
 
 /// How often the bytes are counted.

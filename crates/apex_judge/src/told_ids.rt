@@ -1,4 +1,4 @@
-//! The identifiers that a log told for the ports of a partition.
+//! The identifiers that a log gave to the ports of a partition.
 ghost use Rattle.std.specs.Prelude.{◌≡◌, ◌==◌, [], find, IfOk, IfErr};
 ghost use Rattle.apex_judge.specs.OwnIds.{ours_in, ours_of, system_of, is_new, given_of, known_of, told_with};
 
@@ -6,7 +6,7 @@ use apex_types::{OutOfMemory, Reply};
 use std::alloc::Global;
 use std::marker::Model;
 
-/// An identifier that a log told for a port.
+/// An identifier that a log gave to a port.
 #[derive(Clone, Copy, Debug, PartialEq, Eq)]
 pub struct ToldId {
     /// The system's.
@@ -15,16 +15,16 @@ pub struct ToldId {
     pub ours: u32,
 }
 
-/// What a log told before of a port that is created or asked for.
+/// What a log showed before about a port that is created or asked for.
 #[derive(Clone, Copy, Debug, PartialEq, Eq)]
 pub struct KnownIds {
-    /// The system's identifier of the port, if one was told.
+    /// The system's identifier of the port, if it is known.
     pub own: Option<u32>,
-    /// Our identifier of the port that has the identifier of the reply, if it was told for one.
+    /// Our identifier of the port that has the identifier in the reply, if one has it.
     pub holder: Option<u32>,
 }
 
-/// The identifiers that a log told for the ports of a partition since it started last.
+/// The identifiers that a log gave to the ports of a partition since it started last.
 #[derive(Debug, Drop)]
 pub(crate) struct ToldIds {
     ids: Vec<ToldId>,
@@ -84,14 +84,14 @@ impl ToldIds {
         Some(one.system)
     }
 
-    /// Whether neither an identifier nor a port was told of.
+    /// Whether neither an identifier nor a port is known.
     fn is_new(&self, system: u32, port: u32) -> bool
         ensures { result ≡ is_new self.now system port }
     {
         self.ours_in(system).is_none() && self.system_of(port).is_none()
     }
 
-    /// Our identifier in the place of one that is told for a port.
+    /// Our identifier instead of the one that a reply gives to a port.
     pub(crate) fn given_of(&self, port: Option<u32>, system: u32) -> u32
         ensures { result ≡ given_of self.now port system }
     {
@@ -101,7 +101,7 @@ impl ToldIds {
         }
     }
 
-    /// What was told of a port that is created or asked for.
+    /// What is known about a port that is created or asked for.
     pub(crate) fn known_of(&self, port: Option<u32>, system: u32) -> KnownIds
         ensures { result ≡ known_of self.now port system }
     {

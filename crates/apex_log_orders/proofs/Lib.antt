@@ -12,3 +12,4 @@ pub mod OwnReplies
 pub mod ReadLemmas
 pub mod Keys
 pub mod DeadEndSteps
+pub mod AboutLemmas

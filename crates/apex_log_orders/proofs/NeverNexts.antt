@@ -66,7 +66,7 @@ module _ (config : Configuration) (valid : IsConfiguration config) (logs : Logs)
   unclear : (h : History) → IsBeginning config logs h → HasNoClear h
   unclear h begins = no_clears h (λ p. subst HasNoClear (sym (begins.entries p)) (no_clear_front (length (entries_of p h)) (log_in logs p) (none p)))
 
-  -- the waiting messages are as many as were accepted and not received
+  -- the number of waiting messages is that of the accepted ones that were not received
   pub waits : (c : ℕ) (h : History) → IsBeginning config logs h → waiting_on config c h ≡ drop (length (received_on config c h)) (accepted_on config c h)
   waits c h begins = (without_clears config h c (unclear h begins)).waiting
 

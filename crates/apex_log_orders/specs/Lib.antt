@@ -2,3 +2,4 @@ pub mod LogOrders
 pub mod Walking
 pub mod Stuck
 pub mod DeadEnds
+pub mod ByChannel

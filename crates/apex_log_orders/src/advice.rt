@@ -1,10 +1,13 @@
 //! Which partition to try first. Only how soon an order is found depends on it.
 use crate::answer::{CallPlace, OwnLog};
 use crate::bounds::{Advance, Bounds};
+use crate::channel_ways::ChannelWays;
 use crate::log_reader::LogReader;
 use crate::messages::sent_messages;
 use apex_judge::Judge;
 use apex_module::Config;
+use apex_ports::Entry;
+use apex_types::Moment;
 use std::alloc::{AllocError, Global};
 
 /// What the logs say about the order before any call is tried: how far each call advances an end of a channel, and how
@@ -14,6 +17,8 @@ pub(crate) struct Advice {
     /// For each partition, what each of its calls does.
     advances: Vec<Vec<Option<Advance>>>,
     bounds: Bounds,
+    /// Which calls keep a way for the other calls of their channel.
+    ways: ChannelWays,
 }
 
 impl Advice {
@@ -27,6 +32,7 @@ impl Advice {
         let mut advice = Advice {
             advances: Vec::new(alloc),
             bounds: Bounds::new(alloc, config)?,
+            ways: ChannelWays::unknown(alloc),
         };
         for p in 0..config.partitions() {
             advice.read_log(alloc, config, logs, sent.as_slice(), p)?;
@@ -55,6 +61,18 @@ impl Advice {
         Ok(())
     }
 
+    /// Learns from which points of each channel its calls can be made to the end. Without memory for it nothing changes.
+    pub(crate) fn learn_ways(&mut self, alloc: Global, config: &Config, logs: &[OwnLog]) {
+        if let Ok(ways) = ChannelWays::new(alloc, config, logs) {
+            self.ways = ways;
+        }
+    }
+
+    /// Whether the calls that use the channel can all be made; `None` if that isn't known.
+    pub(crate) fn has_way(&self, channel: usize) -> Option<bool> {
+        self.ways.has_way(channel)
+    }
+
     /// The partition to try first after `made` calls of each: starting with the one that made the last call, upward and
     /// cyclically, the first whose next call gets the logged reply and hinders no call to come.
     pub(crate) fn first(
@@ -64,6 +82,9 @@ impl Advice {
         made: &[usize],
         last: usize,
     ) -> usize {
+        if self.ways.are_known() {
+            return self.earliest(judge, logs, made, last);
+        }
         let partitions = judge.config().partitions();
         for p in last..partitions {
             if self.is_good(judge, logs, made, p) {
@@ -80,19 +101,57 @@ impl Advice {
 
     /// Whether the partition's next call gets the logged reply and hinders no call to come.
     pub(crate) fn is_good(&self, judge: &Judge, logs: &[OwnLog], made: &[usize], p: usize) -> bool {
-        let Some(index) = made.get(p).copied() else {
-            return false;
-        };
-        if p >= judge.config().partitions() || self.hindered(made, p).is_some() {
+        if p >= judge.config().partitions() {
             return false;
         }
-        let Some(log) = logs.get(p) else {
+        let Some(entry) = next_entry(logs, made, p) else {
             return false;
         };
-        let Some(entry) = log.entries.get(index) else {
-            return false;
+        let is_free = match self.ways.keep_way(judge, logs, made, p, entry) {
+            Some(keeps) => keeps,
+            None => self.hindered(made, p).is_none(),
         };
-        judge.agrees(p, entry.at, &entry.call, &entry.reply)
+        is_free && judge.agrees(p, entry.at, &entry.call, &entry.reply)
+    }
+
+    /// The partition whose next call is the earliest of those that get the logged reply and hinder no call to come;
+    /// starting with the one that made the last call, if there are several.
+    fn earliest(&self, judge: &Judge, logs: &[OwnLog], made: &[usize], last: usize) -> usize {
+        let partitions = judge.config().partitions();
+        let mut best = None;
+        for p in last..partitions {
+            best = self.earlier(judge, logs, made, best, p);
+        }
+        for p in 0..partitions {
+            best = self.earlier(judge, logs, made, best, p);
+        }
+        match best {
+            Some((_, p)) => p,
+            None => last,
+        }
+    }
+
+    /// The partition with the moment of its next call, if that is earlier than the best and good.
+    fn earlier(
+        &self,
+        judge: &Judge,
+        logs: &[OwnLog],
+        made: &[usize],
+        best: Option<(Moment, usize)>,
+        p: usize,
+    ) -> Option<(Moment, usize)> {
+        let Some(entry) = next_entry(logs, made, p) else {
+            return best;
+        };
+        if let Some((at, _)) = best {
+            if at <= entry.at {
+                return best;
+            }
+        }
+        if self.is_good(judge, logs, made, p) {
+            return Some((entry.at, p));
+        }
+        best
     }
 
     /// The first call to come that the partition's next call hinders.
@@ -109,4 +168,10 @@ impl Advice {
     fn advance_of(&self, p: usize, index: usize) -> Option<Advance> {
         *self.advances.get(p)?.get(index)?
     }
+}
+
+/// The partition's next entry.
+fn next_entry<'a>(logs: &'a [OwnLog], made: &[usize], p: usize) -> Option<&'a Entry> {
+    let index = *made.get(p)?;
+    logs.get(p)?.entries.get(index)
 }

@@ -10,9 +10,6 @@ use apex_module::Config;
 use std::alloc::{AllocError, Global};
 use std::collections::BTreeSet;
 
-/// The memory that dead ends may take, in bytes.
-const MEMORY: usize = 1 << 30;
-
 /// The memory that a dead end takes besides its numbers, in bytes: its place in the set, and the allocator's part.
 const PLACE: usize = 64;
 
@@ -27,19 +24,19 @@ pub(crate) struct DeadEnds {
 }
 
 impl DeadEnds {
-    /// No dead ends yet.
-    pub(crate) fn new(alloc: Global, config: &Config) -> DeadEnds
+    /// No dead ends yet. Those to come may take this many bytes.
+    pub(crate) fn new(alloc: Global, config: &Config, memory: usize) -> DeadEnds
         ensures { (logs : Logs) → AreDead config.now logs result.keys }
     {
         let size = numbers_of(config).saturating_mul(8).saturating_add(PLACE);
         DeadEnds {
             keys: BTreeSet::new(alloc),
-            room: MEMORY / size,
+            room: memory / size,
             alloc,
         }
     }
 
-    /// Whether the calls made so far end where a dead end was met before.
+    /// Whether the calls made so far lead to a dead end that was met before.
     pub(crate) fn has(&self, config: &Config, logs: &[OwnLog], walk: &Walk) -> bool
         requires walk { IsWalk config.now logs.now walk.now }
         requires dead { AreDead config.now logs.now self.now.keys }

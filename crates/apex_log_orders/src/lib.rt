@@ -5,17 +5,22 @@
 mod advice;
 pub mod answer;
 mod bounds;
+mod by_channel;
+mod channel_ways;
 mod choice;
 mod dead_ends;
 mod ends;
 mod log_reader;
 mod messages;
+mod points;
 mod progress;
 mod reads;
 mod replay;
 mod search;
+mod second_search;
 mod stuck;
 mod too_soon;
+mod uses;
 mod walk;
 
 pub use crate::answer::{Answer, CallPlace, OwnLog};

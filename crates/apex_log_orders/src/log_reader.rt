@@ -210,7 +210,7 @@ fn clearing(
 }
 
 /// The number of messages that wait on a channel of this depth, according to the reply.
-fn waiting_shown(entry: &Entry, depth: usize) -> Option<usize> {
+pub(crate) fn waiting_shown(entry: &Entry, depth: usize) -> Option<usize> {
     match &entry.reply {
         Reply::QueuingStatus { waiting, .. } => Some(*waiting as usize),
         Reply::Code(ReturnCode::NotAvailable) => match &entry.call {
@@ -223,7 +223,7 @@ fn waiting_shown(entry: &Entry, depth: usize) -> Option<usize> {
 }
 
 /// The identifier of the port that a call names, except for calls that create or look up.
-fn port_of(call: &Call) -> Option<u32> {
+pub(crate) fn port_of(call: &Call) -> Option<u32> {
     match call {
         Call::WriteSampling { id, .. } => Some(*id),
         Call::ReadSampling { id } => Some(*id),

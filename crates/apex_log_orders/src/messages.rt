@@ -75,7 +75,7 @@ pub(crate) fn is_accepted(entry: &Entry) -> bool {
 }
 
 /// The message that an entry sends or writes.
-fn message_of(entry: &Entry) -> Option<&Message> {
+pub(crate) fn message_of(entry: &Entry) -> Option<&Message> {
     match &entry.call {
         Call::SendQueuing { message, .. } => Some(message),
         Call::WriteSampling { message, .. } => Some(message),

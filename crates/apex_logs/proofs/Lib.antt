@@ -1,3 +1,4 @@
+pub mod EndLemmas
 pub mod LineSourceLemmas
 pub mod LogLemmas
 pub mod ReadsBack

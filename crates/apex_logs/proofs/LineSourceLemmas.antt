@@ -33,7 +33,7 @@ module _ (text : List ℕ) where
 
 -- ---- pieces
 
--- the next piece in the place of one that is used up
+-- the next piece, after the one before is used up
 pub refilled : (old new : Option (List ℕ)) (start : ℕ) (used piece : List ℕ) → length used ≤ start → Consumes old new piece → Keeps (prepend_known (drop start used) old) (prepend_known piece new)
 refilled None new start used piece is_used read = tt
 refilled (Some xs) None start used piece is_used read = absurd read

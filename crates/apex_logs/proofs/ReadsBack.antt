@@ -1,4 +1,4 @@
--- What a report says of a reply is read as the reply.
+-- The words of a report for a reply are read as the reply.
 use Rattle.std.proofs.Common.{◌≡◌, ℕ, ◌+◌, ◌-◌, ◌*◌, ◌/◌, ◌%◌, ◌^◌, ◌<◌, ◌≤◌, Bool, true, false, not, eqb, cond, List, [], ◌∷◌, ◌++◌, length, get_or, Some, None, Result, Ok, Err, refl, sym, ap, subst, ◌∙◌, append_assoc, length-append, leb, arith, codes, decimal}
 use Rattle.std.specs.Prelude.{filter, All}
 use Rattle.std.specs.List.{slice_split}

@@ -16,7 +16,7 @@ use Rattle.apex_logs.specs.LogLine.{entry_of_line, ends_calls}
 
 -- ---- lines
 
--- lines, where they are known
+-- lines, if they are known
 abbrev pub KnownLines : Type 0
 KnownLines = Option (List (List ℕ))
 
@@ -31,7 +31,7 @@ abbrev pub IsNextLine : Bool → List ℕ → KnownLines → KnownLines → Type
 IsNextLine true line before after = LeavesLines before (line ∷ []) after
 IsNextLine false line before after = IfSome before (λ left. left ≡ [])
 
--- what a reader in pieces has left: the rest of its piece, and then what its own reader has left, where that is known
+-- what a reader in pieces has left: the rest of its piece, and then what its own reader has left, if that is known
 abbrev pub text_left : {R : Type 0} → (R → Option (List ℕ)) → LineReader R → Option (List ℕ)
 text_left remaining reader = prepend_known (drop reader.start reader.piece.items) (remaining reader.reader)
 

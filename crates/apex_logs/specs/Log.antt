@@ -1,5 +1,5 @@
--- What a log stands for: the entries of its lines in order, or its first faulty line. Whose log it is, which says how
--- what its lines ask is read, is a parameter.
+-- What a log means: the entries of its lines in order, or its first faulty line. A parameter says whose log it is, and so
+-- how its lines are read.
 use Rattle.std.specs.Prelude.{◌≡◌, ℕ, ◌+◌, if◌then◌else◌, List, [], ◌∷◌, ◌++◌, codes, decimal, Option, Some, None, Result, Ok, Err}
 use Rattle.std.specs.Global.{Vec}
 use Rattle.std.specs.Str.Lines.{lines}
@@ -26,7 +26,7 @@ abbrev pub error_words : LogError → List ℕ
 error_words (errors.Line faulty) = faulty_line_words faulty
 error_words errors.OutOfMemory = codes "out of memory"
 
--- what the line with this number adds in front of what the lines after it stand for
+-- what the line with this number adds before the meaning of the lines after it
 abbrev pub before : ℕ → Result (Option (Entry × TimeOut)) LogFault → Result (List LoggedEntry) FaultyLine → Result (List LoggedEntry) FaultyLine
 before number (Err fault) after = Err (record { line = number; fault = fault })
 before number (Ok None) after = after
@@ -54,7 +54,7 @@ IsNext asked_by number lines entry None = entries_from asked_by number lines ≡
 IsNext asked_by number lines entry (Some found) =
     entries_from asked_by number lines ≡ before found.0 (Ok (Some (entry, found.1))) (entries_from asked_by (found.0 + 1) found.2)
 
--- what a reader answered is what the log stands for, unless memory was refused
+-- a reader returns the log's meaning, unless memory ran out
 abbrev pub IsLogRead : Result (Vec LoggedEntry) LogError → Result (List LoggedEntry) FaultyLine → Type 0
 IsLogRead (Ok read) meaning = meaning ≡ Ok read.items
 IsLogRead (Err (errors.Line faulty)) meaning = meaning ≡ Err faulty

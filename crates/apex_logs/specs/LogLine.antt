@@ -1,4 +1,4 @@
--- What a line of a log stands for: the entry of its call and its logged reply.
+-- What a line of a log means: the entry of its call and its logged reply.
 --     MOMENT PARTITION CALL ARGUMENTS timeout TIME -> REPLY (NOTE)
 -- A log of one partition has no PARTITION. A time-out and a note may be left out, and a note is passed over.
 use Rattle.std.specs.Prelude.{ℕ, Bool, false, ◌+◌, ◌==◌, if◌then◌else◌, List, [], ◌∷◌, take, drop, codes, bytes_eq, position, Option, Some, None, Result, Ok, Err}
@@ -19,16 +19,16 @@ use Rattle.apex_logs.specs.TimedCall.{logged_request_at, own_request_at}
 
 -- ---- the arrow
 
--- where the first arrow stands
+-- the index of the first arrow
 abbrev pub arrow_in : List ℕ → Option ℕ
 arrow_in text = first_of (matches text (codes "->") 0)
 
--- what stands before the arrow at an index, and what stands behind it
+-- what is before the arrow at an index, and what is after it
 abbrev pub sides_at : List ℕ → Option ℕ → Result (List ℕ × List ℕ) LogFault
 sides_at text None = Err NoReply
 sides_at text (Some at) = Ok (take at text, drop (at + 2) text)
 
--- what stands before the first arrow, and what stands behind it
+-- what is before the first arrow, and what is after it
 abbrev pub sides_of : List ℕ → Result (List ℕ × List ℕ) LogFault
 sides_of text = sides_at text (arrow_in text)
 
@@ -38,21 +38,21 @@ sides_of text = sides_at text (arrow_in text)
 abbrev pub is_bracket : ℕ → Bool
 is_bracket byte = byte == 40
 
--- whether the last byte that isn't blank is a closing bracket; where all are blank, as it was before
+-- whether the last byte that isn't blank is a closing bracket; if all are blank, as before
 abbrev pub is_closed : Bool → List ℕ → Bool
 is_closed before [] = before
 is_closed before (byte ∷ rest) = is_closed (if is_blank byte then before else byte == 41) rest
 
--- what stands before the note that begins at an index
+-- what is before the note that begins at an index
 abbrev pub before_note_at : List ℕ → Option ℕ → Result (List ℕ) LogFault
 before_note_at text None = Ok text
 before_note_at text (Some at) = if is_closed false (drop at text) then Ok (take at text) else Err OpenNote
 
--- what stands before the note of a text: from its first bracket on, closed at the end
+-- what is before the note of a text; the note begins at the first bracket and must be closed at the end
 abbrev pub before_note : List ℕ → Result (List ℕ) LogFault
 before_note text = before_note_at text (position is_bracket text)
 
--- the reply behind an arrow
+-- the reply after an arrow
 unfoldable pub reply_behind : List ℕ → Result Reply LogFault
 reply_behind text = do
   words ← before_note text
@@ -60,7 +60,7 @@ reply_behind text = do
 
 -- ---- the line
 
--- the parts of a line: the first word of its call, the words after it, and what stands behind the arrow
+-- the parts of a line: the first word of its call, the words after it, and what is after the arrow
 pub record Parts : Type 0 where
   pub moment : List ℕ
   pub words : List (List ℕ)

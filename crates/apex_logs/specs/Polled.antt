@@ -1,4 +1,4 @@
--- An entry in the words of a log without time-outs: what its call would have got without one where it returned.
+-- An entry as in a log without time-outs: the reply that its call would have got without one when it returned.
 use Rattle.std.specs.Prelude.{Bool}
 use Rattle.apex_ports.specs.declared.history.Entry.{Entry}
 use Rattle.apex_logs.specs.declared.log.LoggedEntry.{LoggedEntry}

@@ -56,7 +56,7 @@ named_at named words = do
 abbrev pub number_at : ℕ → List (List ℕ) → Result (ℕ × List (List ℕ)) LogFault
 number_at limit words = as_in_trace (argument_at (number_up_to limit) line_faults.Number words)
 
--- a number behind a word that has to be this
+-- a number after a word that must be this one
 abbrev pub number_after : List ℕ → List (List ℕ) → Result (ℕ × List (List ℕ)) LogFault
 number_after expected words = do
   rest ← after_word expected words
@@ -78,19 +78,19 @@ validity_named word = find (λ validity. bytes_eq (validity_word validity) word)
 abbrev pub no_word : List (List ℕ) → Result (List (List ℕ)) LogFault
 no_word words = as_in_trace (exactly 0 words)
 
--- a reply behind which no word is left
+-- a reply after which no word is left
 abbrev pub whole : Reply → List (List ℕ) → Result Reply LogFault
 whole reply words = do
   rest ← no_word words
   Ok reply
 
--- behind `not`: MADE
+-- after `not`: MADE
 unfoldable pub not_made_at : List (List ℕ) → Result Reply LogFault
 not_made_at words = do
   rest ← after_word (codes "made") words
   whole replies.NotMade rest
 
--- behind `NO_ERROR id`: ID
+-- after `NO_ERROR id`: ID
 unfoldable pub id_at : List (List ℕ) → Result Reply LogFault
 id_at words = do
   id ← number_at NUMBER_LIMIT words
@@ -100,26 +100,26 @@ id_at words = do
 abbrev pub message_of : List ℕ → Result (List ℕ) LogFault
 message_of word = as_in_trace (or_fault line_faults.Message (message_in word))
 
--- a message, and its validity where there is one
+-- a message, and its validity if there is one
 abbrev pub shown : List ℕ → List (List ℕ) → Result Reply LogFault
 shown message [] = Ok (replies.Received message)
 shown message (word ∷ words) = do
   validity ← or_unknown (validity_named word)
   whole (replies.Read message validity) words
 
--- the message that a word is, and its validity where there is one
+-- the message that a word gives, and its validity if there is one
 abbrev pub shown_by : List ℕ → List (List ℕ) → Result Reply LogFault
 shown_by word words = do
   message ← message_of word
   shown message words
 
--- behind `NO_ERROR message`: MESSAGE, or MESSAGE VALIDITY
+-- after `NO_ERROR message`: MESSAGE, or MESSAGE VALIDITY
 unfoldable pub message_reply_at : List (List ℕ) → Result Reply LogFault
 message_reply_at words = do
   word ← first_word words
   shown_by word.0 word.1
 
--- behind `NO_ERROR waiting`: WAITING depth DEPTH size SIZE DIRECTION processes 0
+-- after `NO_ERROR waiting`: WAITING depth DEPTH size SIZE DIRECTION processes 0
 unfoldable pub queuing_status_at : List (List ℕ) → Result Reply LogFault
 queuing_status_at words = do
   waiting ← number_at NUMBER_LIMIT words
@@ -130,7 +130,7 @@ queuing_status_at words = do
   rest ← after_word (codes "0") processes
   whole (replies.QueuingStatus waiting.0 depth.0 size.0 direction.0) rest
 
--- behind `NO_ERROR refresh`: REFRESH size SIZE DIRECTION last VALIDITY
+-- after `NO_ERROR refresh`: REFRESH size SIZE DIRECTION last VALIDITY
 unfoldable pub sampling_status_at : List (List ℕ) → Result Reply LogFault
 sampling_status_at words = do
   refresh ← number_at REFRESH_LIMIT words
@@ -140,7 +140,7 @@ sampling_status_at words = do
   last ← named_at validity_named rest
   whole (replies.SamplingStatus refresh.0 size.0 direction.0 last.0) last.1
 
--- behind `NO_ERROR`: what a word says of the words after it
+-- after `NO_ERROR`: what a word says about the words after it
 unfoldable pub data_at : List ℕ → List (List ℕ) → Result Reply LogFault
 data_at word words =
     if bytes_eq word (codes "id") then id_at words
@@ -149,12 +149,12 @@ data_at word words =
     else if bytes_eq word (codes "refresh") then sampling_status_at words
     else Err UnknownReply
 
--- behind `NO_ERROR`: nothing, or data
+-- after `NO_ERROR`: nothing, or data
 abbrev pub behind_no_error : List (List ℕ) → Result Reply LogFault
 behind_no_error [] = Ok (replies.Code NoError)
 behind_no_error (word ∷ words) = data_at word words
 
--- behind a return code
+-- after a return code
 unfoldable pub behind_code : ReturnCode → List (List ℕ) → Result Reply LogFault
 behind_code NoError words = behind_no_error words
 behind_code code words = whole (replies.Code code) words

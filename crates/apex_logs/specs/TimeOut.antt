@@ -1,5 +1,5 @@
--- Time-outs of logged calls. A call with a time-out stands in the log where it returned, so what it got is what a call
--- without one would have got there, in other words: TIMED_OUT in the place of NOT_AVAILABLE.
+-- Time-outs of logged calls. The line of a call with a time-out is at the place where the call returned. So it got the
+-- reply that a call without one would have got there, except that TIMED_OUT replaces NOT_AVAILABLE.
 use Rattle.std.specs.Prelude.{Bool, true, false, ◌&&◌, ◌==◌, if◌then◌else◌}
 use Rattle.apex_types.specs.declared.call.Call.{Call}
 use Rattle.apex_types.specs.declared.call.Call.TheVariants.{SendQueuing, ReceiveQueuing}
@@ -37,7 +37,7 @@ abbrev pub as_polled : MaxWait → Reply → Reply
 as_polled wait (Code code) = Code (polled_code wait code)
 as_polled wait reply = reply
 
--- the standard's reply to a call without a time-out, as it is to one that may wait; where it would still wait, there is none
+-- the standard's reply to a call without a time-out, as the reply to one that may wait; none if it would still wait
 abbrev pub waited_code : MaxWait → ReturnCode → ReturnCode
 waited_code Finite NotAvailable = TimedOut
 waited_code wait code = code

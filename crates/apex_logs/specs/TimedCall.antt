@@ -1,4 +1,4 @@
--- The call of a log's line: that of a trace's line, and behind the arguments of a send or a receive its time-out.
+-- The call of a log's line: that of a trace's line, and after the arguments of a send or a receive its time-out.
 --     SERVICE ARGUMENTS timeout NANOSECONDS
 --     SERVICE ARGUMENTS timeout infinite
 use Rattle.std.specs.Prelude.{ℕ, if◌then◌else◌, List, [], ◌∷◌, codes, bytes_eq, Option, Some, None, option_map, Result, Ok, Err}
@@ -28,20 +28,20 @@ abbrev pub time_out_of : Option (List ℕ) → Result TimeOut LineFault
 time_out_of None = Ok said.Unsaid
 time_out_of (Some word) = or_fault Number (time_out_in word)
 
--- the word behind `timeout`, which is the last
+-- the word after `timeout`, which is the last
 abbrev pub last_word : List (List ℕ) → Result (Option (List ℕ)) LineFault
 last_word words = do
   word ← word_at words
   rest ← exactly 0 word.1
   Ok (Some word.0)
 
--- the word of the time-out behind arguments, if there is one
+-- the word of the time-out after arguments, if there is one
 abbrev pub time_out_word : List (List ℕ) → Result (Option (List ℕ)) LineFault
 time_out_word [] = Ok None
 time_out_word (word ∷ words) = if bytes_eq word (codes "timeout") then last_word words else Err TooManyWords
 
--- the call to a service with the words behind its name, and its time-out: there have to be as many words as the service
--- takes, and then each is read
+-- the call to a service with the words after its name, and its time-out: the number of words must be right, and then each
+-- is read
 unfoldable pub timed_call_with : Service → List (List ℕ) → Result (Call × TimeOut) LineFault
 timed_call_with SendQueuing words = do
   id ← word_at words

@@ -79,7 +79,7 @@ impl<R: Read> LineSource for LineReader<R> {
     }
 }
 
-/// Reads the next piece in the place of one that is used up. It is empty where the reader has ended.
+/// Reads the next piece after the one before is used up. It is empty if the reader has ended.
 fn read_piece<R: Read>(reader: &mut R, piece: &mut Vec<u8>) -> Result<(), ReadError>
     ensures bytes { OnOk result
         (Consumes (R.remaining reader.old) (R.remaining reader.new) piece.new.items) }

@@ -34,7 +34,7 @@ impl From<AllocError> for ReadError {
 pub trait LineSource {
     ghost use Rattle.std.specs.Prelude.{ℕ, List, Option};
 
-    // The lines that are left, where they are known.
+    // The lines that are left, if they are known.
     ghost left: { Self → Option (List (List ℕ)) };
 
     /// Makes `line` the next line, and answers whether there is one.
@@ -74,7 +74,7 @@ pub enum LogStep {
     NoEntry,
     /// It ends the calls.
     CallsEnd,
-    /// There is none.
+    /// There are no more lines.
     NoLine,
 }
 
@@ -87,8 +87,8 @@ pub enum StepError {
     Unread(ReadError),
 }
 
-/// Reads the next line of a log into `line` and its entry, if it has one, into `entry`. After a fault, and if there is no
-/// entry, any may stand there.
+/// Reads the next line of a log into `line` and its entry, if it has one, into `entry`. After a fault, and if the line has
+/// no entry, `entry` is unspecified.
 pub fn next_step<L: LineSource, F: LogForm>(
     lines: &mut L,
     form: &F,

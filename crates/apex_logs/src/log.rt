@@ -134,9 +134,9 @@ impl LogForm for PartitionLog {
     }
 }
 
-/// Reads the first entry of a text that follows so many lines into `entry`, and answers the number of its line, its
-/// time-out and the text after that line; none where the calls have ended. Lines without a call are passed over. After a fault, and
-/// where there is none, any entry may stand there.
+/// Reads the first entry of a text into `entry`; the text follows this number of lines. Returns the number of the entry's
+/// line, its time-out and the text after that line; none if the calls have ended. Lines without a call are skipped. After
+/// a fault, and if there is no entry, `entry` is unspecified.
 pub fn next_entry<'a, F: LogForm>(
     form: &F,
     before: usize,

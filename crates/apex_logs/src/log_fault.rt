@@ -14,9 +14,9 @@ pub enum LogFault {
     Line(LineFault),
     /// The line has no arrow.
     NoReply,
-    /// The bracket of a note isn't closed where the line ends.
+    /// The bracket of a note isn't closed at the end of the line.
     OpenNote,
-    /// A word behind the arrow is none that a reply has there.
+    /// No reply has such a word at this place after the arrow.
     UnknownReply,
 }
 

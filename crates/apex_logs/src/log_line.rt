@@ -16,7 +16,7 @@ use apex_ports::Entry;
 use apex_texts::LineFault;
 use apex_texts::arguments::{moment_of, service_at, word_at};
 use apex_texts::lines::line_words;
-use apex_texts::text::next_word;
+use apex_texts::text::{next_word, word_in};
 use apex_types::{Call, Moment, Reply};
 use memchr::{memchr, memmem};
 
@@ -29,7 +29,7 @@ pub const ANY_ENTRY: Entry = Entry {
 };
 
 /// Reads the entry of a log's line into `entry`, and answers its time-out, if the line has an entry: a line without
-/// words and a comment have none. After a fault any entry may stand there.
+/// words and a comment have none. After a fault `entry` is unspecified.
 #[tactic(auto, unfolding(crate::specs::LogLine::entry_of_line, crate::specs::LogLine::entry_of_parts))]
 pub fn read_log_line(
     config: &Config,
@@ -79,13 +79,27 @@ pub fn read_partition_log_line(
 pub fn ends_calls(line: &[u8]) -> bool
     ensures { result ≡ ends_calls line.now }
 {
+    if !may_end_calls(line) {
+        return false;
+    }
     match next_word(line) {
         None => false,
         Some((word, _)) => word == "after".as_bytes(),
     }
 }
 
-// The first word of a line's call, the words after it, and what stands behind the arrow.
+// Whether the first byte that isn't blank is that of `after`. In most lines this byte alone shows that they don't end the
+// calls.
+fn may_end_calls(line: &[u8]) -> bool
+    ensures { result ≡ false → ends_calls line.now ≡ false }
+{
+    match word_in(line) {
+        None => false,
+        Some(start) => line[start] == b'a',
+    }
+}
+
+// The first word of a line's call, the words after it, and the text behind the arrow.
 #[derive(Drop)]
 struct LineParts<'a> {
     moment: &'a [u8],
@@ -116,7 +130,7 @@ fn parts_of(line: &[u8]) -> Result<Option<LineParts<'_>>, LogFault>
     }
 }
 
-/// What stands before the first arrow of a line, and what stands behind it.
+/// The text before the first arrow of a line, and the text behind it.
 pub fn sides_of(line: &[u8]) -> Result<(&[u8], &[u8]), LogFault>
     ensures { Gives (λ x. (x.0.now, x.1.now)) result (sides_of line.now) }
 {
@@ -183,7 +197,7 @@ fn read_reply_behind(text: &[u8], reply: &mut Reply) -> Result<(), LogFault>
     read_reply(before_note(text)?, reply)
 }
 
-/// What stands before the note of what is behind an arrow, all of it if there is no note.
+/// The text behind an arrow without its note, if it has one.
 pub fn before_note(text: &[u8]) -> Result<&[u8], LogFault>
     ensures { Gives (λ x. x.now) result (before_note text.now) }
 {

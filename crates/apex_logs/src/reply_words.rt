@@ -1,5 +1,6 @@
 //! The reply that words say, in the words of a report.
 ghost use Rattle.std.specs.Prelude.{◌≡◌, [], ◌∷◌};
+ghost use Rattle.apex_types.specs.declared.reply.Reply.TheVariants as replies;
 ghost use Rattle.apex_texts.specs.Text.{words_of};
 ghost use Rattle.apex_logs.specs.ReplyWords.{Gives, first_word, after_word, named_at, number_at, number_after, no_word, code_named, direction_named, validity_named, not_made_at, id_at, message_of, shown_by, message_reply_at, queuing_status_at, sampling_status_at, data_at, behind_no_error, behind_code, reply_by, reply_of};
 
@@ -13,7 +14,7 @@ use apex_types::{Direction, Message, Reply, ReturnCode, Validity};
 /// The greatest refresh period of a logged status, in nanoseconds: that of 64 bits.
 pub const REFRESH_LIMIT: u64 = 18_446_744_073_709_551_615;
 
-/// Reads the reply that the words are into `entry`. After a fault any reply may stand there.
+/// Reads the reply that the words are into `reply`. After a fault `reply` is unspecified.
 #[tactic(auto, unfolding(crate::specs::ReplyWords::reply_of))]
 pub fn read_reply(words: &[u8], reply: &mut Reply) -> Result<(), LogFault>
     ensures { Gives (λ _. reply.new) result (reply_of (words_of words.now)) }
@@ -48,9 +49,19 @@ fn read_behind_code(code: ReturnCode, words: &[u8], reply: &mut Reply) -> Result
         ReturnCode::NoError => read_behind_no_error(words, reply),
         _ => {
             no_word(words)?;
-            *reply = Reply::Code(code);
+            set_code(reply, code);
             Ok(())
         }
+    }
+}
+
+// Makes a reply a bare return code. If it already is one, only the code is written, and not the room for a message.
+fn set_code(reply: &mut Reply, code: ReturnCode)
+    ensures { reply.new ≡ replies.Code code }
+{
+    match reply {
+        Reply::Code(old) => *old = code,
+        _ => *reply = Reply::Code(code),
     }
 }
 
@@ -58,7 +69,7 @@ fn read_behind_no_error(words: &[u8], reply: &mut Reply) -> Result<(), LogFault>
     ensures { Gives (λ _. reply.new) result (behind_no_error (words_of words.now)) }
 {
     match next_word(words) {
-        None => *reply = Reply::Code(ReturnCode::NoError),
+        None => set_code(reply, ReturnCode::NoError),
         Some((word, rest)) => read_data(word, rest, reply)?,
     }
     Ok(())
@@ -114,8 +125,8 @@ fn read_message_reply(words: &[u8], reply: &mut Reply) -> Result<(), LogFault>
     }
 }
 
-// A function clears the room of its values where it begins, those of functions inlined into it too. So each
-// function that makes a reply with a message isn't inlined.
+// A function clears the stack room of its values when it begins, including those of functions inlined into it. So no
+// function that makes a reply with a message is inlined.
 #[inline(never)]
 fn read_received(word: &[u8], reply: &mut Reply) -> Result<(), LogFault>
     ensures { Gives (λ _. reply.new) result (shown_by word.now []) }

@@ -1,4 +1,4 @@
-//! That what a report says of a reply is read as the reply.
+//! The law that the words of a report for a reply are read as the reply.
 ghost use Rattle.std.specs.Prelude.{◌≡◌, Ok};
 ghost use Rattle.apex_texts.specs.Report.{reply_text};
 ghost use Rattle.apex_texts.specs.Text.{words_of};
@@ -43,7 +43,7 @@ fn id_reads_back(id: u32)
     ensures { let reply = Reply.Id id in reply_of (words_of (reply_text reply)) ≡ Ok reply }
 {}
 
-// That its text stands for a message is a clause of the text.
+// A clause of the text says that it gives a message.
 fn received_reads_back(message: &Message)
     ensures { let reply = Reply.Received message.now in
         reply_of (words_of (reply_text reply)) ≡ Ok reply }

@@ -1,10 +1,10 @@
-//! The time-outs of logged calls, and what a call would have got without one where it returned.
+//! The time-outs of logged calls, and the reply that a call would have got without one when it returned.
 ghost use Rattle.std.specs.Prelude.{◌≡◌};
 ghost use Rattle.apex_logs.specs.TimeOut.{can_wait, max_wait_of, polled_code, as_polled, as_waited};
 
 use apex_types::{Call, Reply, ReturnCode};
 
-/// What a line of a log says of its call's time-out.
+/// What a line of a log says about its call's time-out.
 #[derive(Clone, Copy, Debug, PartialEq, Eq)]
 pub enum TimeOut {
     /// Nothing.
@@ -39,7 +39,7 @@ impl MaxWait {
         }
     }
 
-    /// The return code that the call would have got without a time-out where it returned.
+    /// The return code that the call would have got without a time-out when it returned.
     pub fn polled_code(self, code: ReturnCode) -> ReturnCode
         ensures { result ≡ polled_code self code }
     {
@@ -50,7 +50,7 @@ impl MaxWait {
         }
     }
 
-    /// Replaces a logged reply by the one that the call would have got without a time-out where it returned.
+    /// Replaces a logged reply with the one that the call would have got without a time-out when it returned.
     pub fn poll(self, reply: &mut Reply)
         ensures { reply.new ≡ as_polled self reply.old }
     {

@@ -1,4 +1,4 @@
-//! The call of a log's line: that of a trace's line, and behind the arguments of a send or a receive its time-out.
+//! The call of a log's line: that of a trace's line, and after the arguments of a send or a receive its time-out.
 ghost use Rattle.std.specs.Prelude.{◌≡◌, option_map};
 ghost use Rattle.apex_texts.specs.Arguments.{Gives, or_fault, message_in};
 ghost use Rattle.apex_texts.specs.Text.{words_of, number_up_to};
@@ -11,8 +11,8 @@ use apex_texts::{LineFault, Service};
 use apex_types::{Call, Message};
 use std::str;
 
-/// Reads the call to a service, with the arguments that the words are, into `call`, and answers its time-out. After a
-/// fault any call may stand there.
+/// Reads the call to a service, with the arguments that the words give, into `call`, and returns its time-out. After a
+/// fault, `call` is unspecified.
 #[tactic(auto, unfolding(crate::specs::TimedCall::timed_call_with))]
 pub(crate) fn read_timed_call(
     service: Service,
@@ -32,7 +32,7 @@ pub(crate) fn read_timed_call(
     }
 }
 
-// Not inlined, since a function that makes a call with a message clears its room where it begins.
+// Not inlined, since a function that makes a call with a message clears its stack room when it begins.
 #[inline(never)]
 #[tactic(auto, unfolding(crate::specs::TimedCall::timed_call_with, apex_texts::specs::Arguments::call_at))]
 fn read_send(words: &[u8], call: &mut Call) -> Result<TimeOut, LineFault>
@@ -68,7 +68,7 @@ fn read_receive(words: &[u8], call: &mut Call) -> Result<TimeOut, LineFault>
     time_out_of(time_out)
 }
 
-// The word of the time-out behind arguments, if there is one.
+// The word of the time-out after arguments, if there is one.
 fn time_out_word(words: &[u8]) -> Result<Option<&[u8]>, LineFault>
     ensures { Gives (option_map (λ word. word.now)) result (time_out_word (words_of words.now)) }
 {

@@ -40,14 +40,14 @@ forks pass known version views h at j other e = ⊎_elim
     (λ (is : known ≡ other). h pass other (at ∙ ap some is))
     (at_snoc (slice_set views pass known) known other j e)
 
-told_fits : (version : Published) (views : List (Option Published)) (pass other : ℕ) (told : Option Published) → IsOneChannel version views → ¬ (other ≡ pass) → get_elem? (slice_set views pass told) other ≡ some told → IsOf version.channel told
-told_fits version views pass other told h apart there = ⊎_elim
-    (λ (t : (other ≡ pass) × (told ≡ told)). absurd (apart t.0))
-    (λ (t : (other ≢ pass) × (get_elem? views other ≡ some told)). h other told t.1)
-    (at_set views pass other told told there)
+passed_fits : (version : Published) (views : List (Option Published)) (pass other : ℕ) (passed : Option Published) → IsOneChannel version views → ¬ (other ≡ pass) → get_elem? (slice_set views pass passed) other ≡ some passed → IsOf version.channel passed
+passed_fits version views pass other passed h apart there = ⊎_elim
+    (λ (t : (other ≡ pass) × (passed ≡ passed)). absurd (apart t.0))
+    (λ (t : (other ≢ pass) × (get_elem? views other ≡ some passed)). h other passed t.1)
+    (at_set views pass other passed passed there)
 
 -- whoever receives it knows it instead of what it knew
-pub merges : (pass : ℕ) (known : Option Published) (other : ℕ) (told : Option Published) → Merges IsOneChannel pass known other told told None
-merges pass known other told version views h at apart there =
-    let fits : IsOf version.channel told = told_fits version views pass other told h apart there in
-    kept_set version (slice_set views pass told) other None (kept_set version views pass told h fits) (of_none version.channel)
+pub merges : (pass : ℕ) (known : Option Published) (other : ℕ) (passed : Option Published) → Merges IsOneChannel pass known other passed passed None
+merges pass known other passed version views h at apart there =
+    let fits : IsOf version.channel passed = passed_fits version views pass other passed h apart there in
+    kept_set version (slice_set views pass passed) other None (kept_set version views pass passed h fits) (of_none version.channel)

@@ -7,7 +7,7 @@ ghost use Rattle.apex_observers.specs.declared.publisher.ObserverFault.TheVarian
 use crate::history::Count;
 use crate::observer::Observer;
 use crate::receipt::Receipt;
-use crate::rule::{OneChannel, Taken, Told};
+use crate::rule::{OneChannel, PassedOn, Taken};
 use crate::version::Version;
 use apex_types::{Message, Moment, OutOfMemory, Sample};
 use core::mem::replace_with;
@@ -188,7 +188,7 @@ impl<A: Allocator> Publisher<A> {
         ensures unchanged { self.new ≡ self.old }
     {
         let mut reader = self.writer.factory().reader().map_err(|_full| NoPlace)?;
-        reader.learn::<Told>(self.writer.tell::<Told>());
+        reader.learn::<PassedOn>(self.writer.tell::<PassedOn>());
         Ok(Observer::new(reader, self.receipt.copy()))
     }
 

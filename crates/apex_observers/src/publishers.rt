@@ -150,7 +150,7 @@ impl<A: Allocator> Publishers<A> {
     pub fn tell(&self, observers: &mut [Observer<A>])
         requires { AreObservers self.now observers.old }
         ensures observers { AreObservers self.now observers.new }
-        ensures told { KnowAll (sampling_of self.now) observers.new }
+        ensures learned { KnowAll (sampling_of self.now) observers.new }
     {
         let mut index = 0;
         for entry in &self.list {

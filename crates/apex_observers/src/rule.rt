@@ -26,18 +26,18 @@ impl Outcome<Version, Option<Receipt>> for Taken {
 }
 
 /// What the writer passes on to a new reader.
-pub struct Told;
+pub struct PassedOn;
 
-impl Split<Option<Receipt>> for Told {
+impl Split<Option<Receipt>> for PassedOn {
     ghost left = { λ known. known };
 
     ghost right = { λ known. known };
 }
 
-impl Join<Option<Receipt>> for Told {
+impl Join<Option<Receipt>> for PassedOn {
     ghost use Rattle.std.specs.Prelude.{None};
 
-    ghost both = { λ _ told. told };
+    ghost both = { λ _ passed. passed };
 
     ghost spent = { None };
 }

@@ -8,7 +8,7 @@ use Rattle.apex_ports.specs.declared.history.Entry.{Entry}
 use Rattle.apex_ports.specs.Counts.{count_of}
 use Rattle.apex_ports.specs.History.{History, entries_of}
 use Rattle.apex_orders.specs.declared.orders_fault.OrdersFault.{OrdersFault}
-use Rattle.apex_orders.specs.declared.orders_fault.OrdersFault.TheVariants.{TooManyStates, OutOfMemory}
+use Rattle.apex_orders.specs.declared.orders_fault.OrdersFault.TheVariants.{TooManyStates, OutOfMemory, Stopped}
 use Rattle.apex_orders.specs.Orders.{Scripts, script_of, AreShort, calls_of, IsBeginning, next_entries, continued, history_of, times}
 use Rattle.apex_orders.specs.Outcomes.{HasMorePoints, IsUndecided}
 use Rattle.apex_orders.specs.Points.{IsSamePoint}
@@ -123,14 +123,16 @@ module _ (config : Configuration) (scripts : Scripts) where
   }
 
 -- running out of memory gives up nothing
-pub given_up_none : {X : Type 0} (config : Configuration) (scripts : Scripts) (bound : ℕ) (r : Result X OrdersFault) → IsErrAnd r (λ fault. fault ≡ OutOfMemory)
-    → IsGivenUp config scripts bound r
-given_up_none config scripts bound (Ok x) is = tt
-given_up_none config scripts bound (Err OutOfMemory) is = tt
-given_up_none config scripts bound (Err TooManyStates) is = absurd (cc)
+pub given_up_none : {X : Type 0} (can_stop : Type 0) (config : Configuration) (scripts : Scripts) (bound : ℕ) (r : Result X OrdersFault)
+    → IsErrAnd r (λ fault. fault ≡ OutOfMemory) → IsGivenUp can_stop config scripts bound r
+given_up_none can_stop config scripts bound (Ok x) is = tt
+given_up_none can_stop config scripts bound (Err OutOfMemory) is = tt
+given_up_none can_stop config scripts bound (Err TooManyStates) is = absurd (cc)
+given_up_none can_stop config scripts bound (Err Stopped) is = absurd (cc)
 
 -- if a search is given up, the outcomes are undecided
-pub undecided_of : (X Y : Type 0) (config : Configuration) (scripts : Scripts) → IsConfiguration config → (bound : ℕ) (fault : OrdersFault)
-    → IsGivenUp {X = X} config scripts bound (Err fault) → IsUndecided {X = Y} config scripts bound (Err fault)
-undecided_of X Y config scripts valid bound TooManyStates given_up = more_points config scripts valid bound given_up
-undecided_of X Y config scripts valid bound OutOfMemory given_up = tt
+pub undecided_of : (X Y : Type 0) (can_stop : Type 0) (config : Configuration) (scripts : Scripts) → IsConfiguration config → (bound : ℕ) (fault : OrdersFault)
+    → IsGivenUp {X = X} can_stop config scripts bound (Err fault) → IsUndecided {X = Y} can_stop config scripts bound (Err fault)
+undecided_of X Y can_stop config scripts valid bound TooManyStates given_up = more_points config scripts valid bound given_up
+undecided_of X Y can_stop config scripts valid bound OutOfMemory given_up = tt
+undecided_of X Y can_stop config scripts valid bound Stopped given_up = given_up

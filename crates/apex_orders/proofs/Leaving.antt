@@ -9,7 +9,9 @@ use Rattle.apex_types.specs.declared.call.Call.TheVariants as call
 use Rattle.apex_types.specs.declared.mode.Mode.{Mode}
 use Rattle.apex_types.specs.declared.mode.Mode.TheVariants.{Normal, WarmStart, ColdStart, Idle}
 use Rattle.apex_types.specs.declared.moment.Moment.{Moment}
+use Rattle.apex_types.specs.declared.reply.Reply.TheVariants as reply
 use Rattle.apex_types.specs.declared.sample.Sample.{Sample}
+use Rattle.apex_types.specs.declared.validity.Validity.TheVariants.{Invalid}
 use Rattle.apex_module.specs.Configuration.{Configuration, port_of, refresh_of_kind}
 use Rattle.apex_module.specs.declared.port.Port.{Port}
 use Rattle.apex_ports.specs.declared.history.Entry.{Entry}
@@ -53,17 +55,22 @@ one_leaves config e f apart c = by_test (names config c e.partition e.call) refl
 
 -- ---- what a reply depends on
 
--- only the channel of the port that the call names
-abbrev at_id : {X : Type 0} → Option ℕ → (ℕ → X) → X → X
+-- the identifier whose last validity a call shows
+abbrev pub status_in : Call → Option ℕ
+status_in (call.SamplingStatus id) = Some id
+status_in _ = None
+
+-- only what the port of the identifier shows
+abbrev pub at_id : {X : Type 0} → Option ℕ → (ℕ → X) → X → X
 at_id None f x = x
 at_id (Some id) f x = f id
 
-module _ (config : Configuration) (p : ℕ) where
-  abbrev narrowed : Option ℕ → Seen → Seen
+module _ (config : Configuration) (p : ℕ) (l : Option ℕ) where
+  abbrev pub narrowed : Option ℕ → Seen → Seen
   narrowed o s = record {
     mode = s.mode;
     created = s.created;
-    last = s.last;
+    last = λ _. at_id l s.last Invalid;
     waiting = λ _. at_id o s.waiting [];
     sample = λ _. at_id o s.sample None;
   }
@@ -145,13 +152,13 @@ module _ (config : Configuration) (p : ℕ) where
     shows_queuing id None = refl
     shows_queuing id (Some port) = queuing_status id (queuing_port config s p id)
 
-    sampling_status : (id : ℕ) (port : Option Port) → sampling_status_reply config s id port ≡ sampling_status_reply config (narrowed None s) id port
-    sampling_status id None = refl
-    sampling_status id (Some port) = refl
+    sampling_status : (id : ℕ) (port : Option Port) → l ≡ Some id → sampling_status_reply config s id port ≡ sampling_status_reply config (narrowed None s) id port
+    sampling_status id None is = refl
+    sampling_status id (Some port) is = λ i. reply.SamplingStatus (refresh_of_kind port.kind) (size_of config port) port.direction (at_id (sym is i) s.last Invalid)
 
-    shows_sampling : (id : ℕ) (port : Option Port) → Same None (status_row (row.SamplingStatus id) port) (status_row (row.SamplingStatus id) port)
-    shows_sampling id None = refl
-    shows_sampling id (Some port) = sampling_status id (sampling_port config s p id)
+    shows_sampling : (id : ℕ) (port : Option Port) → l ≡ Some id → Same None (status_row (row.SamplingStatus id) port) (status_row (row.SamplingStatus id) port)
+    shows_sampling id None is = refl
+    shows_sampling id (Some port) is = sampling_status id (sampling_port config s p id) is
 
     sets : (mode : Option Mode) → Same None (set_mode_row s.mode mode) (set_mode_row s.mode mode)
     sets None = refl
@@ -160,22 +167,22 @@ module _ (config : Configuration) (p : ℕ) where
     sets (Some ColdStart) = refl
     sets (Some Idle) = refl
 
-    serves : (now : Moment) (asked : Call) → Same (id_in asked) (service_row config s p now asked) (service_row config (narrowed (id_in asked) s) p now asked)
-    serves now (call.CreateSampling name size direction refresh) = creates_sampling (sampling_named config p name) size direction refresh
-    serves now (call.WriteSampling id message) = writes id (sampling_port config s p id) message
-    serves now (call.ReadSampling id) = reads now id (sampling_port config s p id)
-    serves now (call.SamplingId name) = identifies (sampling_named config p name)
-    serves now (call.SamplingStatus id) = shows_sampling id (sampling_port config s p id)
-    serves now (call.CreateQueuing name size depth direction discipline) = creates_queuing (queuing_named config p name) size depth direction discipline
-    serves now (call.SendQueuing id message) = sends id (queuing_port config s p id) message
-    serves now (call.ReceiveQueuing id) = receives id (queuing_port config s p id)
-    serves now (call.QueuingId name) = identifies (queuing_named config p name)
-    serves now (call.QueuingStatus id) = shows_queuing id (queuing_port config s p id)
-    serves now (call.ClearQueuing id) = clears_it id (queuing_port config s p id)
-    serves now (call.SetMode number) = sets (mode_numbered number)
+    serves : (now : Moment) (asked : Call) → l ≡ status_in asked → Same (id_in asked) (service_row config s p now asked) (service_row config (narrowed (id_in asked) s) p now asked)
+    serves now (call.CreateSampling name size direction refresh) is = creates_sampling (sampling_named config p name) size direction refresh
+    serves now (call.WriteSampling id message) is = writes id (sampling_port config s p id) message
+    serves now (call.ReadSampling id) is = reads now id (sampling_port config s p id)
+    serves now (call.SamplingId name) is = identifies (sampling_named config p name)
+    serves now (call.SamplingStatus id) is = shows_sampling id (sampling_port config s p id) is
+    serves now (call.CreateQueuing name size depth direction discipline) is = creates_queuing (queuing_named config p name) size depth direction discipline
+    serves now (call.SendQueuing id message) is = sends id (queuing_port config s p id) message
+    serves now (call.ReceiveQueuing id) is = receives id (queuing_port config s p id)
+    serves now (call.QueuingId name) is = identifies (queuing_named config p name)
+    serves now (call.QueuingStatus id) is = shows_queuing id (queuing_port config s p id)
+    serves now (call.ClearQueuing id) is = clears_it id (queuing_port config s p id)
+    serves now (call.SetMode number) is = sets (mode_numbered number)
 
-    replies_narrowed : (now : Moment) (asked : Call) → Same (id_in asked) (row_of config s p now asked) (row_of config (narrowed (id_in asked) s) p now asked)
-    replies_narrowed now asked = same_if (id_in asked) (is_idle s.mode) _ _ _ _ refl (serves now asked)
+    pub replies_narrowed : (now : Moment) (asked : Call) → l ≡ status_in asked → Same (id_in asked) (row_of config s p now asked) (row_of config (narrowed (id_in asked) s) p now asked)
+    replies_narrowed now asked is = same_if (id_in asked) (is_idle s.mode) _ _ _ _ refl (serves now asked is)
 
 same_number : (n : ℕ) → (n == n) ≡ true
 same_number n = grind (arith, nat_tests)
@@ -202,23 +209,24 @@ module _ (config : Configuration) (h : History) (x : Entry) where
     shows_sample None off = refl
     shows_sample (Some id) off = sample_left (port_of config p id) off
 
-    seen_left : (o : Option ℕ) → LeavesPort (port_in config p o) → narrowed config p o (seen config (h ++ x ∷ []) p) ≡ narrowed config p o (seen config h p)
-    seen_left o off =
+    seen_left : (l o : Option ℕ) → LeavesPort (port_in config p o) → narrowed config p l o (seen config (h ++ x ∷ []) p) ≡ narrowed config p l o (seen config h p)
+    seen_left l o off =
         let alike = partition_left p h x left in
         λ i. record {
           mode = alike.mode i;
           created = λ id. alike.created id i;
-          last = λ id. alike.last id i;
+          last = λ _. at_id l (λ id. alike.last id i) Invalid;
           waiting = λ _. shows_waiting o off i;
           sample = λ _. shows_sample o off i;
         }
 
     pub reply_left : (now : Moment) (asked : Call) → LeavesPort (port_in config p (id_in asked)) → reply_to config (h ++ x ∷ []) p now asked ≡ reply_to config h p now asked
     reply_left now asked off =
+        let l = status_in asked in
         let o = id_in asked in
-        replies_narrowed config p (seen config (h ++ x ∷ []) p) now asked
-        ∙ (ap (λ (s : Seen). reply_of config s p (row_of config s p now asked)) (seen_left o off)
-        ∙ sym (replies_narrowed config p (seen config h p) now asked))
+        replies_narrowed config p l (seen config (h ++ x ∷ []) p) now asked refl
+        ∙ (ap (λ (s : Seen). reply_of config s p (row_of config s p now asked)) (seen_left l o off)
+        ∙ sym (replies_narrowed config p l (seen config h p) now asked refl))
 
 -- a call gets the same reply after another partition's entry that changes no channel that it names
 pub reply_unchanged : (config : Configuration) (h : History) (x : Entry) (p : ℕ) (now : Moment) (asked : Call) → x.partition ≢ p

@@ -10,7 +10,7 @@ use Rattle.apex_orders.specs.declared.asked.Admitted.{Admitted}
 use Rattle.apex_orders.specs.declared.asked.Admitted.TheVariants as admitted
 use Rattle.apex_orders.specs.declared.asked.Asked.{Asked}
 use Rattle.apex_orders.specs.declared.orders_fault.OrdersFault.{OrdersFault}
-use Rattle.apex_orders.specs.declared.orders_fault.OrdersFault.TheVariants.{TooManyStates}
+use Rattle.apex_orders.specs.declared.orders_fault.OrdersFault.TheVariants.{TooManyStates, Stopped}
 use Rattle.apex_orders.specs.declared.replies.PossibleReply.{PossibleReply}
 use Rattle.apex_orders.specs.Orders.{Scripts, IsBeginning, IsWay, IsOrder, history_of, replies_of}
 use Rattle.apex_orders.specs.Points.{IsSamePoint}
@@ -93,7 +93,8 @@ pub record HasMorePoints (config : Configuration) (scripts : Scripts) (bound : �
   pub apart : (j k : ℕ) (history other : History) → j < k → slice_get histories j ≡ Some history
       → slice_get histories k ≡ Some other → ¬ IsSamePoint config other history
 
--- it is undecided only if beginnings lead to more points than the bound
-abbrev pub IsUndecided : {X : Type 0} → Configuration → Scripts → ℕ → Result X OrdersFault → Type 0
-IsUndecided config scripts bound (Err TooManyStates) = HasMorePoints config scripts bound
-IsUndecided config scripts bound _ = Unit {0}
+-- it is undecided only if beginnings lead to more points than the bound, or the search was ended by one who can
+abbrev pub IsUndecided : {X : Type 0} → Type 0 → Configuration → Scripts → ℕ → Result X OrdersFault → Type 0
+IsUndecided can_stop config scripts bound (Err TooManyStates) = HasMorePoints config scripts bound
+IsUndecided can_stop config scripts bound (Err Stopped) = can_stop
+IsUndecided can_stop config scripts bound _ = Unit {0}

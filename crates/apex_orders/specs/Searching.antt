@@ -6,7 +6,7 @@ use Rattle.apex_ports.specs.History.{History, entries_of}
 use Rattle.apex_orders.specs.declared.asked.Asked.{Asked}
 use Rattle.apex_orders.specs.declared.replies.PossibleReply.{PossibleReply}
 use Rattle.apex_orders.specs.declared.orders_fault.OrdersFault.{OrdersFault}
-use Rattle.apex_orders.specs.declared.orders_fault.OrdersFault.TheVariants.{TooManyStates}
+use Rattle.apex_orders.specs.declared.orders_fault.OrdersFault.TheVariants.{TooManyStates, Stopped}
 use Rattle.apex_orders.specs.declared.search.Search.{Search}
 use Rattle.apex_orders.specs.Enough.{IsEnough}
 use Rattle.apex_orders.specs.Known.{ArePoints, IsTrialOf}
@@ -148,7 +148,8 @@ pub record HasMoreOrders (config : Configuration) (scripts : Scripts) (bound : �
   pub valid : AreOrders config orders
   pub apart : AreApart config scripts orders
 
--- a search is given up only if there are more points than the bound
-abbrev pub IsGivenUp : {X : Type 0} → Configuration → Scripts → ℕ → Result X OrdersFault → Type 0
-IsGivenUp config scripts bound (Err TooManyStates) = HasMoreOrders config scripts bound
-IsGivenUp config scripts bound _ = Unit {0}
+-- a search is given up only if there are more points than the bound, or one who can ended it
+abbrev pub IsGivenUp : {X : Type 0} → Type 0 → Configuration → Scripts → ℕ → Result X OrdersFault → Type 0
+IsGivenUp can_stop config scripts bound (Err TooManyStates) = HasMoreOrders config scripts bound
+IsGivenUp can_stop config scripts bound (Err Stopped) = can_stop
+IsGivenUp can_stop config scripts bound _ = Unit {0}

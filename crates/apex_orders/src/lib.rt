@@ -20,6 +20,7 @@ mod replay;
 mod replies;
 pub mod same_state;
 mod search;
+mod sizes;
 pub mod state_law;
 pub mod step;
 mod trial;

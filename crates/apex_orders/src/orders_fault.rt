@@ -15,6 +15,9 @@ pub enum OrdersFault {
     /// The orders lead to more states than the bound: nothing is claimed.
     #[error("undecided: more states than the bound")]
     TooManyStates,
+    /// `progress` ended the search: nothing is claimed.
+    #[error("undecided: the search was ended")]
+    Stopped,
 }
 
 impl From<OutOfMemory> for OrdersFault {

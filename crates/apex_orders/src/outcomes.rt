@@ -39,12 +39,13 @@ pub fn all_outcomes(
     ensures replies { IfOk result
         (λ found. AreReplies config.now scripts.now found.replies.items) }
     ensures ends { IfOk result (λ found. AreEnds config.now scripts.now found.ends.items) }
-    ensures undecided { IsUndecided config.now scripts.now bound result }
+    ensures undecided { IsUndecided ⊥ config.now scripts.now bound result }
 {
     all_outcomes_with_progress(alloc, config, scripts, bound, &mut NoProgress)
 }
 
-/// Answers like `all_outcomes`. `progress` receives from time to time how far the search is.
+/// Answers like `all_outcomes`. `progress` receives from time to time how far the search is, and
+/// may end it.
 pub fn all_outcomes_with_progress<P: Progress>(
     alloc: Global,
     config: &Config,
@@ -56,7 +57,7 @@ pub fn all_outcomes_with_progress<P: Progress>(
     ensures replies { IfOk result
         (λ found. AreReplies config.now scripts.now found.replies.items) }
     ensures ends { IfOk result (λ found. AreEnds config.now scripts.now found.ends.items) }
-    ensures undecided { IsUndecided config.now scripts.now bound result }
+    ensures undecided { IsUndecided P.CanStop config.now scripts.now bound result }
 {
     let partitions = config.partitions();
     prove!(scripts.len() == partitions);

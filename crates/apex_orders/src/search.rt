@@ -17,6 +17,7 @@ use crate::orders_fault::OrdersFault;
 use crate::points::{Points, go_to, is_known};
 use crate::progress::{Level, Progress};
 use crate::replies::{PossibleReply, Replies};
+use crate::sizes::PointMemory;
 use crate::step::step;
 use crate::trial::Trial;
 use apex_module::Config;
@@ -34,7 +35,7 @@ pub(crate) struct Found {
 }
 
 /// Continues from each point, in the order in which the points are found, until none is left, or until one order
-/// answers the question.
+/// answers the question, or `progress` ends the search.
 pub(crate) fn search_points<P: Progress>(
     alloc: Global,
     config: &Config,
@@ -47,8 +48,9 @@ pub(crate) fn search_points<P: Progress>(
     ensures ended { let asked = option_copied asked.entry in
         IfOk result (λ found. HasEnded config.now scripts.now asked
         found.orders.items found.replies.items found.answer) }
-    ensures given_up { IsGivenUp config.now scripts.now bound result }
+    ensures given_up { IsGivenUp P.CanStop config.now scripts.now bound result }
 {
+    progress.begin();
     let mut current = Search::new(alloc, config, scripts, asked)?;
     let mut level = Level::new();
     let mut i = 0;
@@ -59,7 +61,9 @@ pub(crate) fn search_points<P: Progress>(
         if current.orders.len() > bound {
             return Err(OrdersFault::TooManyStates);
         }
-        level.report(progress, i, current.orders.len());
+        if !level.goes_on(progress, i, current.orders.len(), current.bytes()) {
+            return Err(OrdersFault::Stopped);
+        }
         current.try_all(alloc, config, scripts, i)?;
         i += 1;
     }
@@ -67,7 +71,7 @@ pub(crate) fn search_points<P: Progress>(
 }
 
 /// A search: one order to each point, in the order in which they are found; what is kept of the points; the replies;
-/// ports on which calls are tried; the last uses of channels by the scripts; and the partition that a question is
+/// ports on which calls are tried; the memory that is kept; the last uses of channels by the scripts; and the partition that a question is
 /// about, whose next call is always tried, so that an order that answers is short.
 #[derive(Drop)]
 pub(crate) struct Search {
@@ -75,6 +79,7 @@ pub(crate) struct Search {
     pub(crate) points: Points,
     pub(crate) replies: Replies,
     pub(crate) trial: Trial,
+    pub(crate) memory: PointMemory,
     pub(crate) uses: Vec<LastUses>,
     pub(crate) from: Option<usize>,
 }
@@ -105,9 +110,15 @@ impl Search {
             points,
             replies,
             trial,
+            memory: PointMemory::new(alloc),
             uses,
             from,
         })
+    }
+
+    /// The bytes that are kept for points and replies.
+    fn bytes(&self) -> usize {
+        self.memory.bytes(self.replies.found.len())
     }
 
     /// Tries the next calls of enough partitions after the order at an index.
@@ -127,6 +138,7 @@ impl Search {
     {
         let order = self.orders[i].copy(alloc)?;
         let saved = self.points.take(i);
+        self.memory.take();
         self.try_each(alloc, config, scripts, &order, saved.as_ref())?;
         Ok(())
     }
@@ -248,6 +260,7 @@ impl Search {
         let partitions = config.partitions();
         prove!(p < partitions);
         let longer = order.followed_by(alloc, p)?;
+        self.memory.add(&self.trial.ports)?;
         self.points.push(alloc, &self.trial.ports, hash)?;
         self.orders.push(longer)?;
         Ok(())

@@ -26,12 +26,13 @@ pub fn order_giving(
         (λ answer. IfSome answer (λ order. IsAnsweredBy config.now scripts.now asked.now order)) }
     ensures never { IfOk result
         (λ answer. IfNone answer (¬ CanBeAnswered config.now scripts.now asked.now)) }
-    ensures undecided { IsUndecided config.now scripts.now bound result }
+    ensures undecided { IsUndecided ⊥ config.now scripts.now bound result }
 {
     order_giving_with_progress(alloc, config, scripts, asked, bound, &mut NoProgress)
 }
 
-/// Answers like `order_giving`. `progress` receives from time to time how far the search is.
+/// Answers like `order_giving`. `progress` receives from time to time how far the search is, and
+/// may end it.
 pub fn order_giving_with_progress<P: Progress>(
     alloc: Global,
     config: &Config,
@@ -45,7 +46,7 @@ pub fn order_giving_with_progress<P: Progress>(
         (λ answer. IfSome answer (λ order. IsAnsweredBy config.now scripts.now asked.now order)) }
     ensures never { IfOk result
         (λ answer. IfNone answer (¬ CanBeAnswered config.now scripts.now asked.now)) }
-    ensures undecided { IsUndecided config.now scripts.now bound result }
+    ensures undecided { IsUndecided P.CanStop config.now scripts.now bound result }
 {
     let partitions = config.partitions();
     prove!(scripts.len() == partitions);

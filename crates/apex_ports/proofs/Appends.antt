@@ -1,4 +1,4 @@
--- What one more entry does to what a history comes to.
+-- How one more entry changes what the definitions filter out of a history.
 use Rattle.std.proofs.Common.{◌≡◌, ℕ, false, ◌&&◌, ◌||◌, not, if◌then◌else◌, List, [], ◌∷◌, ◌++◌, length, drop, Option, Some, None, refl, sym, ap, ◌∙◌, append_assoc, append-nil}
 use Rattle.std.specs.Option.{unwrap_or, option_to_list}
 use Rattle.std.specs.List.{filter_map}

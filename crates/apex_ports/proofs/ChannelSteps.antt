@@ -25,7 +25,7 @@ use Rattle.apex_ports.proofs.Histories.{accepted-sent, received-received, cleare
 use Rattle.apex_ports.proofs.OneChannel.{LiesElsewhere, port_elsewhere, sends_elsewhere, receives_elsewhere, clears_elsewhere, writes_elsewhere}
 use Rattle.apex_ports.proofs.Stays.{leaves_partition, leaves_channel, channel_changes, accepted_stays, received_stays, cleared_stays, waiting_stays, sample_stays, sample_changes}
 
--- a port of the channel lies on no other
+-- a port of a channel is on no other channel
 source_elsewhere : (port : Option Port) (c d : ℕ) → is_source_of c port ≡ true → d ≢ c → LiesElsewhere d port
 source_elsewhere port c d source apart =
     ⊎_elim (λ (off : LiesElsewhere d port). off) (λ (off : LiesElsewhere c port). let none = off.source in absurd (cc)) (port_elsewhere port d c apart)
@@ -34,7 +34,7 @@ destination_elsewhere : (port : Option Port) (c d : ℕ) → is_destination_of c
 destination_elsewhere port c d destination apart =
     ⊎_elim (λ (off : LiesElsewhere d port). off) (λ (off : LiesElsewhere c port). let none = off.destination in absurd (cc)) (port_elsewhere port d c apart)
 
--- the oldest message, where one waits
+-- the oldest message, if one waits
 pub oldest_of : (xs : List (List ℕ)) → 0 < length xs → (m : List ℕ) × (slice_get xs 0 ≡ Some m) × (oldest_reply xs ≡ Received m)
 oldest_of [] some = absurd (omega arith)
 oldest_of (x ∷ xs) some = (x, refl, refl)

@@ -1,4 +1,4 @@
--- The law of every lawful history: nothing is lost, doubled or reordered, and no more wait than the depth.
+-- The law of every lawful history: no message is lost, doubled or reordered, and at most the depth wait.
 use Rattle.std.proofs.Common.{◌≡◌, ℕ, ◌≤◌, ◌==◌, Bool, true, false, if◌then◌else◌, List, [], ◌∷◌, ◌++◌, length, drop, map, Option, Some, None, refl, sym, ap, ◌∙◌, subst, arith, length-append, length-drop, append_assoc, append-nil}
 use Rattle.std.specs.List.{slice_get}
 use Rattle.std.proofs.lemmas.Bool.Decides.{nat_tests}
@@ -31,7 +31,7 @@ use Rattle.apex_ports.specs.Sound.{IsSound}
 use Rattle.apex_ports.proofs.Histories.{accepted-sent, taken-received, taken-cleared, waiting-sent, waiting-received, waiting-cleared, received_conserved, cleared_conserved}
 use Rattle.apex_ports.proofs.Stays.{LeavesChannel, leaves_channel, accepted_stays, taken_stays, waiting_stays, sample_stays, none_or_none, and_true, and_false}
 
--- ---- what a reply of the table says of the port
+-- ---- what a reply of the table says about the port
 
 -- the port is created, so it is configured
 pub queuing_configured : (b : Bool) (port : Option Port) (q : Port) → queuing_only (if b then port else None) ≡ Some q → port ≡ Some q
@@ -43,7 +43,7 @@ queuing_configured true (Some port) q is = by_kind (is_queuing_port port.kind) i
     by_kind true h = h
     by_kind false h = absurd (cc)
 
--- and of its kind
+-- a sampling port that is created is configured
 pub sampling_configured : (b : Bool) (port : Option Port) (q : Port) → sampling_only (if b then port else None) ≡ Some q → (port ≡ Some q) × (is_queuing_port q.kind ≡ false)
 sampling_configured false port q is = absurd (cc)
 sampling_configured true None q is = absurd (cc)
@@ -136,7 +136,7 @@ module _ (config : Configuration) (h : History) (p : ℕ) (at : Moment) (id : �
       let kind : is_queuing config found.0.channel ≡ false = ap is_queue link.1 ∙ sym link.2 ∙ configured.1 in
       subst (λ (d : ℕ). is_queuing config d ≡ false) (channel_of_source (port_of config p id) found.0 c configured.0 source) kind
 
--- a sampling channel has no room
+-- no message can wait on a sampling channel
 no_depth : (channel : Option Channel) → is_queue channel ≡ false → depth_in channel ≡ 0
 no_depth None kind = refl
 no_depth (Some channel) kind = by_kind channel.kind kind

@@ -1,4 +1,4 @@
--- How many calls each partition made, after one more.
+-- The number of calls of each partition, after one more.
 use Rattle.std.proofs.Common.{◌≡◌, ◌≢◌, ℕ, ◌+◌, ◌-◌, ◌^◌, ◌==◌, Bool, true, false, if◌then◌else◌, min, List, [], ◌∷◌, ◌++◌, length, set, Some, refl, sym, ap, ◌∙◌, arith, length-append, length-set, append-nil}
 use Rattle.std.specs.List.{slice_get}
 use Rattle.std.proofs.lemmas.Bool.Decides.{nat_tests}
@@ -13,15 +13,15 @@ use Rattle.apex_ports.specs.History.{History, entries_of, entry_of}
 use Rattle.apex_ports.specs.Kept.{AreCounted}
 use Rattle.apex_ports.proofs.Stays.{each_at_set}
 
--- a count of one more
+-- the count of a list with one more item
 pub count-push : {X : Type 0} (xs : List X) (x : X) (n : ℕ) → n ≡ count_of xs → min (n + 1) (2 ^ 64 - 1) ≡ count_of (xs ++ x ∷ [])
 count-push xs x n is = let longer = length-append xs (x ∷ []) in omega arith
 
--- a count of some more
+-- the count of a list with several more items
 pub count-append : {X : Type 0} (xs ys : List X) (n : ℕ) → n ≡ count_of xs → min (n + length ys) (2 ^ 64 - 1) ≡ count_of (xs ++ ys)
 count-append xs ys n is = let longer = length-append xs ys in omega arith
 
--- one entry more is its partition's
+-- one more entry counts only for its partition
 one_more : (q : ℕ) (e : Entry) → entries_of q (e ∷ []) ≡ (if e.partition == q then e ∷ [] else [])
 one_more q e = by_test (e.partition == q) refl
   where

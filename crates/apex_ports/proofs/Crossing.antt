@@ -1,4 +1,4 @@
--- The ports may go to another thread where their allocator may.
+-- The ports may be sent to another thread if their allocator may.
 use denote.RattleType.{RattleType}
 use denote.Param.Send.{IsSend, sendable, view_send}
 use denote.Param.SendFields.{declared_send, as_row_send}
@@ -7,17 +7,17 @@ use Rattle.std_alloc.proofs.SendSync.{FreesAnywhere, Vec-send}
 use Rattle.apex_module.proofs.config.Config.TheSendSync as config
 use Rattle.apex_ports.proofs.channel.ChannelState.TheSendSync as channel
 use Rattle.apex_ports.proofs.partition.PartitionState.TheSendSync as partition
-use Rattle.apex_ports.proofs.past.Log.TheSendSync as log
+use Rattle.apex_ports.proofs.ghost_history.Log.TheSendSync as log
 use Rattle.apex_ports.specs.contracts.channel.ChannelState as Channel
 use Rattle.apex_ports.specs.contracts.partition.PartitionState as Partition
-use Rattle.apex_ports.specs.contracts.past.Past as Past
-use Rattle.apex_ports.specs.contracts.past.Past.TheInside as PastInside
+use Rattle.apex_ports.specs.contracts.ghost_history.GhostHistory as GhostHistory
+use Rattle.apex_ports.specs.contracts.ghost_history.GhostHistory.TheInside as GhostHistoryInside
 use Rattle.apex_ports.specs.contracts.ports.Ports as Ports
 use Rattle.apex_ports.specs.contracts.ports.Ports.TheInside as PortsInside
 use Rattle.apex_ports.specs.contracts.state.State as State
 
-Past-send : IsSend Past.the_row
-Past-send = view_send _ _ _ _ _ (declared_send PastInside.the_type (log.the_send, tt))
+GhostHistory-send : IsSend GhostHistory.the_row
+GhostHistory-send = view_send _ _ _ _ _ (declared_send GhostHistoryInside.the_type (log.the_send, tt))
 
 module _ (A : RattleType) (g : Ghosts A.Denot) (s : IsSend A) (f : FreesAnywhere A.Denot g) where
   Partition-send : IsSend (Partition.the_row A g)
@@ -27,7 +27,7 @@ module _ (A : RattleType) (g : Ghosts A.Denot) (s : IsSend A) (f : FreesAnywhere
   Channel-send = channel.the_send A g s f
 
   State-send : IsSend (State.the_row A g)
-  State-send = declared_send (State.the_type A g) (Past-send, (search (as_row_send, Vec-send, Partition-send), (search (as_row_send, Vec-send, Channel-send), tt)))
+  State-send = declared_send (State.the_type A g) (GhostHistory-send, (search (as_row_send, Vec-send, Partition-send), (search (as_row_send, Vec-send, Channel-send), tt)))
 
   pub Ports-send : IsSend (Ports.the_row A g)
   Ports-send = view_send _ _ _ _ _ (declared_send (PortsInside.the_type A g) (config.the_send, (State-send, (search (sendable, as_row_send, Vec-send), tt))))

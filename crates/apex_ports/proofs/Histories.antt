@@ -14,7 +14,7 @@ use Rattle.apex_ports.specs.Rules.{IsConserved}
 use Rattle.apex_ports.proofs.Appends.{accepted_on-append, received_on-append, taken_on-append}
 use Rattle.apex_ports.proofs.Stays.{accepted_stays, taken_stays}
 
--- what is left of a list without its front
+-- the rest of a list after its front
 rest_is : (taken : List Taken) (rest all : List (List ℕ)) → messages_of taken ++ rest ≡ all → drop (length taken) all ≡ rest
 rest_is taken rest all whole =
     ap (λ (xs : List (List ℕ)). drop (length taken) xs) (sym whole)
@@ -47,7 +47,7 @@ module _ (config : Configuration) (c : ℕ) (h : History) (e : Entry) where
   taken-received m received no_clear =
       taken_on-append config c h e ∙ (λ i. taken_on config c h ++ (if no_clear i then map as_cleared (waiting_on config c h) else map as_received (option_to_list (received i))))
 
-  -- a clear takes whatever waits
+  -- a clear takes all waiting messages
   pub taken-cleared : clears config c e ≡ true → taken_on config c (h ++ e ∷ []) ≡ taken_on config c h ++ map as_cleared (waiting_on config c h)
   taken-cleared clear =
       taken_on-append config c h e ∙ (λ i. taken_on config c h ++ (if clear i then map as_cleared (waiting_on config c h) else map as_received (option_to_list (message_received config c e))))
@@ -62,7 +62,7 @@ module _ (config : Configuration) (c : ℕ) (h : History) (e : Entry) where
       ∙ (filter-append (λ (one : Taken). one.cleared) (taken_on config c h) (map as_cleared (waiting_on config c h)) ∙ ap (λ (xs : List Taken). cleared_on config c h ++ xs) (all_cleared (waiting_on config c h)))
 
 module _ (config : Configuration) (c : ℕ) (h : History) (e : Entry) (was : IsConserved config h c) where
-  -- a message that is sent waits last
+  -- a sent message waits behind all others
   pub waiting-sent : (m : List ℕ) → message_accepted config c e ≡ Some m → message_received config c e ≡ None → clears config c e ≡ false → waiting_on config c (h ++ e ∷ []) ≡ waiting_on config c h ++ m ∷ []
   waiting-sent m sent no_receive no_clear =
       let accepted = accepted-sent config c h e m sent in
@@ -78,14 +78,14 @@ module _ (config : Configuration) (c : ℕ) (h : History) (e : Entry) (was : IsC
       ∙ (append_assoc (messages_of (taken_on config c h)) (m ∷ []) (drop 1 (waiting_on config c h))
       ∙ (ap (λ (xs : List (List ℕ)). messages_of (taken_on config c h) ++ xs) (sym (first_and_rest (waiting_on config c h) m oldest)) ∙ was.messages))
 
-  -- the oldest message, which is received, waits no longer
+  -- after a receive, the oldest message no longer waits
   pub waiting-received : (m : List ℕ) → message_accepted config c e ≡ None → message_received config c e ≡ Some m → clears config c e ≡ false → slice_get (waiting_on config c h) 0 ≡ Some m → waiting_on config c (h ++ e ∷ []) ≡ drop 1 (waiting_on config c h)
   waiting-received m no_send received no_clear oldest =
       let accepted = accepted_stays config c h e no_send in
       let taken = taken-received config c h e m received no_clear in
       (λ i. drop (length (taken i)) (accepted i)) ∙ rest_is (taken_on config c h ++ as_received m ∷ []) (drop 1 (waiting_on config c h)) (accepted_on config c h) (received_conserved m oldest)
 
-  -- what was taken after a clear is whatever was accepted
+  -- after a clear, the taken messages are all that were accepted
   pub cleared_conserved : messages_of (taken_on config c h ++ map as_cleared (waiting_on config c h)) ≡ accepted_on config c h
   cleared_conserved =
       messages_of-append (taken_on config c h) (map as_cleared (waiting_on config c h))

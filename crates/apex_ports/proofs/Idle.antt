@@ -22,7 +22,7 @@ use Rattle.apex_ports.specs.Seen.{seen}
 use Rattle.apex_ports.proofs.Appends.{mode_of-append}
 use Rattle.apex_ports.proofs.Stays.{accepted_stays, sample_stays, none_or_none, and_false, and_true}
 
--- what a source port is
+-- a source port has the direction Source
 source_direction : (d : Direction) → is_source d ≡ true → d ≡ Source
 source_direction Source is = refl
 source_direction Destination is = absurd (cc)

@@ -5,7 +5,7 @@ use Rattle.std.proofs.lemmas.Bool.{cases_eq}
 use Rattle.std.proofs.lemmas.Option.{slice_get_within}
 use Rattle.apex_ports.proofs.Stays.{slice_get-set_cases}
 
--- the first n items are changed as R says of what was there, of the other list's item, and of what is there; the rest stays
+-- R relates each of the first n items, as it was, and the other list's item to the item now; the others are unchanged
 pub record IsDone {X Y : Type 0} (R : X → Y → X → Type 0) (n : ℕ) (old : List X) (other : List Y) (now : List X) : Type 0 where
   pub count : length now ≡ length old
   pub rest : (k : ℕ) (x : X) → n ≤ k → slice_get now k ≡ Some x → slice_get old k ≡ Some x
@@ -38,7 +38,7 @@ module _ {X Y : Type 0} (R : X → Y → X → Type 0) (old : List X) (other : L
       by_index : (k : ℕ) → k < n + 1 → k ≢ n → k < n
       by_index k below apart = ⊎_elim (λ (same : k ≡ n). absurd (apart same)) (λ (other_index : k ≡ n → ⊥). omega (arith, below, other_index)) (cases_eq k n)
 
-  -- all are changed
+  -- all items are changed
   pub all_done : (n : ℕ) (now : List X) → length other ≤ n → IsDone R n old other now
       → (k : ℕ) (was : X) (y : Y) (x : X) → slice_get old k ≡ Some was → slice_get other k ≡ Some y → slice_get now k ≡ Some x → R was y x
   all_done n now long is k was y x at listed changed = is.done k was y x (let within = slice_get_within other k y listed in omega (arith, within, long)) at listed changed

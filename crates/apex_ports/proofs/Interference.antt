@@ -1,4 +1,4 @@
--- Partitions that share no channel with the others are answered as if the others made no call.
+-- Partitions that share no channel with the others get the replies that they would get if the others made no call.
 use Rattle.std.proofs.Common.{◌≡◌, ◌≢◌, ℕ, ◌-◌, ◌&&◌, ◌||◌, not, Bool, true, false, cond, if◌then◌else◌, List, [], ◌∷◌, ◌++◌, length, drop, fold, Option, Some, None, refl, sym, ap, ◌∙◌, subst, arith, append-nil}
 use Rattle.std.specs.List.{slice_get, filter_map, cons_option}
 use Rattle.std.specs.Option.{unwrap_or, option_to_list}
@@ -48,7 +48,7 @@ fold-inside {B} f inside (e ∷ h) b stays = by_test (inside e.partition) refl (
     by_test true here rest = rest (f b e)
     by_test false outside rest = rest b ∙ ap (λ c. fold f c h) (sym (stays b e outside))
 
--- without entries that leave the channel the same is taken out of it
+-- the same messages are taken from a channel if entries that leave it unchanged are dropped
 pub taken-inside : (config : Configuration) (c : ℕ) (inside : ℕ → Bool) → ((e : Entry) → inside e.partition ≡ false → LeavesChannel config c e) → (before other : History) (taken : List Taken) (h : List Entry)
     → accepted_on config c other ≡ accepted_on config c before → taken_after config c other taken (entries_inside inside h) ≡ taken_after config c before taken h
 taken-inside config c inside leaves before other taken [] same = refl
@@ -106,7 +106,7 @@ module _ (config : Configuration) (inside : ℕ → Bool) (closed : IsClosed con
     sample_inside id (Some port) mine =
         ap (λ (writes : List Sample). slice_get writes (length writes - 1)) (filter_map-inside (sample_written config port.channel) inside h (λ e outside. (leaves_channel_inside p id port here mine e outside).written))
 
-    -- a partition inside sees the same of the entries inside alone
+    -- a partition inside sees the same after only the entries inside
     seen_inside : seen config (entries_inside inside h) p ≡ seen config h p
     seen_inside = λ i. record {
       mode = mode i;

@@ -1,4 +1,4 @@
--- One more lawful entry, and what holds of lawful histories.
+-- One more lawful entry, and what holds for lawful histories.
 use Rattle.std.proofs.Common.{◌≡◌, ◌≢◌, ℕ, ◌<◌, ◌==◌, Bool, true, false, [], ◌∷◌, ◌++◌, length, take, Some, refl, sym, ap, ◌∙◌, subst, arith}
 use Rattle.std.specs.List.{slice_get}
 use Rattle.std.proofs.lemmas.Bool.Decides.{nat_tests}
@@ -37,13 +37,13 @@ lawful_push config h p at call reply lawful within is k entry here = by_test (k 
         let before : take k (h ++ e ∷ []) ≡ take k h = take-append-le k h (e ∷ []) (omega arith) in
         subst (λ (g : History). IsLawfulEntry config g entry) (sym before) (lawful k entry was)
 
--- what holds of the ports holds with one more lawful entry
+-- what holds for the ports still holds with one more lawful entry
 pub sound-push : (config : Configuration) (h : History) (p : ℕ) (at : Moment) (call : Call) (reply : Reply) → IsSound config h → p < length config.partitions → reply ≡ reply_to config h p at call → IsSound config (h ++ entry_of p at call reply ∷ [])
 sound-push config h p at call reply sound within is = record {
   valid = sound.valid;
   lawful = lawful_push config h p at call reply sound.lawful within is;
 }
 
--- and of the empty history
+-- it holds for the empty history
 pub sound-nil : (config : Configuration) → IsConfiguration config → IsSound config []
 sound-nil config valid = record { valid = valid; lawful = λ k entry here. absurd (cc) }

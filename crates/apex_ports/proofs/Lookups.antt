@@ -1,4 +1,4 @@
--- What a kept state says at one index.
+-- What a state says at one index, if it follows from its history.
 use Rattle.std.proofs.Common.{◌≡◌, ℕ, ◌<◌, ◌≤◌, ◌-◌, ◌==◌, Bool, true, false, if◌then◌else◌, List, length, get_or, Bor, Option, Some, None, refl, sym, ap, ◌∙◌, arith}
 use Rattle.std.specs.List.{slice_get}
 use Rattle.std.specs.Option.{option_copied}
@@ -19,11 +19,11 @@ use Rattle.apex_ports.specs.Ports.{IsIdentifier}
 use Rattle.apex_ports.specs.ReplyTable.{depth_of, depth_in, size_in, queue_size_in}
 use Rattle.apex_ports.specs.Kept.{AreKept, IsPartitionKept, IsChannelKept}
 
--- what an index reads
+-- the item at an index
 pub at_index : {X : Type 0} (xs : List X) (k : ℕ) (x : X) → k < length xs → x ≡ get_or xs k x → slice_get xs k ≡ Some x
 at_index xs k x within is = slice_get-get_or xs k x within ∙ ap Some (sym is)
 
--- what isn't there is not lent
+-- an item that doesn't exist is not lent
 pub nothing_lent : {X : Type 0} (lent : Option (Bor X)) → option_copied lent ≡ None → lent ≡ None
 nothing_lent None e = refl
 nothing_lent (Some x) e = absurd (cc)
@@ -39,12 +39,12 @@ is_identifier config p id port found = by_test (id == 0) refl found
         let positive : 0 < id = grind (arith, nat_tests) in
         record { first = positive; last = omega arith }
 
--- as many messages wait as the history says
+-- the number of waiting messages is that of the history
 pub waiting_count_is : {A : Type 0} (config : Configuration) (history : History) (c : ℕ) (state : ChannelState A) → IsChannelKept config history c state
     → length (waiting_in state) ≡ length (waiting_on config c history)
 waiting_count_is config history c state kept = ap (λ (xs : List (List ℕ)). length xs) kept.waiting
 
--- where messages can wait, they may be as long as the channel's size
+-- if messages can wait on a channel, each may have the channel's size
 pub queue_size_is : (channel : Option Channel) → 0 < depth_in channel → queue_size_in channel ≡ size_in channel
 queue_size_is None some = absurd (omega arith)
 queue_size_is (Some channel) some = of_kind channel.kind some

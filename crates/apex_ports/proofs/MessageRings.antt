@@ -17,26 +17,26 @@ module _ (slots : List ℕ) (start : ℕ) (m : List ℕ) (fits : start + length 
   pub length-with_message : length (with_message slots start m) ≡ length slots
   length-with_message = search (rules, overwrites)
 
-  -- the message stands there
+  -- the message is written there
   pub written_there : take (length m) (drop start (with_message slots start m)) ≡ m
   written_there =
       let count : length m ≡ start + length m - start = omega arith in
       ap (λ (n : ℕ). take n (drop start (with_message slots start m))) count
       ∙ between-put_mid start (length m) slots m (start + length m) (omega arith) count
 
-  -- bytes before it stay
+  -- the bytes before it are unchanged
   pub same_before : (from n : ℕ) → from + n ≤ start → take n (drop from (with_message slots start m)) ≡ take n (drop from slots)
   same_before from n before =
       sym (drop-take from n (with_message slots start m))
       ∙ (ap (λ (xs : List ℕ). drop from xs) (take-put_mid_below start (length m) slots m (from + n) before (omega arith)) ∙ drop-take from n slots)
 
-  -- bytes behind it stay
+  -- the bytes after it are unchanged
   pub same_behind : (from n : ℕ) → start + length m ≤ from → take n (drop from (with_message slots start m)) ≡ take n (drop from slots)
   same_behind from n behind = ap (λ (xs : List ℕ). take n xs) (drop-put_mid start (length m) slots m from behind (omega arith) refl)
 
 -- ---- places
 
--- the slot behind another, round the end
+-- the slot after another; the first slot follows the last
 abbrev pub slot_behind : ℕ → ℕ → ℕ
 slot_behind slot depth = if slot + 1 == depth then 0 else slot + 1
 
@@ -48,7 +48,7 @@ map_same : {X Y : Type 0} (f g : X → Y) (xs : List X) → ((k : ℕ) (x : X) �
 map_same f g [] same = refl
 map_same f g (x ∷ xs) same = λ i. same 0 x refl i ∷ map_same f g xs (λ k y at. same (suc k) y at) i
 
--- one slot is filled more
+-- one more slot is filled
 one_more : (depth size next steps : ℕ) (place : Place) → next < depth → 0 < steps → steps < depth → IsPlaced depth size next steps place
     → IsPlaced depth size (slot_behind next depth) (steps + 1) place
 one_more depth size next steps place within some few is = by_test (next + 1 == depth) refl
@@ -81,7 +81,7 @@ one_more depth size next steps place within some few is = by_test (next + 1 == d
           above = λ above. let round = is.above (omega (arith, above)) in omega (arith, round);
         }
 
--- the slot that is filled is the last one
+-- the filled slot is the newest one
 filled : (depth size next : ℕ) (m : List ℕ) → next < depth → length m ≤ size → IsPlaced depth size (slot_behind next depth) 1 (place_of next m)
 filled depth size next m within short = by_test (next + 1 == depth) refl
   where
@@ -98,7 +98,7 @@ slot_within depth next within = by_test (next + 1 == depth) refl
     by_test true test = omega arith
     by_test false test = let more : next + 1 ≢ depth = grind (arith, nat_tests) in omega arith
 
--- what stands in a list that is mapped
+-- an item of a mapped list
 mapped : {X Y : Type 0} (f : X → Y) (xs : List X) (k : ℕ) (y : Y) → slice_get (map f xs) k ≡ Some y → (x : X) × (slice_get xs k ≡ Some x) × (f x ≡ y)
 mapped f [] k y at = absurd (cc)
 mapped f (x ∷ xs) zero y at = (x, refl, cc)
@@ -112,7 +112,7 @@ ring-short depth size next slots places is k m at =
     let count = ap length from.2 in
     omega (arith, few, count, length-take from.0.length (drop (from.0.slot * size) slots))
 
--- the oldest place is forgotten
+-- the oldest place is removed
 pub ring-popped : (depth size next : ℕ) (slots : List ℕ) (places : List Place) → IsRing depth size next slots places → IsRing depth size next slots (drop 1 places)
 ring-popped depth size next slots places is = record {
   small = is.small;

@@ -1,4 +1,4 @@
--- What holds of the ports once an event is noted.
+-- What holds for the ports after an event is added to the history.
 use Rattle.std.proofs.Common.{◌≡◌, ℕ, ◌+◌, ◌-◌, ◌^◌, ◌<◌, List, [], ◌∷◌, ◌++◌, length, set, min, get_or, sym, subst, arith}
 use Rattle.apex_types.specs.declared.call.Call.{Call}
 use Rattle.apex_types.specs.declared.moment.Moment.{Moment}

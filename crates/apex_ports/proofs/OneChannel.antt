@@ -1,4 +1,4 @@
--- An entry is about one channel at most.
+-- An entry concerns at most one channel.
 use Rattle.std.proofs.Common.{◌≡◌, ◌≢◌, ◌⊎◌, inl, inr, ℕ, ◌==◌, Bool, true, false, ◌&&◌, not, if◌then◌else◌, List, [], ◌∷◌, ◌++◌, Option, Some, None, refl, ◌∙◌, arith}
 use Rattle.std.proofs.lemmas.Bool.Decides.{nat_tests}
 use Rattle.apex_types.specs.declared.call.Call.{Call}
@@ -63,11 +63,11 @@ call_elsewhere config c d p _ apart = inl (record { sends = refl; receives = ref
 elsewhere_same : (config : Configuration) (h : History) (p : ℕ) (at : Moment) (call : Call) (reply : Reply) (c : ℕ) → IsElsewhere config c p call → SameChannel config h (h ++ entry_of p at call reply ∷ []) c
 elsewhere_same config h p at call reply c off = same_channel config h (entry_of p at call reply) c (leaves_channel config c p at call reply off)
 
--- one entry more changes one channel at most
+-- one more entry changes at most one channel
 pub one_channel : (config : Configuration) (h : History) (p : ℕ) (at : Moment) (call : Call) (reply : Reply) → ChangesOneChannel config h (h ++ entry_of p at call reply ∷ [])
 one_channel config h p at call reply c d apart =
     either (elsewhere_same config h p at call reply c) (elsewhere_same config h p at call reply d) (call_elsewhere config c d p call apart)
 
--- nothing more changes none
+-- without another entry no channel changes
 pub no_channel : (config : Configuration) (h : History) → ChangesOneChannel config h h
 no_channel config h c d apart = inl (record { accepted = refl; taken = refl; waiting = refl; sample = refl })

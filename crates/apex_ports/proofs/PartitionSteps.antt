@@ -31,7 +31,7 @@ same_number n = grind (arith, nat_tests)
 other_number : (m n : ℕ) → n ≢ m → (m == n) ≡ false
 other_number m n apart = grind (arith, nat_tests)
 
--- an entry is about no partition but its own
+-- an entry concerns only its own partition
 pub leaves_others : (p : ℕ) (at : Moment) (call : Call) (reply : Reply) (q : ℕ) → q ≢ p → LeavesPartition q (entry_of p at call reply)
 leaves_others p at call reply q apart =
     let other = other_number p q apart in

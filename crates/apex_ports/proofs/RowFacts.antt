@@ -1,4 +1,4 @@
--- What the row of a call says of the call and of what its partition sees.
+-- What the row of a call says about the call and about what its partition sees.
 use Rattle.std.proofs.Common.{◌≡◌, ◌≢◌, ℕ, ◌<◌, ◌≤◌, ◌==◌, Bool, true, false, nat_lt, ◌&&◌, not, if◌then◌else◌, List, [], ◌∷◌, length, Option, Some, None, refl, sym, ap, ◌∙◌, subst, arith}
 use Rattle.std.proofs.lemmas.Bool.Decides.{nat_tests}
 use Rattle.apex_types.specs.Direction.{number_of}
@@ -419,7 +419,7 @@ module _ (config : Configuration) (s : Seen) (p : ℕ) (now : Moment) where
       by_tests false false false false true h = absurd (cc)
       by_tests false false false false false h = cc
 
-  -- what holds of a call that creates a port
+  -- what holds for a call that creates a port
   pub record IsCreation (of : Call) (id : ℕ) : Type 0 where
     pub creates : is_create of ≡ true
     pub no_mode : mode_asked of ≡ None

@@ -1,4 +1,4 @@
--- What is saved of a state is kept as the state is, and a state has room for it.
+-- A saved state follows from the history as the state does, and a state has room for it.
 use Rattle.std.proofs.Common.{◌≡◌, ℕ, zero, suc, ◌<◌, List, [], ◌∷◌, ◌++◌, length, take, drop, Some, refl, sym, ap, ◌∙◌, subst, arith}
 use Rattle.std.specs.List.{slice_get}
 use Rattle.std.proofs.Math.Seq.{take-append_seam}
@@ -26,7 +26,7 @@ item_at [] k within = absurd (omega arith)
 item_at (x ∷ xs) zero within = (x, refl)
 item_at (x ∷ xs) (suc k) within = item_at xs k (omega arith)
 
--- what holds of each item of a list, in pairs with another of the same length
+-- what holds for each item of a list, paired with another list of the same length
 pub each_along : {X Y : Type 0} (P : ℕ → X → Type 0) (Q : ℕ → Y → Type 0) (R : X → Y → Type 0) (xs : List X) (ys : List Y) → length ys ≡ length xs
     → EachAt P xs → EachPair R xs ys → ((k : ℕ) (x : X) (y : Y) → P k x → R x y → Q k y) → EachAt Q ys
 each_along P Q R xs ys count each pairs goes k y at =
@@ -34,11 +34,11 @@ each_along P Q R xs ys count each pairs goes k y at =
     let from = item_at xs k (omega (arith, within, count)) in
     goes k from.0 y (each k from.0 from.1) (pairs k from.0 y from.1 at)
 
--- a list of the same length is written over the whole
+-- a list of the same length overwrites all items
 pub refilled : {X : Type 0} (n : ℕ) (xs ws : List X) → n ≡ length ws → take n (ws ++ drop (length ws) xs) ≡ ws
 refilled n xs ws count = ap (λ (m : ℕ). take m (ws ++ drop (length ws) xs)) count ∙ take-append_seam ws (drop (length ws) xs)
 
--- one pair more
+-- one more pair
 pub each_pair_push : {X Y : Type 0} (R : X → Y → Type 0) (xs : List X) (ys : List Y) (n : ℕ) (x : X) (y : Y) → length ys ≡ n → EachPair R xs ys
     → slice_get xs n ≡ Some x → R x y → EachPair R xs (ys ++ y ∷ [])
 each_pair_push {X} {Y} R xs ys n x y count each here mine k z w at listed =

@@ -1,4 +1,4 @@
--- A kept state stays kept where an entry leaves its parts alone, and where the part that it changes is set.
+-- A state still follows from the history if an entry leaves its parts alone, or if the part that the entry changes is set.
 use Rattle.std.proofs.Common.{◌≡◌, ◌≢◌, ◌⊎◌, inl, inr, ⊎_elim, ℕ, zero, suc, ◌+◌, ◌-◌, Bool, true, false, ◌&&◌, ◌||◌, ◌==◌, not, if◌then◌else◌, List, [], ◌∷◌, ◌++◌, length, drop, map, filter, set, Option, Some, None, refl, sym, ap, ◌∙◌, subst, arith, length-append, length-set, append-nil}
 use Rattle.std.specs.Option.{unwrap_or, option_to_list}
 use Rattle.std.specs.List.{slice_get}
@@ -66,7 +66,7 @@ module _ {A : Type 0} (config : Configuration) (h : History) (e : Entry) where
     last = λ id. kept.last id ∙ sym (last_validity_of-append p id h e ∙ (λ i. if left.created id i then Invalid else unwrap_or (left.read id i) (last_validity_of p id h)));
   }
 
--- ---- what a history says of a channel that an entry leaves alone
+-- ---- what a history says about a channel that an entry leaves alone
 
 pub accepted_stays : (config : Configuration) (c : ℕ) (h : History) (e : Entry) → message_accepted config c e ≡ None → accepted_on config c (h ++ e ∷ []) ≡ accepted_on config c h
 accepted_stays config c h e none = accepted_on-append config c h e ∙ (ap (λ o. accepted_on config c h ++ option_to_list o) none ∙ append-nil (accepted_on config c h))
@@ -87,7 +87,7 @@ cleared_stays config c h e no_receive no_clear = ap (filter (λ (taken : Taken).
 pub waiting_stays : (config : Configuration) (c : ℕ) (h : History) (e : Entry) → message_accepted config c e ≡ None → message_received config c e ≡ None → clears config c e ≡ false → waiting_on config c (h ++ e ∷ []) ≡ waiting_on config c h
 waiting_stays config c h e no_send no_receive no_clear = λ i. drop (length (taken_stays config c h e no_receive no_clear i)) (accepted_stays config c h e no_send i)
 
--- a channel's last write stays where the entry writes nothing into it
+-- a channel keeps its last write if the entry writes nothing into it
 pub sample_stays : (config : Configuration) (h : History) (e : Entry) (c : ℕ) → sample_written config c e ≡ None → last_write_on config c (h ++ e ∷ []) ≡ last_write_on config c h
 sample_stays config h e c left =
     let same : writes_on config c (h ++ e ∷ []) ≡ writes_on config c h = writes_on-append config c h e ∙ (ap (λ o. writes_on config c h ++ option_to_list o) left ∙ append-nil (writes_on config c h)) in
@@ -110,7 +110,7 @@ slice_get_last xs x =
     let at : length (xs ++ x ∷ []) - 1 ≡ length xs = omega (arith, length-append xs (x ∷ [])) in
     slice_get-last xs x (length (xs ++ x ∷ []) - 1) at
 
--- a write is the last one
+-- a write becomes the last one
 pub sample_changes : (config : Configuration) (h : History) (e : Entry) (c : ℕ) (sample : Sample) → sample_written config c e ≡ Some sample → last_write_on config c (h ++ e ∷ []) ≡ Some sample
 sample_changes config h e c sample written =
     let longer : writes_on config c (h ++ e ∷ []) ≡ writes_on config c h ++ sample ∷ [] = writes_on-append config c h e ∙ ap (λ o. writes_on config c h ++ option_to_list o) written in
@@ -151,7 +151,7 @@ each_at_set {X} P Q xs i y each others mine k x at =
     (λ (h : (k ≢ i) × (slice_get xs k ≡ Some x)). others k x h.0 (each k x h.1))
     (slice_get-set_cases xs i y k x at)
 
--- ---- calls that are about something else
+-- ---- calls that concern something else
 
 pub leaves_partition : (p : ℕ) (at : Moment) (call : Call) (reply : Reply) → mode_asked call ≡ None → is_create call ≡ false → ((id : ℕ) → is_read id call ≡ false) → (q : ℕ) → LeavesPartition q (entry_of p at call reply)
 leaves_partition p at call reply no_mode no_create no_read q = record {
@@ -256,7 +256,7 @@ module _ (config : Configuration) (p : ℕ) (at : Moment) (call : Call) (reply :
     written = λ i. if quiet.accepted i then sample_at at (message_written config c p call) else None;
   }
 
--- after a reply that changes nothing the state is kept as it is
+-- after a reply that changes nothing, the unchanged state follows from the history
 pub quiet_keeps : {A : Type 0} (config : Configuration) (h : History) (partitions : List (PartitionState A)) (channels : List (ChannelState A)) (p : ℕ) (at : Moment) (call : Call) (reply : Reply)
     → AreKept config h partitions channels → IsQuiet call reply → AreKept config (h ++ entry_of p at call reply ∷ []) partitions channels
 quiet_keeps config h partitions channels p at call reply kept quiet =

@@ -1,4 +1,4 @@
--- What the state of a channel has. One of the other kind has nothing.
+-- What the state of a channel contains. A channel of the other kind has none of it.
 use Rattle.std.specs.Prelude.{ℕ, Bool, true, false, List, [], Option, None}
 use Rattle.apex_types.specs.declared.sample.Sample.{Sample}
 use Rattle.apex_ports.specs.declared.channel.ChannelState.{ChannelState}
@@ -13,12 +13,12 @@ abbrev pub waiting_in : {A : Type 0} → ChannelState A → List (List ℕ)
 waiting_in (Queuing queue) = queue.waiting.items
 waiting_in (Sampling sample) = []
 
--- how many messages can wait
+-- the number of messages that can wait
 abbrev pub ring_depth : {A : Type 0} → ChannelState A → ℕ
 ring_depth (Queuing queue) = queue.waiting.capacity
 ring_depth (Sampling sample) = 0
 
--- how many bytes each may have
+-- the maximum length of each, in bytes
 abbrev pub message_size : {A : Type 0} → ChannelState A → ℕ
 message_size (Queuing queue) = queue.waiting.size
 message_size (Sampling sample) = 0

@@ -57,7 +57,7 @@ abbrev pub is_clear : Configuration → ℕ → ℕ → Call → Bool
 is_clear config channel partition (ClearQueuing id) = is_destination_of channel (port_of config partition id)
 is_clear config channel partition _ = false
 
--- the entry discards whatever waits on the channel
+-- the entry discards all messages that wait on the channel
 abbrev pub clears : Configuration → ℕ → Entry → Bool
 clears config channel entry = is_code_no_error entry.reply && is_clear config channel entry.partition entry.call
 
@@ -67,13 +67,13 @@ as_received message = record { message = message; cleared = false }
 abbrev pub as_cleared : List ℕ → Taken
 as_cleared message = record { message = message; cleared = true }
 
--- what an entry takes out of the channel, where these messages wait
+-- what an entry takes out of the channel if these messages wait
 abbrev pub taken_by : Configuration → ℕ → List (List ℕ) → Entry → List Taken
 taken_by config channel waiting entry =
     if clears config channel entry then map as_cleared waiting
     else map as_received (option_to_list (message_received config channel entry))
 
--- what is taken in the end, where the entries follow a history in which these were taken
+-- all messages taken after these entries, if they follow a history in which these messages were taken
 abbrev pub taken_after : Configuration → ℕ → History → List Taken → List Entry → List Taken
 taken_after config channel before taken [] = taken
 taken_after config channel before taken (entry ∷ rest) =
@@ -84,14 +84,14 @@ taken_after config channel before taken (entry ∷ rest) =
 abbrev pub taken_on : Configuration → ℕ → History → List Taken
 taken_on config channel history = taken_after config channel [] [] history
 
--- those of them that were cleared
+-- the taken messages that were cleared
 abbrev pub cleared_on : Configuration → ℕ → History → List Taken
 cleared_on config channel history = filter (λ taken. taken.cleared) (taken_on config channel history)
 
 abbrev pub messages_of : List Taken → List (List ℕ)
 messages_of taken = map (λ one. one.message) taken
 
--- the messages that wait: first in, first out, told apart by their index and not by their bytes
+-- the messages that wait: first in, first out, identified by their index and not by their bytes
 abbrev pub waiting_on : Configuration → ℕ → History → List (List ℕ)
 waiting_on config channel history = drop (length (taken_on config channel history)) (accepted_on config channel history)
 
@@ -116,7 +116,7 @@ sample_written config channel entry =
 abbrev pub writes_on : Configuration → ℕ → History → List Sample
 writes_on config channel history = filter_map (sample_written config channel) history
 
--- the sample written last: a write replaces it, a read leaves it
+-- the sample written last: a write replaces it, a read keeps it
 abbrev pub last_write_on : Configuration → ℕ → History → Option Sample
 last_write_on config channel history =
     let writes = writes_on config channel history in slice_get writes (length writes - 1)

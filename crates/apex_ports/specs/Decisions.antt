@@ -1,4 +1,4 @@
--- What a function that decides on a call has to do with the reply table.
+-- How a function that decides about a call relates to the reply table.
 use Rattle.std.specs.Prelude.{◌≡◌, Result, Ok, Err}
 use Rattle.apex_ports.specs.declared.rows.Refusal.{Refusal}
 use Rattle.apex_ports.specs.declared.rows.Row.{Row}

@@ -17,7 +17,7 @@ IdleIsSilent history =
 abbrev pub HasSource : Configuration → ℕ → ℕ → Type 0
 HasSource config p c = (id : ℕ) × (is_source_of c (port_of config p id) ≡ true)
 
--- a partition in IDLE is there afterwards too, and nothing was accepted from it
+-- a partition in IDLE stays in IDLE, and nothing was accepted from it
 pub record StaysIdle (config : Configuration) (old new : History) : Type 0 where
   pub mode : (p : ℕ) → is_idle (mode_of p old) ≡ true → is_idle (mode_of p new) ≡ true
   pub accepted : (p c : ℕ) → is_idle (mode_of p old) ≡ true → HasSource config p c → accepted_on config c new ≡ accepted_on config c old

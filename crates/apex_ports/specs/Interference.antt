@@ -1,4 +1,5 @@
--- Freedom from interference: partitions that share no channel with the others are answered as if the others made no call.
+-- Freedom from interference: partitions that share no channel with the others get the replies that they would get if the
+-- others made no call.
 use Rattle.std.specs.Prelude.{ℕ, Bool, true, ◌≡◌, List, filter, Some}
 use Rattle.apex_types.specs.declared.call.Call.{Call}
 use Rattle.apex_types.specs.declared.moment.Moment.{Moment}
@@ -23,14 +24,14 @@ entries_inside inside history = filter (λ entry. inside entry.partition) histor
 abbrev pub requests_inside : (ℕ → Bool) → History → List Request
 requests_inside inside history = requests_of (entries_inside inside history)
 
--- what happens inside depends on the calls made inside alone
+-- what happens inside depends only on the calls made inside
 pub record IsIndependent (config : Configuration) (inside : ℕ → Bool) (history : History) : Type 0 where
-  -- without the entries of the partitions outside the history is lawful too
+  -- the history is lawful without the entries of the partitions outside, too
   pub alone : IsLawful config (entries_inside inside history)
   -- a lawful history with the same calls inside has the same entries inside, whatever was called outside
   pub same : (other : History) → IsLawful config other → requests_inside inside other ≡ requests_inside inside history
       → entries_inside inside other ≡ entries_inside inside history
-  -- the next call inside is answered as after the entries inside alone
+  -- the next call inside gets the reply that it gets after only the entries inside
   pub reply : (p : ℕ) (now : Moment) (call : Call) → inside p ≡ true
       → reply_to config history p now call ≡ reply_to config (entries_inside inside history) p now call
 

@@ -1,4 +1,4 @@
--- What the state says of the history: each part is what the definitions filter out of it.
+-- The state follows from the history: each part equals what its definition filters out of the history.
 use Rattle.std.specs.Prelude.{ℕ, ◌≡◌, ◌-◌, ◌==◌, Bool, false, if◌then◌else◌, List, [], ◌∷◌, ◌++◌, length, slice_get, Option, Some, None}
 use Rattle.apex_types.specs.declared.validity.Validity.{Validity}
 use Rattle.apex_types.specs.declared.validity.Validity.TheVariants.{Invalid}
@@ -18,7 +18,7 @@ use Rattle.apex_ports.specs.Channels.{accepted_on, received_on, cleared_on, wait
 use Rattle.apex_ports.specs.ReplyTable.{depth_of, queue_size_of}
 use Rattle.apex_ports.specs.Sound.{IsSound}
 
--- what holds of the item at each index
+-- what holds for the item at each index
 abbrev pub EachAt : {X : Type 0} → (ℕ → X → Type 0) → List X → Type 0
 EachAt {X} P xs = (k : ℕ) (x : X) → slice_get xs k ≡ Some x → P k x
 
@@ -61,25 +61,25 @@ pub record AreKept {A : Type 0} (config : Configuration) (history : History) (pa
   pub each_partition : EachAt (IsPartitionKept config history) partitions
   pub each_channel : EachAt (IsChannelKept config history) channels
 
--- the state is what the history comes to
+-- the state follows from the history
 abbrev pub IsKept : {A : Type 0} → Configuration → History → State A → Type 0
 IsKept config history state = AreKept config history state.partitions.items state.channels.items
 
--- how many calls each partition made, and those that were not made count too
+-- the number of calls of each partition, including those that were not made
 pub record AreCounted (config : Configuration) (history : History) (calls : List ℕ) : Type 0 where
   pub all : length calls ≡ length config.partitions
   pub each : EachAt (λ p count. count ≡ count_of (entries_of p history)) calls
 
--- the state is what its history comes to, and that is sound
+-- the state follows from its history, which is sound
 pub record IsCurrent {A : Type 0} (config : Configuration) (state : State A) : Type 0 where
   pub sound : IsSound config state.history
   pub kept : IsKept config state.history state
 
--- the new state is what the history comes to with one more entry
+-- the new state follows from the history with one more entry
 abbrev pub IsKeptWith : {A : Type 0} → Configuration → State A → Entry → State A → Type 0
 IsKeptWith config old entry new = IsKept config (old.history ++ entry ∷ []) new
 
--- what holds of the ports of a module
+-- what holds for the ports of a module
 pub record IsPortsKept {A : Type 0} (config : Configuration) (state : State A) (calls : Vec ℕ A) : Type 0 where
   pub sound : IsSound config state.history
   pub kept : IsKept config state.history state

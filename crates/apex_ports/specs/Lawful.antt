@@ -15,6 +15,6 @@ IsLawfulEntry config before entry =
 abbrev pub IsLawful : Configuration → History → Type 0
 IsLawful config history = (k : ℕ) (entry : Entry) → slice_get history k ≡ Some entry → IsLawfulEntry config (take k history) entry
 
--- the lawful history of these requests; `one_history` of LawfulLaws says that there is one at most
+-- the lawful history of these requests; `one_history` of LawfulLaws says that there is at most one
 abbrev pub Answers : Configuration → List Request → History → Type 0
 Answers config requests history = IsLawful config history × (requests_of history ≡ requests)

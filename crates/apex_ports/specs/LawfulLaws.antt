@@ -1,4 +1,4 @@
--- A list of requests has one lawful history at most, since the reply table is a function.
+-- A list of requests has at most one lawful history, since the reply table is a function.
 use Rattle.std.proofs.Common.{◌≡◌, ℕ, suc, List, [], ◌∷◌, ◌++◌, take, slice_get, Some, refl, sym, ap, ◌∙◌, subst, append_assoc, append-nil}
 use Rattle.apex_module.specs.Configuration.{Configuration}
 use Rattle.apex_ports.specs.declared.history.Entry.{Entry}
@@ -14,7 +14,7 @@ AreLawfulAfter config before entries = (k : ℕ) (entry : Entry) → slice_get e
 after_first : (config : Configuration) (before : History) (x : Entry) (xs : List Entry) → AreLawfulAfter config before (x ∷ xs) → AreLawfulAfter config (before ++ x ∷ []) xs
 after_first config before x xs lawful k entry here = rw append_assoc (lawful (suc k) entry here)
 
--- what one lawful entry more keeps holds along lawful entries
+-- what each lawful entry preserves holds after all lawful entries
 pub along_lawful : (config : Configuration) (P : History → Type 0) → ((h : History) (e : Entry) → IsLawfulEntry config h e → P h → P (h ++ e ∷ []))
     → (before : History) (entries : List Entry) → AreLawfulAfter config before entries → P before → P (before ++ entries)
 along_lawful config P step before [] lawful here = subst P (sym (append-nil before)) here

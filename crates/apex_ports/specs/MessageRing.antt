@@ -3,7 +3,7 @@ use Rattle.std.specs.Prelude.{ℕ, ◌≡◌, ◌+◌, ◌-◌, ◌*◌, ◌^◌
 use Rattle.apex_types.specs.declared.message.TheConstants.{MESSAGE_LIMIT}
 use Rattle.apex_ports.specs.declared.message_ring.Place.{Place}
 
--- the messages, oldest first, how many there may be, and how many bytes each may have
+-- the messages, oldest first, the maximum number of them, and the maximum length of each, in bytes
 pub record Messages : Type 0 where
   pub items : List (List ℕ)
   pub capacity : ℕ
@@ -16,25 +16,25 @@ messages items capacity size = record { items = items; capacity = capacity; size
 abbrev pub AreShort : ℕ → List (List ℕ) → Type 0
 AreShort size items = (k : ℕ) (message : List ℕ) → slice_get items k ≡ Some message → length message ≤ size
 
--- the message of a place
+-- the message at a place
 abbrev pub message_at : ℕ → List ℕ → Place → List ℕ
 message_at size slots place = take place.length (drop (place.slot * size) slots)
 
 abbrev pub messages_at : ℕ → List ℕ → List Place → List (List ℕ)
 messages_at size slots places = map (message_at size slots) places
 
--- the bytes with a message written from the start on
+-- the bytes, with a message written from this index on
 abbrev pub with_message : List ℕ → ℕ → List ℕ → List ℕ
 with_message slots start message = take start slots ++ (message ++ drop (length message) (drop start slots))
 
--- the place is these steps before the slot that is filled next, round the end of the slots
+-- the place is this number of slots before the next slot to fill, where the first slot follows the last
 pub record IsPlaced (depth size next steps : ℕ) (place : Place) : Type 0 where
   pub short : place.length ≤ size
   pub within : place.slot < depth
   pub below : place.slot < next → place.slot + steps ≡ next
   pub above : next ≤ place.slot → place.slot + steps ≡ next + depth
 
--- the oldest message has the first slot, and the next message gets the one behind the last
+-- the messages have consecutive slots, where the first slot follows the last, up to the next slot to fill
 pub record IsRing (depth size next : ℕ) (slots : List ℕ) (places : List Place) : Type 0 where
   pub small : depth < 2 ^ 32
   pub wide : size ≤ MESSAGE_LIMIT

@@ -16,7 +16,7 @@ abbrev pub is_no_error : ReturnCode → Bool
 is_no_error NoError = true
 is_no_error _ = false
 
--- the bare answer NO_ERROR
+-- the reply is NO_ERROR without data
 abbrev pub is_code_no_error : Reply → Bool
 is_code_no_error (Code code) = is_no_error code
 is_code_no_error _ = false
@@ -48,11 +48,11 @@ mode_asked _ = None
 abbrev pub mode_set : ℕ → Entry → Option Mode
 mode_set partition entry = if is_code_no_error entry.reply && (entry.partition == partition) then mode_asked entry.call else None
 
--- the mode set last, COLD_START where none was (the opening mode is this project's own choice)
+-- the mode set last; COLD_START if none was set (the initial mode is this project's own choice)
 abbrev pub mode_of : ℕ → History → Mode
 mode_of partition history = fold (λ mode entry. unwrap_or (mode_set partition entry) mode) ColdStart history
 
--- a restart: COLD_START or WARM_START was set, from whichever mode
+-- a restart: COLD_START or WARM_START was set, from any mode
 abbrev pub is_restart : Option Mode → Bool
 is_restart None = false
 is_restart (Some mode) = is_start mode

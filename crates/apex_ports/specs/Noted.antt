@@ -1,4 +1,4 @@
--- What calls and replies by reference stand for.
+-- The calls and replies that those by reference mean.
 use Rattle.apex_types.specs.declared.call.Call.{Call}
 use Rattle.apex_types.specs.declared.call.Call.TheVariants as call
 use Rattle.apex_types.specs.declared.reply.Reply.{Reply}

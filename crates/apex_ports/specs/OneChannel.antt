@@ -1,4 +1,4 @@
--- A call changes one channel at most.
+-- A call changes at most one channel.
 use Rattle.std.specs.Prelude.{ℕ, ◌≡◌, ◌≢◌, ◌⊎◌}
 use Rattle.apex_module.specs.Configuration.{Configuration}
 use Rattle.apex_ports.specs.History.{History}
@@ -11,6 +11,6 @@ pub record SameChannel (config : Configuration) (old new : History) (c : ℕ) : 
   pub waiting : waiting_on config c new ≡ waiting_on config c old
   pub sample : last_write_on config c new ≡ last_write_on config c old
 
--- of any two channels one is as it was
+-- of any two channels, at least one is unchanged
 abbrev pub ChangesOneChannel : Configuration → History → History → Type 0
 ChangesOneChannel config old new = (c d : ℕ) → c ≢ d → SameChannel config old new c ⊎ SameChannel config old new d

@@ -22,16 +22,16 @@ abbrev pub is_id : ℕ → Reply → Bool
 is_id id (Id number) = number == id
 is_id id _ = false
 
--- the entry is a create call of the partition that was answered the identifier
+-- the entry is a create call of the partition, and its reply has the identifier
 abbrev pub creates : ℕ → ℕ → Entry → Bool
 creates partition id entry = (is_create entry.call && is_id id entry.reply) && (entry.partition == partition)
 
--- the port was created, and its partition didn't restart since
+-- the port was created, and its partition has not restarted since
 abbrev pub is_created : ℕ → ℕ → History → Bool
 is_created partition id history =
     fold (λ created entry. creates partition id entry || (created && not (restarts partition entry))) false history
 
--- the port, where it is of this kind
+-- the port, if it is of this kind
 abbrev pub queuing_only : Option Port → Option Port
 queuing_only None = None
 queuing_only (Some port) = if is_queuing_port port.kind then Some port else None
@@ -49,7 +49,7 @@ abbrev pub with_id : ℕ → Option Port → Option NamedPort
 with_id id None = None
 with_id id (Some port) = Some (record { id = id; port = port })
 
--- the configured port of the name, created or not, where it is of this kind
+-- the configured port with the name, created or not, if it is of this kind
 abbrev pub queuing_of_id : Configuration → ℕ → Option ℕ → Option NamedPort
 queuing_of_id config partition None = None
 queuing_of_id config partition (Some id) = with_id id (queuing_only (port_of config partition id))

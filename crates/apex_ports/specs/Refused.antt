@@ -1,4 +1,4 @@
--- What a refused send leaves as it was.
+-- What a refused send leaves unchanged.
 use Rattle.std.specs.Prelude.{ℕ, Bool, true, false}
 use Rattle.apex_types.specs.declared.call.Call.{Call}
 use Rattle.apex_types.specs.declared.call.Call.TheVariants.{SendQueuing}
@@ -10,6 +10,6 @@ abbrev pub is_send : Call → Bool
 is_send (SendQueuing id message) = true
 is_send _ = false
 
--- every channel is as it was
+-- every channel is unchanged
 abbrev pub SameChannels : Configuration → History → History → Type 0
 SameChannels config old new = (c : ℕ) → SameChannel config old new c

@@ -1,4 +1,4 @@
--- The reply table: of each service its rows. The first check that applies gives the row, and the row gives the reply.
+-- The reply table: the rows of each service. The first check that applies gives the row, and the row gives the reply.
 use Rattle.std.specs.Prelude.{ℕ, ◌==◌, nat_lt, not, if◌then◌else◌, List, [], ◌∷◌, length, Option, Some, None}
 use Rattle.apex_types.specs.Direction.{number_of}
 use Rattle.apex_types.specs.Mode.{mode_numbered}
@@ -32,7 +32,7 @@ abbrev pub size_in : Option Channel → ℕ
 size_in None = 0
 size_in (Some channel) = channel.size
 
--- the greatest length of a message, in bytes
+-- the maximum length of a message, in bytes
 abbrev pub size_of : Configuration → Port → ℕ
 size_of config port = size_in (channel_of config port.channel)
 
@@ -40,7 +40,7 @@ abbrev pub depth_in : Option Channel → ℕ
 depth_in None = 0
 depth_in (Some channel) = depth_of_kind channel.kind
 
--- how many messages can wait on a channel; none on a sampling channel
+-- the number of messages that can wait on a channel; 0 for a sampling channel
 abbrev pub depth_of : Configuration → ℕ → ℕ
 depth_of config channel = depth_in (channel_of config channel)
 
@@ -48,13 +48,13 @@ abbrev pub queue_size_in : Option Channel → ℕ
 queue_size_in None = 0
 queue_size_in (Some channel) = if is_queuing_channel channel.kind then channel.size else 0
 
--- the greatest length of a message that waits on a channel; none waits on a sampling channel
+-- the maximum length of a message that waits on a channel; 0 for a sampling channel, on which none waits
 abbrev pub queue_size_of : Configuration → ℕ → ℕ
 queue_size_of config channel = queue_size_in (channel_of config channel)
 
 -- ---- creation, and identifiers by name
 
--- CREATE_QUEUING_PORT, of the configured queuing port of the name
+-- CREATE_QUEUING_PORT, for the configured queuing port with the name
 abbrev pub create_queuing_row : Configuration → Seen → Option NamedPort → ℕ → ℕ → ℕ → ℕ → Row
 create_queuing_row config seen None size depth direction discipline = Refused NotConfigured
 create_queuing_row config seen (Some named) size depth direction discipline =
@@ -66,7 +66,7 @@ create_queuing_row config seen (Some named) size depth direction discipline =
     else if is_normal seen.mode then Refused InNormal
     else Created named.id
 
--- CREATE_SAMPLING_PORT, of the configured sampling port of the name
+-- CREATE_SAMPLING_PORT, for the configured sampling port with the name
 abbrev pub create_sampling_row : Configuration → Seen → Option NamedPort → ℕ → ℕ → ℕ → Row
 create_sampling_row config seen None size direction refresh = Refused NotConfigured
 create_sampling_row config seen (Some named) size direction refresh =
@@ -77,12 +77,12 @@ create_sampling_row config seen (Some named) size direction refresh =
     else if is_normal seen.mode then Refused InNormal
     else Created named.id
 
--- GET_QUEUING_PORT_ID and GET_SAMPLING_PORT_ID, of the configured port of the kind and the name
+-- GET_QUEUING_PORT_ID and GET_SAMPLING_PORT_ID, for the configured port of the kind with the name
 abbrev pub id_row : Seen → Option NamedPort → Row
 id_row seen None = Refused NotCreated
 id_row seen (Some named) = if seen.created named.id then Identified named.id else Refused NotCreated
 
--- ---- queuing ports, by an identifier with the port that is created and of this kind
+-- ---- queuing ports: the identifier, and its port if that is created and of this kind
 
 -- SEND_QUEUING_MESSAGE
 abbrev pub send_row : Configuration → Seen → ℕ → Option Port → List ℕ → Row
@@ -103,12 +103,12 @@ abbrev pub receive_row : Seen → ℕ → Option Port → Row
 receive_row seen id None = Refused NoSuchPort
 receive_row seen id (Some port) = if is_source port.direction then Refused NotDestination else oldest_row id (seen.waiting id)
 
--- CLEAR_QUEUING_PORT, also where none waits
+-- CLEAR_QUEUING_PORT, also if no message waits
 abbrev pub clear_row : Option Port → Row
 clear_row None = Refused NoSuchPort
 clear_row (Some port) = if is_source port.direction then Refused NotDestination else Cleared
 
--- ---- sampling ports, by an identifier with the port that is created and of this kind
+-- ---- sampling ports: the identifier, and its port if that is created and of this kind
 
 -- WRITE_SAMPLING_MESSAGE
 abbrev pub write_row : Configuration → Option Port → List ℕ → Row
@@ -129,7 +129,7 @@ read_row seen now id None = Refused NoSuchPort
 read_row seen now id (Some port) =
     if is_source port.direction then Refused NotDestination else last_row now id (refresh_of_kind port.kind) (seen.sample id)
 
--- GET_QUEUING_PORT_STATUS and GET_SAMPLING_PORT_STATUS: the row of the status, where there is the port
+-- GET_QUEUING_PORT_STATUS and GET_SAMPLING_PORT_STATUS: the row of the status, if the port exists
 abbrev pub status_row : Row → Option Port → Row
 status_row status None = Refused NoSuchPort
 status_row status (Some port) = status
@@ -200,6 +200,6 @@ reply_of config seen p (LastRead id validity) = last_reply validity (seen.sample
 reply_of config seen p (row.SamplingStatus id) = sampling_status_reply config seen id (sampling_port config seen p id)
 reply_of config seen p ModeSet = reply.Code NoError
 
--- what is seen, and the call, give the row, and the row the reply
+-- what the partition sees and the call give the row, and the row gives the reply
 abbrev pub reply_to : Configuration → History → ℕ → Moment → Call → Reply
 reply_to config history p now call = reply_of config (seen config history p) p (row_of config (seen config history p) p now call)

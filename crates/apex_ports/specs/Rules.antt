@@ -7,11 +7,11 @@ use Rattle.apex_ports.specs.Channels.{accepted_on, taken_on, messages_of, waitin
 use Rattle.apex_ports.specs.ReplyTable.{depth_of}
 use Rattle.apex_ports.specs.Sound.{IsSound}
 
--- nothing is lost, doubled or reordered, and no more messages wait than the depth
+-- no message is lost, doubled or reordered, and at most the depth wait
 pub record IsConserved (config : Configuration) (history : History) (c : ℕ) : Type 0 where
   pub messages : messages_of (taken_on config c history) ++ waiting_on config c history ≡ accepted_on config c history
   pub depth : length (waiting_on config c history) ≤ depth_of config c
-  -- a channel takes part in the services of its own kind alone
+  -- only services of a channel's own kind use it
   pub sampling : is_queuing config c ≡ false → accepted_on config c history ≡ []
   pub queuing : is_queuing config c ≡ true → last_write_on config c history ≡ None
 

@@ -1,4 +1,4 @@
--- What saved ports say of the history: what the state says of it, without the room that stands empty.
+-- Saved ports follow from the history as the state does, without its unused room.
 use Rattle.std.specs.Prelude.{ℕ, ◌≡◌, ◌≤◌, List, length, slice_get, Some}
 use Rattle.apex_module.specs.Configuration.{Configuration}
 use Rattle.apex_ports.specs.declared.partition.PartitionState.{PartitionState}
@@ -13,13 +13,13 @@ use Rattle.apex_ports.specs.MessageRing.{messages}
 use Rattle.apex_ports.specs.ReplyTable.{depth_of}
 use Rattle.apex_ports.specs.Sound.{IsSound}
 
--- what holds of the items that stand at one index of both lists
+-- what holds for the items at the same index of both lists
 abbrev pub EachPair : {X Y : Type 0} → (X → Y → Type 0) → List X → List Y → Type 0
 EachPair {X} {Y} P xs ys = (k : ℕ) (x : X) (y : Y) → slice_get xs k ≡ Some x → slice_get ys k ≡ Some y → P x y
 
 -- ---- partitions
 
--- both have one mode and the same ports
+-- both have the same mode and the same ports
 pub record IsSameTable {A : Type 0} (state copy : PartitionState A) : Type 0 where
   pub mode : copy.mode ≡ state.mode
   pub ports : copy.ports.items ≡ state.ports.items
@@ -30,7 +30,7 @@ HasAsManyPorts state copy = length state.ports.items ≡ length copy.ports.items
 
 -- ---- channels
 
--- the state of the channel of this depth
+-- the state of the channel with this depth
 abbrev pub restored : {A : Type 0} → ℕ → SavedChannel A → ChannelState A
 restored depth (saved.Queuing queue) = state.Queuing (record {
   waiting = messages queue.waiting.items depth queue.size;
@@ -65,7 +65,7 @@ pub record AreSaved {A : Type 0} (config : Configuration) (history : History) (p
   pub each_partition : EachAt (IsPartitionKept config history) partitions
   pub each_channel : EachAt (λ c saved. IsChannelKept config history c (restored (depth_of config c) saved)) channels
 
--- what holds of the saved ports of a module
+-- what holds for the saved ports of a module
 pub record IsSavedKept {A : Type 0} (config : Configuration) (history : History) (partitions : List (PartitionState A)) (channels : List (SavedChannel A)) (calls : List ℕ) : Type 0 where
   pub sound : IsSound config history
   pub saved : AreSaved config history partitions channels

@@ -11,7 +11,7 @@ use Rattle.apex_ports.specs.Modes.{mode_of}
 use Rattle.apex_ports.specs.Ports.{is_created, queuing_only, sampling_only}
 use Rattle.apex_ports.specs.Channels.{waiting_on, last_write_on, last_validity_of}
 
--- its mode; and of its port of each identifier whether it is created, the validity that it read last, and what its channel holds
+-- its mode, and for the port with each identifier: whether it is created, its last validity, and what its channel holds
 pub record Seen : Type 0 where
   pub mode : Mode
   pub created : ℕ → Bool
@@ -39,18 +39,18 @@ seen config history partition = record {
   sample = λ id. sample_of config history (port_of config partition id);
 }
 
--- the port of the identifier, where it is created
+-- the port with the identifier, if it is created
 abbrev pub created_port : Configuration → Seen → ℕ → ℕ → Option Port
 created_port config seen partition id = if seen.created id then port_of config partition id else None
 
--- the port of the identifier, where it is created and of this kind
+-- the port with the identifier, if it is created and of this kind
 abbrev pub queuing_port : Configuration → Seen → ℕ → ℕ → Option Port
 queuing_port config seen partition id = queuing_only (created_port config seen partition id)
 
 abbrev pub sampling_port : Configuration → Seen → ℕ → ℕ → Option Port
 sampling_port config seen partition id = sampling_only (created_port config seen partition id)
 
--- the validity that a created sampling port shows as its last; INVALID where there is no such port
+-- the last validity of a created sampling port; INVALID if there is no such port
 abbrev pub validity_shown : Seen → ℕ → Option Port → Validity
 validity_shown seen id None = Invalid
 validity_shown seen id (Some port) = seen.last id

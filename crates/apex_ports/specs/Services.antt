@@ -1,16 +1,16 @@
--- What the services answer that take a message, or give one, in its place.
+-- The answers of the services that use a message in the caller's buffer.
 use Rattle.std.specs.Prelude.{ℕ, List, take, Option, Some, None, Result, Ok, Err}
 use Rattle.apex_types.specs.declared.reply.Reply.{Reply}
 use Rattle.apex_types.specs.declared.reply.Reply.TheVariants.{NotMade, Code, Received, Read}
 use Rattle.apex_types.specs.declared.return_code.ReturnCode.{ReturnCode}
 use Rattle.apex_types.specs.declared.validity.Validity.{Validity}
 
--- the reply that is a return code alone; none where the call isn't made
+-- the reply with only this return code; without one the call isn't made
 abbrev pub reply_coded : Option ReturnCode → Reply
 reply_coded None = NotMade
 reply_coded (Some code) = Code code
 
--- the reply with a message of this length, which the first bytes of the buffer are
+-- the reply with a message of this length, from the first bytes of the buffer
 abbrev pub reply_received : Result ℕ (Option ReturnCode) → List ℕ → Reply
 reply_received (Ok length) buffer = Received (take length buffer)
 reply_received (Err code) buffer = reply_coded code

@@ -1,4 +1,4 @@
--- What holds of the ports of a module, whatever was called.
+-- What holds for the ports of a module, whatever was called.
 use Rattle.apex_module.specs.Configuration.{Configuration, IsConfiguration}
 use Rattle.apex_ports.specs.History.{History}
 use Rattle.apex_ports.specs.Lawful.{IsLawful}

@@ -1,4 +1,4 @@
--- What the messages that are taken have to do with those that are received.
+-- How the taken messages relate to the received ones.
 use Rattle.std.specs.Prelude.{ℕ, ◌≡◌, Bool, true, false, not, [], length, drop, map, filter}
 use Rattle.std.specs.List.{list_any}
 use Rattle.apex_types.specs.declared.call.Call.{Call}
@@ -20,7 +20,7 @@ asks_clear _ = false
 abbrev pub HasNoClear : History → Type 0
 HasNoClear history = list_any (λ entry. asks_clear entry.call) history ≡ false
 
--- messages leave the channel by receives alone: as many as are received no longer wait
+-- messages leave the channel only by receives: exactly the received ones no longer wait
 pub record IsReceivedAlone (config : Configuration) (history : History) (c : ℕ) : Type 0 where
   pub taken : taken_on config c history ≡ map as_received (received_on config c history)
   pub cleared : cleared_on config c history ≡ []

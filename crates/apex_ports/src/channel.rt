@@ -8,8 +8,8 @@ use crate::message_ring::MessageRing;
 use apex_types::{MESSAGE_LIMIT, Message, Moment, Sample};
 use std::alloc::{AllocError, Allocator};
 
-/// The messages that wait on a queuing channel, in a ring of its depth and size. The counts
-/// of accepted, received and cleared messages stay at the greatest number.
+/// The messages that wait on a queuing channel, in a ring of its depth and size. A count of accepted, received or cleared
+/// messages stays at its maximum.
 #[derive(Drop)]
 pub(crate) struct Queue<A: Allocator> {
     pub(crate) waiting: MessageRing<A>,
@@ -19,7 +19,7 @@ pub(crate) struct Queue<A: Allocator> {
 }
 
 impl<A: Allocator + Copy> Queue<A> {
-    /// An empty queue for as many messages as `depth`, each of at most `size` bytes.
+    /// An empty queue for `depth` messages of at most `size` bytes each.
     pub(crate) fn new(alloc: A, depth: u32, size: u32) -> Result<Queue<A>, AllocError>
         requires { size ≤ MESSAGE_LIMIT }
         ensures waiting { IfOk result (λ queue. queue.waiting ≡ messages [] depth size) }
@@ -46,7 +46,7 @@ pub(crate) enum ChannelState<A: Allocator> {
 impl<A: Allocator> ChannelState<A> {
     ghost use Rattle.apex_ports.specs.ChannelStates.{has_queue, waiting_in, ring_depth, message_size, accepted_in, received_in, cleared_in, sample_in};
 
-    /// How many messages wait.
+    /// The number of messages that wait.
     pub(crate) fn waiting_count(&self) -> usize
         ensures { result ≡ length (waiting_in self.now) }
     {
@@ -67,7 +67,7 @@ impl<A: Allocator> ChannelState<A> {
         }
     }
 
-    /// How many messages were accepted.
+    /// The number of accepted messages.
     pub(crate) fn accepted(&self) -> u64
         ensures { result ≡ accepted_in self.now }
     {
@@ -77,7 +77,7 @@ impl<A: Allocator> ChannelState<A> {
         }
     }
 
-    /// How many messages were received.
+    /// The number of received messages.
     pub(crate) fn received(&self) -> u64
         ensures { result ≡ received_in self.now }
     {
@@ -87,7 +87,7 @@ impl<A: Allocator> ChannelState<A> {
         }
     }
 
-    /// How many messages were cleared.
+    /// The number of cleared messages.
     pub(crate) fn cleared(&self) -> u64
         ensures { result ≡ cleared_in self.now }
     {
@@ -107,7 +107,7 @@ impl<A: Allocator> ChannelState<A> {
         }
     }
 
-    /// Puts a message last. There is room for it.
+    /// Appends a message. There is room for it.
     pub(crate) fn send(&mut self, message: &[u8])
         requires room { length (waiting_in self.old) < ring_depth self.old }
         requires short { length message.now ≤ message_size self.old }
@@ -129,7 +129,7 @@ impl<A: Allocator> ChannelState<A> {
         }
     }
 
-    /// Forgets the oldest message, which was received. There is one.
+    /// Removes the oldest message, which was received. There is one.
     pub(crate) fn receive(&mut self)
         requires { 0 < length (waiting_in self.old) }
         ensures waiting { waiting_in self.new ≡ drop 1 (waiting_in self.old) }
@@ -188,7 +188,7 @@ impl<A: Allocator> ChannelState<A> {
     }
 }
 
-// Not inlined, since the room of a new message is cleared where a function begins.
+// Not inlined, since a function clears the stack room of a new message when it begins.
 #[inline(never)]
 fn first_sample(message: &[u8], at: Moment) -> Sample
     requires { length message.now ≤ MESSAGE_LIMIT }

@@ -16,7 +16,7 @@ use apex_module::Config;
 use apex_types::{Call, MESSAGE_LIMIT, Mode, Moment, Validity};
 use std::alloc::Allocator;
 
-/// A port that is created and hasn't read.
+/// The state of a port that was created and has not read yet.
 const CREATED: PortState = PortState {
     created: true,
     last: Validity::Invalid,
@@ -43,7 +43,7 @@ impl<A: Allocator> State<A> {
         self.partitions[partition].set_port(id, CREATED);
     }
 
-    /// Puts the message of a send last.
+    /// Appends the message of a send.
     pub(crate) fn send(
         &mut self,
         config: &Config,
@@ -67,7 +67,7 @@ impl<A: Allocator> State<A> {
         self.channels[port.channel].send(message);
     }
 
-    /// Forgets the oldest message, which is received.
+    /// Removes the oldest message, which is received.
     pub(crate) fn receive(&mut self, config: &Config, partition: usize, at: Moment, id: u32)
         requires partition { partition < length config.now.partitions }
         requires current { IsCurrent config.now self.old }
@@ -101,7 +101,7 @@ impl<A: Allocator> State<A> {
         self.channels[port.channel].clear();
     }
 
-    /// Replaces the sample by the message of a write.
+    /// Replaces the sample with the message of a write.
     pub(crate) fn write(
         &mut self,
         config: &Config,

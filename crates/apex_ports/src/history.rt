@@ -1,4 +1,4 @@
-//! What is asked of a board, and what its log keeps.
+//! Requests, and the entries of a log.
 use apex_types::{Call, Moment, Reply};
 
 /// A call of a partition at a moment.

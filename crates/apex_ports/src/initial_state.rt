@@ -1,23 +1,23 @@
-//! The state before the first call. All room that calls need is made here.
+//! The state before the first call. All memory that calls need is allocated here.
 ghost use Rattle.std.specs.Prelude.{◌≡◌, ℕ, ◌<◌, [], false, length, IfOk};
 ghost use Rattle.apex_types.specs.declared.validity.Validity.TheVariants.{Invalid};
 ghost use Rattle.apex_ports.specs.Kept.{EachAt, IsPartitionKept, IsChannelKept, IsKept, created_in, last_in, state_at};
 
 use crate::channel::{ChannelState, Queue};
+use crate::ghost_history::GhostHistory;
 use crate::partition::{PartitionState, PortState};
-use crate::past::Past;
 use crate::state::State;
 use apex_module::{ChannelKind, Config};
 use apex_types::{Mode, Validity};
 use std::alloc::{AllocError, Allocator};
 
-/// A port that isn't created.
+/// The state of a port that isn't created.
 const NOT_CREATED: PortState = PortState {
     created: false,
     last: Validity::Invalid,
 };
 
-/// The counts of the calls that each partition made so far, none.
+/// The number of calls that each partition has made so far: 0.
 pub(crate) fn new_counts<A: Allocator>(
     alloc: A,
     partitions: usize,
@@ -41,7 +41,7 @@ impl<A: Allocator + Copy> State<A> {
         let partitions = new_partitions(alloc, config)?;
         let channels = new_channels(alloc, config)?;
         Ok(State {
-            history: Past::new(),
+            history: GhostHistory::new(),
             partitions,
             channels,
         })

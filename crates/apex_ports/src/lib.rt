@@ -1,16 +1,16 @@
-//! The ports of a module: its modes, port tables, queues and samples, without a log of the calls. And what is handed
-//! to a run of scripts and why a run gives none, which the texts and the workers above share.
+//! The ports of a module: its modes, port tables, queues and samples, without a log of the calls. The crate also has
+//! scripts and the faults of a run, which the texts and the workers above share.
 #![tactic(auto)]
 
 mod channel;
 mod effects;
+mod ghost_history;
 pub mod history;
 mod initial_state;
 mod message_ring;
 mod modes;
 pub mod noted;
 mod partition;
-mod past;
 pub mod ports;
 pub mod rows;
 pub mod rules;

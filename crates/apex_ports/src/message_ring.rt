@@ -1,4 +1,4 @@
-//! The messages that wait on a queuing channel: a ring of their places, and beside it their bytes.
+//! The messages that wait on a queuing channel: a ring of their places, and separately their bytes.
 ghost use Rattle.std.specs.Prelude.{◌≡◌, ◌+◌, ◌*◌, ◌<◌, ◌≤◌, ◌==◌, ◌^◌, [], ◌∷◌, ◌++◌, if◌then◌else◌, length, drop, slice_get, IfOk, IfSome};
 ghost use Rattle.std.specs.Option.{option_copied};
 ghost use Rattle.apex_ports.specs.MessageRing.{messages, message_at, with_message, AreShort};
@@ -8,18 +8,18 @@ use circular_buffer::HeapCircularBuffer;
 use std::alloc::{AllocError, Allocator};
 use std::marker::Model;
 
-// What the slots are filled with at first.
+// The initial contents of the slots.
 static BLANK: [u8; 4096] = [0; 4096];
 
-/// Where the bytes of a message stand: in which slot, and how many they are.
+/// The place of a message's bytes: their slot and their number.
 #[derive(Clone, Copy, Debug)]
 pub(crate) struct Place {
     pub(crate) slot: u32,
     pub(crate) length: u32,
 }
 
-/// The messages that wait, oldest first. Each has a slot of as many bytes as the longest may have; there are as many
-/// slots as messages may wait, and they are filled round and round.
+/// The messages that wait, oldest first. Each has a slot with room for the longest message. There is a slot for each
+/// message that may wait, and the first slot follows the last.
 #[derive(Drop)]
 pub(crate) struct MessageRing<A: Allocator> {
     places: HeapCircularBuffer<Place, A>,
@@ -41,7 +41,7 @@ impl<A: Allocator> Model for MessageRing<A> {
 }
 
 impl<A: Allocator + Copy> MessageRing<A> {
-    /// A ring without a message. All its memory is taken here.
+    /// A ring without messages. It allocates all its memory here.
     pub(crate) fn new(alloc: A, depth: u32, size: u32) -> Result<MessageRing<A>, AllocError>
         requires { size ≤ MESSAGE_LIMIT }
         ensures { IfOk result (λ ring. ring ≡ messages [] depth size) }
@@ -61,7 +61,7 @@ impl<A: Allocator + Copy> MessageRing<A> {
 }
 
 impl<A: Allocator> MessageRing<A> {
-    /// The most bytes of a message.
+    /// The maximum length of a message, in bytes.
     pub(crate) fn size(&self) -> u32
         ensures size { result ≡ self.now.size }
         ensures wide { result ≤ MESSAGE_LIMIT }
@@ -70,7 +70,7 @@ impl<A: Allocator> MessageRing<A> {
         self.size
     }
 
-    /// How many messages wait.
+    /// The number of messages that wait.
     pub(crate) fn len(&self) -> usize
         ensures { result ≡ length self.now.items }
     {
@@ -86,7 +86,7 @@ impl<A: Allocator> MessageRing<A> {
         Some(message_in(self.slots.as_slice(), self.size, *place))
     }
 
-    /// Puts a message last. There is room for it.
+    /// Appends a message. There is room for it.
     pub(crate) fn push_back(&mut self, message: &[u8])
         requires room { length self.old.items < self.old.capacity }
         requires short { length message.now ≤ self.old.size }
@@ -102,14 +102,14 @@ impl<A: Allocator> MessageRing<A> {
         self.next = next_slot(place.slot, self.places.capacity());
     }
 
-    /// Forgets the oldest message, if there is one.
+    /// Removes the oldest message, if there is one.
     pub(crate) fn pop_front(&mut self)
         ensures { self.new ≡ messages (drop 1 self.old.items) self.old.capacity self.old.size }
     {
         let _ = self.places.pop_front();
     }
 
-    /// Forgets all messages.
+    /// Removes all messages.
     pub(crate) fn clear(&mut self)
         ensures { self.new ≡ messages [] self.old.capacity self.old.size }
     {
@@ -117,7 +117,7 @@ impl<A: Allocator> MessageRing<A> {
     }
 }
 
-// This many bytes, to be written over.
+// This many bytes, to be overwritten.
 fn blank_bytes<A: Allocator>(alloc: A, count: usize) -> Result<Vec<u8, A>, AllocError>
     ensures { IfOk result (λ bytes. length bytes.items ≡ count) }
 {
@@ -129,7 +129,7 @@ fn blank_bytes<A: Allocator>(alloc: A, count: usize) -> Result<Vec<u8, A>, Alloc
     Ok(bytes)
 }
 
-// The message of a place.
+// The message at a place.
 fn message_in(slots: &[u8], size: u32, place: Place) -> &[u8]
     requires short { place.length ≤ size }
     requires within { (place.slot + 1) * size ≤ length slots.now }
@@ -149,7 +149,7 @@ fn put_message(slots: &mut [u8], size: u32, slot: u32, message: &[u8])
     slots[start..start + message.len()].copy_from_slice(message);
 }
 
-// The slot behind another, round the end.
+// The slot after another; the first slot follows the last.
 fn next_slot(slot: u32, depth: usize) -> u32
     requires within { slot < depth }
     requires small { depth < 2 ^ 32 }

@@ -5,7 +5,7 @@ ghost use Rattle.apex_ports.specs.Services.{length_read, length_received, reply_
 
 use apex_types::{Call, Direction, Moment, Name, Reply, ReturnCode, Validity};
 
-/// A call. To a contract it stands for the `Call` of the same name and values.
+/// A call. A contract sees it as the `Call` with the same name and values.
 #[derive(Clone, Copy, Drop)]
 pub enum CallRef<'a> {
     CreateSampling {
@@ -55,7 +55,7 @@ pub enum CallRef<'a> {
     },
 }
 
-/// A reply. To a contract it stands for the `Reply` of the same name and values.
+/// A reply. A contract sees it as the `Reply` with the same name and values.
 #[derive(Clone, Copy, Drop)]
 pub enum ReplyRef<'a> {
     NotMade,
@@ -142,7 +142,7 @@ impl<'a> CallRef<'a> {
 }
 
 impl<'a> ReplyRef<'a> {
-    /// The reply of a call that is answered by a return code alone; none where it isn't made.
+    /// The reply with only this return code; without one the call isn't made.
     #[inline(always)]
     pub fn coded(code: Option<ReturnCode>) -> ReplyRef<'a>
         ensures { reply_by result ≡ reply_coded code }

@@ -24,7 +24,7 @@ pub(crate) struct PartitionState<A: Allocator> {
 impl<A: Allocator> PartitionState<A> {
     ghost use Rattle.apex_ports.specs.Saved.{IsSameTable, HasAsManyPorts};
 
-    /// An equal state.
+    /// A copy of the state.
     pub(crate) fn copy(&self, alloc: A) -> Result<PartitionState<A>, AllocError>
         ensures { IfOk result (λ copy. IsSameTable self.now copy) }
     {
@@ -46,7 +46,7 @@ impl<A: Allocator> PartitionState<A> {
             .copy_from_slice(saved.ports.as_slice());
     }
 
-    /// The state of the port of an identifier, which is its index, counted from 1.
+    /// The state of the port with an identifier, which is its index, counted from 1.
     pub(crate) fn port(&self, id: u32) -> Option<PortState>
         ensures { result ≡ state_at self.now.ports.items id }
     {
@@ -56,7 +56,7 @@ impl<A: Allocator> PartitionState<A> {
         self.ports.get(id as usize - 1).copied()
     }
 
-    /// Whether the port of the identifier is created.
+    /// Whether the port with the identifier is created.
     pub(crate) fn is_created(&self, id: u32) -> bool
         ensures { result ≡ created_in (state_at self.now.ports.items id) }
     {
@@ -66,7 +66,7 @@ impl<A: Allocator> PartitionState<A> {
         }
     }
 
-    /// What the last read of the port of the identifier showed.
+    /// The validity that the last read of the port with the identifier showed.
     pub(crate) fn last_validity(&self, id: u32) -> Validity
         ensures { result ≡ last_in (state_at self.now.ports.items id) }
     {
@@ -108,7 +108,7 @@ impl<A: Allocator> PartitionState<A> {
     }
 }
 
-// No port is created any more.
+// Marks each port as not created.
 fn forget_ports(ports: &mut [PortState])
     ensures created { (id : ℕ) → created_in (state_at ports.new id) ≡ false }
     ensures last { (id : ℕ) → last_in (state_at ports.new id) ≡ last_in (state_at ports.old id) }

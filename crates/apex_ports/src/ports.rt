@@ -13,11 +13,11 @@ mod readers;
 pub mod saved;
 mod services;
 
-/// The ports of a module: they answer the calls of all partitions, and keep of them what later calls
-/// need and how many there were. All their memory is made by `new`.
+/// The ports of a module. They answer the calls of all partitions, and keep only what later calls need and the number of
+/// calls. `new` allocates all their memory.
 ///
-/// To a contract they are their configuration and the history of all calls with their replies, which
-/// no run stores. The history is lawful, and whatever the ports show is what it comes to.
+/// A contract sees their configuration and the history of all calls with their replies, which no program stores. The
+/// history is lawful, and whatever the ports show follows from it.
 #[derive(Drop)]
 pub struct Ports<A: Allocator = Global> {
     config: Config,
@@ -40,8 +40,8 @@ impl<A: Allocator> Model for Ports<A> {
 impl<A: Allocator + Copy> Ports<A> {
     ghost use Rattle.apex_ports.specs.Sound.{IsSound};
 
-    /// The ports before the first call, every partition in COLD_START. On want of memory the
-    /// configuration is dropped.
+    /// The ports before the first call, with every partition in COLD_START. If memory runs out, the configuration is
+    /// dropped.
     pub fn new(alloc: A, config: Config) -> Result<Ports<A>, OutOfMemory>
         ensures config { IfOk result (λ ports. ports.config ≡ config) }
         ensures history { IfOk result (λ ports. ports.history ≡ []) }
@@ -62,11 +62,11 @@ impl<A: Allocator> Ports<A> {
     ghost use Rattle.apex_ports.specs.ReplyTable.{reply_to};
     ghost use Rattle.apex_ports.specs.Sound.{IsSound};
 
-    /// One event: the partition makes the call at the moment. It always answers, and takes no memory.
+    /// Makes one call of the partition at the moment. It always answers, and doesn't allocate.
     pub fn call(&mut self, partition: usize, at: Moment, call: &Call) -> Reply
         requires { partition < length self.old.config.partitions }
 
-        // The reply is the reply table's, and the history gains just that entry.
+        // The reply is the reply table's, and the history gains exactly this entry.
         ensures reply { result ≡ reply_to self.old.config self.old.history partition at call.now }
         ensures entry { self.new.history ≡ self.old.history
             ++ entry_of partition at call.now result ∷ [] }
@@ -78,7 +78,7 @@ impl<A: Allocator> Ports<A> {
         reply
     }
 
-    /// The event of `call`, with the answer in the caller's reply.
+    /// Makes the call as `call` does, with the reply in `reply`.
     pub fn call_into(&mut self, partition: usize, at: Moment, call: &Call, reply: &mut Reply)
         requires { partition < length self.old.config.partitions }
         ensures reply { reply.new

@@ -1,32 +1,32 @@
-//! The rows of the reply table: what a call comes to, by the first check of its service that applies.
+//! The rows of the reply table. The first check of its service that applies gives the row of a call.
 ghost use Rattle.std.specs.Prelude.{◌≡◌, false};
 ghost use Rattle.apex_ports.specs.Modes.{is_no_error};
 ghost use Rattle.apex_ports.specs.Rows.{code_of};
 
 use apex_types::{ReturnCode, Validity};
 
-/// The row of the reply table that a call gets. With what the partition sees it gives the reply.
+/// The row of the reply table that a call gets. The row and what the partition sees give the reply.
 #[derive(Clone, Copy, Debug, PartialEq, Eq)]
 pub enum Row {
     /// The partition is in IDLE: the call isn't made.
     Idle,
     /// A check of the service applies.
     Refused(Refusal),
-    /// The port of the identifier is created.
+    /// The port with the identifier is created.
     Created { id: u32 },
-    /// The port of the name has the identifier.
+    /// The port with the name has the identifier.
     Identified { id: u32 },
     /// The message waits behind all others.
     Sent,
     /// The oldest message that waits at the port is received.
     OldestReceived { id: u32 },
-    /// Whatever waits is discarded.
+    /// All waiting messages are discarded.
     Cleared,
     /// The status of the queuing port.
     QueuingStatus { id: u32 },
-    /// The message takes the place of the channel's last one.
+    /// The message replaces the channel's last one.
     Written,
-    /// The last message of the port's channel is read, of this validity.
+    /// The last message of the port's channel is read, with this validity.
     LastRead { id: u32, validity: Validity },
     /// The status of the sampling port.
     SamplingStatus { id: u32 },
@@ -37,9 +37,9 @@ pub enum Row {
 /// Why a call is refused.
 #[derive(Clone, Copy, Debug, PartialEq, Eq)]
 pub enum Refusal {
-    /// The partition has no port of the kind and the name configured.
+    /// The configuration has no port of the kind with the name for the partition.
     NotConfigured,
-    /// The port is created already.
+    /// The port is already created.
     AlreadyCreated,
     /// The maximum message size is not the channel's.
     SizeDiffers,
@@ -51,36 +51,36 @@ pub enum Refusal {
     RefreshDiffers,
     /// The queuing discipline is neither FIFO nor PRIORITY.
     UnknownDiscipline,
-    /// The partition is in NORMAL, where no port is created.
+    /// The partition is in NORMAL, in which no port can be created.
     InNormal,
-    /// The partition has created no port of the kind and the name.
+    /// The partition has created no port of the kind with the name.
     NotCreated,
-    /// The partition has created no port of the kind and the identifier.
+    /// The partition has created no port of the kind with the identifier.
     NoSuchPort,
     /// The message has length 0.
     EmptyMessage,
     /// The message is longer than the channel's size.
     MessageTooLong,
-    /// The port is no source.
+    /// The port is not a source.
     NotSource,
-    /// The port is no destination.
+    /// The port is not a destination.
     NotDestination,
-    /// As many messages wait as the depth.
+    /// The queue already has its maximum number of messages.
     QueueFull,
     /// No message waits.
     QueueEmpty,
-    /// The channel was never written.
+    /// Nothing was ever written into the channel.
     NeverWritten,
-    /// The number is no mode's.
+    /// No mode has the number.
     UnknownMode,
-    /// NORMAL, while in NORMAL.
+    /// The call sets NORMAL in NORMAL.
     AlreadyNormal,
-    /// WARM_START, while in COLD_START.
+    /// The call sets WARM_START in COLD_START.
     WarmStartInColdStart,
 }
 
 impl Refusal {
-    /// The return code that tells the refusal.
+    /// The return code of the refusal.
     pub fn code(self) -> ReturnCode
         ensures code { result ≡ code_of self }
         ensures refused { is_no_error result ≡ false }

@@ -10,16 +10,16 @@ use thiserror::Error;
 /// Why a run gives no board.
 #[derive(Clone, Copy, Debug, PartialEq, Eq, Error)]
 pub enum RunFault {
-    /// An allocation was refused.
+    /// An allocation failed.
     #[error("out of memory")]
     OutOfMemory,
     /// The gate refused the `n`-th call of the partition, counted from 1.
     #[error("partition {partition} held at call {n}")]
     Held { partition: usize, n: usize },
-    /// No thread could be made for a worker.
+    /// No thread could be started for a worker.
     #[error("worker not started")]
     WorkerNotStarted,
-    /// What the workers left isn't what was handed out to them.
+    /// The results that the workers left don't match the scripts that they were given.
     #[error("collected results do not match")]
     ResultsDiffer,
     /// The board's observers couldn't be made.

@@ -1,4 +1,4 @@
-//! What a channel came to, in as little memory as that takes: a message is kept without the room of the longest.
+//! The saved state of a channel, in little memory: a message takes only as many bytes as it has.
 ghost use Rattle.std.specs.Prelude.{◌≡◌, ◌≤◌, length, option_copied, IfOk};
 ghost use Rattle.apex_ports.specs.MessageRing.{messages, AreShort};
 
@@ -8,7 +8,7 @@ use apex_types::{MESSAGE_LIMIT, Message, Moment, Sample};
 use std::alloc::{AllocError, Allocator};
 use std::marker::Model;
 
-/// A message's bytes alone. To a contract it is the list of them.
+/// The bytes of a message. A contract sees them as a list.
 #[derive(Drop)]
 pub(crate) struct SavedMessage<A: Allocator> {
     bytes: Vec<u8, A>,
@@ -42,7 +42,7 @@ impl<A: Allocator> SavedMessage<A> {
     }
 }
 
-/// A sample with its message's bytes alone. To a contract it is the sample.
+/// A sample with only the bytes of its message. A contract sees it as the sample.
 #[derive(Drop)]
 pub(crate) struct SavedSample<A: Allocator> {
     message: SavedMessage<A>,
@@ -78,7 +78,7 @@ impl<A: Allocator> SavedSample<A> {
     }
 }
 
-/// The messages that wait on a queuing channel, how long they may be, and its counts.
+/// The messages that wait on a queuing channel, their maximum length, and the channel's counts.
 #[derive(Drop)]
 pub(crate) struct SavedQueue<A: Allocator> {
     pub(crate) waiting: Vec<SavedMessage<A>, A>,
@@ -109,7 +109,7 @@ impl<A: Allocator + Copy> SavedQueue<A> {
     }
 }
 
-/// What a channel of either kind came to.
+/// The saved state of a channel of either kind.
 #[derive(Drop)]
 pub(crate) enum SavedChannel<A: Allocator> {
     Queuing(SavedQueue<A>),
@@ -119,7 +119,7 @@ pub(crate) enum SavedChannel<A: Allocator> {
 impl<A: Allocator + Copy> ChannelState<A> {
     ghost use Rattle.apex_ports.specs.Saved.{IsSavedFrom};
 
-    /// What the channel came to.
+    /// Saves the channel.
     pub(crate) fn save(&self, alloc: A) -> Result<SavedChannel<A>, AllocError>
         ensures { IfOk result (λ saved. IsSavedFrom self.now saved) }
     {
@@ -141,7 +141,7 @@ impl<A: Allocator> ChannelState<A> {
     ghost use Rattle.apex_ports.specs.ChannelStates.{ring_depth};
     ghost use Rattle.apex_ports.specs.Saved.{restored, HasRoomFor};
 
-    /// Makes the channel what was saved. Its depth stays.
+    /// Restores the channel to what was saved. Its depth doesn't change.
     pub(crate) fn restore(&mut self, saved: &SavedChannel<A>)
         requires { HasRoomFor self.old saved.now }
         ensures { self.new ≡ restored (ring_depth self.old) saved.now }
@@ -173,7 +173,7 @@ impl<A: Allocator> Queue<A> {
     }
 }
 
-// Saves all messages that wait.
+// The saved copies of all messages that wait.
 fn saved_messages<A: Allocator + Copy>(
     alloc: A,
     waiting: &MessageRing<A>,
@@ -188,7 +188,7 @@ fn saved_messages<A: Allocator + Copy>(
     Ok(saved)
 }
 
-// Only the saved messages wait then.
+// Replaces the waiting messages with the saved ones.
 fn put_messages<A: Allocator>(waiting: &mut MessageRing<A>, saved: &[SavedMessage<A>])
     requires room { length saved.now ≤ waiting.old.capacity }
     requires short { AreShort waiting.old.size saved.now }

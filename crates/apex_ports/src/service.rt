@@ -1,4 +1,4 @@
-//! Answering a call: its row, and then what the row does.
+//! Answers a call: decides its row, and then does what the row says.
 ghost use Rattle.std.specs.Prelude.{◌≡◌, ◌<◌, false, length};
 ghost use Rattle.apex_types.specs.declared.reply.Reply.TheVariants.{Code};
 ghost use Rattle.apex_types.specs.declared.return_code.ReturnCode.TheVariants.{NoError};
@@ -19,7 +19,7 @@ use apex_types::{Call, Moment, Reply, ReturnCode};
 use std::alloc::Allocator;
 
 impl<A: Allocator> State<A> {
-    /// Answers a call, with its answer in `reply`. The history doesn't have its entry yet.
+    /// Answers a call, with its reply in `reply`. It doesn't add the call's entry to the history.
     pub(crate) fn answer(
         &mut self,
         config: &Config,
@@ -39,7 +39,7 @@ impl<A: Allocator> State<A> {
         self.perform(config, partition, at, call, row, reply);
     }
 
-    // Does what the row of the call says, with its answer in `reply`.
+    // Does what the row of the call says, with the call's reply in `reply`.
     fn perform(
         &mut self,
         config: &Config,
@@ -169,7 +169,7 @@ fn put_refusal(reply: &mut Reply, refusal: Refusal)
     put_code(reply, refusal.code());
 }
 
-// Makes the reply a return code. Where one stands there, the room of the longest reply isn't written whole.
+// Makes the reply a return code. If it already is one, only the code is written, and not the room of the longest reply.
 fn put_code(reply: &mut Reply, code: ReturnCode)
     ensures { reply.new ≡ Code code }
 {
@@ -179,7 +179,7 @@ fn put_code(reply: &mut Reply, code: ReturnCode)
     }
 }
 
-// Not inlined, since the room of a new reply is cleared where a function begins.
+// Not inlined, since a function clears the stack room of a new reply when it begins.
 #[inline(never)]
 fn make_code(reply: &mut Reply, code: ReturnCode)
     ensures { reply.new ≡ Code code }

@@ -1,4 +1,4 @@
-//! Services whose message stays with the caller: the row of a call, and what it does.
+//! The services with the message in the caller's buffer: the row of a call, and what it does.
 ghost use Rattle.std.specs.Prelude.{◌≡◌, ◌<◌, ◌≤◌, length, take, drop};
 ghost use Rattle.apex_types.specs.declared.call.Call.TheVariants as call;
 ghost use Rattle.apex_ports.specs.History.{entry_of};
@@ -210,7 +210,7 @@ impl<A: Allocator> State<A> {
     }
 }
 
-// Copies the bytes to the first ones of the buffer. How many they are.
+// Copies the bytes to the start of the buffer, and returns their number.
 fn put_bytes(bytes: &[u8], buffer: &mut [u8]) -> usize
     requires { length bytes.now ≤ length buffer.old }
     ensures length { result ≡ length bytes.now }

@@ -1,4 +1,4 @@
-//! The reply table: the row that a call gets, by what its partition sees. A partition in IDLE gets no service.
+//! The reply table: the row that a call gets, by what its partition sees. In IDLE no call is made.
 ghost use Rattle.std.specs.Prelude.{◌≡◌, ◌<◌, length};
 ghost use Rattle.apex_ports.specs.Decisions.{IsRowOfDecision};
 ghost use Rattle.apex_ports.specs.ReplyTable.{row_of, service_row};

@@ -12,10 +12,10 @@ use apex_module::{Config, Port};
 use apex_types::{MESSAGE_LIMIT, Mode, Sample, Validity};
 use std::alloc::Allocator;
 
-/// A state of the ports of a configuration. It shows each partition its mode, and of each of its ports whether it is
+/// A state of the ports of a configuration. It shows each partition its mode and, for each of its ports, whether it is
 /// created, what its last read showed, and what its channel holds.
 pub trait View {
-    // what holds of a state of the configuration
+    // what holds for a state of the configuration
     ghost is_kept: { Configuration → Self → Type 0 };
 
     // what the state shows to a partition
@@ -41,7 +41,7 @@ pub trait View {
         requires identifier { IsIdentifier (ports_of config.now partition) id }
         ensures { result ≡ (seen config.now self.now partition).last id };
 
-    /// How many messages wait on the channel of the port of the identifier.
+    /// The number of messages that wait on the channel of the port with the identifier.
     fn waiting_count(&self, config: &Config, partition: usize, id: u32, port: &Port) -> usize
         requires kept { is_kept config.now self.now }
         requires port { port_of config.now partition id ≡ Some port.now }
@@ -49,7 +49,7 @@ pub trait View {
         ensures count { result ≡ length ((seen config.now self.now partition).waiting id) }
         ensures few { result ≤ 2 ^ 32 - 1 };
 
-    /// The oldest message that waits on the channel of the port of the identifier.
+    /// The oldest message that waits on the channel of the port with the identifier.
     fn oldest(&self, config: &Config, partition: usize, id: u32, port: &Port) -> Option<&[u8]>
         requires kept { is_kept config.now self.now }
         requires port { port_of config.now partition id ≡ Some port.now }
@@ -58,14 +58,14 @@ pub trait View {
             option_copied result ≡ slice_get waiting 0 }
         ensures short { IfSome result (λ message. length message.now ≤ MESSAGE_LIMIT) };
 
-    /// The sample written last into the channel of the port of the identifier.
+    /// The sample written last into the channel of the port with the identifier.
     fn sample(&self, config: &Config, partition: usize, id: u32, port: &Port) -> Option<&Sample>
         requires kept { is_kept config.now self.now }
         requires port { port_of config.now partition id ≡ Some port.now }
         requires linked { port.now.channel < length config.now.channels }
         ensures { option_copied result ≡ (seen config.now self.now partition).sample id };
 
-    // where there is no port, nothing is seen
+    // if there is no port, nothing is seen
     ghost nothing_waits: { (config : Configuration) (state : Self) (p id : ℕ) →
         port_of config p id ≡ None → (seen config state p).waiting id ≡ [] };
 

@@ -5,8 +5,8 @@ use Rattle.toml.specs.Data.{Data}
 use Rattle.apex_config.specs.declared.place.Part.{Part}
 use Rattle.apex_config.specs.declared.place.Place.{Place}
 use Rattle.apex_config.specs.Meaning.{document_of}
-use Rattle.apex_refusals.specs.Places.{key_at, stands}
-use Rattle.apex_refusals.specs.declared.line_of.TheConstants.{LOOKED_THROUGH}
+use Rattle.apex_refusals.specs.Places.{key_at, document_has}
+use Rattle.apex_refusals.specs.declared.line_of.TheConstants.{SEARCH_LIMIT}
 
 -- ---- lines
 
@@ -29,11 +29,11 @@ document_in begin =
 
 abbrev pub has_part : Option Data → Part → Option (List ℕ) → Bool
 has_part None part key = false
-has_part (Some document) part key = stands document part key
+has_part (Some document) part key = document_has document part key
 
 -- whether the beginning of a text has the part, or the key in it
-abbrev pub stands_in : List ℕ → Part → Option (List ℕ) → Bool
-stands_in begin part key = has_part (document_in begin) part key
+abbrev pub beginning_has : List ℕ → Part → Option (List ℕ) → Bool
+beginning_has begin part key = has_part (document_in begin) part key
 
 -- ---- the line of a place
 
@@ -41,14 +41,14 @@ stands_in begin part key = has_part (document_in begin) part key
 pub record BeginsOnLine (text : List ℕ) (part : Part) (key : Option (List ℕ)) (number : ℕ) : Type 0 where
   pub from_one : 1 ≤ number
   pub within : number ≤ length (line_ends 0 text)
-  pub with : stands_in (first_lines number text) part key ≡ true
-  pub without : 2 ≤ number → stands_in (first_lines (number - 1) text) part key ≡ false
+  pub with : beginning_has (first_lines number text) part key ≡ true
+  pub without : 2 ≤ number → beginning_has (first_lines (number - 1) text) part key ≡ false
 
 -- the number is that line's; there is none only if the text is too long or lacks the place
 abbrev pub IsLineNumber : List ℕ → Part → Option (List ℕ) → Option ℕ → Type 0
-IsLineNumber text part key None = length text ≤ LOOKED_THROUGH → stands_in text part key ≡ false
+IsLineNumber text part key None = length text ≤ SEARCH_LIMIT → beginning_has text part key ≡ false
 IsLineNumber text part key (Some number) = BeginsOnLine text part key number
 
 -- the key of a place, if it is there; a missing key gets the line of the part that lacks it
 abbrev pub key_there : Data → Place → Option (List ℕ)
-key_there document place = if stands document place.part (key_at document place) then key_at document place else None
+key_there document place = if document_has document place.part (key_at document place) then key_at document place else None

@@ -35,5 +35,5 @@ has_key (Some value) None = true
 has_key (Some value) (Some key) = is_some (get key value)
 
 -- whether a document has something at a key of a part, or has the part itself if there is no key
-abbrev pub stands : Data → Part → Option (List ℕ) → Bool
-stands document part key = has_key (value_of document part) key
+abbrev pub document_has : Data → Part → Option (List ℕ) → Bool
+document_has document part key = has_key (value_of document part) key

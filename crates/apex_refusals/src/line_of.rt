@@ -3,16 +3,16 @@ ghost use Rattle.std.specs.Prelude.{◌≡◌, ◌≤◌, ◌<◌, ◌+◌, ◌+
 ghost use Rattle.std.specs.Option.{option_copied};
 ghost use Rattle.toml.specs.View.{view};
 ghost use Rattle.apex_config.specs.Meaning.{document_of};
-ghost use Rattle.apex_refusals.specs.PlaceLines.{line_ends, first_lines, document_in, stands_in, IsLineNumber};
+ghost use Rattle.apex_refusals.specs.PlaceLines.{line_ends, first_lines, document_in, beginning_has, IsLineNumber};
 
-use crate::places::stands;
+use crate::places::document_has;
 use apex_config::place::Part;
 use apex_config::reading::document_of;
 use std::alloc::{AllocError, Global};
 use toml::Value;
 
 /// The maximum length in bytes of a text in which lines are looked for, since each look reads the text up to a line.
-const LOOKED_THROUGH: usize = 65_536;
+const SEARCH_LIMIT: usize = 65_536;
 
 /// The document of a text; none if it is not TOML.
 fn document_in_text(alloc: Global, text: &[u8]) -> Result<Option<Value>, AllocError>
@@ -49,12 +49,17 @@ fn document_in(alloc: Global, begin: &[u8]) -> Result<Option<Value>, AllocError>
 }
 
 /// Whether the beginning of a text has the part, or the key in it.
-fn stands_in(alloc: Global, begin: &[u8], part: Part, key: Option<&str>) -> Result<bool, AllocError>
+fn beginning_has(
+    alloc: Global,
+    begin: &[u8],
+    part: Part,
+    key: Option<&str>,
+) -> Result<bool, AllocError>
     ensures { IfOk result (λ there.
-        there ≡ stands_in begin.now part (option_copied key.entry)) }
+        there ≡ beginning_has begin.now part (option_copied key.entry)) }
 {
     match document_in(alloc, begin)? {
-        Some(document) => Ok(stands(&document, part, key)),
+        Some(document) => Ok(document_has(&document, part, key)),
         None => Ok(false),
     }
 }
@@ -108,7 +113,7 @@ pub(crate) fn line_of(
 ) -> Result<Option<usize>, AllocError>
     ensures { IfOk result (IsLineNumber text.now part (option_copied key.entry)) }
 {
-    if text.len() > LOOKED_THROUGH || !stands_in(alloc, text, part, key)? {
+    if text.len() > SEARCH_LIMIT || !beginning_has(alloc, text, part, key)? {
         return Ok(None);
     }
     let ends = ends_of_lines(alloc, text)?;
@@ -119,7 +124,7 @@ pub(crate) fn line_of(
     while with - without > 1 {
         let middle = between(look, without, with);
         let begin = first_lines(text, ends.as_slice(), middle);
-        if stands_in(alloc, begin, part, key)? {
+        if beginning_has(alloc, begin, part, key)? {
             with = middle;
             look = 0;
         } else {

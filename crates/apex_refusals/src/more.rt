@@ -8,11 +8,11 @@ use std::alloc::AllocError;
 pub const MISTAKE_LIMIT: usize = 20;
 
 /// Adds the line with the number of further mistakes, if there are any. The only error is a failed allocation.
-pub fn push_more(told: &mut String, more: usize) -> Result<(), AllocError>
-    ensures { OnOk result (string_bytes told.new ≡ string_bytes told.old ++ more_line more) }
+pub fn push_more(text: &mut String, more: usize) -> Result<(), AllocError>
+    ensures { OnOk result (string_bytes text.new ≡ string_bytes text.old ++ more_line more) }
 {
     if more == 0 {
         return Ok(());
     }
-    writeln!(told, "and {more} more")
+    writeln!(text, "and {more} more")
 }

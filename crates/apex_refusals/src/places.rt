@@ -4,7 +4,7 @@ ghost use Rattle.std.specs.Option.{option_copied};
 ghost use Rattle.toml.specs.View.{view, table_view};
 ghost use Rattle.apex_config.specs.Values.{items_at, keys_of_table};
 ghost use Rattle.apex_refusals.specs.PlaceLines.{key_there};
-ghost use Rattle.apex_refusals.specs.Places.{value_of, key_numbered, key_at, stands};
+ghost use Rattle.apex_refusals.specs.Places.{value_of, key_numbered, key_at, document_has};
 
 use apex_config::key::Key;
 use apex_config::place::{Part, Place, Spot};
@@ -70,8 +70,8 @@ pub fn key_at<'a>(document: &'a Value, place: Place) -> Option<&'a str>
 }
 
 /// Whether a document has something at a key of a part, or has the part itself if there is no key.
-pub fn stands(document: &Value, part: Part, key: Option<&str>) -> bool
-    ensures { result ≡ stands (view document.now) part (option_copied key.entry) }
+pub fn document_has(document: &Value, part: Part, key: Option<&str>) -> bool
+    ensures { result ≡ document_has (view document.now) part (option_copied key.entry) }
 {
     match (value_of(document, part), key) {
         (None, _) => false,
@@ -85,7 +85,7 @@ pub fn key_there<'a>(document: &'a Value, place: Place) -> Option<&'a str>
     ensures { option_copied result ≡ key_there (view document.now) place }
 {
     let key = key_at(document, place);
-    if stands(document, place.part, key) {
+    if document_has(document, place.part, key) {
         key
     } else {
         None

@@ -1,3 +1,4 @@
+pub mod PositionLemmas
 pub mod SearchLemmas
 pub mod TextLemmas
 pub mod NumberLemmas

@@ -45,8 +45,32 @@ fn is_blank(byte: u8) -> bool
     byte == b' ' || byte == b'\t'
 }
 
+/// The bytes in which a blank is looked for one by one. Most words end within them, and it takes longer than that to begin
+/// a search for many bytes at once.
+const NEAR_BYTES: usize = 16;
+
 pub fn blank_in(line: &[u8]) -> Option<usize>
     ensures { result ≡ position is_blank line.now }
+{
+    let (near, far) = line.split_at(line.len().min(NEAR_BYTES));
+    match blank_near_in(near) {
+        Some(at) => Some(at),
+        None => match blank_far_in(far) {
+            Some(at) => Some(near.len() + at),
+            None => None,
+        },
+    }
+}
+
+fn blank_near_in(line: &[u8]) -> Option<usize>
+    ensures { result ≡ position is_blank line.now }
+{
+    line.iter().position(|byte| is_blank(*byte))
+}
+
+fn blank_far_in(line: &[u8]) -> Option<usize>
+    ensures found { result ≡ position is_blank line.now }
+    ensures within { IfSome result (λ at. at < length line.now) }
 {
     memchr2(b' ', b'\t', line)
 }

@@ -174,7 +174,7 @@ alone_given service code.TimedOut is = is
 with_data : (service : Service) (given : ReturnCode) → code.NoError ≡ given → can_give_code service given ≡ true
 with_data service given same = subst (λ (c : ReturnCode). can_give_code service c ≡ true) same refl
 
-code_given : (service : Service) (told : Reply) (given : ReturnCode) → can_give service told ≡ true → code_in told ≡ Some given → can_give_code service given ≡ true
+code_given : (service : Service) (answer : Reply) (given : ReturnCode) → can_give service answer ≡ true → code_in answer ≡ Some given → can_give_code service given ≡ true
 code_given service reply.NotMade given is same = absurd (cc)
 code_given service (reply.Code c) given is same =
     let own : c ≡ given = cc in

@@ -81,9 +81,9 @@ can_give service (reply.SamplingStatus refresh size direction last) = gives_samp
 -- ---- the law
 
 -- a row of the service gives the reply, and its code
-pub record IsGiven (service : Service) (told : Reply) : Type 0 where
-  pub reply : can_give service told ≡ true
-  pub code : (code : ReturnCode) → code_in told ≡ Some code → can_give_code service code ≡ true
+pub record IsGiven (service : Service) (answer : Reply) : Type 0 where
+  pub reply : can_give service answer ≡ true
+  pub code : (code : ReturnCode) → code_in answer ≡ Some code → can_give_code service code ≡ true
 
 -- whatever was called before, a row of the call's service gives its reply
 abbrev pub RepliesAreGiven : Type 0

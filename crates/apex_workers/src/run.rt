@@ -124,7 +124,7 @@ fn collected<A: Allocator, R: Wait>(
         AreObservers finished.board.published finished.observers.items) }
     ensures isolated { IfOk result (λ finished. ShowsScriptsAlone
         config.now scripts.now finished.replies.items finished.board.log) }
-    ensures stranger { IfErr result (λ fault. fault ≡ RunFault.ResultsDiffer) }
+    ensures differs { IfErr result (λ fault. fault ≡ RunFault.ResultsDiffer) }
 
     // It is refused only if something differs.
     ensures same { let board = observed.board in

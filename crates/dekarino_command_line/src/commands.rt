@@ -23,7 +23,9 @@ pub(crate) const OWN_IDS: &str = "own-ids";
 
 pub(crate) const ORDER: &str = "order";
 
-pub(crate) const STEPS: &str = "steps";
+pub(crate) const SECONDS: &str = "seconds";
+
+pub(crate) const MEMORY: &str = "memory";
 
 pub(crate) const SCRIPTS: &str = "NAME=SCRIPT";
 
@@ -146,7 +148,8 @@ fn judge<'a>(alloc: Global) -> Result<Command<'a>, AllocError> {
         .arg(flag(alloc, TIME_OUTS, help::TIME_OUTS))?
         .arg(flag(alloc, OWN_IDS, help::OWN_IDS))?
         .arg(option(alloc, ORDER, "FILE", help::ORDER))?
-        .arg(option(alloc, STEPS, "N", help::STEPS))?
+        .arg(option(alloc, SECONDS, "N", help::SECONDS))?
+        .arg(option(alloc, MEMORY, "MIB", help::DEAD_ENDS))?
         .arg(json(alloc))
 }
 
@@ -162,6 +165,8 @@ fn orders<'a>(alloc: Global) -> Result<Command<'a>, AllocError> {
         .after_help(help::ORDERS)
         .arg(config(alloc))?
         .arg(files(alloc, SCRIPTS, scripts))?
+        .arg(option(alloc, SECONDS, "N", help::SECONDS))?
+        .arg(option(alloc, MEMORY, "MIB", help::MEMORY))?
         .arg(option(alloc, STATES, "N", help::STATES))?
         .arg(question(alloc, WHEN, help::WHEN))?
         .arg(question(alloc, NEVER, help::NEVER))?

@@ -74,7 +74,8 @@ is a departure.
 
 An argument NAME=LOG gives the log that partition NAME kept for itself: its lines lack the partition, and nothing says
 which call of another partition came before. If some order of all calls gives each of them its logged reply, the status is 0,
-and --order writes that order as a log. If there is no such order, the status is 4. If neither is found, it is 5.
+and --order writes that order as a log. If there is no such order, the status is 4. If neither is found within --seconds,
+it is 5. Each group of partitions that shares no channel with others has a search of its own.
 
 Example:
   $ ./dekarino judge examples/recorded/config.toml examples/recorded/log.txt
@@ -96,14 +97,18 @@ pub(crate) const WHOLE: &str =
 
 pub(crate) const ORDER: &str = "Writes the order found for logs NAME=LOG to FILE, as a log";
 
-pub(crate) const STEPS: &str = "Gives up the search after this many steps [default: 1000000000]";
+pub(crate) const SECONDS: &str = "Gives up a search after this many seconds [default: 60]";
+
+pub(crate) const DEAD_ENDS: &str =
+    "Keeps dead ends of a search in this many MiB, and no more of them beyond [default: 1024]";
 
 pub(crate) const ORDERS: &str = "\
 Each partition makes the calls of its script in order. Nothing else says which call comes first; moments order nothing
 between partitions. For each call, by the line of its script, it prints all replies that some order gives, and no others,
 after `*` if there are several; and for each queuing channel the least and the greatest of its counts in the end. Then
 come the number of states tried and of different ends, in a line for each group of partitions that shares no channel with
-others, and the number of calls with several replies. Above the bound on states it prints nothing, and the status is 5.
+others, and the number of calls with several replies. A search that meets a bound of seconds, memory or states gives up:
+the status is 5. Each question has a search of its own, and so has each such group.
 
 A question NAME:LINE = REPLY is about the call on that line of the partition's script. A return code alone means
 every reply with that code. The first order that gives such a reply ends the search. A question CHANNEL COUNT OP NUMBER,
@@ -122,7 +127,10 @@ Example:
   11 states, 3 ends
   2 calls depend on the order";
 
-pub(crate) const STATES: &str = "Gives up above this many states [default: 100000]";
+pub(crate) const MEMORY: &str =
+    "Gives up a search that keeps more than this many MiB [default: 1024]";
+
+pub(crate) const STATES: &str = "Gives up a search above this many states";
 
 pub(crate) const WHEN: &str =
     "Prints an order with such a reply or such an end, as a log; status 4 if there is none";

@@ -1,6 +1,6 @@
 //! What the program was started with.
 use crate::fault::WordsFault;
-use crate::task::not_text;
+use crate::usage::not_text;
 use apex_command_line::words_given;
 use std::env;
 use std::env::{Env, VarError};
@@ -67,7 +67,7 @@ fn columns_in(value: &Option<String>) -> Option<usize> {
     }
 }
 
-/// The value of a variable of the environment, where it has one that is text.
+/// The value of a variable of the environment, if it has one that is text.
 fn value_given<R: Env + AllocGlobal>(rt: &R, name: &str) -> Result<Option<String>, WordsFault> {
     match env::var(rt, name) {
         Ok(value) => Ok(Some(value)),

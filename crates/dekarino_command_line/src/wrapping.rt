@@ -31,7 +31,7 @@ struct Page {
 }
 
 impl Page {
-    /// Adds words to the last line, and to lines with this indent where they don't fit there.
+    /// Adds words to the last line, and to further lines with this indent if they don't fit there.
     fn push_words(&mut self, words: &str, indent: usize) -> Result<(), AllocError> {
         for word in words.split_whitespace() {
             let end = self.column.saturating_add(1).saturating_add(word.len());
@@ -47,7 +47,7 @@ impl Page {
         Ok(())
     }
 
-    /// Adds a line that begins with blanks. The words about an option stand beneath each other.
+    /// Adds a line that begins with blanks. The words about an option are aligned.
     fn push_indented(&mut self, line: &str) -> Result<(), AllocError> {
         match about(line) {
             Some((option, words)) if line.len() > self.columns => {
@@ -78,7 +78,7 @@ impl Page {
     }
 }
 
-/// An option up to the words about it, and these words: what stands behind the first two blanks after its first word.
+/// An option up to the words about it, and these words, which follow the first two blanks after its first word.
 fn about(line: &str) -> Option<(&str, &str)> {
     let option = line.trim_start();
     let gap = option.find("  ")?;

@@ -13,6 +13,7 @@ use Rattle.apex_files.specs.Arguments.{Arguments}
 use Rattle.apex_files.specs.Reading.{FileBytes}
 use Rattle.dekarino_search.specs.OrderAnswer.{IsOrderAnswer}
 use Rattle.dekarino_search.specs.OwnLogs.{AreOwnLogs}
+use Rattle.dekarino_search.specs.declared.bound.Bound.{Bound}
 use Rattle.dekarino_search.specs.declared.order_answer.OrderAnswer.TheVariants as answers
 
 module _ (files : FileBytes) (all : Bool) (arguments : Arguments) where
@@ -25,11 +26,11 @@ module _ (files : FileBytes) (all : Bool) (arguments : Arguments) where
     none_found None known none = tt
     none_found (Some bytes) known none = (config, known, logs, are, none)
 
-  pub nothing_found : (steps : ℕ) (read : Option (List ℕ)) → IfSome read (IsOrderAnswer files all arguments (answers.Undecided steps))
-  nothing_found steps None = tt
-  nothing_found steps (Some bytes) = tt
+  pub nothing_found : (bound : Bound) (read : Option (List ℕ)) → IfSome read (IsOrderAnswer files all arguments (answers.Undecided bound))
+  nothing_found bound None = tt
+  nothing_found bound (Some bytes) = tt
 
--- ---- what an answer says of the logs that were looked at
+-- ---- what an answer says about the logs that were examined
 
 module _ (config : Configuration) (logs seen : Logs) (same : seen ≡ logs) (answer : Answer) (says : IsAnswer config seen answer) where
   pub says_order : (places : Vec CallPlace) → answer ≡ Order places → IsOrder config logs (entries_at logs places.items)

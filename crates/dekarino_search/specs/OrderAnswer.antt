@@ -16,4 +16,4 @@ IsOrderAnswer files all arguments answers.Exists bytes =
     (config : Configuration) × (config_of bytes ≡ Ok config) × (logs : Logs) × AreOwnLogs files all config arguments logs × (history : History) × IsOrder config logs history
 IsOrderAnswer files all arguments answers.Impossible bytes =
     (config : Configuration) × (config_of bytes ≡ Ok config) × (logs : Logs) × AreOwnLogs files all config arguments logs × HasNoOrder config logs
-IsOrderAnswer files all arguments (answers.Undecided steps) bytes = Unit {0}
+IsOrderAnswer files all arguments (answers.Undecided bound) bytes = Unit {0}

@@ -9,18 +9,18 @@ use crate::unfinished::Unfinished;
 use crate::verdict::Verdict;
 use apex_module::Config;
 use apex_ports::Script;
-use dekarino_command_line::Question;
+use dekarino_command_line::{Question, SearchLimits};
 use dekarino_texts::LineNumbers;
 use std::alloc::{AllocError, Global};
 
 /// The answers to questions, in the order given. Each of several is below a line with its question, also an undecided
-/// one. Each has a search of its own, which gives up above `states` states.
+/// one. Each has a search of its own, which gives up at the limits.
 pub(crate) fn answers_to<'a, P: Progress>(
     alloc: Global,
     config: &Config,
     scripts: &mut [Script],
     lines: &[LineNumbers],
-    states: usize,
+    limits: SearchLimits,
     questions: &[Question<'a>],
     progress: &mut P,
 ) -> Result<Outcome, Unfinished<'a>>
@@ -33,14 +33,14 @@ pub(crate) fn answers_to<'a, P: Progress>(
     let all_asked = all_asked.as_slice();
     match (questions, all_asked) {
         ([question], [asked]) => {
-            let found = find_occurrence(alloc, config, scripts, states, question, asked, progress);
+            let found = find_occurrence(alloc, config, scripts, limits, question, asked, progress);
             match found {
                 Ok(answer) => Ok(answer.verdict.outcome(answer.text.into_bytes())),
                 Err(unfinished) => Err(unfinished),
             }
         }
         _ => several_answers(
-            alloc, config, scripts, states, questions, all_asked, progress,
+            alloc, config, scripts, limits, questions, all_asked, progress,
         ),
     }
 }
@@ -67,12 +67,12 @@ fn all_asked_in<'a>(
     Ok(all_asked)
 }
 
-/// The answers, each behind a line with its question.
+/// The answers, each after a line with its question.
 fn several_answers<'a, P: Progress>(
     alloc: Global,
     config: &Config,
     scripts: &mut [Script],
-    states: usize,
+    limits: SearchLimits,
     questions: &[Question<'a>],
     all_asked: &[AskedOf],
     progress: &mut P,
@@ -83,7 +83,7 @@ fn several_answers<'a, P: Progress>(
     let mut verdict = Verdict::Yes;
     for (question, asked) in questions.iter().zip(all_asked.iter()) {
         push_question(&mut text, question)?;
-        match find_occurrence(alloc, config, scripts, states, question, asked, progress) {
+        match find_occurrence(alloc, config, scripts, limits, question, asked, progress) {
             Ok(answer) => {
                 verdict = verdict.and(answer.verdict);
                 text.push_str(answer.text.as_str())?;

@@ -1,4 +1,4 @@
-//! What scripts can come to, as JSON lines.
+//! The outcomes of scripts, as JSON lines.
 use crate::json::push_object;
 use crate::json_departures::reply_text;
 use apex_groups::GroupCounts;
@@ -38,7 +38,7 @@ struct CountLine<'a> {
     partitions: Vec<&'a str>,
 }
 
-/// What scripts can come to, as JSON lines.
+/// The outcomes of scripts, as JSON lines.
 #[derive(Debug, Drop)]
 pub(crate) struct OutcomeObjects {
     text: String,

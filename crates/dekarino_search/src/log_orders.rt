@@ -15,30 +15,30 @@ use apex_files::Opener;
 use apex_groups::find_order_apart;
 use apex_log_orders::{Answer, CallPlace};
 use apex_module::Config;
-use dekarino_command_line::Form;
+use dekarino_command_line::{Form, SearchLimits};
 use std::alloc::Global;
 
 /// Looks for an order of all calls of the logs that the arguments `NAME=LOG` name, on the configuration in a file, in which
 /// each reply is the standard's. If there is one, it is written as a log to `order`, if that is given. The search gives up
-/// after `steps` steps. If `time_outs` is set, a send or a receive whose line says no time-out is taken to have one.
+/// at the limit of seconds, and keeps dead ends within that of memory. If `time_outs` is set, a send or a receive whose line says no time-out is taken to have one.
 pub fn order_of_logs<'a, O: Opener + FileWriter, P: Progress>(
     alloc: Global,
     files: &O,
     config: &'a str,
     arguments: &[&'a str],
     order: Option<&'a str>,
-    steps: u64,
+    limits: SearchLimits,
     time_outs: bool,
     form: Form,
     progress: &mut P,
 ) -> Result<Outcome, Unfinished<'a>> {
     let (answer, text) = search(
-        alloc, files, config, arguments, order, steps, time_outs, form, progress,
+        alloc, files, config, arguments, order, limits, time_outs, form, progress,
     )?;
     Ok(match answer {
         OrderAnswer::Exists => Outcome::Done(text),
         OrderAnswer::Impossible => Outcome::Negative(text),
-        OrderAnswer::Undecided { .. } => Outcome::Undecided(text),
+        OrderAnswer::Undecided(_) => Outcome::Undecided(text),
     })
 }
 
@@ -49,7 +49,7 @@ fn search<'a, O: Opener + FileWriter, P: Progress>(
     config: &'a str,
     arguments: &[&'a str],
     order: Option<&'a str>,
-    steps: u64,
+    limits: SearchLimits,
     time_outs: bool,
     form: Form,
     progress: &mut P,
@@ -59,12 +59,20 @@ fn search<'a, O: Opener + FileWriter, P: Progress>(
 {
     let config = read_config(alloc, files, config, form)?;
     let mut all = read_own_logs(alloc, files, &config, arguments, time_outs, form)?;
-    let mut progress = SearchProgress { progress };
+    let mut progress = SearchProgress::new(progress, limits);
     let logs = all.logs.as_mut_slice();
-    let (answer, longest) = match find_order_apart(alloc, &config, logs, steps, &mut progress)? {
+    let (steps, memory) = (u64::MAX, limits.bytes());
+    let (answer, longest) = match find_order_apart(
+        alloc,
+        &config,
+        logs,
+        steps,
+        memory,
+        &mut progress,
+    )? {
         Answer::Order(places) => (OrderAnswer::Exists, places),
         Answer::NoOrder(longest) => (OrderAnswer::Impossible, longest),
-        Answer::Undecided(longest) => (OrderAnswer::Undecided { steps }, longest),
+        Answer::Undecided(longest) => (OrderAnswer::Undecided(progress.bound()), longest),
     };
     if let (OrderAnswer::Exists, Some(file)) = (answer, order) {
         write_order(alloc, files, &config, &all, longest.as_slice(), file)?;

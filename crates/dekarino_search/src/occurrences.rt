@@ -15,7 +15,7 @@ use apex_orders::step::step;
 use apex_ports::{Ports, Script};
 use apex_types::OutOfMemory;
 use apex_words::push_logged;
-use dekarino_command_line::Question;
+use dekarino_command_line::{Question, SearchLimits};
 use std::alloc::{AllocError, Global};
 
 /// The text if no order is.
@@ -28,13 +28,13 @@ pub(crate) struct Answer {
     pub(crate) text: String,
 }
 
-/// The answer to a question: as a log an order in which the call gets an admitted reply, or one that leads to such an
-/// end; or that there is none.
+/// The answer to a question: an order, as a log, in which the call gets an admitted reply or which leads to such an end; or
+/// that there is none.
 pub(crate) fn find_occurrence<'a, P: Progress>(
     alloc: Global,
     config: &Config,
     scripts: &mut [Script],
-    states: usize,
+    limits: SearchLimits,
     question: &Question<'a>,
     asked: &AskedOf,
     progress: &mut P,
@@ -42,7 +42,8 @@ pub(crate) fn find_occurrence<'a, P: Progress>(
     requires { length scripts.old ≡ length config.now.partitions }
     ensures same { scripts.new ≡ scripts.old }
 {
-    let mut progress = SearchProgress { progress };
+    let mut progress = SearchProgress::new(progress, limits);
+    let states = progress.states();
     let found = match asked {
         AskedOf::Call(asked) => {
             order_giving_apart(alloc, config, scripts, asked, states, &mut progress)
@@ -51,7 +52,7 @@ pub(crate) fn find_occurrence<'a, P: Progress>(
     };
     let order = match found {
         Ok(order) => order,
-        Err(fault) => return Err(unfinished_by(fault, states)),
+        Err(fault) => return Err(unfinished_by(fault, &progress)),
     };
     let verdict = Verdict::of(order.is_some(), question.is_wanted());
     match answer_text(alloc, config, scripts, order) {

@@ -1,4 +1,5 @@
 //! The answer to whether logs that partitions kept apart have an order.
+use crate::bound::Bound;
 use crate::json::push_object;
 use crate::json_departures::DepartureObjects;
 use crate::next_calls::push_next_calls;
@@ -16,18 +17,20 @@ use std::alloc::{AllocError, Global};
 pub(crate) enum OrderAnswer {
     /// There is one.
     Exists,
-    /// There is none.
+    /// There is no order.
     Impossible,
-    /// Neither was found within this number of steps.
-    Undecided { steps: u64 },
+    /// Neither was found within this bound.
+    Undecided(Bound),
 }
 
-/// The answer, the number of all calls, and how many are in the longest order.
+/// The answer, the number of all calls, how many are in the longest order, and the option with the bound that ended the
+/// search.
 #[derive(Drop, Serialize)]
 struct AnswerLine {
     order: &'static str,
     calls: usize,
     longest: usize,
+    bound: Option<String>,
 }
 
 /// The text of an answer; if there is no order of all calls, with the calls that are next after the longest.
@@ -45,7 +48,7 @@ pub(crate) fn answer_text(
             let mut words = DepartureText::new(alloc);
             push_next_calls(alloc, config, all, longest, &mut words)?;
             let mut text = String::new(alloc);
-            if let OrderAnswer::Impossible | OrderAnswer::Undecided { .. } = answer {
+            if let OrderAnswer::Impossible | OrderAnswer::Undecided(_) = answer {
                 push_longest(&mut text, longest.len(), calls)?;
             }
             text.push_str(words.into_text().as_str())?;
@@ -60,6 +63,7 @@ pub(crate) fn answer_text(
                 order: word_of(answer),
                 calls,
                 longest: longest.len(),
+                bound: bound_of(alloc, answer)?,
             };
             push_object(alloc, &mut text, &object)?;
             Ok(text)
@@ -79,8 +83,17 @@ fn word_of(answer: OrderAnswer) -> &'static str {
     match answer {
         OrderAnswer::Exists => "found",
         OrderAnswer::Impossible => "none",
-        OrderAnswer::Undecided { .. } => "undecided",
+        OrderAnswer::Undecided(_) => "undecided",
     }
+}
+
+/// The option with the bound that ended the search without an answer.
+fn bound_of(alloc: Global, answer: OrderAnswer) -> Result<Option<String>, AllocError> {
+    let OrderAnswer::Undecided(bound) = answer else {
+        return Ok(None);
+    };
+    let (option, number) = bound.option();
+    Ok(Some(format!(in alloc; "{option} {number}")?))
 }
 
 /// Writes the line in front of the calls that are next.
@@ -88,7 +101,7 @@ fn push_longest(text: &mut String, longest: usize, calls: usize) -> Result<(), A
     let calls = counted(calls);
     writeln!(
         text,
-        "the longest order found has {longest} of {calls}; it proves none of these to be at fault, which are next:"
+        "the longest order found has {longest} of {calls}; next calls, any of which may be the wrong one:"
     )
 }
 
@@ -98,9 +111,7 @@ fn push_answer(text: &mut String, calls: usize, answer: OrderAnswer) -> Result<(
     match answer {
         OrderAnswer::Exists => writeln!(text, "{calls}, as the standard says in some order"),
         OrderAnswer::Impossible => writeln!(text, "{calls}, as the standard says in no order"),
-        OrderAnswer::Undecided { steps } => {
-            writeln!(text, "{calls}, undecided after {steps} steps")
-        }
+        OrderAnswer::Undecided(bound) => writeln!(text, "{calls}, {bound}"),
     }
 }
 

@@ -4,7 +4,7 @@ use std::fmt::{Display, Formatter};
 use std::io::{IsTerminal, Write};
 use std::time::{Clock, Duration, Instant};
 
-/// How many milliseconds a line stands before it is written again.
+/// The number of milliseconds before a line is rewritten.
 const STANDS_FOR: u64 = 500;
 
 /// How far a search is.
@@ -12,7 +12,7 @@ const STANDS_FOR: u64 = 500;
 pub enum Reached {
     /// The number of calls in the order that is tried, and of dead ends before it.
     Calls { placed: usize, dead_ends: u64 },
-    /// The number of states found, and of calls that lead to those where the search goes on.
+    /// The number of states found, and of calls that lead to those from which the search goes on.
     States { found: usize, depth: usize },
 }
 
@@ -27,23 +27,26 @@ impl Display for Reached {
     }
 }
 
-/// Shows how far a search is.
+/// Shows how far a search is, and what time it is.
 pub trait Progress {
     /// The search is so far.
     fn show(&mut self, reached: Reached);
 
     /// The search has ended: nothing is left of what was shown.
     fn wipe(&mut self);
+
+    /// The time on a clock that never goes back, if the clock can be read.
+    fn now(&self) -> Option<Instant>;
 }
 
-/// A line that is written again and again where the output is a terminal, and never where it is none.
+/// A line that is rewritten repeatedly if the output is a terminal, and never written otherwise.
 #[derive(Drop)]
 pub struct ProgressLine<'a, C, W> {
     clock: &'a C,
     output: W,
     /// When the line was made, if it can be shown.
     made: Option<Instant>,
-    /// When it was written last, if it stands there.
+    /// When it was written last, if it is on the screen.
     written: Option<Instant>,
 }
 
@@ -69,7 +72,7 @@ impl<C: Clock, W: Write> Progress for ProgressLine<'_, C, W> {
         let Some(made) = self.made else {
             return;
         };
-        let Ok(now) = Instant::now(self.clock) else {
+        let Some(now) = self.now() else {
             return;
         };
         if now.duration_since(self.written.unwrap_or(made)) < Duration::from_millis(STANDS_FOR) {
@@ -85,5 +88,9 @@ impl<C: Clock, W: Write> Progress for ProgressLine<'_, C, W> {
             let _ = self.output.write_all(b"\r\x1b[K");
             self.written = None;
         }
+    }
+
+    fn now(&self) -> Option<Instant> {
+        Instant::now(self.clock).ok()
     }
 }

@@ -23,7 +23,7 @@ pub(crate) enum QuestionFault<'a> {
         partition: usize,
         line: usize,
     },
-    /// What is said to be the reply to a call of the service is none.
+    /// These words are no reply to a call of the service.
     NoReply {
         said: &'a str,
         service: Service,
@@ -36,17 +36,17 @@ pub(crate) enum QuestionFault<'a> {
     NoChannel {
         name: &'a str,
     },
-    /// What is said to be a count is none.
+    /// This word is no count.
     NoCount {
         said: &'a str,
     },
-    /// What is said to be a number is none.
+    /// This word is no number.
     NoNumber {
         said: &'a str,
     },
 }
 
-/// The words that a reply begins with, `made` behind the last.
+/// The words with which a reply begins; `made` follows the last.
 const FIRST_WORDS: [&str; 8] = [
     "NO_ERROR",
     "NO_ACTION",
@@ -94,7 +94,7 @@ fn reason_of(
         } => {
             write!(
                 text,
-                "no call stands on line {line} of the script of {name}, "
+                "there is no call on line {line} of the script of {name}, "
             )?;
             push_lines(&mut text, lines.get(partition))?;
         }
@@ -119,7 +119,7 @@ fn reason_of(
     Ok(text)
 }
 
-/// Writes the names of the partitions, each behind a space.
+/// Writes the names of the partitions, each after a space.
 fn push_partitions(text: &mut String, config: &Config) -> Result<(), AllocError> {
     for p in 0..config.partitions() {
         let mark = if p == 0 { "" } else { "," };
@@ -128,7 +128,7 @@ fn push_partitions(text: &mut String, config: &Config) -> Result<(), AllocError>
     Ok(())
 }
 
-/// Writes the names of the queuing channels, each behind a space.
+/// Writes the names of the queuing channels, each after a space.
 fn push_channels(text: &mut String, config: &Config) -> Result<(), AllocError> {
     let mut mark = "";
     for c in 0..config.channels() {
@@ -160,7 +160,7 @@ fn push_lines(text: &mut String, lines: Option<&LineNumbers>) -> Result<(), Allo
         None => &[],
     };
     match (numbers.first(), numbers.last()) {
-        (Some(first), Some(last)) => write!(text, "whose calls stand on lines {first} to {last}"),
+        (Some(first), Some(last)) => write!(text, "whose calls are on lines {first} to {last}"),
         _ => text.push_str("which has no calls"),
     }
 }

@@ -1,4 +1,4 @@
-//! What scripts can come to over every order of their calls.
+//! The outcomes of scripts over every order of their calls.
 ghost use Rattle.std.specs.Prelude.{◌≡◌, length};
 
 use crate::answers::answers_to;
@@ -17,18 +17,18 @@ use apex_orders::OrdersFault;
 use apex_ports::Script;
 use apex_threads::unpack_all;
 use apex_types::OutOfMemory;
-use dekarino_command_line::{Form, Question};
+use dekarino_command_line::{Form, Question, SearchLimits};
 use dekarino_texts::{LineNumbers, OutcomeText, walk_outcomes};
 use std::alloc::{AllocError, Global};
 
 /// What the scripts that the arguments name can come to, on the configuration in a file: all of it, or the answers to
-/// questions. A search gives up above `states` states.
+/// questions. A search gives up at the limits.
 pub fn outcomes_of_scripts<'a, O: Opener, P: Progress>(
     alloc: Global,
     opener: &O,
     config: &'a str,
     arguments: &[&'a str],
-    states: usize,
+    limits: SearchLimits,
     questions: &[Question<'a>],
     form: Form,
     progress: &mut P,
@@ -38,12 +38,13 @@ pub fn outcomes_of_scripts<'a, O: Opener, P: Progress>(
     let mut scripts = unpack_all(alloc, scripts.as_slice())?;
     let (scripts, lines) = (scripts.as_mut_slice(), lines.as_slice());
     if !questions.is_empty() {
-        return answers_to(alloc, &config, scripts, lines, states, questions, progress);
+        return answers_to(alloc, &config, scripts, lines, limits, questions, progress);
     }
-    let mut progress = SearchProgress { progress };
+    let mut progress = SearchProgress::new(progress, limits);
+    let states = progress.states();
     let found = match all_outcomes_apart(alloc, &config, scripts, states, &mut progress) {
         Ok(found) => found,
-        Err(fault) => return Err(unfinished_by(fault, states)),
+        Err(fault) => return Err(unfinished_by(fault, &progress)),
     };
     let text = outcomes_text(alloc, &config, scripts, lines, &found, form)?;
     Ok(Outcome::Done(text.into_bytes()))
@@ -73,10 +74,14 @@ fn outcomes_text(
     }
 }
 
-/// Why a search whose bound was this number of states ended without an answer.
-pub(crate) fn unfinished_by<'a>(fault: OrdersFault, states: usize) -> Unfinished<'a> {
+/// Why a search that had this progress ended without an answer.
+pub(crate) fn unfinished_by<'a, P: Progress>(
+    fault: OrdersFault,
+    progress: &SearchProgress<'_, P>,
+) -> Unfinished<'a> {
     match fault {
-        OrdersFault::TooManyStates => Unfinished::Undecided(Bound::States(states)),
+        OrdersFault::TooManyStates => Unfinished::Undecided(Bound::States(progress.states())),
+        OrdersFault::Stopped => Unfinished::Undecided(progress.bound()),
         OrdersFault::OutOfMemory => Unfinished::from(AllocError),
     }
 }

@@ -86,7 +86,7 @@ struct FaultyScript<'a> {
     fault: TraceFault,
 }
 
-/// The error of a refused script, with its mistakes and those of the scripts behind it.
+/// The error of a refused script, with its mistakes and those of the scripts after it.
 fn refusal_of<'a, O: Opener>(
     alloc: Global,
     opener: &O,
@@ -112,7 +112,7 @@ fn refusal_of<'a, O: Opener>(
     }
 }
 
-/// The mistakes of a refused script and of those behind it; the ones before it have none.
+/// The mistakes of a refused script and of those after it; the ones before it have none.
 fn mistakes_from<'a, O: Opener>(
     alloc: Global,
     opener: &O,

@@ -56,7 +56,7 @@ pub enum Unfinished<'a> {
         words: &'a str,
         reason: String,
     },
-    /// A search gave up above this bound.
+    /// A search gave up at this bound.
     Undecided(Bound),
 }
 

@@ -1,10 +1,10 @@
-//! What answers to questions come to together.
+//! The combined verdict on several answers to questions.
 ghost use Rattle.std.specs.Prelude.{◌≡◌, ◌≢◌, ◌↔◌, ◌⊎◌};
 ghost use Rattle.dekarino_search.specs.declared.verdict.Verdict.TheVariants.{No, Undecided, Yes};
 
 use crate::outcome::Outcome;
 
-/// What an answer comes to.
+/// The verdict on an answer.
 #[derive(Clone, Copy, Debug, PartialEq, Eq)]
 pub(crate) enum Verdict {
     /// It is as asked.
@@ -16,7 +16,7 @@ pub(crate) enum Verdict {
 }
 
 impl Verdict {
-    /// What an answer comes to, by whether what is asked for occurs, and whether it is to.
+    /// The verdict on an answer: whether what is asked for occurs, and whether it should.
     pub(crate) fn of(occurs: bool, wanted: bool) -> Verdict
         ensures yes { (result ≡ Yes) ↔ (occurs ≡ wanted) }
         ensures decided { result ≢ Undecided }
@@ -28,7 +28,7 @@ impl Verdict {
         }
     }
 
-    /// What two answers come to together.
+    /// The combined verdict on two answers.
     pub(crate) fn and(self, other: Verdict) -> Verdict
         ensures no { (result ≡ No) ↔ ((self ≡ No) ⊎ (other ≡ No)) }
         ensures yes { (result ≡ Yes) ↔ ((self ≡ Yes) × (other ≡ Yes)) }

@@ -1,4 +1,4 @@
--- What the tasks find in files, where the bytes of the files are known.
+-- What the tasks find in files, if the bytes of the files are known.
 use Rattle.std.specs.Prelude.{◌≡◌, ℕ, List, Ok, map}
 use Rattle.apex_module.specs.Configuration.{Configuration}
 use Rattle.apex_config.specs.Meaning.{config_of}

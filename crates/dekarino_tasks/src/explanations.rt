@@ -87,7 +87,7 @@ fn end_explanation<S: ExplanationSink>(
     }
 }
 
-/// Adds the mistakes behind an explanation; in a text after an empty line.
+/// Adds the mistakes after an explanation; in a text, after an empty line.
 fn push_mistakes(text: &mut Vec<u8>, mistakes: &str, form: Form) -> Result<(), AllocError> {
     if let (Form::Text, false) = (form, mistakes.is_empty()) {
         text.push(b'\n')?;

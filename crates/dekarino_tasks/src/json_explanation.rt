@@ -13,7 +13,7 @@ use serde::Serialize;
 use std::alloc::{AllocError, Global};
 use std::str;
 
-/// A call: its line in the trace, from 1, and as it stands there, and its reply with the row of the reply table that gave it.
+/// A call: the number of its line in the trace, from 1, its text there, and its reply with the row that gave it.
 #[derive(Drop, Serialize)]
 struct CallLine<'a> {
     line: usize,

@@ -54,7 +54,7 @@ pub(crate) fn push_ending<'a>(
     push_object(alloc, text, &counts)
 }
 
-/// Adds the oldest messages that wait on a channel, as many as the words have, and its destination port.
+/// Adds the oldest messages that wait on a channel, the same number as in the words, and its destination port.
 fn add_channel<'a>(
     alloc: Global,
     line: &mut RemarkLine<'a>,

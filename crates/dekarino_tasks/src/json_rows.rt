@@ -9,7 +9,7 @@ use dekarino_search::push_object;
 use serde::Serialize;
 use std::alloc::{AllocError, Global};
 
-/// A row of the reply table. In place of a value stands a word in upper case.
+/// A row of the reply table. Upper-case words replace the values.
 #[derive(Drop, Serialize)]
 struct RowLine<'a> {
     service: &'static str,
@@ -76,7 +76,7 @@ fn push_refusal(
     push_object(alloc, text, &refused)
 }
 
-/// The row of an accepted call of the service; its values stand for any.
+/// The row of an accepted call of the service, with any values.
 fn accepted_row(service: Service) -> Row {
     match service {
         Service::CreateSampling | Service::CreateQueuing => Row::Created { id: 0 },

@@ -200,7 +200,7 @@ fn bad_question<E: Write>(words: &str, reason: &str, errors: &mut E) -> u8 {
     MISUSED
 }
 
-/// Writes above which bound a search gave up, and answers the status.
+/// Writes at which bound a search gave up, and answers the status.
 fn undecided<E: Write>(bound: Bound, errors: &mut E) -> u8 {
     let _ = writeln!(errors, "{bound}");
     UNDECIDED
@@ -248,7 +248,7 @@ fn perform<'a, R: Threads + Wait + Sync, O: Opener + FileWriter, P: Progress, W:
             config,
             logs,
             order,
-            steps,
+            limits,
             time_outs,
             form,
         } => order_of_logs(
@@ -257,7 +257,7 @@ fn perform<'a, R: Threads + Wait + Sync, O: Opener + FileWriter, P: Progress, W:
             config,
             logs.as_slice(),
             order,
-            steps,
+            limits,
             time_outs,
             form,
             progress,
@@ -265,7 +265,7 @@ fn perform<'a, R: Threads + Wait + Sync, O: Opener + FileWriter, P: Progress, W:
         Task::Orders {
             config,
             scripts,
-            states,
+            limits,
             questions,
             form,
         } => outcomes_of_scripts(
@@ -273,7 +273,7 @@ fn perform<'a, R: Threads + Wait + Sync, O: Opener + FileWriter, P: Progress, W:
             opener,
             config,
             scripts.as_slice(),
-            states,
+            limits,
             questions.as_slice(),
             form,
             progress,

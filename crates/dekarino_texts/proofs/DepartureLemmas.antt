@@ -87,7 +87,7 @@ module _ {S : Type 0} (takes : S → LoggedDeparture → S → Type 0) (config :
           refuses = λ faulty is. was.refuses faulty (faulty_left left after faulty next is);
         }
 
-  -- where the entries end
+  -- at the end of the entries
   pub ends : (own : Own) (log : History) (counts : DepartureCounts) (left whole : Result (List LoggedEntry) FaultyLine) (start sink : S) → left ≡ Ok [] → IsUnderWay takes config reading most own log counts left whole start sink
       → IsJudged takes config reading most whole start sink counts
   unfolding all_to_judge handed_after judged_counts_after

@@ -69,7 +69,7 @@ module _ {S : Type 0} (takes : S → LoggedDeparture → S → Type 0) (config :
           (ends takes config reading most own log counts (entries_from (logged_request_at config) number []) (log_in config (was.first ++ [])) start sink (of_log.has_no_line (logged_request_at config) number [] refl) (was.under_way []));
     }
 
-    -- where no line is left
+    -- if no line is left
     all_judged : (lines rest : List (List ℕ)) → lines ≡ was.first ++ rest → entries_from (logged_request_at config) number rest ≡ Ok [] → IsJudged takes config reading most (log_in config lines) start sink counts
     all_judged lines rest cut none =
         subst (λ (read : List (List ℕ)). IsJudged takes config reading most (log_in config read) start sink counts) (sym cut)

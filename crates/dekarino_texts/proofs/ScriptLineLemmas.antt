@@ -36,7 +36,7 @@ ended front number left total cut so_far =
 
 -- ---- each number is that of its call's line
 
--- a line that is read has a call where it has an item
+-- a line that is read has a call if it has an item
 read_line : (line : List ℕ) (item : Option (Moment × Call)) → item_of_line timed_call_at line ≡ Ok item → has_call line ≡ is_some item
 unfolding item_of_line
 read_line line item read = by_words (line_words line) refl
@@ -60,7 +60,7 @@ read_line line item read = by_words (line_words line) refl
         ap are_words is ∙ ap is_some same
     by_words (Ok (Some words)) is = by_call words is (timed_call_at words.0 words.1) refl
 
--- the call is that of the line of the number, where the first of these lines has the other number
+-- the call is that of the line with the number, if the first of these lines has the other number
 record IsCallOf (first : ℕ) (left : List (List ℕ)) (number : ℕ) (timed : Moment × Call) : Type 0 where
   index : ℕ
   number_is : number ≡ index + first

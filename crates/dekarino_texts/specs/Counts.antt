@@ -55,7 +55,7 @@ widened_by config scripts c ranges (order ∷ rest) =
     let counts = counts_after config (history_of config scripts order) c in
     widened_by config scripts c (widened ranges counts) rest
 
--- from the least to the greatest of each count after the orders; where there is none, those before the first call
+-- from the least to the greatest of each count after the orders; if there is no order, those before the first call
 abbrev pub ranges_over : Configuration → Scripts → List (List ℕ) → ℕ → Ranges
 ranges_over config scripts [] c = only (counts_after config [] c)
 ranges_over config scripts (first ∷ rest) c =

@@ -30,15 +30,15 @@ use Rattle.dekarino_texts.specs.Handed.{IsHanded}
 
 -- ---- one entry
 
--- what is judged in the place of a logged entry: what its call would have got without a time-out, with our identifiers
+-- what is judged instead of a logged entry: the reply that its call would have got without a time-out, with our identifiers
 pub record JudgedEntry : Type 0 where
   pub logged : LoggedEntry
   pub wait : MaxWait
   pub replaced : Option Replaced
   pub entry : Entry
 
--- a logged entry with what is judged in its place, after what was told of a system's identifiers; whether all calls that
--- say no time-out have one is a parameter
+-- a logged entry with what is judged instead, given the known identifiers of a system; a parameter says whether all calls
+-- without a time-out on their line have one
 abbrev pub to_judge : Configuration → Bool → Own → LoggedEntry → JudgedEntry
 to_judge config all own logged = record {
   logged = logged;
@@ -57,11 +57,11 @@ pub record LoggedDeparture : Type 0 where
 abbrev pub departure_in : LogPlace → Entry → Call → Expected → LoggedDeparture
 departure_in place entry asked expected = record { place = place; entry = entry; asked = asked; expected = expected }
 
--- what was told before of the port that an entry creates or asks for
+-- what was known before about the port that an entry creates or asks for
 abbrev pub known_in : Option Replaced → Option KnownIds
 known_in replaced = option_map (λ one. one.known) replaced
 
--- the place of a logged entry, which is as it was before with what was told
+-- the place of a logged entry: the same as before, with what is known
 abbrev pub place_with : LogPlace → Option Replaced → LogPlace
 place_with place replaced = record { line = place.line; time_out = place.time_out; wait = place.wait; known = known_in replaced }
 
@@ -88,13 +88,13 @@ counts_with counts (Some expected) = record { calls = counts.calls + 1; departur
 abbrev pub no_counts : DepartureCounts
 no_counts = record { calls = 0; departures = 0 }
 
--- what is judged in the place of the entries of a log, after what was told
+-- what is judged instead of the entries of a log, given what is known
 unfoldable pub all_to_judge : Configuration → Bool → Own → List LoggedEntry → List JudgedEntry
 all_to_judge config all own [] = []
 all_to_judge config all own (logged ∷ rest) =
     to_judge config all own logged ∷ all_to_judge config all (own_after config own logged.entry) rest
 
--- what is judged in the place of the entries of a log
+-- what is judged instead of the entries of a log
 abbrev pub log_to_judge : Configuration → Reading → List LoggedEntry → List JudgedEntry
 log_to_judge config reading entries = all_to_judge config reading.time_outs (untold reading.own_ids config) entries
 
@@ -114,7 +114,7 @@ handed_after config most before counts (judged ∷ rest) =
 
 -- ---- a log
 
--- the sink is handed the first departures of the log, as many as were asked for, and all of its entries and departures are counted
+-- the sink gets the first departures of the log, up to the number asked for; all entries and departures are counted
 abbrev pub IsJudged : {S : Type 0} → (S → LoggedDeparture → S → Type 0) → Configuration → Reading → ℕ → Result (List LoggedEntry) FaultyLine → S → S → DepartureCounts → Type 0
 IsJudged takes config reading most log before after counts =
     (entries : List LoggedEntry) × (log ≡ Ok entries)

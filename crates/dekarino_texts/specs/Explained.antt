@@ -1,4 +1,4 @@
--- What an explanation comes to after its lines.
+-- The end of an explanation, after its lines.
 use Rattle.std.specs.Prelude.{◌≡◌, List, [], length, MatchOption}
 use Rattle.apex_module.specs.Configuration.{Configuration}
 use Rattle.apex_ports.specs.PortsView.{PortsView}

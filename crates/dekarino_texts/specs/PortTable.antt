@@ -1,4 +1,4 @@
--- The table of a configuration's ports: a row for each partition, and behind it one for each of its ports.
+-- The table of a configuration's ports: a row for each partition, and after it one for each of its ports.
 use Rattle.std.specs.Prelude.{ℕ, ◌+◌, ◌==◌, Bool, true, false, ◌&&◌, if◌then◌else◌, List, [], ◌∷◌, ◌++◌}
 use Rattle.apex_types.specs.declared.direction.Direction.{Direction}
 use Rattle.apex_types.specs.declared.direction.Direction.TheVariants.{Source, Destination}

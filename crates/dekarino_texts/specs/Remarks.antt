@@ -27,7 +27,7 @@ history_of log = map (λ one. one.entry) log
 
 -- ---- calls
 
--- the remark on the call in a line, at a moment, where the call before it was at the moment `last`
+-- the remark on the call in a line, at a moment, if the call before it was at the moment `last`
 abbrev pub earlier : Moment → ℕ → Moment → List Remark
 earlier last line at = if nat_lt at.0 last.0 then MomentBefore line at last ∷ [] else []
 
@@ -41,7 +41,7 @@ abbrev pub is_not_made : Reply → Bool
 is_not_made NotMade = true
 is_not_made _ = false
 
--- the remark on the call of a partition in a line, where it was not made
+-- the remark on the call of a partition in a line, if it was not made
 abbrev pub not_made : Configuration → ℕ → ℕ → Reply → List Remark
 not_made config line p reply = if is_not_made reply then CallNotMade line (name_of_partition config p) ∷ [] else []
 
@@ -60,7 +60,7 @@ abbrev pub is_unread : Configuration → History → ℕ → ℕ → Port → Bo
 is_unread config history p id port =
     not (is_source port.direction) && (is_some (last_write_on config port.channel history) && not (list_any (shows_sample p id) history))
 
--- the remark on a port that was created, where a restart of its partition lost it and no call created it again
+-- the remark on a port that was created, if a restart of its partition lost it and no call created it again
 abbrev pub lost_remark : History → ℕ → List ℕ → ℕ → Port → List Remark
 lost_remark history p name id port = if is_created p id history then [] else PortLost name port.name ∷ []
 
@@ -86,7 +86,7 @@ partition_remarks config history p (partition ∷ rest) = port_remarks config hi
 
 -- ---- channels
 
--- the remark on a channel on which so many messages wait
+-- the remark on a channel on which this number of messages wait
 abbrev pub waiting_remark : List ℕ → ℕ → List Remark
 waiting_remark name count = if count == 0 then [] else MessagesWaiting name count ∷ []
 

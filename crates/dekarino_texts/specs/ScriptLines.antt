@@ -19,7 +19,7 @@ are_words (Err fault) = false
 abbrev pub has_call : List ℕ → Bool
 has_call line = are_words (line_words line)
 
--- the numbers of the lines that have a call, where the first line has this number
+-- the numbers of the lines that have a call, if the first line has this number
 unfoldable pub numbers_from : ℕ → List (List ℕ) → List ℕ
 numbers_from number [] = []
 numbers_from number (line ∷ rest) =
@@ -45,7 +45,7 @@ pub record AreTheirLines (script numbers : List ℕ) (calls : List (Moment × Ca
   pub each : (k number : ℕ) (timed : Moment × Call) → slice_get numbers k ≡ Some number
       → slice_get calls k ≡ Some timed → IsLineOf script number timed
 
--- where the script is read
+-- if the script is read
 abbrev pub AreLinesOf : List ℕ → List ℕ → Result (List (Moment × Call)) FaultyLine → Type 0
 AreLinesOf script numbers (Ok calls) = AreTheirLines script numbers calls
 AreLinesOf script numbers (Err faulty) = Unit {0}

@@ -27,7 +27,7 @@ pub struct Ranges {
     pub highest: Counts,
 }
 
-/// The ranges of a channel's counts after these orders of the scripts' calls; before the first call where there is no
+/// The ranges of a channel's counts after these orders of the scripts' calls; before the first call if there is no
 /// order.
 #[tactic(auto, unfolding(crate::specs::Counts::widened_by))]
 pub fn ranges_of(

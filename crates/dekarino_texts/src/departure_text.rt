@@ -147,7 +147,7 @@ pub fn named_by<'a>(
     }
 }
 
-/// Writes which port has an identifier that was told for another one, or which identifier the port has.
+/// Writes which port has the identifier that a reply gives to another one, or which identifier the port has.
 pub fn push_conflict(
     text: &mut String,
     config: &Config,

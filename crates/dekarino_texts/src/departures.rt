@@ -1,5 +1,5 @@
 //! The departures of a log, entry by entry.
-ghost use Rattle.std.specs.Prelude.{◌≡◌, ◌<◌, ◌≤◌, ◌+◌, ◌^◌, ◌-◌, ◌∷◌, ◌++◌, [], length, IfOk, IfErr, OnOk};
+ghost use Rattle.std.specs.Prelude.{◌≡◌, ◌<◌, ◌≤◌, ◌+◌, ◌^◌, ◌-◌, ◌∷◌, ◌++◌, [], true, false, length, None, IfOk, IfErr, OnOk};
 ghost use Rattle.apex_types.specs.declared.reply.Reply.TheVariants as replies;
 ghost use Rattle.apex_ports.specs.History.{entry_of};
 ghost use Rattle.apex_judge.specs.Departures.{instead_of};
@@ -27,7 +27,7 @@ pub struct Reading {
     pub own_ids: bool,
 }
 
-/// Where a logged call stands, how long it may wait, and what the log told before.
+/// The line of a logged call, how long the call may wait, and what is known of its port from the lines before.
 #[derive(Clone, Copy, Debug, PartialEq, Eq)]
 pub struct LogPlace {
     /// The number of the line, from 1.
@@ -36,7 +36,7 @@ pub struct LogPlace {
     pub time_out: TimeOut,
     /// How long the call may wait.
     pub wait: MaxWait,
-    /// What was told of a port that the call creates or asks for, if the identifiers are the system's.
+    /// What the log showed before of the port that the call creates or asks for, if the identifiers are the system's.
     pub known: Option<KnownIds>,
 }
 
@@ -121,9 +121,83 @@ pub(crate) fn judge_entry<S: DepartureSink>(
     ensures config { judge.new.config ≡ judge.old.config }
     ensures refused { IfErr result NamesNoLine }
 {
+    let replaced = ids.enter(judge.config(), entry)?;
+    if add_if_agreeing(judge, entry, place.wait)? {
+        return Ok(DepartureCounts {
+            calls: counts.calls + 1,
+            ..counts
+        });
+    }
+    judge_departing(judge, file, place, entry, replaced, most, counts, sink)
+}
+
+/// Adds an entry in our identifiers if its reply is the standard's, and returns whether it is.
+fn add_if_agreeing(judge: &mut Judge, entry: &Entry, wait: MaxWait) -> Result<bool, OutOfMemory>
+    requires { entry.now.partition < length judge.old.config.partitions }
+    ensures agrees { let judged = polled_entry wait entry.now in IfOk result (λ agreed.
+        agreed ≡ true → instead_of judge.old.config judge.old.log judged ≡ None) }
+    ensures log { let judged = polled_entry wait entry.now in IfOk result (λ agreed.
+        agreed ≡ true → judge.new.log ≡ judge.old.log ++ judged ∷ []) }
+    ensures same { IfOk result (λ agreed. agreed ≡ false → judge.new.log ≡ judge.old.log) }
+    ensures config { judge.new.config ≡ judge.old.config }
+{
+    match &entry.reply {
+        Reply::Code(code) if wait.polled_code(*code) != *code => {
+            add_if_code(judge, entry, wait.polled_code(*code))
+        }
+        reply => judge.add_if_agreeing(entry.partition, entry.at, &entry.call, reply),
+    }
+}
+
+/// Adds an entry as if its call had been answered a return code, if that is the standard's reply.
+// Not inlined, since a function that makes a reply clears its room where it begins.
+#[inline(never)]
+fn add_if_code(judge: &mut Judge, entry: &Entry, code: ReturnCode) -> Result<bool, OutOfMemory>
+    requires { entry.now.partition < length judge.old.config.partitions }
+    ensures agrees { let judged = entry_of entry.now.partition entry.now.at entry.now.call (replies.Code code) in
+        IfOk result (λ agreed.
+        agreed ≡ true → instead_of judge.old.config judge.old.log judged ≡ None) }
+    ensures log { let judged = entry_of entry.now.partition entry.now.at entry.now.call (replies.Code code) in
+        IfOk result (λ agreed.
+        agreed ≡ true → judge.new.log ≡ judge.old.log ++ judged ∷ []) }
+    ensures same { IfOk result (λ agreed. agreed ≡ false → judge.new.log ≡ judge.old.log) }
+    ensures config { judge.new.config ≡ judge.old.config }
+{
+    judge.add_if_agreeing(entry.partition, entry.at, &entry.call, &Reply::Code(code))
+}
+
+/// Judges an entry in our identifiers, counts it, and hands it to the sink as `judge_entry` does.
+// Not inlined, since a function that makes a reply clears its room where it begins.
+#[inline(never)]
+fn judge_departing<S: DepartureSink>(
+    judge: &mut Judge,
+    file: &str,
+    place: LogPlace,
+    entry: &mut Entry,
+    replaced: Option<Replaced>,
+    most: usize,
+    counts: DepartureCounts,
+    sink: &mut S,
+) -> Result<DepartureCounts, JudgeError>
+    requires partition { entry.old.partition < length judge.old.config.partitions }
+    requires few { counts.calls < 2 ^ 64 - 1 }
+    requires fewer { counts.departures ≤ counts.calls }
+    ensures counts { let judged = polled_entry place.wait entry.old in
+        let instead = instead_of judge.old.config judge.old.log judged in
+        IfOk result (λ after. after ≡ counts_with counts instead) }
+    ensures handed { let judged = polled_entry place.wait entry.old in
+        let instead = instead_of judge.old.config judge.old.log judged in
+        let here = place_with place replaced in
+        let logged = restored replaced entry.old in
+        let handed = departures_handed most counts.departures here logged entry.old.call instead in
+        OnOk result (IsHanded S.takes sink.old handed sink.new) }
+    ensures log { OnOk result (judge.new.log
+        ≡ judge.old.log ++ polled_entry place.wait entry.old ∷ []) }
+    ensures config { judge.new.config ≡ judge.old.config }
+    ensures refused { IfErr result NamesNoLine }
+{
     let calls = counts.calls + 1;
-    let (replaced, departs) = judge_ours(judge, ids, entry, place.wait)?;
-    let Some(expected) = departs else {
+    let Some(expected) = judge_polled(judge, entry, place.wait)? else {
         return Ok(DepartureCounts { calls, ..counts });
     };
     if counts.departures < most {
@@ -133,36 +207,6 @@ pub(crate) fn judge_entry<S: DepartureSink>(
         calls,
         departures: counts.departures + 1,
     })
-}
-
-/// Judges an entry in our identifiers, which then stand in it.
-#[tactic(auto, using(apex_judge::proofs::OwnIdLemmas::put_back))]
-fn judge_ours(
-    judge: &mut Judge,
-    ids: &mut OwnIds,
-    entry: &mut Entry,
-    wait: MaxWait,
-) -> Result<(Option<Replaced>, Option<Expected>), OutOfMemory>
-    requires partition { entry.old.partition < length judge.old.config.partitions }
-    requires told { length ids.old.told ≡ length judge.old.config.partitions }
-    ensures judged { let ours = entry_in_ours judge.old.config ids.old entry.old in
-        let instead = instead_of judge.old.config judge.old.log (polled_entry wait ours) in
-        IfOk result (λ x. x.1 ≡ instead) }
-    ensures log { let ours = entry_in_ours judge.old.config ids.old entry.old in
-        IfOk result (λ _. judge.new.log ≡ judge.old.log ++ polled_entry wait ours ∷ []) }
-    ensures config { judge.new.config ≡ judge.old.config }
-    ensures told { IfOk result (λ _. ids.new ≡ own_after judge.old.config ids.old entry.old) }
-    ensures count { IfOk result (λ _. length ids.new.told ≡ length ids.old.told) }
-    ensures replaced { IfOk result
-        (λ x. x.0 ≡ replaced_in judge.old.config ids.old entry.old) }
-    ensures back { IfOk result (λ x. restored x.0 entry.new ≡ entry.old) }
-    ensures call { IfOk result
-        (λ _. entry.new.call ≡ (entry_in_ours judge.old.config ids.old entry.old).call) }
-    ensures partition { IfOk result (λ _. entry.new.partition ≡ entry.old.partition) }
-{
-    let replaced = ids.enter(judge.config(), entry)?;
-    let instead = judge_polled(judge, entry, wait)?;
-    Ok((replaced, instead))
 }
 
 /// Hands an entry that departs to the sink, with the system's identifiers again.
@@ -209,7 +253,7 @@ fn known_in(replaced: Option<Replaced>) -> Option<KnownIds>
     }
 }
 
-/// Judges what the call of an entry would have got without a time-out where it returned.
+/// Judges the reply that the call of an entry would have got without a time-out when it returned.
 fn judge_polled(
     judge: &mut Judge,
     entry: &Entry,
@@ -230,8 +274,8 @@ fn judge_polled(
     }
 }
 
-/// Judges the call of an entry as if it had been answered a return code.
-// Not inlined, since a function that makes a reply clears its room where it begins.
+/// Judges the call of an entry as if its reply were a return code.
+// Not inlined, since a function that makes a reply clears its stack room when it begins.
 #[inline(never)]
 fn judge_code(
     judge: &mut Judge,

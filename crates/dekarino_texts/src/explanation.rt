@@ -53,7 +53,7 @@ pub trait ExplanationSink {
     fn line_without_call(&mut self, number: usize, line: &[u8]) -> Result<(), AllocError>
         ensures { OnOk result (takes self.old (line_without_call number line.now) self.new) };
 
-    /// Takes the first faulty line, after which there is none.
+    /// Takes the first faulty line. No line follows it.
     fn faulty_line(
         &mut self,
         number: usize,
@@ -62,12 +62,12 @@ pub trait ExplanationSink {
     ) -> Result<(), AllocError>
         ensures { OnOk result (takes self.old (line_faulty number line.now fault) self.new) };
 
-    /// Takes the number of calls, the remarks, and the ports after the calls, behind the last line of a trace without a
+    /// Takes the number of calls, the remarks, and the ports after the calls, after the last line of a trace without a
     /// fault.
     fn end(&mut self, calls: usize, remarks: &[Remark], ports: &Ports) -> Result<(), AllocError>;
 }
 
-/// What an explanation comes to after its lines.
+/// The end of an explanation, after its lines.
 #[derive(Debug, Drop)]
 pub struct Explanation {
     /// The number of calls up to the fault.

@@ -9,11 +9,11 @@ use apex_texts::{LineFault, TraceFault, push_reply};
 use apex_words::push_note;
 use std::alloc::{AllocError, Global};
 
-/// The text of an explanation. The lines stand as they do in the trace, so the last one need not be UTF-8.
+/// The text of an explanation. The lines are the same as in the trace, so the last one need not be UTF-8.
 #[derive(Debug, Drop)]
 pub struct ExplanationText {
     text: Vec<u8>,
-    /// The words behind the current line.
+    /// The words after the current line.
     words: String,
 }
 
@@ -32,7 +32,7 @@ impl ExplanationText {
         self.text
     }
 
-    /// Writes a line and the words behind it.
+    /// Writes a line and the words after it.
     fn push_line(&mut self, line: &[u8]) -> Result<(), AllocError> {
         self.text.extend_from_slice(line)?;
         self.text.extend_from_slice(self.words.as_bytes())?;

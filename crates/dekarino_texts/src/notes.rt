@@ -64,7 +64,7 @@ impl Notes {
     }
 }
 
-/// Adds the remark on the moment of a call, where it is less than the last one.
+/// Adds the remark on the moment of a call, if it is less than the last one.
 fn push_earlier(
     remarks: &mut Vec<Remark>,
     line: usize,

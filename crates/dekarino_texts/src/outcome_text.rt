@@ -1,4 +1,4 @@
-//! The text of what scripts can come to.
+//! The text of the outcomes of scripts.
 use crate::counted::Counted;
 use crate::counts::Ranges;
 use crate::outcomes::{OutcomeSink, ScriptCall};
@@ -73,7 +73,7 @@ impl OutcomeSink for OutcomeText {
         writeln!(text, " waiting {waiting}")
     }
 
-    /// Writes the counts of one group alone, or a line for each of several, and how many calls depend on the order.
+    /// Writes the counts of the only group, or a line for each of several, and the number of calls that depend on the order.
     fn groups(&mut self, config: &Config, groups: &[GroupCounts]) -> Result<(), AllocError> {
         if let [group] = groups {
             push_counts(&mut self.text, group)?;

@@ -1,4 +1,4 @@
-//! What scripts can come to: each call with the replies that it can get, and each queuing channel with the ranges of its
+//! The outcomes of scripts: each call with the replies that it can get, and each queuing channel with the ranges of its
 //! counts.
 ghost use Rattle.std.specs.Prelude.{◌≡◌, ◌<◌, length, map, IfOk};
 ghost use Rattle.dekarino_texts.specs.Outcomes.{is_to, line_at, numbers_of, replies_to};
@@ -23,7 +23,7 @@ pub struct ScriptCall<'a> {
     pub call: &'a Call,
 }
 
-/// Takes what scripts can come to: the calls, then the queuing channels, then the groups.
+/// Takes the outcomes of scripts: the calls, then the queuing channels, then the groups.
 pub trait OutcomeSink {
     /// Takes a call with the replies that it can get.
     fn call(&mut self, call: &ScriptCall<'_>, replies: &[&Reply]) -> Result<(), AllocError>;

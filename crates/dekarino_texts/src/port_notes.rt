@@ -100,7 +100,7 @@ fn has_port(ports: &[PortKey], p: usize, id: u32) -> bool
         .any(|port| port.partition == p && port.id == id)
 }
 
-/// Adds a port, where there is one that isn't among them.
+/// Adds a port, if there is one and it isn't among them.
 fn add(ports: &mut Vec<PortKey>, port: Option<PortKey>) -> Result<(), AllocError>
     ensures { OnOk result ((p id : ℕ) → has_port p id ports.new.items
         ≡ (is_some_port p id port || has_port p id ports.old.items)) }

@@ -135,7 +135,7 @@ fn push_channels(remarks: &mut Vec<Remark>, ports: &Ports) -> Result<(), AllocEr
     Ok(())
 }
 
-/// The remark on a channel on which so many messages wait.
+/// The remark on a channel on which this number of messages wait.
 fn push_waiting(remarks: &mut Vec<Remark>, name: &Name, count: usize) -> Result<(), AllocError>
     ensures { OnOk result (remarks.new.items
         ≡ remarks.old.items ++ waiting_remark name.now count) }

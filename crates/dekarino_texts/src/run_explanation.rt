@@ -15,7 +15,7 @@ use apex_words::push_request;
 use std::alloc::{AllocError, Global};
 
 /// Explains a run: new ports serve the calls of the scripts, each time the next one of the partition that the order names.
-/// The sink takes each call with the line that it would have in a trace. The order ends the run where it names no next call.
+/// The sink takes each call with the line that it would have in a trace. The run ends when the order names no next call.
 pub fn explain_run<S: ExplanationSink>(
     alloc: Global,
     config: Config,

@@ -1,11 +1,11 @@
-//! What the standard has at a departure, as far as a log told it, and how a told identifier conflicts with earlier ones.
+//! The standard's reply at a departure, as far as a log shows it, and how a logged identifier conflicts with earlier ones.
 use crate::departures::LogPlace;
 use apex_judge::{Expected, KnownIds};
 use apex_logs::MaxWait;
 use apex_ports::{Refusal, Row};
 use apex_types::Reply;
 
-/// What the standard has in place of a logged reply.
+/// What the standard has instead of a logged reply.
 #[derive(Clone, Copy, Debug, PartialEq, Eq)]
 pub enum StandardReply {
     /// The expected reply.
@@ -14,7 +14,7 @@ pub enum StandardReply {
     Waits,
     /// NO_ERROR with this identifier of the system.
     Id(u32),
-    /// NO_ERROR with an identifier of the system, which wasn't told.
+    /// NO_ERROR with an identifier of the system that isn't known.
     AnyId,
 }
 
@@ -35,7 +35,7 @@ impl StandardReply {
     }
 }
 
-/// How an identifier conflicts with what a log told before.
+/// How an identifier conflicts with what a log showed before.
 #[derive(Clone, Copy, Debug, PartialEq, Eq)]
 pub enum Conflict {
     /// The port has this identifier.
@@ -44,8 +44,8 @@ pub enum Conflict {
     IsOf { id: u32, port: u32 },
 }
 
-/// How the identifier of a logged reply conflicts with what the log told before, if the standard has an identifier and it
-/// does.
+/// How the identifier of a logged reply conflicts with what the log showed before, if the standard has an identifier and
+/// they conflict.
 pub fn conflict_of(place: LogPlace, logged: &Reply, row: Row) -> Option<Conflict> {
     if !matches!(row, Row::Created { .. } | Row::Identified { .. }) {
         return None;

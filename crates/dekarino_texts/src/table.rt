@@ -27,7 +27,7 @@ pub enum TableRow {
     },
 }
 
-/// The table of a configuration's ports: a row for each partition, and behind it one for each of its ports.
+/// The table of a configuration's ports: a row for each partition, and after it one for each of its ports.
 pub fn port_table(alloc: Global, config: &Config) -> Result<Vec<TableRow>, AllocError>
     ensures { IfOk result (λ rows. map row_data rows.items ≡ table_rows config.now) }
 {

@@ -29,14 +29,14 @@ function arrowHeads() {
   return make("svg:svg", {width: 0, height: 0, class: "heads", "aria-hidden": "true"}, make("svg:defs", {}, ...heads));
 }
 
-// How wide a life line's column is where the list has this width, by whole units.
+// The width of a life line's column if the list has this width, in whole units.
 function columnWidth(width, count) {
   const share = width < 500 ? 0.3 : 0.36, atMost = part => Math.floor(width * part / Math.max(1, count));
-  // (upright names are read from 10 units on)
+  // (upright names are legible from 10 units on)
   return Math.max(4, Math.min(90, Math.max(atMost(share), Math.min(10, atMost(0.4)))));
 }
 
-// Where an arrow goes; between calls of one life line it bends aside.
+// The path of an arrow; between calls of one life line it bends aside.
 function courseOf(x1, y1, x2, y2, column) {
   if (x1 !== x2) return `M${x1} ${y1}L${x2} ${y2}`;
   const aside = x1 + Math.max(10, column / 2);
@@ -49,10 +49,10 @@ function clipped([x1, y1], [x2, y2], top, bottom) {
   return [across(begin), begin, across(end), end];
 }
 
-// The most arrows that are drawn to ends below the rows in sight, and of the chosen call as many.
+// The maximum number of arrows drawn to ends below the rows in sight, and also of the chosen call's arrows.
 const MOST_BELOW = 100;
 
-// Draws rows first up to before last of the list, as one picture of their height.
+// Draws the rows of the list from first up to, but not including, last, as one picture of their height.
 function drawChart(shown, first, last, column, high) {
   const {run, rows, rowOf} = shown;
   const across = name => (run.module.partitions.indexOf(name) + 0.5) * column;
@@ -67,13 +67,13 @@ function drawChart(shown, first, last, column, high) {
     "data-from": arrow.from + 1, "data-to": arrow.to + 1,
     d: courseOf(...clipped(place(run.calls[arrow.from]), place(run.calls[arrow.to]), -3 * high, height + 3 * high), column)});
   const {selected} = shown, arrows = [], marks = [];
-  // (they are in the order of their ends, so those that end in sight come first)
+  // (arrows are in the order of their ends, so those that end in sight come first)
   const most = last - first + MOST_BELOW;
   for (const arrow of run.arrows) {
     if (arrows.length === most) break;
     if (isSeen(arrow) && arrow.from !== selected && arrow.to !== selected) arrows.push(drawArrow(arrow, ""));
   }
-  // (those of the chosen call are over all others)
+  // (those of the chosen call are drawn over all others)
   const chosen = [run.incoming.get(selected), ...run.outgoing.get(selected) || []].filter(it => it && isSeen(it));
   arrows.push(...chosen.slice(0, most).map(arrow => drawArrow(arrow, " chosen")));
   for (let row = first; row < last; row += 1) {
@@ -90,12 +90,12 @@ function drawChart(shown, first, last, column, high) {
 const longestName = module => Math.max(0, ...module.partitions.map(name => name.length));
 const isTurnedAt = (module, column) => longestName(module) * 8 > column;
 
-// The most that the names are high.
+// The maximum height of the names.
 const heightOfHeads = (module, column) => isTurnedAt(module, column) ? 10 + 7.4 * longestName(module) : 26;
 
-// The names above the life lines, upright where they fit.
+// The names above the life lines, upright if they fit.
 function drawHeads(module, mark, column, onMark) {
-  // (where the lines are close, some have their names)
+  // (if the lines are close, only some have their names)
   const isTurned = isTurnedAt(module, column), every = Math.ceil(8 / column);
   return module.partitions.map((name, at) => {
     const head = make("button", {

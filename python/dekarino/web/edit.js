@@ -3,7 +3,7 @@
 const LINE = 18;
 
 class Editor {
-  // place: the element that it fills; onChange is called after each change.
+  // place: the element to fill; onChange is called after each change.
   constructor(place, label, onChange) {
     this.gutter = make("div", {class: "gutter", "aria-hidden": "true"});
     this.notes = make("div", {class: "notes", "aria-hidden": "true"});
@@ -28,7 +28,7 @@ class Editor {
     setTimeout(() => URL.revokeObjectURL(address), 1000);
   }
 
-  // Shows the mistakes; the words of one without a line stand below alone.
+  // Shows the mistakes; those without a line are shown below the text.
   tell(mistakes) {
     const isSame = JSON.stringify(mistakes) === JSON.stringify(this.mistakes);
     this.mistakes = mistakes;
@@ -42,7 +42,7 @@ class Editor {
     }));
   }
 
-  // Draws the numbers of the lines that are seen, and of a mistake there what is wrong and what was meant.
+  // Draws the numbers of the visible lines and, for a mistake there, what is wrong and what was meant.
   draw() {
     const lines = this.area.value.split("\n"), first = Math.floor(this.area.scrollTop / LINE);
     const last = Math.min(lines.length, first + Math.ceil(this.area.clientHeight / LINE) + 1);
@@ -75,7 +75,7 @@ class Editor {
   }
 }
 
-// Asks the server about the texts, one request at a time; what was changed meanwhile is asked for next.
+// Sends the texts to the server, one request at a time; changes made meanwhile go into the next request.
 class Live {
   constructor(data) {
     this.config = new Editor("edit-config", data.config.name, () => this.ask());
@@ -107,9 +107,9 @@ class Live {
       find("alert").textContent = "";
       this.show(await answer.json());
     } catch (error) {
-      // (where nothing answers, fetch throws this)
+      // (if nothing answers, fetch throws this)
       const why = error instanceof TypeError ? "the server has ended, or can't be reached" : error.message.trim();
-      find("alert").textContent = `No answer: ${why}. What stands below is of the last answer.`;
+      find("alert").textContent = `No answer: ${why}. The last answer is shown below.`;
     }
   }
 
@@ -118,11 +118,11 @@ class Live {
     this.config.tell(mistakesOf(data.config, data.runs.length === 0));
     this.run.tell(run ? mistakesOf(run, !run.is_whole) : []);
     if (run) show(data);
-    else find("alert").textContent = "The configuration is refused: what stands below is of the last one that was read.";
+    else find("alert").textContent = "The configuration is refused. The last one that was accepted is shown below.";
   }
 }
 
-// The mistakes of a text, or where there is none what the program said of it.
-function mistakesOf(told, isRefused) {
-  return told.mistakes.length || !isRefused ? told.mistakes : [{line: null, column: null, words: told.said}];
+// The mistakes of a text; if there are none, what the program said about it.
+function mistakesOf(facts, isRefused) {
+  return facts.mistakes.length || !isRefused ? facts.mistakes : [{line: null, column: null, words: facts.said}];
 }

@@ -1,10 +1,10 @@
 // The list of calls: which are listed, which are drawn, and which one is chosen.
 
 // What is shown: the run, the places of the listed calls, the row of each place or -1, the chosen place, the mark, the width
-// of a life line's column, how many characters have room in a line, and the lines and the height of a row.
+// of a life line's column, the number of characters that fit in a line, and the lines and the height of a row.
 const shown = {run: null, rows: [], rowOf: [], selected: null, mark: null, column: 20, room: 60, lines: 2, high: 40,
   drawn: ""};
-// Browsers have no higher elements than some 17 million units.
+// Browsers limit the height of an element to some 17 million units.
 const HIGHEST = 12e6;
 const FILTERS = {"by-partition": "partition", "by-channel": "channel", "by-service": "service", "by-code": "code"};
 
@@ -23,7 +23,7 @@ function valueOf(call, name) {
   return name === "channel" ? call.port && call.port.channel : call[name];
 }
 
-// Lists the calls that the filters and the search leave.
+// Lists the calls that pass the filters and the search.
 function filter() {
   const wanted = Object.entries(FILTERS).map(([id, name]) => [name, find(id).value]).filter(([, value]) => value !== "");
   const words = find("by-words").value.toLowerCase().split(/\s+/).filter(word => word !== "");
@@ -41,7 +41,7 @@ function filter() {
   draw(true);
 }
 
-// Fills the choices of a filter, and keeps what is chosen where it is still there.
+// Fills the choices of a filter, and keeps the chosen one if it still exists.
 function fillFilter(id, values) {
   const chosen = find(id).value;
   find(id).replaceChildren(make("option", {value: "", text: "all"}), ...values.map(it => make("option", {value: it, text: it})));
@@ -59,7 +59,7 @@ function fillFilters() {
 
 // ---- what is drawn
 
-// What is written of a call's reply: parts with their elements.
+// The text of a call's reply: parts with their elements.
 function partsOfReply(call) {
   const inBrackets = words => words ? ` (${words})` : "", {departure, replies} = call;
   const parts = [["span", `${call.isRefused ? "\u2717 " : ""}${call.answer}${inBrackets(call.words)}`]];
@@ -70,7 +70,7 @@ function partsOfReply(call) {
 
 const textOf = parts => parts.map(([, text]) => text).join("");
 
-// How many lines a text takes where this many characters have room in one; it is broken at spaces, as the browser does.
+// The number of lines of a text if this many characters fit in one; it is broken at spaces, as by the browser.
 function linesOf(text, room) {
   let lines = 1, used = 0;
   for (const {length} of text.split(" ")) {
@@ -81,9 +81,9 @@ function linesOf(text, room) {
   return lines;
 }
 
-// How many lines each row has: as many as the longest departure takes, and in a narrow list the longest refusal, in bounds.
+// The number of lines of each row: enough for the longest departure and, in a narrow list, the longest refusal, in bounds.
 function linesOfRows(run, room, isNarrow) {
-  const least = isNarrow ? 3 : 2, most = least + (isNarrow && run.told.departures.length ? 2 : 1);
+  const least = isNarrow ? 3 : 2, most = least + (isNarrow && run.facts.departures.length ? 2 : 1);
   let lines = least;
   for (const call of run.calls) {
     if (lines >= most) return most;
@@ -92,13 +92,13 @@ function linesOfRows(run, room, isNarrow) {
   return Math.min(lines, most);
 }
 
-// How wide the column of numbers and moments is: each moment has room, in a narrow list in two lines.
+// The width of the column of numbers and moments: each moment fits, in a narrow list in two lines.
 function numberWidth(run, isNarrow) {
   const wanted = run.calls.reduce((most, {at}) => Math.max(most, 10 + Math.ceil(6.7 * String(at).length)), isNarrow ? 62 : 92);
   return isNarrow ? Math.min(80, wanted) : wanted;
 }
 
-// How many characters have room beside the chart, by the width of one.
+// The number of characters that fit beside the chart, by the width of one.
 const roomFor = (width, number, chart, character) => Math.max(8, Math.floor((width - number - chart - 18) / character));
 
 function measure() {
@@ -109,7 +109,7 @@ function measure() {
   shown.room = roomFor(clientWidth, number, width, 7.3);
   shown.lines = linesOfRows(shown.run, shown.room, isNarrow);
   shown.high = Math.ceil(5 + 17.4 * shown.lines);
-  // (later, since what is observed may not change while it is)
+  // (later, since an observer must not change what it observes)
   requestAnimationFrame(() => {
     find("list").style.maxHeight = `${shown.run.calls.length * shown.high + 2}px`;
   });
@@ -122,14 +122,14 @@ function measure() {
     make("span", {class: "head-text", text: "What was called, and the reply"})));
 }
 
-// The row at the top of the list, as a fraction: of a list that is too high, by how far it is scrolled.
+// The row at the top of the list, as a fraction; in a list that is too high, by its scroll position.
 function topRow(list, height) {
   const count = shown.rows.length, room = list.clientHeight;
   if (height === count * shown.high) return list.scrollTop / shown.high;
   return list.scrollTop / Math.max(1, height - room) * Math.max(0, count - room / shown.high);
 }
 
-// Draws the rows that are seen, and some above and below. isAnew: also where they are those that are drawn.
+// Draws the visible rows, and some above and below. isAnew: even if the same rows are already drawn.
 function draw(isAnew) {
   const list = find("list"), count = shown.rows.length;
   const height = Math.min(count * shown.high, HIGHEST);
@@ -152,7 +152,7 @@ function endsOf(run, call) {
   return (from ? ` \u2190 ${from.from + 1}` : "") + (first ? ` \u2192 ${first}` : "");
 }
 
-// Writes parts of a text into at most so many lines, and returns how many it takes. What is longer fills each line.
+// Writes parts of a text into at most this many lines, and returns their number. A longer text fills each line.
 function write(into, parts, wanted, lines) {
   into.append(...parts.map(([tag, text]) => make(tag, {text})));
   into.classList.toggle("filled", wanted > lines);
@@ -160,7 +160,7 @@ function write(into, parts, wanted, lines) {
   return Math.min(wanted, lines);
 }
 
-// One call: its number and moment, room for the chart, what was called, and the reply, in so many lines.
+// One call: its number and moment, room for the chart, what was called, and the reply, in this many lines.
 function drawRow(row, lines, room) {
   const call = shown.run.calls[shown.rows[row]];
   const reply = make("span", {class: `reply${call.isRefused ? " is-refused" : ""}`}), asked = make("span", {class: "asked"});
@@ -181,7 +181,7 @@ function drawRow(row, lines, room) {
     make("span", {class: "text"}, asked, reply));
 }
 
-// ---- which one is chosen
+// ---- the chosen call
 
 function select(place) {
   shown.selected = place;
@@ -192,7 +192,7 @@ function select(place) {
   movePlots();
 }
 
-// Scrolls to a row where it isn't seen.
+// Scrolls to a row if it isn't visible.
 function reveal(row) {
   const list = find("list");
   if (row < 0) return;
@@ -209,15 +209,15 @@ function reveal(row) {
 function step(by) {
   const now = shown.selected === null ? -1 : shown.rowOf[shown.selected];
   if (!shown.rows.length) return;
-  // (where none is chosen, down begins at the first and up at the last)
+  // (if none is chosen, down begins at the first and up at the last)
   const from = now < 0 && by < 0 ? shown.rows.length : now;
   select(shown.rows[Math.max(0, Math.min(shown.rows.length - 1, from + by))]);
 }
 
-// What a key goes to the next call of.
+// The kinds of calls to which keys go.
 const SOUGHT = {r: call => call.isRefused, d: call => call.departure, m: call => callBelongs(shown.mark, call)};
 
-// Goes to the next listed call, or the one before, of which this holds.
+// Goes to the next or the previous listed call for which this holds.
 function seek(holds, isBack) {
   const count = shown.rows.length, way = isBack ? -1 : 1;
   const now = shown.selected === null ? (isBack ? count : -1) : shown.rowOf[shown.selected];
@@ -230,7 +230,7 @@ function seek(holds, isBack) {
   }
 }
 
-// Goes to the other end of the chosen call's arrow; from a write to each read in turn.
+// Goes to the other end of the chosen call's arrow; from a write, to each read in turn.
 function follow() {
   const run = shown.run, place = shown.selected;
   if (place === null) return;

@@ -1,6 +1,6 @@
 // Starts the page, and prints it.
 
-// The most calls that are printed; a row on paper, and what has room on a page of A4 or Letter.
+// The maximum number of printed calls; the size of a row on paper, and of a page that fits both A4 and Letter.
 const MOST_PRINTED = 4000, PRINTED_ROW = 50, PRINTED_LINES = 3, PRINTED_WIDTH = 680, PRINTED_HEIGHT = 920;
 const BUTTONS = {"next-refused": "r", "next-departure": "d", "next-marked": "m"};
 const FOLDS = ["legend-fold", "config-fold", "sources-fold"];
@@ -8,8 +8,8 @@ const FOLDS = ["legend-fold", "config-fold", "sources-fold"];
 let data = null;
 let place = 0;
 
-function titleOf(told) {
-  return `${told.name}, ${plural(told.calls.rows.length, "call")}`;
+function titleOf(facts) {
+  return `${facts.name}, ${plural(facts.calls.rows.length, "call")}`;
 }
 
 function runButton(run, at) {
@@ -21,18 +21,18 @@ function runButton(run, at) {
     }});
 }
 
-// Shows the data, and of its runs the one that is chosen.
-function show(told) {
-  data = told;
+// Shows these facts, with the chosen run.
+function show(facts) {
+  data = facts;
   const kept = shown.selected;
-  const module = new Module(told.table);
-  shown.run = new Run(module, told.runs[place]);
+  const module = new Module(facts.table);
+  shown.run = new Run(module, facts.runs[place]);
   shown.selected = kept !== null && kept < shown.run.calls.length ? kept : null;
   const parts = [...module.ports, ...module.partitions.map(partition => ({partition}))];
   if (!parts.some(part => belongs(shown.mark, part))) shown.mark = null;
-  find("title").textContent = titleOf(told.runs[place]);
-  keepFocus(find("runs"), () => find("runs").replaceChildren(...told.runs.length < 2 ? [] : told.runs.map(runButton)));
-  showSources(told);
+  find("title").textContent = titleOf(facts.runs[place]);
+  keepFocus(find("runs"), () => find("runs").replaceChildren(...facts.runs.length < 2 ? [] : facts.runs.map(runButton)));
+  showSources(facts);
   showModule();
   fillFilters();
   showPlots();
@@ -44,14 +44,14 @@ function show(told) {
 }
 
 function start() {
-  const told = JSON.parse(find("data").textContent);
+  const facts = JSON.parse(find("data").textContent);
   document.body.prepend(arrowHeads());
   find("legend").replaceChildren(...legend());
   listen();
-  if (!told.live) return show(told);
-  data = told;
-  const live = new Live(told);
-  return live.show(told);
+  if (!facts.live) return show(facts);
+  data = facts;
+  const live = new Live(facts);
+  return live.show(facts);
 }
 
 function listen() {
@@ -83,7 +83,7 @@ function listen() {
   });
 }
 
-// Keys that go to a place from everywhere but a field.
+// Keys that go to a place, except from a field.
 function onKey(event) {
   if (/^(INPUT|TEXTAREA|SELECT)$/.test(event.target.tagName) || event.ctrlKey || event.altKey || event.metaKey) return;
   const goal = {"/": "by-words", "l": "list"}[event.key];

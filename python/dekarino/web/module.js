@@ -1,6 +1,6 @@
-// The module: its partitions, ports and channels, what is marked of it, and how many messages wait on each channel.
+// The module: its partitions, ports and channels, which of them are marked, and the messages that wait on each channel.
 
-// Marks what belongs to something, or takes the mark back where it is marked.
+// Marks what belongs to something, or removes the mark if it is marked.
 function toggleMark(mark) {
   if (!shown.run) return;
   const isSame = mark && shown.mark && JSON.stringify(mark) === JSON.stringify(shown.mark);
@@ -26,7 +26,7 @@ function wordsOfPort(port) {
   return ` ${arrow} ${port.channel} ${arrow} ${ends}${refresh}`;
 }
 
-// Whether a port is marked: itself, its partition, its channel, or a port at the other end.
+// Whether a port is marked: by itself, its partition, its channel, or a port at the other end.
 function isMarked(port) {
   const {mark} = shown;
   return belongs(mark, port) || Boolean(mark) && mark.kind === "port" && port.partners.some(it => belongs(mark, it));
@@ -68,7 +68,7 @@ function showModule() {
 
 const PLOT = {width: 300, height: 54, top: 8, bottom: 50};
 
-// The steps of a count, at most two a unit of the width.
+// The steps of a count, at most two per unit of the width.
 function stepsOf(counts, total, level) {
   const across = place => place / Math.max(1, total) * PLOT.width;
   const points = [`M0 ${level(0)}`];
@@ -86,12 +86,12 @@ function stepsOf(counts, total, level) {
     high = Math.max(high, last);
   });
   if (column >= 0) close();
-  return `${points.join("")}H${across(shown.run.told.known)}`;
+  return `${points.join("")}H${across(shown.run.facts.known)}`;
 }
 
 function plotOf(counts) {
   const {channel} = counts, total = shown.run.calls.length;
-  const {known} = shown.run.told;
+  const {known} = shown.run.facts;
   const when = known < total ? `after call ${known}` : "in the end";
   const words = `${counts.end} ${when}, at most ${counts.most}, depth ${channel.depth}`;
   if (!counts.agrees) {
@@ -113,7 +113,7 @@ function plotOf(counts) {
   return make("figure", {}, make("figcaption", {}, name, make("span", {text: ` ${words}`})), picture);
 }
 
-// Goes to a call, which the filters may have left out, and to the list.
+// Goes to a call, even if the filters left it out, and to the list.
 function choose(place) {
   if (!shown.run.calls.length) return;
   if (shown.rowOf[place] < 0) clearFilters();
@@ -125,13 +125,13 @@ function showPlots() {
   const {run} = shown;
   const plots = run.counts.map(plotOf);
   if (!plots.length) plots.push(make("p", {text: "The module has no queuing channel."}));
-  if (run.told.known < run.calls.length) {
-    plots.push(make("p", {text: `Counted up to call ${run.told.known}, the last before the first departure.`}));
+  if (run.facts.known < run.calls.length) {
+    plots.push(make("p", {text: `Counted up to call ${run.facts.known}, the last before the first departure.`}));
   }
   find("plots").replaceChildren(...plots);
 }
 
-// Shows in each plot where the chosen call is.
+// Shows the chosen call in each plot.
 function movePlots() {
   const {selected, run} = shown;
   const x = selected === null ? null : (selected + 1) / run.calls.length * PLOT.width;

@@ -1,5 +1,5 @@
 "use strict";
-// What the programs said, made ready for the page: ports, calls, arrows and counts. Nothing is decided here.
+// Prepares what the programs said for the page: ports, calls, arrows and counts. It decides nothing.
 
 const SVG = "http://www.w3.org/2000/svg";
 const find = id => document.getElementById(id);
@@ -16,7 +16,7 @@ function make(tag, properties, ...children) {
   return made;
 }
 
-// Renders a part anew, and leaves the focus on the button that is now where the one that had it was.
+// Renders a part anew, and puts the focus on the button at the place of the one that had it.
 function keepFocus(part, render) {
   const at = [...part.querySelectorAll("button")].indexOf(document.activeElement);
   render();
@@ -49,7 +49,7 @@ class Module {
     }
   }
 
-  // The port that a call is about, if the partition has one.
+  // The port that a call names, if the partition has one.
   portOf(call) {
     const [kind, isNamed] = SERVICES[call.service];
     const word = call.parts[3];
@@ -72,16 +72,16 @@ function answerOf(call) {
 
 const codeOf = answer => /^not made/i.test(answer) ? "not made" : answer.split(" ")[0].toUpperCase();
 
-// A trace or a log with what the programs said of it.
+// A trace or a log with what the programs said about it.
 class Run {
-  constructor(module, told) {
-    Object.assign(this, {module, told});
-    const {keys, rows} = told.calls;
+  constructor(module, facts) {
+    Object.assign(this, {module, facts});
+    const {keys, rows} = facts.calls;
     this.calls = rows.map((row, place) => this.readCall(place, Object.fromEntries(keys.map((key, at) => [key, row[at]]))));
     const byLine = new Map(this.calls.map(call => [call.line, call]));
     const note = (line, more) => Object.assign(byLine.get(line) || {}, more);
-    for (const departure of told.departures) note(departure.line, {departure});
-    for (const [line, replies] of told.orders ? told.orders.calls : []) note(line, {replies});
+    for (const departure of facts.departures) note(departure.line, {departure});
+    for (const [line, replies] of facts.orders ? facts.orders.calls : []) note(line, {replies});
     this.readArrows();
     this.counts = [...module.channels.values()].filter(it => it.kind === "queuing").map(it => this.countsOf(it));
   }
@@ -92,10 +92,10 @@ class Run {
     call.port = this.module.portOf(call);
     call.asked = call.parts.slice(2).join(" ");
     call.answer = answerOf(call);
-    if (this.told.logged) {
-      [call.answer, call.note] = this.told.logged[place];
+    if (this.facts.logged) {
+      [call.answer, call.note] = this.facts.logged[place];
       // (the words of the row are those of an equal reply before the first departure)
-      if (place >= this.told.known) call.words = call.note;
+      if (place >= this.facts.known) call.words = call.note;
     }
     call.code = codeOf(call.answer);
     call.isRefused = call.code !== "NO_ERROR";
@@ -103,7 +103,7 @@ class Run {
   }
 
   readArrows() {
-    const {arrows, waits} = this.told;
+    const {arrows, waits} = this.facts;
     this.arrows = arrows.map(([sent, taken, isSample]) => ({from: sent - 1, to: taken - 1, isSample: isSample === 1}));
     this.outgoing = new Map();
     this.incoming = new Map();
@@ -116,12 +116,12 @@ class Run {
     this.waits = new Set((waits || []).map(number => number - 1));
   }
 
-  // How many messages wait on a channel after each call that changes that, counted from the replies. agrees: whether that
-  // is what the programs say of the end, and what each status says.
+  // The number of messages that wait on a channel after each call that changes it, counted from the replies. agrees: whether
+  // the programs give the same number at the end and in each status.
   countsOf(channel) {
     const found = {channel, places: [], values: [], most: 0, agrees: true};
     let waiting = 0;
-    for (const call of this.calls.slice(0, this.told.known)) {
+    for (const call of this.calls.slice(0, this.facts.known)) {
       if (call.isRefused || !call.port || call.port.channel !== channel.name) continue;
       if (call.service === "queuing-status" && call.waiting !== waiting) found.agrees = false;
       const before = waiting;
@@ -134,13 +134,13 @@ class Run {
       found.most = Math.max(found.most, waiting);
     }
     found.end = waiting;
-    const remark = this.told.remarks.find(it => it.remark === "messages waiting" && it.channel === channel.name);
-    const isToldEnd = this.told.is_whole && this.told.known === this.calls.length;
-    if (isToldEnd && (remark ? remark.waiting : 0) !== waiting || waiting < 0) found.agrees = false;
+    const remark = this.facts.remarks.find(it => it.remark === "messages waiting" && it.channel === channel.name);
+    const isWhole = this.facts.is_whole && this.facts.known === this.calls.length;
+    if (isWhole && (remark ? remark.waiting : 0) !== waiting || waiting < 0) found.agrees = false;
     return found;
   }
 
-  // What is searched of a call.
+  // The text of a call that is searched.
   haystack(call) {
     call.searched = call.searched || `${call.place + 1} ${call.text} -> ${call.answer} ${call.words || ""}`.toLowerCase();
     return call.searched;

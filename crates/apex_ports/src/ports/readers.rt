@@ -38,7 +38,7 @@ impl<A: Allocator> Ports<A> {
         self.state.partitions[p].mode
     }
 
-    /// How many calls partition `p` made, those that were not made included; at most the greatest u64.
+    /// The number of calls of partition `p`, including those that were not made; at most `u64::MAX`.
     pub fn calls(&self, p: usize) -> u64
         requires { p < length self.now.config.partitions }
         ensures { result ≡ count_of (entries_of p self.now.history) }
@@ -55,8 +55,8 @@ impl<A: Allocator> Ports<A> {
         row(&self.state, &self.config, p, at, call)
     }
 
-    /// The sampling channel that a call of partition `p` would write into, with the message. `None` where the
-    /// call would write nothing. That doesn't turn on the call's moment.
+    /// The sampling channel that a call of partition `p` would write into, with the message; `None` if the call would write
+    /// nothing. The call's moment makes no difference.
     pub fn write_of<'a>(&self, p: usize, call: &'a Call) -> Option<(usize, &'a Message)>
         requires { p < length self.now.config.partitions }
         ensures writes { MatchOption result
@@ -68,7 +68,7 @@ impl<A: Allocator> Ports<A> {
         self.state.write_of(&self.config, p, call)
     }
 
-    /// Whether partition `p` has created the port of the identifier since its last restart.
+    /// Whether partition `p` has created the port with the identifier since its last restart.
     pub fn created(&self, p: usize, id: u32) -> bool
         requires { p < length self.now.config.partitions }
         ensures { result ≡ is_created p id self.now.history }
@@ -89,7 +89,7 @@ impl<A: Allocator> Ports<A> {
         }
     }
 
-    /// How many messages channel `c` accepted; at most the greatest u64, and 0 on a sampling channel.
+    /// The number of messages that channel `c` accepted; at most `u64::MAX`, and 0 for a sampling channel.
     pub fn accepted_count(&self, c: usize) -> u64
         requires { c < length self.now.config.channels }
         ensures { result ≡ count_of (accepted_on self.now.config c self.now.history) }
@@ -97,8 +97,7 @@ impl<A: Allocator> Ports<A> {
         self.state.channels[c].accepted()
     }
 
-    /// How many messages were received from channel `c`; at most the greatest u64, and 0 on a sampling
-    /// channel.
+    /// The number of messages that were received from channel `c`; at most `u64::MAX`, and 0 for a sampling channel.
     pub fn received_count(&self, c: usize) -> u64
         requires { c < length self.now.config.channels }
         ensures { result ≡ count_of (received_on self.now.config c self.now.history) }
@@ -106,7 +105,7 @@ impl<A: Allocator> Ports<A> {
         self.state.channels[c].received()
     }
 
-    /// How many messages of channel `c` were cleared; at most the greatest u64, and 0 on a sampling channel.
+    /// The number of messages of channel `c` that were cleared; at most `u64::MAX`, and 0 for a sampling channel.
     pub fn cleared_count(&self, c: usize) -> u64
         requires { c < length self.now.config.channels }
         ensures count { result ≡ count_of (cleared_on self.now.config c self.now.history) }
@@ -116,14 +115,14 @@ impl<A: Allocator> Ports<A> {
         self.state.channels[c].cleared()
     }
 
-    /// How many messages wait on channel `c`; none on a sampling channel.
+    /// The number of messages that wait on channel `c`; 0 for a sampling channel.
     pub fn waiting_count(&self, c: usize) -> usize
         requires { c < length self.now.config.channels }
         ensures count { result ≡ length (waiting_on self.now.config c self.now.history) }
         ensures sampling { is_queuing self.now.config c ≡ false → result ≡ 0 }
 
-        // Never more than the depth wait, and the messages received or cleared, followed by those that
-        // wait, are the accepted ones, in order.
+        // At most the depth wait, and the messages received or cleared, followed by those that wait, are the accepted
+        // ones, in order.
         ensures conserved { IsConserved self.now.config self.now.history c }
     {
         self.state.channels[c].waiting_count()
@@ -140,8 +139,8 @@ impl<A: Allocator> Ports<A> {
         self.state.channels[c].waiting(i)
     }
 
-    /// The message that channel `c` holds, with the moment of its writing; none on a queuing channel, or
-    /// before the first write.
+    /// The message that channel `c` holds, with the moment it was written; none for a queuing channel, or before the first
+    /// write.
     pub fn last_sample(&self, c: usize) -> Option<&Sample>
         requires { c < length self.now.config.channels }
         ensures sample { option_copied result ≡ last_write_on self.now.config c self.now.history }

@@ -1,11 +1,11 @@
-//! What ports came to, saved in as little memory as that takes, and ports made so again.
+//! Saves the state of ports in little memory, and restores it.
 ghost use Rattle.std.specs.Prelude.{◌≡◌, length, IfOk};
 ghost use Rattle.apex_ports.specs.Kept.{EachAt};
 ghost use Rattle.apex_ports.specs.Saved.{EachPair, IsSameTable, HasAsManyPorts, IsSavedFrom, HasRoomFor, AreRestored};
 
 use crate::channel::ChannelState;
+use crate::ghost_history::GhostHistory;
 use crate::partition::PartitionState;
-use crate::past::Past;
 use crate::ports::Ports;
 use crate::saved_channel::SavedChannel;
 use apex_module::Config;
@@ -14,12 +14,12 @@ use std::alloc::{AllocError, Allocator, Global};
 use std::marker::Model;
 use std::snapshot::Snapshot;
 
-/// What ports came to: their modes, created ports, messages, samples and counts, without the room that stands
-/// empty and without the configuration. To a contract they are what the ports were, the configuration and the history.
+/// The saved state of ports: their modes, created ports, messages, samples and counts, without unused room and without
+/// the configuration. A contract sees the configuration and the history that the ports had.
 #[derive(Drop)]
 pub struct SavedPorts<A: Allocator = Global> {
     config: Snapshot<Config>,
-    history: Past,
+    history: GhostHistory,
     partitions: Vec<PartitionState<A>, A>,
     channels: Vec<SavedChannel<A>, A>,
     calls: Vec<u64, A>,
@@ -39,7 +39,7 @@ impl<A: Allocator> Model for SavedPorts<A> {
 }
 
 impl<A: Allocator + Copy> Ports<A> {
-    /// What the ports came to.
+    /// Saves the state of the ports.
     pub fn save(&self, alloc: A) -> Result<SavedPorts<A>, OutOfMemory>
         ensures { IfOk result (λ saved. saved ≡ self.now) }
     {
@@ -59,7 +59,7 @@ impl<A: Allocator + Copy> Ports<A> {
 impl<A: Allocator> Ports<A> {
     ghost use Rattle.apex_ports.specs.Sound.{IsSound};
 
-    /// Makes the ports what was saved of ports of the same configuration. It takes no memory.
+    /// Restores the ports to what was saved from ports of the same configuration. It doesn't allocate.
     pub fn restore(&mut self, saved: &SavedPorts<A>)
         requires { saved.now.config ≡ self.old.config }
         ensures restored { self.new ≡ saved.now }

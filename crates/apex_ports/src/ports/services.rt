@@ -1,5 +1,5 @@
-//! Services by the standard's names: a message stays with the caller, and no call or reply is made of it.
-//! Each is the event of `call`: the reply table's reply, and one entry more in the history.
+//! Services by the standard's names. A message is in the caller's buffer, so it isn't copied into a `Call` or a `Reply`.
+//! Each makes a call as `Ports::call` does: it gives the reply table's reply, and adds one entry to the history.
 ghost use Rattle.std.specs.Prelude.{◌≡◌, ◌<◌, ◌≤◌, ◌∷◌, ◌++◌, [], length, drop};
 ghost use Rattle.apex_types.specs.declared.call.Call.TheVariants as call;
 
@@ -41,8 +41,8 @@ impl<A: Allocator> Ports<A> {
         code
     }
 
-    /// RECEIVE_QUEUING_MESSAGE with a time-out of zero: the message's length, and its bytes in the first ones of the
-    /// buffer; or the return code, and the buffer stays. `Err(None)` if the partition is in IDLE.
+    /// RECEIVE_QUEUING_MESSAGE with a time-out of zero: the message's length, with its bytes at the start of the buffer; or
+    /// the return code, and the buffer is unchanged. `Err(None)` if the partition is in IDLE.
     pub fn receive(
         &mut self,
         partition: usize,
@@ -101,8 +101,8 @@ impl<A: Allocator> Ports<A> {
         code
     }
 
-    /// READ_SAMPLING_MESSAGE: the message's length and validity, and its bytes in the first ones of the buffer; or the
-    /// return code, and the buffer stays. `Err(None)` if the partition is in IDLE.
+    /// READ_SAMPLING_MESSAGE: the message's length and validity, with its bytes at the start of the buffer; or the return
+    /// code, and the buffer is unchanged. `Err(None)` if the partition is in IDLE.
     pub fn read(
         &mut self,
         partition: usize,
@@ -153,7 +153,7 @@ impl<A: Allocator> Ports<A> {
         code
     }
 
-    /// SET_PARTITION_MODE, to the mode of a number: the return code. `None` if the partition is in IDLE.
+    /// SET_PARTITION_MODE, to the mode with a number: the return code. `None` if the partition is in IDLE.
     pub fn set_mode(&mut self, partition: usize, at: Moment, number: u32) -> Option<ReturnCode>
         requires { partition < length self.old.config.partitions }
         ensures reply { let asked = call.SetMode number in reply_coded result

@@ -9,7 +9,7 @@ use crate::view::View;
 use apex_module::{Config, Port, PortKind};
 use apex_types::Name;
 
-/// The partition's configured port of the identifier, created or not.
+/// The partition's configured port with the identifier, created or not.
 pub(crate) fn configured_port<'a>(config: &'a Config, partition: usize, id: u32) -> Option<&'a Port>
     ensures found { option_copied result ≡ port_of config.now partition id }
     ensures identifier { IfSome result (λ _. IsIdentifier (ports_of config.now partition) id) }
@@ -18,7 +18,7 @@ pub(crate) fn configured_port<'a>(config: &'a Config, partition: usize, id: u32)
     config.port(partition, id)
 }
 
-// The partition's port of the identifier, if it is created.
+// The partition's port with the identifier, if it is created.
 fn created_port<'a, V: View>(
     view: &V,
     config: &'a Config,
@@ -41,7 +41,7 @@ fn created_port<'a, V: View>(
     }
 }
 
-/// The partition's queuing port of the identifier, if it is created.
+/// The partition's queuing port with the identifier, if it is created.
 pub fn queuing_port<'a, V: View>(
     view: &V,
     config: &'a Config,
@@ -62,7 +62,7 @@ pub fn queuing_port<'a, V: View>(
     }
 }
 
-/// The partition's sampling port of the identifier, if it is created.
+/// The partition's sampling port with the identifier, if it is created.
 pub fn sampling_port<'a, V: View>(
     view: &V,
     config: &'a Config,
@@ -84,7 +84,7 @@ pub fn sampling_port<'a, V: View>(
     }
 }
 
-/// The partition's configured queuing port of the name, created or not, with its identifier.
+/// The partition's configured queuing port with the name, created or not, and its identifier.
 pub(crate) fn queuing_named<'a>(
     config: &'a Config,
     partition: usize,
@@ -107,7 +107,7 @@ pub(crate) fn queuing_named<'a>(
     }
 }
 
-/// The partition's configured sampling port of the name, created or not, with its identifier.
+/// The partition's configured sampling port with the name, created or not, and its identifier.
 pub(crate) fn sampling_named<'a>(
     config: &'a Config,
     partition: usize,

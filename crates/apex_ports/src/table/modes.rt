@@ -8,7 +8,7 @@ ghost use Rattle.apex_ports.specs.ReplyTable.{set_mode_row};
 use crate::rows::{Refusal, Row};
 use apex_types::Mode;
 
-/// The row of a change from the present mode to the mode of a number, or why it is refused.
+/// The row of a change from the present mode to the mode with a number, or why it is refused.
 pub(crate) fn set_mode_row(present: Mode, number: u32) -> Result<Row, Refusal>
     ensures decided { IsRowOfDecision (set_mode_row present (mode_numbered number)) result }
     ensures accepted { IfOk result (λ accepted. accepted ≡ row.ModeSet) }

@@ -84,7 +84,7 @@ pub(crate) fn put_oldest<V: View>(
     }
 }
 
-// Makes the reply a message. Where one stands there, the room of the longest isn't written whole.
+// Makes the reply a message. If it already is one, only the message's bytes are written, and not the room of the longest.
 fn put_received(reply: &mut Reply, bytes: &[u8])
     requires { length bytes.now ≤ MESSAGE_LIMIT }
     ensures { reply.new ≡ Received bytes.now }
@@ -97,7 +97,7 @@ fn put_received(reply: &mut Reply, bytes: &[u8])
     }
 }
 
-// Makes the reply an empty message. Not inlined, since the room of a new message is cleared where a function begins.
+// Makes the reply an empty message. Not inlined, since a function clears the stack room of a new message when it begins.
 #[inline(never)]
 fn make_received(reply: &mut Reply)
     ensures { reply.new ≡ Received [] }
@@ -116,7 +116,7 @@ fn oldest_reply<V: View>(view: &V, config: &Config, partition: usize, id: u32) -
     }
 }
 
-/// The reply with the sample written last, of this validity.
+/// The reply with the sample written last, with this validity.
 pub(crate) fn last_reply<V: View>(
     view: &V,
     config: &Config,

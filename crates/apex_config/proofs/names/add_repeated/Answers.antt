@@ -10,7 +10,7 @@ use Rattle.apex_config.specs.declared.key.Key.TheVariants as key
 use Rattle.apex_config.specs.declared.place.Part.{Part}
 use Rattle.apex_config.specs.declared.place.Place.{Place}
 use Rattle.apex_config.specs.Places.{at, unless}
-use Rattle.apex_config.specs.Passes.{part_in, stood_before}
+use Rattle.apex_config.specs.Passes.{part_in, occurred_before}
 use Rattle.apex_config.proofs.SeenNames.{seen_at}
 use Rattle.apex_config.proofs.EachEntry.{one_more}
 use Rattle.apex_config.proofs.names.add_repeated.Goals as goal
@@ -24,7 +24,7 @@ loop-index-preserved g c =
     let is : get_or names i name ≡ name = get_or-map g.T.Named.name_of c.args.entries.now i c.index-entries-index.result name c.loop-index-test.true ∙ ap g.T.Named.name_of (sym c.index-entries-index.is) ∙ sym c.name.ensures in
     let new : c.in_ok-is_new.is_new ≡ not (list_any (λ other. bytes_eq other name) (take i names)) = c.in_ok-is_new.ensures.added ∙ ap not (c.loop-index.invariant.seen c.name.result) in
     let place : c.at.result ≡ at (part_in c.args.list i) key.Name = c.at.ensures ∙ ap (λ (part : Part). at part key.Name) c.part.ensures in
-    let same : unless c.in_ok-is_new.is_new c.at.result ≡ stood_before (part_in c.args.list) names i name = ap (λ (b : Bool). unless b c.at.result) new ∙ ap (unless (not (list_any (λ other. bytes_eq other name) (take i names)))) place in
+    let same : unless c.in_ok-is_new.is_new c.at.result ≡ occurred_before (part_in c.args.list) names i name = ap (λ (b : Bool). unless b c.at.result) new ∙ ap (unless (not (list_any (λ other. bytes_eq other name) (take i names)))) place in
     record {
       seen = λ other.
           c.in_ok-is_new.ensures.updates.0 other
@@ -32,5 +32,5 @@ loop-index-preserved g c =
           ∙ ap (λ (b : Bool). cond (bytes_eq name other.now) true b) (c.loop-index.invariant.seen other)
           ∙ seen_at names i name other.now inside is;
       found =
-          one_more (stood_before (part_in c.args.list) names) names i name _ _ _ inside (sym is) c.loop-index.invariant.found (c.in_ok-add_unless.ensures ∙ ap (λ (found : List Place). c.loop-index.places.items ++ found) same);
+          one_more (occurred_before (part_in c.args.list) names) names i name _ _ _ inside (sym is) c.loop-index.invariant.found (c.in_ok-add_unless.ensures ∙ ap (λ (found : List Place). c.loop-index.places.items ++ found) same);
     }

@@ -32,5 +32,5 @@ returns-clause-undecided g c =
     let none : c.as_mut_slice-part.result.now ≡ replicate (length config.partitions) [] =
     c.as_mut_slice-part.ensures.value ∙ (c.in_ok-part.ensures ∙ (λ i. replicate (c.partitions.ensures.count i) [])) in
     let put : AreExchanged inside (replicate (length config.partitions) []) scripts part = subst (λ (own : Scripts). AreExchanged inside own scripts part) none c.exchange.ensures.other in
-    undecided_part config inside scripts part (put_in inside scripts (length config.partitions) part put) c.args.bound c.all_outcomes_with_progress-found.result
+    undecided_part config inside scripts part (put_in inside scripts (length config.partitions) part put) g.P.Progress.CanStop c.args.bound c.all_outcomes_with_progress-found.result
     c.all_outcomes_with_progress-found.ensures.undecided

@@ -8,7 +8,7 @@ use Rattle.apex_orders.proofs.outcomes.all_outcomes_with_progress.Goals as goal
 
 pub returns-in-Err-clause-undecided : goal.returns-in-Err-clause-undecided
 returns-in-Err-clause-undecided g c =
-    undecided_of (Unit {0}) (Unit {0}) c.args.config.now c.args.scripts.now c.partitions-partitions.ensures.valid c.args.bound c.in-Err.fault c.in-Err.ensures.given_up
+    undecided_of (Unit {0}) (Unit {0}) g.P.Progress.CanStop c.args.config.now c.args.scripts.now c.partitions-partitions.ensures.valid c.args.bound c.in-Err.fault c.in-Err.ensures.given_up
 
 pub returns-clause-replies : goal.returns-clause-replies
 returns-clause-replies g c =

@@ -18,7 +18,7 @@ try_all-requires-clause-within g c = let same = ap (λ (orders : List (List ℕ)
 
 pub returns-in_err-try_all-clause-given_up : goal.returns-in_err-try_all-clause-given_up
 returns-in_err-try_all-clause-given_up g c =
-    given_up_none c.args.config.now c.args.scripts.now c.args.bound c.from_residual-in_err-try_all.result c.from_residual-in_err-try_all.ensures.1
+    given_up_none g.P.Progress.CanStop c.args.config.now c.args.scripts.now c.args.bound c.from_residual-in_err-try_all.result c.from_residual-in_err-try_all.ensures.1
 
 pub loop-i-preserved : goal.loop-i-preserved
 loop-i-preserved g c =
@@ -59,7 +59,7 @@ loop-i-preserved g c =
 
 pub returns-in_err-order-clause-given_up : goal.returns-in_err-order-clause-given_up
 returns-in_err-order-clause-given_up g c =
-    given_up_none c.args.config.now c.args.scripts.now c.args.bound c.from_residual-in_err-order.result c.from_residual-in_err-order.ensures.1
+    given_up_none g.P.Progress.CanStop c.args.config.now c.args.scripts.now c.args.bound c.from_residual-in_err-order.result c.from_residual-in_err-order.ensures.1
 
 pub returns-clause-ended : goal.returns-clause-ended
 returns-clause-ended g c =

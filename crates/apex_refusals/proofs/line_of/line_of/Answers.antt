@@ -1,6 +1,6 @@
 use Rattle.std.proofs.Common.{◌≡◌, ◌-◌, false, ℕ, List, length, sym, ap, subst, ◌∙◌, arith}
 use Rattle.std.specs.Option.{option_copied}
-use Rattle.apex_refusals.specs.PlaceLines.{line_ends, first_lines, stands_in}
+use Rattle.apex_refusals.specs.PlaceLines.{line_ends, first_lines, beginning_has}
 use Rattle.apex_refusals.proofs.PlaceLines.{all_lines, some_end}
 use Rattle.apex_refusals.proofs.line_of.line_of.Goals as goal
 
@@ -19,9 +19,9 @@ loop-with-init c =
       order = omega (arith, count, some);
       within = omega (arith, count);
       with =
-          ap (λ (n : ℕ). stands_in (first_lines n text) c.args.part (option_copied c.args.key)) count
-          ∙ (ap (λ (begin : List ℕ). stands_in begin c.args.part (option_copied c.args.key)) (all_lines text)
-          ∙ (sym c.in_ok-stands_in.ensures ∙ (let there = c.if-not-branch.false in grind (arith, there))));
+          ap (λ (n : ℕ). beginning_has (first_lines n text) c.args.part (option_copied c.args.key)) count
+          ∙ (ap (λ (begin : List ℕ). beginning_has begin c.args.part (option_copied c.args.key)) (all_lines text)
+          ∙ (sym c.in_ok-beginning_has.ensures ∙ (let there = c.if-not-branch.false in grind (arith, there))));
       without = λ one. absurd (omega (arith, one));
     }
 
@@ -34,6 +34,6 @@ returns c =
       within = c.loop-with.invariant.within;
       with = c.loop-with.invariant.with;
       without = λ two.
-          subst (λ (n : ℕ). stands_in (first_lines n c.args.text.now) c.args.part (option_copied c.args.key) ≡ false) (sym last)
+          subst (λ (n : ℕ). beginning_has (first_lines n c.args.text.now) c.args.part (option_copied c.args.key) ≡ false) (sym last)
           (c.loop-with.invariant.without (omega (arith, two, last)));
     }

@@ -18,5 +18,5 @@ returns g c =
     elim c.match-branch-4.branch [
       | in-Order w ↦ rw w.answer-is (order_found files c.args.time_outs arguments config logs are read (entries_at logs w.in-Order.places.items) known (says_order config logs c.as_mut_slice-logs.result.now same answer says w.in-Order.places w.in-Order.is))
       | in-NoOrder w ↦ rw w.answer-is (none_found files c.args.time_outs arguments config logs are read known (says_none config logs c.as_mut_slice-logs.result.now same answer says w.in-NoOrder.longest w.in-NoOrder.is))
-      | in-Undecided w ↦ rw w.answer-is (nothing_found files c.args.time_outs arguments c.args.steps read)
+      | in-Undecided w ↦ rw w.answer-is (nothing_found files c.args.time_outs arguments w.bound.result read)
     ]

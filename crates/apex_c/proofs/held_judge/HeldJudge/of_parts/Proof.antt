@@ -1,4 +1,4 @@
--- The judge stay where they are, behind a pointer of another type.
+-- The judge stays where it is, behind a pointer of another type.
 use mathlib.Core.Path.{refl, sym, subst}
 use mathlib.Core.List.{List, [], ◌∷◌, ◌++◌}
 use seplogic.Ra.Ura.{Ura}

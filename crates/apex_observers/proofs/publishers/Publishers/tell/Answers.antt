@@ -57,22 +57,22 @@ loop-entry-preserved g c =
             observers = ap (λ (o : List Published). map (λ (known : Published). known.channel) o) w.observers-is
                 ∙ (map-set_same (λ (known : Published). known.channel) c.loop-entry.observers c.loop-entry.index w.learn.new.self w.index-observers-index.result w.learn.ensures.channel ∙ c.loop-entry.invariant.observers);
             index = w.index-is ∙ (ap (λ n. n + 1) c.loop-entry.invariant.index ∙ sym (ap length next ∙ (ap (λ (e : Option Published). length (sampling_of (take index self) ++ option_to_list e)) w.in-Some.is ∙ length-append (sampling_of (take index self)) (w.in-Some.publisher ∷ []))));
-            told = λ k published known before there here.
-                one_more (λ publisher observer. IsPrefix publisher.writes observer.writes) self c.loop-entry.index w.in-Some.publisher w.learn.new.self c.loop-entry.observers at (subst (λ (p : Published). IsPrefix p.writes w.learn.new.self.writes) w.receipt.ensures w.learn.ensures.learned) c.loop-entry.invariant.told
+            learned = λ k published known before there here.
+                one_more (λ publisher observer. IsPrefix publisher.writes observer.writes) self c.loop-entry.index w.in-Some.publisher w.learn.new.self c.loop-entry.observers at (subst (λ (p : Published). IsPrefix p.writes w.learn.new.self.writes) w.receipt.ensures w.learn.ensures.learned) c.loop-entry.invariant.learned
                 k published known (subst (λ n. k < n) w.index-is before) there (subst (λ (o : List Published). slice_get o k ≡ Some known) w.observers-is here);
           }
       | in_default w ↦ record {
         observers = ap (λ (o : List Published). map (λ (known : Published). known.channel) o) w.observers-is ∙ c.loop-entry.invariant.observers;
         index = w.index-is ∙ (c.loop-entry.invariant.index ∙ sym (ap length next ∙ (ap (λ (e : Option Published). length (sampling_of (take index self) ++ option_to_list e)) w.in_default.is ∙ ap length (append-nil (sampling_of (take index self))))));
-        told = λ k published known before there here.
-            c.loop-entry.invariant.told k published known (subst (λ n. k < n) w.index-is before) there (subst (λ (o : List Published). slice_get o k ≡ Some known) w.observers-is here);
+        learned = λ k published known before there here.
+            c.loop-entry.invariant.learned k published known (subst (λ n. k < n) w.index-is before) there (subst (λ (o : List Published). slice_get o k ≡ Some known) w.observers-is here);
       }
     ]
 
-pub returns-clause-told : goal.returns-clause-told
-returns-clause-told g c k published known there here =
+pub returns-clause-learned : goal.returns-clause-learned
+returns-clause-learned g c k published known there here =
     let self : Channels = c.args.self.now in
     let whole : c.deref-entry-items.result.now ≡ self = c.deref-entry-items.ensures.value ∙ c.self.view_is in
     let done : length self ≤ c.loop-entry.entry-index = omega (arith, c.loop-entry-test.false, ap length whole) in
     let all : c.loop-entry.index ≡ length (sampling_of self) = c.loop-entry.invariant.index ∙ ap (λ w. length (sampling_of w)) (take_all c.loop-entry.entry-index self done) in
-    c.loop-entry.invariant.told k published known (subst (λ n. k < n) (sym all) (slice_get_within (sampling_of self) k published there)) there here
+    c.loop-entry.invariant.learned k published known (subst (λ n. k < n) (sym all) (slice_get_within (sampling_of self) k published there)) there here

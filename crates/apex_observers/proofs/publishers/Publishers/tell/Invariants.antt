@@ -8,5 +8,5 @@ abbrev pub invariant-loop-entry : goal.invariant-loop-entry
 invariant-loop-entry g l = record {
   observers : AreObservers l.self l.observers;
   index : l.index ≡ length (sampling_of (take l.entry-index l.self));
-  told : (k : ℕ) (published known : Published) → k < l.index → slice_get (sampling_of l.self) k ≡ Some published → slice_get l.observers k ≡ Some known → IsPrefix published.writes known.writes;
+  learned : (k : ℕ) (published known : Published) → k < l.index → slice_get (sampling_of l.self) k ≡ Some published → slice_get l.observers k ≡ Some known → IsPrefix published.writes known.writes;
 }

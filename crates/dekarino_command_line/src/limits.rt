@@ -1,0 +1,58 @@
+//! How much a search may take.
+use crate::commands;
+use clap::ArgMatches;
+
+/// The bytes of a MiB.
+const MIB: usize = 1 << 20;
+
+/// The seconds, if no number is given.
+const SECONDS: usize = 60;
+
+/// The MiB, if no number is given.
+const MEMORY: usize = 1_024;
+
+/// How much a search may take. Each question has a search of its own, and so has each group of partitions that share no
+/// channel with others.
+#[derive(Clone, Copy, Debug, PartialEq, Eq)]
+pub struct SearchLimits {
+    pub seconds: usize,
+    /// The memory that it may keep, in MiB.
+    pub memory: usize,
+    /// The number of states that it may find, if that is limited.
+    pub states: Option<usize>,
+}
+
+impl SearchLimits {
+    /// The memory, in bytes.
+    pub fn bytes(&self) -> usize {
+        self.memory.saturating_mul(MIB)
+    }
+}
+
+/// The limits that the options give, or what is wrong with one of them.
+pub(crate) fn limits_in(given: &ArgMatches<'_>) -> Result<SearchLimits, &'static str> {
+    let seconds = number_in(given, commands::SECONDS).ok_or("--seconds takes a number")?;
+    let memory = number_in(given, commands::MEMORY).ok_or("--memory takes a number")?;
+    let states = number_in(given, commands::STATES).ok_or("--states takes a number")?;
+    Ok(SearchLimits {
+        seconds: seconds.unwrap_or(SECONDS),
+        memory: memory.unwrap_or(MEMORY),
+        states,
+    })
+}
+
+/// Whether a limit is given.
+pub(crate) fn are_given(given: &ArgMatches<'_>) -> bool {
+    given.get_str(commands::SECONDS).is_some() || given.get_str(commands::MEMORY).is_some()
+}
+
+/// The number that an option gives, if it is given; `None` where what is given is no number.
+fn number_in(given: &ArgMatches<'_>, option: &str) -> Option<Option<usize>> {
+    match given.get_str(option) {
+        None => Some(None),
+        Some(word) => match word.parse() {
+            Ok(number) => Some(Some(number)),
+            Err(_) => None,
+        },
+    }
+}
