@@ -2,7 +2,6 @@
 ghost use Rattle.apex_orders.specs.Clock.{ClockedNeverFalls};
 
 /// If moments never fall within a script, they never fall in an order by the clock. There is nothing to run.
-#[tactic(auto, using(crate::proofs::ClockLemmas::clocked_never_falls))]
 pub fn clocked_never_falls()
     ensures { ClockedNeverFalls }
 {}

@@ -13,6 +13,15 @@ without : (o : Option (List ℕ)) (P : Type 0) (R : List ℕ → Type 0) → ((o
 without None P R never is = is
 without (Some order) P R never is = absurd (never order refl)
 
+pub loop-i-init : goal.loop-i-init
+loop-i-init g c = record {
+  within = omega arith;
+  first = c.in_ok-current.ensures.first;
+  valid = c.in_ok-current.ensures.valid c.args.clock;
+  unanswered = λ k below. absurd (omega (arith, below));
+  tried = λ k below. absurd (omega (arith, below));
+}
+
 pub try_all-requires-clause-within : goal.try_all-requires-clause-within
 try_all-requires-clause-within g c = let same = ap (λ (orders : List (List ℕ)). length orders) c.answer_after.ensures.orders in omega (arith, same)
 
