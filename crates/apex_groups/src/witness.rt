@@ -1,7 +1,7 @@
 //! An order in which a call gets a reply, searched for in the group of its partition.
 ghost use Rattle.std.specs.Prelude.{◌≡◌, length, IfOk, IfSome, IfNone};
 ghost use Rattle.apex_groups.specs.Groups.{AreApart};
-ghost use Rattle.apex_orders.specs.Outcomes.{CanBeAnswered, IsAnsweredBy, IsUndecided};
+ghost use Rattle.apex_orders.specs.Outcomes.{CanBeAnswered, CanBeAnsweredWith, IsAnsweredBy, IsAnsweredByWith, IsUndecided, IsUndecidedWith};
 
 use crate::ends::calls_inside;
 use crate::groups::Groups;
@@ -12,8 +12,33 @@ use apex_ports::Script;
 use std::alloc::Global;
 
 /// An order in which the asked call gets an admitted reply, like `order_giving` of `apex_orders`, but only the calls of
-/// the group of the call's partition are searched. The scripts change only during the search.
+/// the group of the call's partition are searched. With `clock`, the moments of all partitions are of one clock, and all
+/// calls are searched. The scripts change only during the search.
 pub fn order_giving_apart<P: Progress>(
+    alloc: Global,
+    config: &Config,
+    scripts: &mut [Script],
+    clock: bool,
+    asked: &Asked,
+    bound: usize,
+    progress: &mut P,
+) -> Result<Option<Order>, OrdersFault>
+    requires { length scripts.old ≡ length config.now.partitions }
+    ensures same { scripts.new ≡ scripts.old }
+    ensures found { IfOk result (λ answer. IfSome answer (λ order.
+        IsAnsweredByWith clock config.now scripts.old asked.now order)) }
+    ensures never { IfOk result
+        (λ answer. IfNone answer (¬ CanBeAnsweredWith clock config.now scripts.old asked.now)) }
+    ensures undecided { IsUndecidedWith clock P.CanStop config.now scripts.old bound result }
+{
+    if clock {
+        return order_giving_with_progress(alloc, config, scripts, clock, asked, bound, progress);
+    }
+    unclocked_order(alloc, config, scripts, asked, bound, progress)
+}
+
+/// Searches the group of the call's partition, if there are groups, without a clock.
+fn unclocked_order<P: Progress>(
     alloc: Global,
     config: &Config,
     scripts: &mut [Script],
@@ -33,7 +58,7 @@ pub fn order_giving_apart<P: Progress>(
     if !groups.are_one() && groups.are_apart(config) {
         return order_in_group(alloc, config, &groups, scripts, asked, bound, progress);
     }
-    order_giving_with_progress(alloc, config, scripts, asked, bound, progress)
+    order_giving_with_progress(alloc, config, scripts, false, asked, bound, progress)
 }
 
 /// Searches the calls of the group of the call's partition.

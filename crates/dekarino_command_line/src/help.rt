@@ -104,7 +104,7 @@ pub(crate) const DEAD_ENDS: &str =
 
 pub(crate) const ORDERS: &str = "\
 Each partition makes the calls of its script in order. Nothing else says which call comes first; moments order nothing
-between partitions. For each call, by the line of its script, it prints all replies that some order gives, and no others,
+between partitions, unless `--clock` says that they are of one clock. For each call, by the line of its script, it prints all replies that some order gives, and no others,
 after `*` if there are several; and for each queuing channel the least and the greatest of its counts in the end. Then
 come the number of states tried and of different ends, in a line for each group of partitions that shares no channel with
 others, and the number of calls with several replies. A search that meets a bound of seconds, memory or states gives up:
@@ -131,6 +131,9 @@ pub(crate) const MEMORY: &str =
     "Gives up a search that keeps more than this many MiB [default: 1024]";
 
 pub(crate) const STATES: &str = "Gives up a search above this many states";
+
+pub(crate) const CLOCK: &str =
+    "Takes moments to be of one clock: a call comes before all later calls of other partitions";
 
 pub(crate) const WHEN: &str =
     "Prints an order with such a reply or such an end, as a log; status 4 if there is none";

@@ -11,10 +11,11 @@ use std::alloc::{AllocError, Global};
 
 /// The task of the words.
 pub(crate) fn orders_in<'a>(alloc: Global, given: &ArgMatches<'a>) -> Result<Task<'a>, WordsFault> {
-    let limits = match limits_in(given) {
+    let mut limits = match limits_in(given) {
         Ok(limits) => limits,
         Err(message) => return Err(orders_fault(alloc, message)),
     };
+    limits.clock = given.get_flag(commands::CLOCK);
     let words = given.get_strs(commands::SCRIPTS).unwrap_or(&[]);
     if !words.iter().all(|word| names_partition(word)) {
         return Err(orders_fault(

@@ -5,6 +5,7 @@
 
 mod answers;
 mod bound;
+mod clock;
 mod configuration;
 mod end_questions;
 mod file_writer;

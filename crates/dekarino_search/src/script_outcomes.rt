@@ -3,6 +3,7 @@ ghost use Rattle.std.specs.Prelude.{◌≡◌, length};
 
 use crate::answers::answers_to;
 use crate::bound::Bound;
+use crate::clock::check_moments;
 use crate::configuration::read_config;
 use crate::json_outcomes::OutcomeObjects;
 use crate::outcome::Outcome;
@@ -37,12 +38,16 @@ pub fn outcomes_of_scripts<'a, O: Opener, P: Progress>(
     let Scripts { scripts, lines } = read_scripts(alloc, opener, &config, arguments, form)?;
     let mut scripts = unpack_all(alloc, scripts.as_slice())?;
     let (scripts, lines) = (scripts.as_mut_slice(), lines.as_slice());
+    if limits.clock {
+        check_moments(alloc, &config, arguments, scripts, lines)?;
+    }
     if !questions.is_empty() {
         return answers_to(alloc, &config, scripts, lines, limits, questions, progress);
     }
     let mut progress = SearchProgress::new(progress, limits);
     let states = progress.states();
-    let found = match all_outcomes_apart(alloc, &config, scripts, states, &mut progress) {
+    let found = all_outcomes_apart(alloc, &config, scripts, limits.clock, states, &mut progress);
+    let found = match found {
         Ok(found) => found,
         Err(fault) => return Err(unfinished_by(fault, &progress)),
     };

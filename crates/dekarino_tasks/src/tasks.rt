@@ -105,8 +105,8 @@ fn finish<W: Write, E: Write>(
         Err(Unfinished::TooManyCalls { .. }) => return too_many_calls(errors),
         Err(Unfinished::FaultyLog(faulty)) => return faulty_log(faulty, errors),
         Err(Unfinished::UnwritableFile(file)) => return unwritable_file(file, errors),
-        Err(Unfinished::BadQuestion { words, reason }) => {
-            return bad_question(words, &reason, errors);
+        Err(Unfinished::BadArgument { words, reason }) => {
+            return bad_argument(words, &reason, errors);
         }
         Err(Unfinished::Undecided(bound)) => return undecided(bound, errors),
     };
@@ -195,7 +195,7 @@ fn unwritable_file<E: Write>(file: &str, errors: &mut E) -> u8 {
 }
 
 /// Writes why words are no question, and answers the status.
-fn bad_question<E: Write>(words: &str, reason: &str, errors: &mut E) -> u8 {
+fn bad_argument<E: Write>(words: &str, reason: &str, errors: &mut E) -> u8 {
     let _ = writeln!(errors, "argument fault: {words}: {reason}");
     MISUSED
 }
