@@ -35,6 +35,8 @@ pub(crate) const WHEN: &str = "when";
 
 pub(crate) const NEVER: &str = "never";
 
+pub(crate) const WITNESS: &str = "witness";
+
 pub(crate) const JSON: &str = "json";
 
 /// The command of the whole program.
@@ -170,6 +172,7 @@ fn orders<'a>(alloc: Global) -> Result<Command<'a>, AllocError> {
         .arg(option(alloc, STATES, "N", help::STATES))?
         .arg(question(alloc, WHEN, help::WHEN))?
         .arg(question(alloc, NEVER, help::NEVER))?
+        .arg(option(alloc, WITNESS, "FOLDER", help::WITNESS))?
         .arg(json(alloc))
 }
 

@@ -51,6 +51,11 @@ pub enum Unfinished<'a> {
     },
     /// The file at this path can't be written.
     UnwritableFile(&'a str),
+    /// The file with this name in the folder can't be written.
+    UnwritableFileIn {
+        folder: &'a str,
+        name: String,
+    },
     /// The words of `--when` or `--never` are no question, for this reason.
     BadQuestion {
         words: &'a str,
