@@ -20,12 +20,12 @@ use Rattle.apex_judge.specs.Replies.{agrees}
 use Rattle.apex_judge.specs.Shown.{reply_shown}
 use Rattle.apex_judge.specs.Steps.{picture_of}
 use Rattle.apex_judge.proofs.ReplyTests.{agrees_is, agrees_from}
-use Rattle.apex_judge.proofs.PictureLaws.{told_seen, lawful_tells}
+use Rattle.apex_judge.proofs.PictureLaws.{picture_seen, lawful_is_true}
 
 -- ---- a lawful log shows what is seen
 
 pub shows_what_is_seen : ShowsWhatIsSeen
-shows_what_is_seen config h p sound = told_seen config h (picture_of config h) p (lawful_tells config h sound)
+shows_what_is_seen config h p sound = picture_seen config h (picture_of config h) p (lawful_is_true config h sound)
 
 pub same_reply : (config : Configuration) (h : History) (p : ℕ) (at : Moment) (call : Call) → IsSound config h → reply_shown config h p at call ≡ reply_to config h p at call
 same_reply config h p at call sound = ap (λ (s : Seen). reply_of config s p (row_of config s p at call)) (shows_what_is_seen config h p sound)

@@ -8,7 +8,7 @@ use Rattle.apex_types.specs.declared.reply.Reply.TheVariants as replies
 use Rattle.apex_module.specs.Configuration.{Configuration}
 use Rattle.apex_ports.specs.declared.history.Entry.{Entry}
 use Rattle.apex_judge.specs.declared.own_ids.Replaced.{Replaced}
-use Rattle.apex_judge.specs.OwnIds.{Own, id_asked, asked_of, id_replied, replied_of, ours_of, given_of, port_asked, in_ours, entry_in_ours, replaced_by, replaced_in, restored, told_in}
+use Rattle.apex_judge.specs.OwnIds.{Own, id_asked, asked_of, id_replied, replied_of, ours_of, given_of, port_asked, in_ours, entry_in_ours, replaced_by, replaced_in, restored, known_in}
 
 call_back : (id : ℕ) (call : Call) → asked_of (id_asked call) (asked_of id call) ≡ call
 call_back id (calls.CreateSampling name size direction refresh) = refl
@@ -40,7 +40,7 @@ by_choice false replaced entry ours back = refl
 
 pub put_back : (config : Configuration) (own : Own) (entry : Entry) → restored (replaced_in config own entry) (entry_in_ours config own entry) ≡ entry
 put_back config own entry =
-    let told = told_in own entry.partition in
-    let ours = ours_of told (id_asked entry.call) in
-    let given = given_of told (port_asked config entry.partition entry.call) (id_replied entry.reply) in
-    by_choice own.on (replaced_by config told entry) entry (in_ours config told entry) (rw (call_back ours entry.call, reply_back given entry.reply) refl)
+    let ids = known_in own entry.partition in
+    let ours = ours_of ids (id_asked entry.call) in
+    let given = given_of ids (port_asked config entry.partition entry.call) (id_replied entry.reply) in
+    by_choice own.on (replaced_by config ids entry) entry (in_ours config ids entry) (rw (call_back ours entry.call, reply_back given entry.reply) refl)

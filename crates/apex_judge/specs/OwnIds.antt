@@ -8,27 +8,27 @@ use Rattle.apex_types.specs.declared.reply.Reply.TheVariants as replies
 use Rattle.apex_module.specs.Configuration.{Configuration, id_named}
 use Rattle.apex_ports.specs.declared.history.Entry.{Entry}
 use Rattle.apex_ports.specs.Modes.{is_code_no_error, is_restart, mode_asked}
-use Rattle.apex_judge.specs.declared.told_ids.KnownIds.{KnownIds}
-use Rattle.apex_judge.specs.declared.told_ids.ToldId.{ToldId}
+use Rattle.apex_judge.specs.declared.port_ids.KnownIds.{KnownIds}
+use Rattle.apex_judge.specs.declared.port_ids.PortId.{PortId}
 use Rattle.apex_judge.specs.declared.own_ids.Replaced.{Replaced}
 
 -- ---- the known identifiers of a partition's ports
 
 -- our identifier of the port that has one of the system's
-abbrev pub ours_in : List ToldId → ℕ → Option ℕ
-ours_in told system = option_map (λ one. one.ours) (find (λ one. one.system == system) told)
+abbrev pub ours_in : List PortId → ℕ → Option ℕ
+ours_in ids system = option_map (λ one. one.ours) (find (λ one. one.system == system) ids)
 
 -- the same; no port has 0
-abbrev pub ours_of : List ToldId → ℕ → ℕ
-ours_of told system = unwrap_or (ours_in told system) 0
+abbrev pub ours_of : List PortId → ℕ → ℕ
+ours_of ids system = unwrap_or (ours_in ids system) 0
 
 -- the system's identifier of the port that has one of ours
-abbrev pub system_of : List ToldId → ℕ → Option ℕ
-system_of told ours = option_map (λ one. one.system) (find (λ one. one.ours == ours) told)
+abbrev pub system_of : List PortId → ℕ → Option ℕ
+system_of ids ours = option_map (λ one. one.system) (find (λ one. one.ours == ours) ids)
 
 -- neither the system's identifier nor the port is known
-abbrev pub is_new : List ToldId → ℕ → ℕ → Bool
-is_new told system port = is_none (ours_in told system) && is_none (system_of told port)
+abbrev pub is_new : List PortId → ℕ → ℕ → Bool
+is_new ids system port = is_none (ours_in ids system) && is_none (system_of ids port)
 
 -- ---- identifiers in calls and replies
 
@@ -84,77 +84,77 @@ port_asked config partition call = port_called config partition (name_asked call
 
 -- ours instead of an identifier that a reply gives to a port: the port's, if the identifier is known as the port's, or if
 -- neither is known. Another port's identifier, and another identifier for the port, become 0, which departs
-abbrev pub given_of : List ToldId → Option ℕ → ℕ → ℕ
-given_of told None system = 0
-given_of told (Some port) system = if (ours_of told system == port) || is_new told system port then port else 0
+abbrev pub given_of : List PortId → Option ℕ → ℕ → ℕ
+given_of ids None system = 0
+given_of ids (Some port) system = if (ours_of ids system == port) || is_new ids system port then port else 0
 
 -- the entry in our identifiers, given those known for its partition's ports
-abbrev pub in_ours : Configuration → List ToldId → Entry → Entry
-in_ours config told entry = record {
+abbrev pub in_ours : Configuration → List PortId → Entry → Entry
+in_ours config ids entry = record {
   partition = entry.partition;
   at = entry.at;
-  call = asked_of (ours_of told (id_asked entry.call)) entry.call;
-  reply = replied_of (given_of told (port_asked config entry.partition entry.call) (id_replied entry.reply)) entry.reply;
+  call = asked_of (ours_of ids (id_asked entry.call)) entry.call;
+  reply = replied_of (given_of ids (port_asked config entry.partition entry.call) (id_replied entry.reply)) entry.reply;
 }
 
 -- ---- what an entry makes known
 
 -- the known identifiers, with that of a new port
-abbrev pub told_with : List ToldId → Option ℕ → Reply → List ToldId
-told_with told (Some port) (replies.Id system) =
-    if is_new told system port then told ++ record { system = system; ours = port } ∷ [] else told
-told_with told port reply = told
+abbrev pub known_with : List PortId → Option ℕ → Reply → List PortId
+known_with ids (Some port) (replies.Id system) =
+    if is_new ids system port then ids ++ record { system = system; ours = port } ∷ [] else ids
+known_with ids port reply = ids
 
 -- the partition was restarted
 abbrev pub restarted : Call → Reply → Bool
 restarted call reply = is_code_no_error reply && is_restart (mode_asked call)
 
 -- the known identifiers after an entry of the partition
-abbrev pub told_after : Configuration → List ToldId → Entry → List ToldId
-told_after config told entry =
+abbrev pub known_after : Configuration → List PortId → Entry → List PortId
+known_after config ids entry =
     if restarted entry.call entry.reply then []
-    else told_with told (port_asked config entry.partition entry.call) entry.reply
+    else known_with ids (port_asked config entry.partition entry.call) entry.reply
 
 -- ---- all partitions
 
 -- the known identifiers of each partition's ports, if a log's identifiers are the system's
 pub record Own : Type 0 where
   pub on : Bool
-  pub told : List (List ToldId)
+  pub known : List (List PortId)
 
 -- nothing is known
-abbrev pub untold : Bool → Configuration → Own
-untold on config = record { on = on; told = replicate (length config.partitions) [] }
+abbrev pub none_known : Bool → Configuration → Own
+none_known on config = record { on = on; known = replicate (length config.partitions) [] }
 
-abbrev pub told_in : Own → ℕ → List ToldId
-told_in own partition = get_or own.told partition []
+abbrev pub known_in : Own → ℕ → List PortId
+known_in own partition = get_or own.known partition []
 
 -- the entry as it is judged
 abbrev pub entry_in_ours : Configuration → Own → Entry → Entry
-entry_in_ours config own entry = if own.on then in_ours config (told_in own entry.partition) entry else entry
+entry_in_ours config own entry = if own.on then in_ours config (known_in own entry.partition) entry else entry
 
 -- the known identifiers after an entry
 abbrev pub own_after : Configuration → Own → Entry → Own
 own_after config own entry =
-    if own.on then record { on = true; told = set own.told entry.partition (told_after config (told_in own entry.partition) entry) }
+    if own.on then record { on = true; known = set own.known entry.partition (known_after config (known_in own entry.partition) entry) }
     else own
 
 -- ---- what was replaced
 
 -- for a port that is created or asked for: its known identifier, and the port that has the identifier in the reply
-abbrev pub known_of : List ToldId → Option ℕ → ℕ → KnownIds
-known_of told None system = record { own = None; holder = None }
-known_of told (Some port) system = record { own = system_of told port; holder = ours_in told system }
+abbrev pub known_of : List PortId → Option ℕ → ℕ → KnownIds
+known_of ids None system = record { own = None; holder = None }
+known_of ids (Some port) system = record { own = system_of ids port; holder = ours_in ids system }
 
-abbrev pub replaced_by : Configuration → List ToldId → Entry → Replaced
-replaced_by config told entry = record {
+abbrev pub replaced_by : Configuration → List PortId → Entry → Replaced
+replaced_by config ids entry = record {
   asked = id_asked entry.call;
   replied = id_replied entry.reply;
-  known = known_of told (port_asked config entry.partition entry.call) (id_replied entry.reply);
+  known = known_of ids (port_asked config entry.partition entry.call) (id_replied entry.reply);
 }
 
 abbrev pub replaced_in : Configuration → Own → Entry → Option Replaced
-replaced_in config own entry = if own.on then Some (replaced_by config (told_in own entry.partition) entry) else None
+replaced_in config own entry = if own.on then Some (replaced_by config (known_in own entry.partition) entry) else None
 
 -- the entry with the system's identifiers again
 abbrev pub restored : Option Replaced → Entry → Entry

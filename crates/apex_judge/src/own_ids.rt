@@ -1,9 +1,9 @@
 //! Logs with a system's own identifiers, which are judged with ours in their place.
 ghost use Rattle.std.specs.Prelude.{◌≡◌, ◌<◌, length, Some, IfOk};
 ghost use Rattle.apex_ports.specs.Modes.{is_code_no_error};
-ghost use Rattle.apex_judge.specs.OwnIds.{id_asked, asked_of, id_replied, replied_of, port_asked, restarted, in_ours, told_after, replaced_by, untold, entry_in_ours, own_after, replaced_in, restored};
+ghost use Rattle.apex_judge.specs.OwnIds.{id_asked, asked_of, id_replied, replied_of, port_asked, restarted, in_ours, known_after, replaced_by, none_known, entry_in_ours, own_after, replaced_in, restored};
 
-use crate::told_ids::{KnownIds, ToldIds};
+use crate::port_ids::{KnownIds, PortIds};
 use apex_module::Config;
 use apex_ports::Entry;
 use apex_types::{Call, Mode, OutOfMemory, Reply, ReturnCode};
@@ -24,7 +24,7 @@ pub struct Replaced {
 #[derive(Debug, Drop)]
 pub struct OwnIds {
     on: bool,
-    partitions: Vec<ToldIds>,
+    partitions: Vec<PortIds>,
 }
 
 impl Model for OwnIds {
@@ -32,17 +32,17 @@ impl Model for OwnIds {
 
     ghost Value = { Own };
 
-    ghost view = { λ own. record { on = own.on; told = own.partitions.items } };
+    ghost view = { λ own. record { on = own.on; known = own.partitions.items } };
 }
 
 impl OwnIds {
     /// Before the first entry. `on` says whether the log's identifiers are the system's.
     pub fn new(alloc: Global, config: &Config, on: bool) -> Result<OwnIds, AllocError>
-        ensures { IfOk result (λ own. own ≡ untold on config.now) }
+        ensures { IfOk result (λ own. own ≡ none_known on config.now) }
     {
         let mut partitions = Vec::with_capacity(alloc, config.partitions())?;
         for _ in 0..config.partitions() {
-            partitions.push(ToldIds::new(alloc))?;
+            partitions.push(PortIds::new(alloc))?;
         }
         Ok(OwnIds { on, partitions })
     }
@@ -55,12 +55,12 @@ impl OwnIds {
         entry: &mut Entry,
     ) -> Result<Option<Replaced>, OutOfMemory>
         requires partition { entry.old.partition < length config.now.partitions }
-        requires told { length self.old.told ≡ length config.now.partitions }
+        requires known { length self.old.known ≡ length config.now.partitions }
         ensures entry { IfOk result (λ _.
             entry.new ≡ entry_in_ours config.now self.old entry.old) }
-        ensures told { IfOk result (λ _. self.new ≡ own_after config.now self.old entry.old) }
+        ensures known { IfOk result (λ _. self.new ≡ own_after config.now self.old entry.old) }
         ensures partition { IfOk result (λ _. entry.new.partition ≡ entry.old.partition) }
-        ensures count { IfOk result (λ _. length self.new.told ≡ length self.old.told) }
+        ensures count { IfOk result (λ _. length self.new.known ≡ length self.old.known) }
         ensures replaced { IfOk result (λ replaced.
             replaced ≡ replaced_in config.now self.old entry.old) }
     {
@@ -83,21 +83,21 @@ impl Replaced {
 }
 
 // Replaces the system's identifiers in an entry of a partition.
-fn enter(told: &mut ToldIds, config: &Config, entry: &mut Entry) -> Result<Replaced, OutOfMemory>
+fn enter(ids: &mut PortIds, config: &Config, entry: &mut Entry) -> Result<Replaced, OutOfMemory>
     requires { entry.old.partition < length config.now.partitions }
-    ensures entry { IfOk result (λ _. entry.new ≡ in_ours config.now told.old entry.old) }
-    ensures told { IfOk result (λ _. told.new ≡ told_after config.now told.old entry.old) }
+    ensures entry { IfOk result (λ _. entry.new ≡ in_ours config.now ids.old entry.old) }
+    ensures known { IfOk result (λ _. ids.new ≡ known_after config.now ids.old entry.old) }
     ensures replaced { IfOk result (λ replaced.
-        replaced ≡ replaced_by config.now told.old entry.old) }
+        replaced ≡ replaced_by config.now ids.old entry.old) }
 {
     let port = port_asked(config, entry.partition, &entry.call);
     let (asked, replied) = (id_asked(&entry.call), id_replied(&entry.reply));
-    let known = told.known_of(port, replied);
-    let (ours, given) = (told.ours_of(asked), told.given_of(port, replied));
+    let known = ids.known_of(port, replied);
+    let (ours, given) = (ids.ours_of(asked), ids.given_of(port, replied));
     if restarted(&entry.call, &entry.reply) {
-        told.clear();
+        ids.clear();
     } else {
-        told.tell(port, &entry.reply)?;
+        ids.learn(port, &entry.reply)?;
     }
     set_asked(&mut entry.call, ours);
     set_replied(&mut entry.reply, given);

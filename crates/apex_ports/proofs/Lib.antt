@@ -14,6 +14,7 @@ pub mod Noting
 pub mod OneChannel
 pub mod PartitionSteps
 pub mod Refused
+pub mod RowCalls
 pub mod RowFacts
 pub mod Saving
 pub mod Stays

@@ -30,7 +30,7 @@ impl fmt::Display for Hint<'_> {
     fn fmt<W: fmt::Write>(&self, f: &mut fmt::Formatter<W>) -> fmt::Result {
         match self {
             Hint::Near(word) => write!(f, "did you mean `{word}`?"),
-            Hint::Elsewhere(word) => write!(f, "`{word}` stands {}", parts_with(word)),
+            Hint::Elsewhere(word) => write!(f, "`{word}` belongs only to {}", parts_with(word)),
             Hint::InQuotes => f.write_str("a text takes quotes"),
             Hint::WithoutQuotes => f.write_str("a number takes no quotes"),
             Hint::Tables(key) => write!(f, "write `{}` for each", header_of(*key)),
@@ -41,15 +41,15 @@ impl fmt::Display for Hint<'_> {
 /// The parts of a configuration that take a key.
 fn parts_with(key: &str) -> &'static str {
     match key {
-        "partition" => "at the top only, as `[[partition]]`",
-        "port" => "at a partition only, as `[[partition.port]]`",
-        "channel" => "at the top, as `[[channel]]`, and at a port only",
-        "name" => "at a partition, a port and a channel only",
-        "kind" => "at a port and a channel only",
-        "direction" => "at a port only",
-        "size" => "at a channel only",
-        "depth" => "at a queuing channel only",
-        _ => "at a sampling port only",
+        "partition" => "the top level, as `[[partition]]`",
+        "port" => "partitions, as `[[partition.port]]`",
+        "channel" => "the top level, as `[[channel]]`, and to ports",
+        "name" => "partitions, ports and channels",
+        "kind" => "ports and channels",
+        "direction" => "ports",
+        "size" => "channels",
+        "depth" => "queuing channels",
+        _ => "sampling ports",
     }
 }
 

@@ -5,7 +5,7 @@ use Rattle.apex_ports.specs.declared.history.Entry.{Entry}
 use Rattle.apex_ports.specs.History.{History}
 use Rattle.apex_judge.specs.declared.departure.Expected.{Expected}
 use Rattle.apex_judge.specs.Departures.{instead_of}
-use Rattle.apex_judge.specs.OwnIds.{Own, untold, entry_in_ours, own_after, replaced_in}
+use Rattle.apex_judge.specs.OwnIds.{Own, none_known, entry_in_ours, own_after, replaced_in}
 use Rattle.apex_logs.specs.declared.log.FaultyLine.{FaultyLine}
 use Rattle.apex_logs.specs.declared.log.LoggedEntry.{LoggedEntry}
 use Rattle.apex_logs.specs.declared.time_out.MaxWait.{MaxWait}
@@ -41,12 +41,12 @@ pub record IsUnderWay {S : Type 0} (takes : S → LoggedDeparture → S → Type
 
 module _ {S : Type 0} (takes : S → LoggedDeparture → S → Type 0) (config : Configuration) (reading : Reading) (most : ℕ) where
   -- before the first entry
-  pub starts : (whole : Result (List LoggedEntry) FaultyLine) (own : Own) (log : History) (start : S) → log ≡ [] → own ≡ untold reading.own_ids config
+  pub starts : (whole : Result (List LoggedEntry) FaultyLine) (own : Own) (log : History) (start : S) → log ≡ [] → own ≡ none_known reading.own_ids config
       → IsUnderWay takes config reading most own log no_counts whole whole start start
-  starts whole own log start fresh told = record {
+  starts whole own log start fresh known = record {
     done = [];
     handed = refl;
-    goes_on = λ entries is. (entries, is, rw (fresh, told) refl, rw (fresh, told) refl);
+    goes_on = λ entries is. (entries, is, rw (fresh, known) refl, rw (fresh, known) refl);
     refuses = λ faulty is. is;
   }
 

@@ -4,7 +4,7 @@ use Rattle.apex_module.specs.Configuration.{Configuration}
 use Rattle.apex_ports.specs.declared.history.Entry.{Entry}
 use Rattle.apex_ports.specs.History.{History}
 use Rattle.apex_judge.specs.Departures.{instead_of}
-use Rattle.apex_judge.specs.OwnIds.{Own, untold, entry_in_ours, own_after, replaced_in}
+use Rattle.apex_judge.specs.OwnIds.{Own, none_known, entry_in_ours, own_after, replaced_in}
 use Rattle.apex_logs.specs.declared.line_source.ReadError.{ReadError}
 use Rattle.apex_logs.specs.declared.line_source.ReadError.TheVariants as reads
 use Rattle.apex_logs.specs.declared.line_source.StepError.{StepError}
@@ -50,11 +50,11 @@ pub record AreRead {S : Type 0} (takes : S → LoggedDeparture → S → Type 0)
 
 module _ {S : Type 0} (takes : S → LoggedDeparture → S → Type 0) (config : Configuration) (reading : Reading) (most : ℕ) where
   -- before the first line
-  pub begins : (own : Own) (log : History) (all : KnownLines) (start : S) → log ≡ [] → own ≡ untold reading.own_ids config → AreRead takes config reading most own log no_counts 1 all all start start
-  begins own log all start fresh told = record {
+  pub begins : (own : Own) (log : History) (all : KnownLines) (start : S) → log ≡ [] → own ≡ none_known reading.own_ids config → AreRead takes config reading most own log no_counts 1 all all start start
+  begins own log all start fresh known = record {
     first = [];
     leaves = leaves_all all;
-    under_way = λ rest. starts takes config reading most (log_in config rest) own log start fresh told;
+    under_way = λ rest. starts takes config reading most (log_in config rest) own log start fresh known;
   }
 
   module _ (own : Own) (log : History) (counts : DepartureCounts) (number : ℕ) (all left : KnownLines) (start sink : S) (was : AreRead takes config reading most own log counts number all left start sink) where

@@ -6,9 +6,9 @@ use Rattle.apex_ports.specs.declared.history.Entry.{Entry}
 use Rattle.apex_ports.specs.History.{History}
 use Rattle.apex_judge.specs.declared.departure.Expected.{Expected}
 use Rattle.apex_judge.specs.declared.own_ids.Replaced.{Replaced}
-use Rattle.apex_judge.specs.declared.told_ids.KnownIds.{KnownIds}
+use Rattle.apex_judge.specs.declared.port_ids.KnownIds.{KnownIds}
 use Rattle.apex_judge.specs.Departures.{instead_of}
-use Rattle.apex_judge.specs.OwnIds.{Own, untold, entry_in_ours, own_after, replaced_in}
+use Rattle.apex_judge.specs.OwnIds.{Own, none_known, entry_in_ours, own_after, replaced_in}
 use Rattle.apex_logs.specs.declared.log.FaultyLine.{FaultyLine}
 use Rattle.apex_logs.specs.declared.line_source.ReadError.TheVariants as reads
 use Rattle.apex_logs.specs.declared.line_source.StepError.{StepError}
@@ -96,7 +96,7 @@ all_to_judge config all own (logged ∷ rest) =
 
 -- what is judged instead of the entries of a log
 abbrev pub log_to_judge : Configuration → Reading → List LoggedEntry → List JudgedEntry
-log_to_judge config reading entries = all_to_judge config reading.time_outs (untold reading.own_ids config) entries
+log_to_judge config reading entries = all_to_judge config reading.time_outs (none_known reading.own_ids config) entries
 
 -- the counts after the entries that follow a log; each is judged after the entries before it
 unfoldable pub judged_counts_after : Configuration → History → DepartureCounts → List JudgedEntry → DepartureCounts

@@ -103,7 +103,7 @@ pub(crate) fn judge_entry<S: DepartureSink>(
     sink: &mut S,
 ) -> Result<DepartureCounts, JudgeError>
     requires partition { entry.old.partition < length judge.old.config.partitions }
-    requires told { length ids.old.told ≡ length judge.old.config.partitions }
+    requires known { length ids.old.known ≡ length judge.old.config.partitions }
     requires few { counts.calls < 2 ^ 64 - 1 }
     requires fewer { counts.departures ≤ counts.calls }
     ensures counts { let ours = entry_in_ours judge.old.config ids.old entry.old in
@@ -116,8 +116,8 @@ pub(crate) fn judge_entry<S: DepartureSink>(
         OnOk result (IsHanded S.takes sink.old handed sink.new) }
     ensures log { let ours = entry_in_ours judge.old.config ids.old entry.old in
         OnOk result (judge.new.log ≡ judge.old.log ++ polled_entry place.wait ours ∷ []) }
-    ensures told { OnOk result (ids.new ≡ own_after judge.old.config ids.old entry.old) }
-    ensures count { OnOk result (length ids.new.told ≡ length ids.old.told) }
+    ensures known { OnOk result (ids.new ≡ own_after judge.old.config ids.old entry.old) }
+    ensures count { OnOk result (length ids.new.known ≡ length ids.old.known) }
     ensures config { judge.new.config ≡ judge.old.config }
     ensures refused { IfErr result NamesNoLine }
 {

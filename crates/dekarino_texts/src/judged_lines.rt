@@ -1,6 +1,6 @@
 //! The departures of a log, found line by line as it comes.
 ghost use Rattle.std.specs.Prelude.{◌≡◌, [], OnOk, IfErr, IfSome};
-ghost use Rattle.apex_judge.specs.OwnIds.{untold};
+ghost use Rattle.apex_judge.specs.OwnIds.{none_known};
 ghost use Rattle.dekarino_texts.specs.declared.judged_lines.JudgeError.TheVariants as stops;
 ghost use Rattle.dekarino_texts.specs.Departures.{IsJudgedThrough, IsStoppedAt, refused_by_sink, stopped_at};
 
@@ -99,7 +99,7 @@ fn judge_each<L: LineSource, S: DepartureSink>(
     sink: &mut S,
 ) -> Result<(), JudgeError>
     requires fresh { judge.old.log ≡ [] }
-    requires untold { ids.old ≡ untold reading.own_ids judge.old.config }
+    requires none_known { ids.old ≡ none_known reading.own_ids judge.old.config }
     ensures judged { let config = judge.old.config in OnOk result (IfSome (L.left lines.old)
         (IsJudgedThrough S.takes config reading most sink.old sink.new counts.new)) }
     ensures stopped { let config = judge.old.config in IfErr result (λ why.

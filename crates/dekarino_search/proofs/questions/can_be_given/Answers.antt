@@ -8,8 +8,8 @@ use Rattle.dekarino_search.proofs.questions.can_be_given.Goals as goal
 
 pub returns-in-Reply : goal.returns-in-Reply
 returns-in-Reply c = λ config history p now admits.
-    let told = reply_to config history p now c.args.call.now in
-    let is : told ≡ c.in-Reply.reply = subst (λ (admitted : Admitted). Admits admitted told) c.in-Reply.is admits in
+    let replied = reply_to config history p now c.args.call.now in
+    let is : replied ≡ c.in-Reply.reply = subst (λ (admitted : Admitted). Admits admitted replied) c.in-Reply.is admits in
     c.can_give.ensures
     ∙ ((λ i. can_give (c.of-service.ensures i) (sym is i)) ∙ (replies_given config history p now c.args.call.now).reply)
 

@@ -16,8 +16,8 @@ pub loop-number-init : goal.loop-number-init
 loop-number-init g c =
     let config = c.args.judge.now.config in
     record {
-      read = begins g.S.DepartureSink.takes config c.args.reading c.args.most c.args.ids.now c.args.judge.now.log (g.L.LineSource.left c.args.lines.now) c.args.sink.now c.requires.fresh c.requires.untold;
-      told = rw c.requires.untold (length-replicate (length config.partitions) []);
+      read = begins g.S.DepartureSink.takes config c.args.reading c.args.most c.args.ids.now c.args.judge.now.log (g.L.LineSource.left c.args.lines.now) c.args.sink.now c.requires.fresh c.requires.none_known;
+      known = rw c.requires.none_known (length-replicate (length config.partitions) []);
       config = refl;
       calls = omega arith;
       fewer = omega arith;
@@ -61,7 +61,7 @@ loop-number-preserved-in-Ok-NoEntry g c =
       read =
           passes g.S.DepartureSink.takes c.args.judge.now.config c.args.reading c.args.most l.ids l.judge.log l.counts l.number (left c.args.lines.now) (left l.lines) c.args.sink.now l.sink l.invariant.read line (left c.next_step.new.lines)
           step.0 step.1.0 step.1.1;
-      told = l.invariant.told;
+      known = l.invariant.known;
       config = l.invariant.config;
       calls = omega (arith, l.invariant.calls);
       fewer = l.invariant.fewer;
@@ -80,7 +80,7 @@ returns-then-counts-most-clause-judged g c =
     let step : IsStep (logged_request_at config) line entry (steps.Entry time_out) (left l.lines) (left c.next_step.new.lines) = rw (c.config.ensures ∙ l.invariant.config, c.in-Ok-Entry.field-0-is) at c.in-Ok-Entry.ensures.exact in
     let waits : c.of-wait.result ≡ max_wait_of c.args.reading.time_outs entry.call time_out = c.of-wait.ensures in
     let read : AreRead takes config c.args.reading c.args.most c.judge_entry.new.ids c.judge_entry.new.judge.log c.in_ok-counts-in-Ok-Entry.field-0 (l.number + 1) (left c.args.lines.now) (left c.next_step.new.lines) c.args.sink.now c.judge_entry.new.sink =
-    rw (counted.log, counted.counts, counted.told, waits, l.invariant.config)
+    rw (counted.log, counted.counts, counted.known, waits, l.invariant.config)
     (goes_on takes config c.args.reading c.args.most l.ids l.judge.log l.counts l.number (left c.args.lines.now) (left l.lines) c.args.sink.now l.sink l.invariant.read line (left c.next_step.new.lines) step.0 entry time_out c.judge_entry.new.sink step.1.0 step.1.1
     (rw (waits, l.invariant.config) at counted.handed)) in
     at_most takes config c.args.reading c.args.most c.judge_entry.new.ids c.judge_entry.new.judge.log c.in_ok-counts-in-Ok-Entry.field-0 (l.number + 1) (left c.args.lines.now) (left c.next_step.new.lines) c.args.sink.now c.judge_entry.new.sink read
@@ -104,10 +104,10 @@ loop-number-preserved g c =
     ap (λ (counts : DepartureCounts). counts.calls) (rw waits at counted.counts) ∙ one_call_more l.counts instead in
     record {
       read =
-          rw (counted.log, counted.counts, counted.told, waits, l.invariant.config)
+          rw (counted.log, counted.counts, counted.known, waits, l.invariant.config)
           (goes_on takes config c.args.reading c.args.most l.ids l.judge.log l.counts l.number (left c.args.lines.now) (left l.lines) c.args.sink.now l.sink l.invariant.read line (left c.next_step.new.lines) step.0 entry time_out c.judge_entry.new.sink step.1.0 step.1.1
           (rw (waits, l.invariant.config) at counted.handed));
-      told = counted.count ∙ l.invariant.told;
+      known = counted.count ∙ l.invariant.known;
       config = c.judge_entry.ensures.config ∙ l.invariant.config;
       calls = omega (arith, more, l.invariant.calls);
       fewer = rw (counted.counts, waits) (as_many_at_most l.counts instead l.invariant.fewer);

@@ -3,7 +3,7 @@ use Rattle.apex_types.specs.declared.call.Call.{Call}
 use Rattle.apex_ports.specs.declared.rows.Row.TheVariants as row
 use Rattle.apex_ports.specs.ReplyTable.{row_of}
 use Rattle.apex_ports.specs.Seen.{seen, queuing_port, sampling_port}
-use Rattle.apex_ports.proofs.RowFacts.{identified_only, received_only, read_only}
+use Rattle.apex_ports.proofs.RowCalls.{identified_only, received_only, read_only}
 use Rattle.apex_ports.proofs.Stays.{quiet_keeps, not_made_is_quiet, refused_is_quiet, queuing_status_is_quiet, sampling_status_is_quiet}
 use Rattle.apex_ports.proofs.state.State.perform.Goals as goal
 

@@ -3,7 +3,7 @@ use Rattle.apex_types.specs.declared.call.Call.{Call}
 use Rattle.apex_ports.specs.declared.rows.Row.TheVariants as row
 use Rattle.apex_ports.specs.ReplyTable.{row_of}
 use Rattle.apex_ports.specs.Seen.{seen}
-use Rattle.apex_ports.proofs.RowFacts.{sent_only}
+use Rattle.apex_ports.proofs.RowCalls.{sent_only}
 use Rattle.apex_ports.proofs.state.State.perform_send.Goals as goal
 
 pub unreachable-requires : goal.unreachable-requires

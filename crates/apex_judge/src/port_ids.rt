@@ -1,6 +1,6 @@
 //! The identifiers that a log gave to the ports of a partition.
 ghost use Rattle.std.specs.Prelude.{◌≡◌, ◌==◌, [], find, IfOk, IfErr};
-ghost use Rattle.apex_judge.specs.OwnIds.{ours_in, ours_of, system_of, is_new, given_of, known_of, told_with};
+ghost use Rattle.apex_judge.specs.OwnIds.{ours_in, ours_of, system_of, is_new, given_of, known_of, known_with};
 
 use apex_types::{OutOfMemory, Reply};
 use std::alloc::Global;
@@ -8,7 +8,7 @@ use std::marker::Model;
 
 /// An identifier that a log gave to a port.
 #[derive(Clone, Copy, Debug, PartialEq, Eq)]
-pub struct ToldId {
+pub struct PortId {
     /// The system's.
     pub system: u32,
     /// Ours.
@@ -26,36 +26,36 @@ pub struct KnownIds {
 
 /// The identifiers that a log gave to the ports of a partition since it started last.
 #[derive(Debug, Drop)]
-pub(crate) struct ToldIds {
-    ids: Vec<ToldId>,
+pub(crate) struct PortIds {
+    ids: Vec<PortId>,
 }
 
-impl Model for ToldIds {
+impl Model for PortIds {
     ghost use Rattle.std.specs.Prelude.{List};
-    ghost use Rattle.apex_judge.specs.declared.told_ids.ToldId.{ToldId};
+    ghost use Rattle.apex_judge.specs.declared.port_ids.PortId.{PortId};
 
-    ghost Value = { List ToldId };
+    ghost Value = { List PortId };
 
-    ghost view = { λ told. told.ids.items };
+    ghost view = { λ ids. ids.ids.items };
 }
 
-impl ToldIds {
+impl PortIds {
     /// None.
-    pub(crate) fn new(alloc: Global) -> ToldIds
+    pub(crate) fn new(alloc: Global) -> PortIds
         ensures { result ≡ [] }
     {
-        ToldIds {
+        PortIds {
             ids: Vec::new(alloc),
         }
     }
 
-    fn with_system(&self, system: u32) -> Option<ToldId>
+    fn with_system(&self, system: u32) -> Option<PortId>
         ensures { result ≡ find (λ one. one.system == system) self.now }
     {
         self.ids.iter().copied().find(|one| one.system == system)
     }
 
-    fn with_ours(&self, ours: u32) -> Option<ToldId>
+    fn with_ours(&self, ours: u32) -> Option<PortId>
         ensures { result ≡ find (λ one. one.ours == ours) self.now }
     {
         self.ids.iter().copied().find(|one| one.ours == ours)
@@ -118,13 +118,13 @@ impl ToldIds {
     }
 
     /// Goes along with a reply about a port. Where there is no memory for its identifier, nothing changes.
-    pub(crate) fn tell(&mut self, port: Option<u32>, reply: &Reply) -> Result<(), OutOfMemory>
-        ensures told { IfOk result (λ _. self.new ≡ told_with self.old port reply.now) }
+    pub(crate) fn learn(&mut self, port: Option<u32>, reply: &Reply) -> Result<(), OutOfMemory>
+        ensures known { IfOk result (λ _. self.new ≡ known_with self.old port reply.now) }
         ensures refused { IfErr result (λ _. self.new ≡ self.old) }
     {
         if let (Some(port), Reply::Id(system)) = (port, reply) {
             if self.is_new(*system, port) {
-                self.ids.push(ToldId {
+                self.ids.push(PortId {
                     system: *system,
                     ours: port,
                 })?;
