@@ -1,13 +1,15 @@
 //! An order in which a call gets a reply, searched for in the group of its partition.
 ghost use Rattle.std.specs.Prelude.{◌≡◌, length, IfOk, IfSome, IfNone};
 ghost use Rattle.apex_groups.specs.Groups.{AreApart};
-ghost use Rattle.apex_orders.specs.Outcomes.{CanBeAnswered, CanBeAnsweredWith, IsAnsweredBy, IsAnsweredByWith, IsUndecided, IsUndecidedWith};
+ghost use Rattle.apex_orders.specs.Outcomes.{CanBeAnswered, CanBeAnsweredWith, CanOccurWith, IsAnsweredBy, IsAnsweredByWith, IsGivenByWith, IsUndecided, IsUndecidedWith};
 
 use crate::ends::calls_inside;
 use crate::groups::Groups;
 use crate::script_parts::order_of;
 use apex_module::Config;
-use apex_orders::{Asked, Order, OrdersFault, Progress, order_giving_with_progress};
+use apex_orders::{
+    Admitted, Asked, Order, OrdersFault, PossibleReply, Progress, order_giving_with_progress,
+};
 use apex_ports::Script;
 use std::alloc::Global;
 
@@ -59,6 +61,35 @@ fn unclocked_order<P: Progress>(
         return order_in_group(alloc, config, &groups, scripts, asked, bound, progress);
     }
     order_giving_with_progress(alloc, config, scripts, false, asked, bound, progress)
+}
+
+/// An order that ends with the call and gives it this reply, which some order of all calls does. It searches like
+/// `order_giving_apart`.
+pub fn order_of_reply<P: Progress>(
+    alloc: Global,
+    config: &Config,
+    scripts: &mut [Script],
+    clock: bool,
+    one: &PossibleReply,
+    bound: usize,
+    progress: &mut P,
+) -> Result<Order, OrdersFault>
+    requires count { length scripts.old ≡ length config.now.partitions }
+    requires possible { CanOccurWith clock config.now scripts.old one.now }
+    ensures same { scripts.new ≡ scripts.old }
+    ensures given { IfOk result (λ order. IsGivenByWith clock config.now scripts.old one.now order) }
+    ensures undecided { IsUndecidedWith clock P.CanStop config.now scripts.old bound result }
+{
+    let asked = Asked {
+        partition: one.partition,
+        index: one.index,
+        admitted: Admitted::Reply(one.reply.copy()),
+    };
+    match order_giving_apart(alloc, config, scripts, clock, &asked, bound, progress) {
+        Err(fault) => Err(fault),
+        Ok(Some(order)) => Ok(order),
+        Ok(None) => unreachable!(),
+    }
 }
 
 /// Searches the calls of the group of the call's partition.

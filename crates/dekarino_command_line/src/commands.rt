@@ -37,6 +37,8 @@ pub(crate) const WHEN: &str = "when";
 
 pub(crate) const NEVER: &str = "never";
 
+pub(crate) const WITNESS: &str = "witness";
+
 pub(crate) const JSON: &str = "json";
 
 /// The command of the whole program.
@@ -173,6 +175,7 @@ fn orders<'a>(alloc: Global) -> Result<Command<'a>, AllocError> {
         .arg(flag(alloc, CLOCK, help::CLOCK))?
         .arg(question(alloc, WHEN, help::WHEN))?
         .arg(question(alloc, NEVER, help::NEVER))?
+        .arg(option(alloc, WITNESS, "FOLDER", help::WITNESS))?
         .arg(json(alloc))
 }
 

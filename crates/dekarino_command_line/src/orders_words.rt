@@ -23,13 +23,23 @@ pub(crate) fn orders_in<'a>(alloc: Global, given: &ArgMatches<'a>) -> Result<Tas
             "each of the words after CONFIG has to be NAME=SCRIPT",
         ));
     }
+    let questions = questions_in(alloc, given)?;
+    let witness = given.get_str(commands::WITNESS);
+    if witness == Some("") {
+        return Err(orders_fault(alloc, "--witness takes a folder"));
+    }
+    if witness.is_some() && !questions.is_empty() {
+        let message = "--witness goes without --when and --never";
+        return Err(orders_fault(alloc, message));
+    }
     let mut scripts = Vec::new(alloc);
     scripts.extend_from_slice(words)?;
     Ok(Task::Orders {
         config: config_in(alloc, given)?,
         scripts,
         limits,
-        questions: questions_in(alloc, given)?,
+        questions,
+        witness,
         form: form_in(given),
     })
 }

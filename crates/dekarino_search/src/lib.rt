@@ -33,6 +33,7 @@ mod search_progress;
 pub mod unfinished;
 mod unreadable;
 mod verdict;
+mod witnesses;
 
 pub use crate::bound::Bound;
 pub use crate::configuration::read_config;

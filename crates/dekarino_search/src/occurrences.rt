@@ -92,7 +92,7 @@ fn answer_text(
 }
 
 /// The calls in an order as a log: each with its reply.
-fn order_text(
+pub(crate) fn order_text(
     alloc: Global,
     config: &Config,
     scripts: &[Script],

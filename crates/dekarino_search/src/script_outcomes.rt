@@ -5,12 +5,14 @@ use crate::answers::answers_to;
 use crate::bound::Bound;
 use crate::clock::check_moments;
 use crate::configuration::read_config;
+use crate::file_writer::FileWriter;
 use crate::json_outcomes::OutcomeObjects;
 use crate::outcome::Outcome;
 use crate::progress::Progress;
 use crate::scripts::{Scripts, read_scripts};
 use crate::search_progress::SearchProgress;
 use crate::unfinished::Unfinished;
+use crate::witnesses::write_witnesses;
 use apex_files::Opener;
 use apex_groups::{OutcomesApart, all_outcomes_apart};
 use apex_module::Config;
@@ -23,14 +25,16 @@ use dekarino_texts::{LineNumbers, OutcomeText, walk_outcomes};
 use std::alloc::{AllocError, Global};
 
 /// What the scripts that the arguments name can come to, on the configuration in a file: all of it, or the answers to
-/// questions. A search gives up at the limits.
-pub fn outcomes_of_scripts<'a, O: Opener, P: Progress>(
+/// questions. If `witness` is given, orders for the replies of calls that have several are written to files in that folder.
+/// A search gives up at the limits.
+pub fn outcomes_of_scripts<'a, O: Opener + FileWriter, P: Progress>(
     alloc: Global,
     opener: &O,
     config: &'a str,
     arguments: &[&'a str],
     limits: SearchLimits,
     questions: &[Question<'a>],
+    witness: Option<&'a str>,
     form: Form,
     progress: &mut P,
 ) -> Result<Outcome, Unfinished<'a>> {
@@ -51,7 +55,29 @@ pub fn outcomes_of_scripts<'a, O: Opener, P: Progress>(
         Ok(found) => found,
         Err(fault) => return Err(unfinished_by(fault, &progress)),
     };
-    let text = outcomes_text(alloc, &config, scripts, lines, &found, form)?;
+    let replies = found.replies.as_slice();
+    let files = match write_witnesses(
+        alloc,
+        opener,
+        &config,
+        scripts,
+        lines,
+        replies,
+        witness,
+        &mut progress,
+    ) {
+        Ok(files) => files,
+        Err(unfinished) => return Err(unfinished),
+    };
+    let text = outcomes_text(
+        alloc,
+        &config,
+        scripts,
+        lines,
+        &found,
+        files.as_slice(),
+        form,
+    )?;
     Ok(Outcome::Done(text.into_bytes()))
 }
 
@@ -61,6 +87,7 @@ fn outcomes_text(
     scripts: &[Script],
     lines: &[LineNumbers],
     outcomes: &OutcomesApart,
+    files: &[String],
     form: Form,
 ) -> Result<String, OutOfMemory>
     requires { length scripts.now ≡ length config.now.partitions }
@@ -68,12 +95,12 @@ fn outcomes_text(
     match form {
         Form::Text => {
             let mut sink = OutcomeText::new(alloc);
-            walk_outcomes(alloc, config, scripts, lines, outcomes, &mut sink)?;
+            walk_outcomes(alloc, config, scripts, lines, outcomes, files, &mut sink)?;
             Ok(sink.into_text())
         }
         Form::Json => {
             let mut sink = OutcomeObjects::new(alloc);
-            walk_outcomes(alloc, config, scripts, lines, outcomes, &mut sink)?;
+            walk_outcomes(alloc, config, scripts, lines, outcomes, files, &mut sink)?;
             Ok(sink.into_text())
         }
     }
