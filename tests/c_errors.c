@@ -1,6 +1,6 @@
 /* c_errors CONFIG: error handlers, what is done without one, missed deadlines, and turns that don't end; by the rules
  * of docs/C.md. The partition has its windows from 10 to 30 of each 100 nanoseconds. Prints how many answers were seen.
- * What the host says is in c_errors.told.txt. */
+ * What the host says is in c_errors.stderr.txt. */
 #include "c_process_test.h"
 
 #include <stdatomic.h>

@@ -1,6 +1,6 @@
 /* c_frames CONFIG: the bench's calls of bench_processes.h: what they refuse, the order of the windows and their
  * moments, restarts, a partition in IDLE, a module that is closed, and calls by no process; by the rules of docs/C.md.
- * Prints how many answers were seen. What the host says on standard error is in c_frames.told.txt. */
+ * Prints how many answers were seen. What the host says on standard error is in c_frames.stderr.txt. */
 #include "c_process_test.h"
 
 static void nothing(void) {}

@@ -1,6 +1,6 @@
 /* c_partition_forms CONFIG: partitions' code in its common forms, which must neither hang nor starve the bench: servers
  * that wait, busy waits, endless loops, priorities, restarts. Prints what happens when, as worked out by hand in
- * c_partition_forms.txt; what the host says is in c_partition_forms.told.txt. */
+ * c_partition_forms.txt; what the host says is in c_partition_forms.stderr.txt. */
 #include "c_process_test.h"
 
 #include <pthread.h>

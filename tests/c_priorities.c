@@ -1,6 +1,6 @@
 /* c_priorities CONFIG: priorities, preemption and its lock, by the rules of docs/C.md. The partition has its windows
  * from 10 to 30 of each 100 nanoseconds. Prints how many answers were seen. What the host says is in
- * c_priorities.told.txt. */
+ * c_priorities.stderr.txt. */
 #include "c_process_test.h"
 
 enum { NOBODY = 9 };

@@ -1,5 +1,5 @@
 /* c_processes CONFIG: each service of bench_processes.h with each of its return codes, by the rules of docs/C.md.
- * Prints how many answers were seen. What the host says on standard error is in c_processes.told.txt. */
+ * Prints how many answers were seen. What the host says on standard error is in c_processes.stderr.txt. */
 #include "c_process_test.h"
 
 static void idle_process(void) { STOP_SELF(); }

@@ -1,7 +1,7 @@
 /* c_reports CONFIG: what a bench learns without code of its own: the lines of a refused configuration, the words of a
  * refused call, names, the report and the log; by the rules of docs/C.md. Prints a report and a log, as worked out by
  * hand in c_reports.txt, and the lines that the bench says to a sink; what it says on standard error is in
- * c_reports.told.txt. */
+ * c_reports.stderr.txt. */
 #include "c_process_test.h"
 
 #include <pthread.h>

@@ -1,5 +1,5 @@
 /* c_watch CONFIG: a process that runs without a service is reported once, after 10 seconds of the machine's clock or after
- * those given to bench_watch; by the rules of docs/C.md. Takes 17 seconds. What the host says is in c_watch.told.txt. */
+ * those given to bench_watch; by the rules of docs/C.md. Takes 17 seconds. What the host says is in c_watch.stderr.txt. */
 #include "c_process_test.h"
 
 #include <stdatomic.h>
