@@ -14,8 +14,8 @@ use apex_types::OutOfMemory;
 use std::alloc::Global;
 
 /// An order of all calls that leads to the end that is asked for; `None` if no order does, or if there is no such
-/// channel. With `clock`, the moments of all partitions are of one clock. All ends are searched, without a clock with each group of partitions that share no channel with the others by itself. The
-/// scripts change only during the search.
+/// channel. With `clock`, the moments of all partitions are of one clock, as for `all_outcomes_apart`. All ends are
+/// searched. The scripts change only during the search.
 pub fn order_to_end<P: Progress>(
     alloc: Global,
     config: &Config,

@@ -61,6 +61,7 @@ pub fn outcomes_of_scripts<'a, O: Opener + FileWriter, P: Progress>(
         opener,
         &config,
         scripts,
+        limits.clock,
         lines,
         replies,
         witness,

@@ -1,6 +1,6 @@
 //! Orders for the replies of calls that have several, each in a file of its own.
 ghost use Rattle.std.specs.Prelude.{◌≡◌, ◌<◌, length};
-ghost use Rattle.apex_orders.specs.Outcomes.{AreReplies, CanOccur};
+ghost use Rattle.apex_orders.specs.Outcomes.{AreRepliesWith, CanOccurWith};
 
 use crate::file_writer::FileWriter;
 use crate::occurrences::order_text;
@@ -29,13 +29,14 @@ pub(crate) fn write_witnesses<'a, O: FileWriter, P: Progress>(
     files: &O,
     config: &Config,
     scripts: &mut [Script],
+    clock: bool,
     lines: &[LineNumbers],
     replies: &[PossibleReply],
     folder: Option<&'a str>,
     progress: &mut SearchProgress<'_, P>,
 ) -> Result<Vec<String>, Unfinished<'a>>
     requires count { length scripts.old ≡ length config.now.partitions }
-    requires replies { AreReplies config.now scripts.old replies.now }
+    requires replies { AreRepliesWith clock config.now scripts.old replies.now }
     ensures same { scripts.new ≡ scripts.old }
 {
     let mut names = Vec::new(alloc);
@@ -53,8 +54,8 @@ pub(crate) fn write_witnesses<'a, O: FileWriter, P: Progress>(
             if replies_to(alloc, p, index, replies)?.len() > 1 {
                 let line = line_at(numbers, index);
                 write_call(
-                    alloc, files, config, scripts, p, index, line, replies, folder, progress,
-                    &mut names,
+                    alloc, files, config, scripts, clock, p, index, line, replies, folder,
+                    progress, &mut names,
                 )?;
             }
         }
@@ -68,6 +69,7 @@ fn write_call<'a, O: FileWriter, P: Progress>(
     files: &O,
     config: &Config,
     scripts: &mut [Script],
+    clock: bool,
     p: usize,
     index: usize,
     line: usize,
@@ -78,7 +80,7 @@ fn write_call<'a, O: FileWriter, P: Progress>(
 ) -> Result<(), Unfinished<'a>>
     requires count { length scripts.old ≡ length config.now.partitions }
     requires partition { p < length config.now.partitions }
-    requires replies { AreReplies config.now scripts.old replies.now }
+    requires replies { AreRepliesWith clock config.now scripts.old replies.now }
     ensures same { scripts.new ≡ scripts.old }
 {
     let mut number: usize = 0;
@@ -86,7 +88,9 @@ fn write_call<'a, O: FileWriter, P: Progress>(
         if is_to(one, p, index) && names.len() < MOST_FILES {
             number = number.saturating_add(1);
             let name = file_name(alloc, config, p, line, number, one)?;
-            write_order(alloc, files, config, scripts, one, folder, &name, progress)?;
+            write_order(
+                alloc, files, config, scripts, clock, one, folder, &name, progress,
+            )?;
             if let Err(refused) = names.push(name) {
                 return Err(Unfinished::from(AllocError::from(refused)));
             }
@@ -101,17 +105,18 @@ fn write_order<'a, O: FileWriter, P: Progress>(
     files: &O,
     config: &Config,
     scripts: &mut [Script],
+    clock: bool,
     one: &PossibleReply,
     folder: &'a str,
     name: &str,
     progress: &mut SearchProgress<'_, P>,
 ) -> Result<(), Unfinished<'a>>
     requires count { length scripts.old ≡ length config.now.partitions }
-    requires possible { CanOccur config.now scripts.old one.now }
+    requires possible { CanOccurWith clock config.now scripts.old one.now }
     ensures same { scripts.new ≡ scripts.old }
 {
     let states = progress.states();
-    let order = match order_of_reply(alloc, config, scripts, one, states, progress) {
+    let order = match order_of_reply(alloc, config, scripts, clock, one, states, progress) {
         Ok(order) => order,
         Err(fault) => return Err(unfinished_by(fault, progress)),
     };

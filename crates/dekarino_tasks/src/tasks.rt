@@ -203,7 +203,7 @@ fn unwritable_file_in<E: Write>(folder: &str, name: &str, errors: &mut E) -> u8 
     UNWRITABLE
 }
 
-/// Writes why words are no question, and answers the status.
+/// Writes why words of the command are at fault, and answers the status.
 fn bad_argument<E: Write>(words: &str, reason: &str, errors: &mut E) -> u8 {
     let _ = writeln!(errors, "argument fault: {words}: {reason}");
     MISUSED
