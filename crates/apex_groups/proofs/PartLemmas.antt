@@ -19,7 +19,7 @@ use Rattle.apex_orders.specs.declared.orders_fault.OrdersFault.{OrdersFault}
 use Rattle.apex_orders.specs.declared.orders_fault.OrdersFault.TheVariants.{TooManyStates, OutOfMemory, Stopped}
 use Rattle.apex_orders.specs.declared.replies.PossibleReply.{PossibleReply}
 use Rattle.apex_orders.specs.Orders.{Scripts, script_of, calls_of, IsBeginning, IsWay}
-use Rattle.apex_orders.specs.Outcomes.{AreEnds, AreReplies, CanBeAnswered, CanOccur, HasMorePoints, IsAnsweredBy, IsUndecided}
+use Rattle.apex_orders.specs.Outcomes.{AreEnds, AreReplies, CanBeAnswered, CanOccur, HasMorePointsWith, IsAnsweredBy, IsUndecided}
 use Rattle.apex_orders.specs.declared.outcomes.Outcomes.{Outcomes}
 use Rattle.apex_orders.proofs.ClockLemmas.{unclocked}
 use Rattle.apex_orders.proofs.Completing.{answered_on, begins_of, finish}
@@ -82,7 +82,7 @@ module _ (config : Configuration) (inside : ℕ → Bool) (scripts part : Script
   }
 
   -- more points than a bound are points of all scripts, too
-  more_points : (bound : ℕ) → HasMorePoints config part bound → HasMorePoints config scripts bound
+  more_points : (bound : ℕ) → HasMorePointsWith false config part bound → HasMorePointsWith false config scripts bound
   more_points bound more = record {
     histories = more.histories;
     many = more.many;
