@@ -24,8 +24,9 @@ use dekarino_command_line::{Form, Question, SearchLimits};
 use dekarino_texts::{LineNumbers, OutcomeText, walk_outcomes};
 use std::alloc::{AllocError, Global};
 
-/// All replies that the scripts named by the arguments can get, on the configuration in a file, or the answers to questions. If `witness` is given, orders for the replies of calls that have several are written to files in that folder.
-/// A search gives up at the limits.
+/// All replies that the scripts named by the arguments can get, on the configuration in a file, or the answers to
+/// questions. If `witness` is given, orders for the replies of calls that have several are written to files in that
+/// folder. A search gives up at the limits.
 pub fn outcomes_of_scripts<'a, O: Opener + FileWriter, P: Progress>(
     alloc: Global,
     opener: &O,
