@@ -1,5 +1,5 @@
 -- Groups searched one after the other.
-use Rattle.std.proofs.Common.{◌≡◌, ◌≢◌, ⊎_elim, ℕ, ◌+◌, ◌<◌, Bool, true, List, [], ◌++◌, length, map, refl, sym, ap, subst, arith}
+use Rattle.std.proofs.Common.{◌≡◌, ◌≢◌, ⊎_elim, ℕ, ◌+◌, ◌<◌, Bool, true, false, List, [], ◌++◌, length, map, refl, sym, ap, subst, arith}
 use Rattle.std.proofs.lemmas.Bool.{cases_eq}
 use Rattle.std.proofs.lemmas.Bool.Decides.{nat_tests}
 use Rattle.apex_module.specs.Configuration.{Configuration, IsConfiguration}
@@ -9,7 +9,7 @@ use Rattle.apex_groups.specs.Groups.{AreApart, HasNone, IsPart, group_of, in_gro
 use Rattle.apex_groups.proofs.GroupLemmas.{owner_within}
 use Rattle.apex_orders.specs.declared.replies.PossibleReply.{PossibleReply}
 use Rattle.apex_orders.specs.Orders.{Scripts, IsWay, history_of}
-use Rattle.apex_orders.specs.Outcomes.{AreEnds, AreReplies, CanOccur}
+use Rattle.apex_orders.specs.Outcomes.{AreEnds, AreEndsWith, AreReplies, CanOccur}
 use Rattle.apex_orders.specs.Points.{IsSamePoint}
 use Rattle.apex_orders.specs.Lists.{Has}
 use Rattle.apex_groups.specs.Counts.{HasSameTotals, ShowAllCounts, ShowsCounts}
@@ -17,6 +17,7 @@ use Rattle.apex_groups.specs.ScriptParts.{AreRepliesBelow, ShowGroups, ShowsPoin
 use Rattle.apex_groups.proofs.ChannelLemmas.{same_totals}
 use Rattle.apex_groups.proofs.Lists.{has_before, has_behind, has_either, has_mapped, has_none, item_at, of_mapped}
 use Rattle.apex_groups.proofs.PartLemmas.{occurs_in_all, occurs_in_part, occurs_inside, occurs_within, way_inside}
+use Rattle.apex_orders.proofs.ClockLemmas.{unclocked}
 use Rattle.apex_groups.proofs.WholeLemmas.{whole_inside, whole_way}
 
 pub is_in : (groups : List ℕ) (group p : ℕ) → group_of groups p ≡ group → in_group groups group p ≡ true
@@ -26,11 +27,12 @@ has_group : (groups : List ℕ) (group p : ℕ) → in_group groups group p ≡ 
 has_group groups group p is = grind (arith, nat_tests, is)
 
 -- if all are searched together
-pub together : (config : Configuration) (scripts : Scripts) (ends : List (List ℕ)) → AreEnds config scripts ends → ShowAllCounts config scripts ends
-together config scripts ends are = record {
+pub together : (clock : Bool) (config : Configuration) (scripts : Scripts) (ends : List (List ℕ)) → AreEndsWith clock config scripts ends → ShowAllCounts clock config scripts ends
+together clock config scripts ends are = record {
   ways = are.ways;
-  counts = λ way is_way c within.
-      let one = are.all way is_way in
+  clocked = are.clocked;
+  counts = λ way is_way clocked c within.
+      let one = are.all way is_way clocked in
       record {
         order = one.order;
         here = one.here;
@@ -114,7 +116,7 @@ module _ (config : Configuration) (scripts : Scripts) (groups : List ℕ) where
 
           here : (way : History) → IsWay config scripts way → ShowsPoint config scripts inside (ends ++ new) way
           here way is_way =
-              let one = are.all (entries_inside inside way) (way_inside config inside scripts part is (apart.closed group) way is_way) in
+              let one = are.all (entries_inside inside way) (way_inside config inside scripts part is (apart.closed group) way is_way) (unclocked part (entries_inside inside way)) in
               record {
                 order = made_whole inside scripts one.order;
                 here = has_behind ends new (made_whole inside scripts one.order) (has_mapped (made_whole inside scripts) found one.order one.here);
@@ -138,8 +140,12 @@ module _ (config : Configuration) (scripts : Scripts) (groups : List ℕ) where
     λ can. (are one).1 (can, apart.within one.partition (occurs_within config scripts count one can)),
   )
 
-  pub all_counts : IsConfiguration config → AreApart config groups → (ends : List (List ℕ)) → ShowGroups config scripts groups (length config.partitions) ends → ShowAllCounts config scripts ends
-  all_counts valid apart ends show = record { ways = show.ways; counts = counts }
+  pub all_counts : IsConfiguration config → AreApart config groups → (ends : List (List ℕ)) → ShowGroups config scripts groups (length config.partitions) ends → ShowAllCounts false config scripts ends
+  all_counts valid apart ends show = record {
+    ways = show.ways;
+    clocked = λ order has. unclocked scripts (history_of config scripts order);
+    counts = λ way is_way clocked. counts way is_way;
+  }
     where
       counts : (way : History) → IsWay config scripts way → (c : ℕ) → c < length config.channels → ShowsCounts config scripts ends way c
       counts way is_way c within =

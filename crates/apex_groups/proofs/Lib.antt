@@ -9,4 +9,5 @@ pub mod Lists
 pub mod LogGroupLemmas
 pub mod OrderLemmas
 pub mod PartLemmas
+pub mod ReplyLemmas
 pub mod WholeLemmas

@@ -19,8 +19,9 @@ use Rattle.apex_orders.specs.declared.orders_fault.OrdersFault.{OrdersFault}
 use Rattle.apex_orders.specs.declared.orders_fault.OrdersFault.TheVariants.{TooManyStates, OutOfMemory, Stopped}
 use Rattle.apex_orders.specs.declared.replies.PossibleReply.{PossibleReply}
 use Rattle.apex_orders.specs.Orders.{Scripts, script_of, calls_of, IsBeginning, IsWay}
-use Rattle.apex_orders.specs.Outcomes.{AreEnds, AreReplies, CanBeAnswered, CanOccur, HasMorePoints, IsAnsweredBy, IsUndecided}
+use Rattle.apex_orders.specs.Outcomes.{AreEnds, AreReplies, CanBeAnswered, CanOccur, HasMorePointsWith, IsAnsweredBy, IsUndecided}
 use Rattle.apex_orders.specs.declared.outcomes.Outcomes.{Outcomes}
+use Rattle.apex_orders.proofs.ClockLemmas.{unclocked}
 use Rattle.apex_orders.proofs.Completing.{answered_on, begins_of, finish}
 use Rattle.apex_orders.proofs.Walks.{IsGood}
 use Rattle.apex_groups.specs.ScriptParts.{IsAnswerOf, IsFoundOf}
@@ -81,11 +82,12 @@ module _ (config : Configuration) (inside : ℕ → Bool) (scripts part : Script
   }
 
   -- more points than a bound are points of all scripts, too
-  more_points : (bound : ℕ) → HasMorePoints config part bound → HasMorePoints config scripts bound
+  more_points : (bound : ℕ) → HasMorePointsWith false config part bound → HasMorePointsWith false config scripts bound
   more_points bound more = record {
     histories = more.histories;
     many = more.many;
     beginnings = λ h has. part_begins h (more.beginnings h has);
+    clocked = λ h has. unclocked scripts h;
     apart = more.apart;
   }
 
@@ -112,6 +114,7 @@ module _ (config : Configuration) (inside : ℕ → Bool) (scripts part : Script
   occurs_in_part closed one here can = record {
     way = entries_inside inside can.way;
     is_way = way_inside closed can.way can.is_way;
+    clocked = unclocked part (entries_inside inside can.way);
     reply = ap (λ (es : History). slice_get (map (λ (entry : Entry). entry.reply) es) one.index) (entries_stay inside one.partition here can.way) ∙ can.reply;
   }
 
@@ -124,10 +127,11 @@ module _ (config : Configuration) (inside : ℕ → Bool) (scripts part : Script
 
   pub occurs_in_all : IsConfiguration config → length scripts ≡ length config.partitions → (one : PossibleReply) → CanOccur config part one → CanOccur config scripts one
   occurs_in_all valid count one can =
-      let ended = finish config scripts valid count can.way (good_part valid can.way can.is_way) in
+      let ended = finish config scripts valid false count can.way (good_part valid can.way can.is_way) (unclocked scripts can.way) in
       record {
         way = _;
-        is_way = ended.finished;
+        is_way = ended.finished.0;
+        clocked = ended.finished.1;
         reply = answered_on config scripts valid can.way ended.order one can.reply;
       }
 

@@ -17,6 +17,7 @@ use Rattle.apex_orders.specs.declared.replies.PossibleReply.{PossibleReply}
 use Rattle.apex_orders.specs.Orders.{Scripts, script_of, calls_of, IsBeginning, IsOrder, IsWay, entries_for, next_entries, continued, history_of, times}
 use Rattle.apex_orders.specs.Outcomes.{EndsWith, IsAnsweredBy, IsGivenBy}
 use Rattle.apex_orders.specs.Lists.{Has}
+use Rattle.apex_orders.proofs.ClockLemmas.{unclocked}
 use Rattle.apex_orders.proofs.Completing.{IsAnswered, grows, way_of}
 use Rattle.apex_orders.proofs.Lists.{none_past}
 use Rattle.apex_orders.proofs.Walks.{IsDone, IsNext, answered, calls_count, calls_of-append, continued-append, good_walk, next_cases, one_longer, own_entry}
@@ -154,6 +155,7 @@ module _ (config : Configuration) (inside : ℕ → Bool) (scripts part : Script
       record {
         valid = λ k p at. let has : Has order p = has_filtered inside order p (k, at) in given.valid has.0 p has.1;
         begins = subst (IsBeginning config scripts) (sym same) (part_begins config inside scripts part is (history_of config part order) given.begins);
+        clocked = unclocked scripts (history_of config scripts (filter inside order));
         reply = subst (λ (h : History). IsAnswered h one) (sym same) given.reply;
         last = subst (λ (h : History). EndsWith h one) (sym same) given.last;
       }

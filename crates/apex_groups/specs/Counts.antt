@@ -1,8 +1,9 @@
 -- Orders of all calls that show each channel's counts.
-use Rattle.std.specs.Prelude.{ℕ, ◌≡◌, ◌<◌, List, length}
+use Rattle.std.specs.Prelude.{ℕ, Bool, ◌≡◌, ◌<◌, List, length}
 use Rattle.apex_module.specs.Configuration.{Configuration}
 use Rattle.apex_ports.specs.Channels.{waiting_on}
 use Rattle.apex_ports.specs.History.{History}
+use Rattle.apex_orders.specs.Clock.{IsClocked}
 use Rattle.apex_orders.specs.Orders.{Scripts, IsWay, history_of}
 use Rattle.apex_orders.specs.Points.{HasSameCounts}
 use Rattle.apex_orders.specs.Lists.{Has}
@@ -18,8 +19,10 @@ pub record ShowsCounts (config : Configuration) (scripts : Scripts) (ends : List
   pub here : Has ends order
   pub same : HasSameTotals config way (history_of config scripts order) c
 
--- each listed order makes all calls, and whatever a channel counts after some way, it counts after one of them
-pub record ShowAllCounts (config : Configuration) (scripts : Scripts) (ends : List (List ℕ)) : Type 0 where
+-- each listed order makes all calls, and whatever a channel counts after some way, it counts after one of them; with the
+-- clock, of those on which each call was due
+pub record ShowAllCounts (clock : Bool) (config : Configuration) (scripts : Scripts) (ends : List (List ℕ)) : Type 0 where
   pub ways : (order : List ℕ) → Has ends order → IsWay config scripts (history_of config scripts order)
-  pub counts : (way : History) → IsWay config scripts way → (c : ℕ) → c < length config.channels
+  pub clocked : (order : List ℕ) → Has ends order → IsClocked clock scripts (history_of config scripts order)
+  pub counts : (way : History) → IsWay config scripts way → IsClocked clock scripts way → (c : ℕ) → c < length config.channels
       → ShowsCounts config scripts ends way c

@@ -1,9 +1,10 @@
 -- Questions about what a channel counts after all calls.
-use Rattle.std.specs.Prelude.{ℕ, ◌≡◌, ◌<◌, ◌≤◌, List, length, slice_get, Option, Some, None}
+use Rattle.std.specs.Prelude.{ℕ, Bool, ◌≡◌, ◌<◌, ◌≤◌, List, length, slice_get, Option, Some, None}
 use Rattle.apex_module.specs.Configuration.{Configuration}
 use Rattle.apex_ports.specs.Channels.{accepted_on, received_on, cleared_on, waiting_on}
 use Rattle.apex_ports.specs.Counts.{count_of}
 use Rattle.apex_ports.specs.History.{History}
+use Rattle.apex_orders.specs.Clock.{IsClocked}
 use Rattle.apex_orders.specs.Lists.{Has}
 use Rattle.apex_orders.specs.Orders.{Scripts, IsWay, history_of}
 use Rattle.apex_groups.specs.declared.asked_end.AskedEnd.{AskedEnd}
@@ -39,14 +40,16 @@ FindsEnd config scripts asked orders (Some index) =
 FindsEnd config scripts asked orders None =
     (order : List ℕ) → Has orders order → ¬ IsSuchEnd config asked (history_of config scripts order)
 
--- the order makes all calls, and leads to such an end
-pub record LeadsToEnd (config : Configuration) (scripts : Scripts) (asked : AskedEnd) (order : List ℕ) : Type 0 where
+-- the order makes all calls, and leads to such an end; with the clock, each call was due
+pub record LeadsToEnd (clock : Bool) (config : Configuration) (scripts : Scripts) (asked : AskedEnd) (order : List ℕ) : Type 0 where
   pub is_way : IsWay config scripts (history_of config scripts order)
+  pub clocked : IsClocked clock scripts (history_of config scripts order)
   pub such : IsSuchEnd config asked (history_of config scripts order)
 
--- there is such a channel, and some way of all calls has such an end
-pub record HasSuchEnd (config : Configuration) (scripts : Scripts) (asked : AskedEnd) : Type 0 where
+-- there is such a channel, and some way of all calls has such an end; with the clock, one on which each call was due
+pub record HasSuchEnd (clock : Bool) (config : Configuration) (scripts : Scripts) (asked : AskedEnd) : Type 0 where
   pub channel : asked.channel < length config.channels
   pub way : History
   pub is_way : IsWay config scripts way
+  pub clocked : IsClocked clock scripts way
   pub such : IsSuchEnd config asked way

@@ -1,7 +1,7 @@
 //! An order of all calls that leads to an end.
 ghost use Rattle.std.specs.Prelude.{◌≡◌, ◌<◌, ◌↔◌, length, IfOk, IfSome, IfNone, IsTrue};
 ghost use Rattle.apex_orders.specs.Orders.{history_of};
-ghost use Rattle.apex_orders.specs.Outcomes.{IsUndecided};
+ghost use Rattle.apex_orders.specs.Outcomes.{IsUndecidedWith};
 ghost use Rattle.apex_groups.specs.Ends.{FindsEnd, HasSuchEnd, IsSuchEnd, LeadsToEnd};
 
 use crate::after::ports_after;
@@ -14,12 +14,13 @@ use apex_types::OutOfMemory;
 use std::alloc::Global;
 
 /// An order of all calls that leads to the end that is asked for; `None` if no order does, or if there is no such
-/// channel. All ends are searched, with each group of partitions that share no channel with the others by itself. The
-/// scripts change only during the search.
+/// channel. With `clock`, the moments of all partitions are of one clock, as for `all_outcomes_apart`. All ends are
+/// searched. The scripts change only during the search.
 pub fn order_to_end<P: Progress>(
     alloc: Global,
     config: &Config,
     scripts: &mut [Script],
+    clock: bool,
     asked: &AskedEnd,
     bound: usize,
     progress: &mut P,
@@ -27,15 +28,16 @@ pub fn order_to_end<P: Progress>(
     requires { length scripts.old ≡ length config.now.partitions }
     ensures same { scripts.new ≡ scripts.old }
     ensures found { IfOk result
-        (λ answer. IfSome answer (λ order. LeadsToEnd config.now scripts.old asked.now order)) }
+        (λ answer. IfSome answer (λ order.
+        LeadsToEnd clock config.now scripts.old asked.now order)) }
     ensures never { IfOk result
-        (λ answer. IfNone answer (¬ HasSuchEnd config.now scripts.old asked.now)) }
-    ensures undecided { IsUndecided P.CanStop config.now scripts.old bound result }
+        (λ answer. IfNone answer (¬ HasSuchEnd clock config.now scripts.old asked.now)) }
+    ensures undecided { IsUndecidedWith clock P.CanStop config.now scripts.old bound result }
 {
     if asked.channel >= config.channels() {
         return Ok(None);
     }
-    let mut found = match all_outcomes_apart(alloc, config, scripts, bound, progress) {
+    let mut found = match all_outcomes_apart(alloc, config, scripts, clock, bound, progress) {
         Err(fault) => return Err(fault),
         Ok(found) => found,
     };

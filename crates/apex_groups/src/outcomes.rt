@@ -1,7 +1,7 @@
 //! All that can happen to scripts, group by group.
-ghost use Rattle.std.specs.Prelude.{◌≡◌, ◌++◌, length, map, IfOk, OnOk};
+ghost use Rattle.std.specs.Prelude.{◌≡◌, ◌++◌, false, length, map, IfOk, OnOk};
 ghost use Rattle.apex_groups.specs.Groups.{AreApart, in_group};
-ghost use Rattle.apex_orders.specs.Outcomes.{AreReplies, IsUndecided};
+ghost use Rattle.apex_orders.specs.Outcomes.{AreReplies, AreRepliesWith, IsUndecided, IsUndecidedWith};
 ghost use Rattle.apex_groups.specs.Counts.{ShowAllCounts};
 ghost use Rattle.apex_groups.specs.ScriptParts.{made_whole};
 
@@ -38,10 +38,34 @@ pub struct OutcomesApart {
 }
 
 /// All that can happen to the partitions' scripts, as `all_outcomes` of `apex_orders` finds it, but each group of
-/// partitions that share no channel with the others is searched by itself. It is undecided if a group leads to more
-/// states than the bound, or `progress` ends a search. The scripts change only while a group is searched. `progress`
+/// partitions that share no channel with the others is searched by itself. With `clock`, the moments of all partitions
+/// are of one clock, and all are searched together. It is undecided if a group leads to more states than the bound, or
+/// `progress` ends a search. The scripts change only while a group is searched. `progress`
 /// receives from time to time how far the search of a group is.
 pub fn all_outcomes_apart<P: Progress>(
+    alloc: Global,
+    config: &Config,
+    scripts: &mut [Script],
+    clock: bool,
+    bound: usize,
+    progress: &mut P,
+) -> Result<OutcomesApart, OrdersFault>
+    requires { length scripts.old ≡ length config.now.partitions }
+    ensures same { scripts.new ≡ scripts.old }
+    ensures replies { IfOk result
+        (λ found. AreRepliesWith clock config.now scripts.old found.replies.items) }
+    ensures ends { IfOk result
+        (λ found. ShowAllCounts clock config.now scripts.old found.ends.items) }
+    ensures undecided { IsUndecidedWith clock P.CanStop config.now scripts.old bound result }
+{
+    if clock {
+        return outcomes_together(alloc, config, scripts, clock, bound, progress);
+    }
+    unclocked_outcomes(alloc, config, scripts, bound, progress)
+}
+
+/// Searches each group by itself, if there are groups, without a clock.
+fn unclocked_outcomes<P: Progress>(
     alloc: Global,
     config: &Config,
     scripts: &mut [Script],
@@ -53,14 +77,14 @@ pub fn all_outcomes_apart<P: Progress>(
     ensures replies { IfOk result
         (λ found. AreReplies config.now scripts.old found.replies.items) }
     ensures ends { IfOk result
-        (λ found. ShowAllCounts config.now scripts.old found.ends.items) }
+        (λ found. ShowAllCounts false config.now scripts.old found.ends.items) }
     ensures undecided { IsUndecided P.CanStop config.now scripts.old bound result }
 {
     let groups = Groups::new(alloc, config)?;
     if have_calls(scripts) && !groups.are_one() && groups.are_apart(config) {
         return outcomes_by_groups(alloc, config, &groups, scripts, bound, progress);
     }
-    outcomes_together(alloc, config, scripts, bound, progress)
+    outcomes_together(alloc, config, scripts, false, bound, progress)
 }
 
 /// Whether a partition has a call to make.
@@ -73,17 +97,18 @@ fn outcomes_together<P: Progress>(
     alloc: Global,
     config: &Config,
     scripts: &[Script],
+    clock: bool,
     bound: usize,
     progress: &mut P,
 ) -> Result<OutcomesApart, OrdersFault>
     requires { length scripts.now ≡ length config.now.partitions }
     ensures replies { IfOk result
-        (λ found. AreReplies config.now scripts.now found.replies.items) }
+        (λ found. AreRepliesWith clock config.now scripts.now found.replies.items) }
     ensures ends { IfOk result
-        (λ found. ShowAllCounts config.now scripts.now found.ends.items) }
-    ensures undecided { IsUndecided P.CanStop config.now scripts.now bound result }
+        (λ found. ShowAllCounts clock config.now scripts.now found.ends.items) }
+    ensures undecided { IsUndecidedWith clock P.CanStop config.now scripts.now bound result }
 {
-    let found = match all_outcomes_with_progress(alloc, config, scripts, bound, progress) {
+    let found = match all_outcomes_with_progress(alloc, config, scripts, clock, bound, progress) {
         Err(fault) => return Err(fault),
         Ok(found) => found,
     };
@@ -130,7 +155,7 @@ fn outcomes_by_groups<P: Progress>(
     ensures replies { IfOk result
         (λ found. AreReplies config.now scripts.old found.replies.items) }
     ensures ends { IfOk result
-        (λ found. ShowAllCounts config.now scripts.old found.ends.items) }
+        (λ found. ShowAllCounts false config.now scripts.old found.ends.items) }
     ensures undecided { IsUndecided P.CanStop config.now scripts.old bound result }
 {
     let mut all = OutcomesApart {

@@ -46,7 +46,7 @@ pub(crate) fn outcomes_of<P: Progress>(
     let mut part = no_scripts(alloc, config.partitions())?;
     let part = part.as_mut_slice();
     exchange(groups, group, scripts, part);
-    let found = all_outcomes_with_progress(alloc, config, part, bound, progress);
+    let found = all_outcomes_with_progress(alloc, config, part, false, bound, progress);
     exchange(groups, group, scripts, part);
     found
 }
@@ -71,7 +71,7 @@ pub(crate) fn order_of<P: Progress>(
     let mut part = no_scripts(alloc, config.partitions())?;
     let part = part.as_mut_slice();
     exchange(groups, group, scripts, part);
-    let found = order_giving_with_progress(alloc, config, part, asked, bound, progress);
+    let found = order_giving_with_progress(alloc, config, part, false, asked, bound, progress);
     exchange(groups, group, scripts, part);
     found
 }

@@ -1,19 +1,46 @@
 //! An order in which a call gets a reply, searched for in the group of its partition.
 ghost use Rattle.std.specs.Prelude.{◌≡◌, length, IfOk, IfSome, IfNone};
 ghost use Rattle.apex_groups.specs.Groups.{AreApart};
-ghost use Rattle.apex_orders.specs.Outcomes.{CanBeAnswered, IsAnsweredBy, IsUndecided};
+ghost use Rattle.apex_orders.specs.Outcomes.{CanBeAnswered, CanBeAnsweredWith, CanOccurWith, IsAnsweredBy, IsAnsweredByWith, IsGivenByWith, IsUndecided, IsUndecidedWith};
 
 use crate::ends::calls_inside;
 use crate::groups::Groups;
 use crate::script_parts::order_of;
 use apex_module::Config;
-use apex_orders::{Asked, Order, OrdersFault, Progress, order_giving_with_progress};
+use apex_orders::{
+    Admitted, Asked, Order, OrdersFault, PossibleReply, Progress, order_giving_with_progress,
+};
 use apex_ports::Script;
 use std::alloc::Global;
 
 /// An order in which the asked call gets an admitted reply, like `order_giving` of `apex_orders`, but only the calls of
-/// the group of the call's partition are searched. The scripts change only during the search.
+/// the group of the call's partition are searched. With `clock`, the moments of all partitions are of one clock, and all
+/// calls are searched. The scripts change only during the search.
 pub fn order_giving_apart<P: Progress>(
+    alloc: Global,
+    config: &Config,
+    scripts: &mut [Script],
+    clock: bool,
+    asked: &Asked,
+    bound: usize,
+    progress: &mut P,
+) -> Result<Option<Order>, OrdersFault>
+    requires { length scripts.old ≡ length config.now.partitions }
+    ensures same { scripts.new ≡ scripts.old }
+    ensures found { IfOk result (λ answer. IfSome answer (λ order.
+        IsAnsweredByWith clock config.now scripts.old asked.now order)) }
+    ensures never { IfOk result
+        (λ answer. IfNone answer (¬ CanBeAnsweredWith clock config.now scripts.old asked.now)) }
+    ensures undecided { IsUndecidedWith clock P.CanStop config.now scripts.old bound result }
+{
+    if clock {
+        return order_giving_with_progress(alloc, config, scripts, clock, asked, bound, progress);
+    }
+    unclocked_order(alloc, config, scripts, asked, bound, progress)
+}
+
+/// Searches the group of the call's partition, if there are groups, without a clock.
+fn unclocked_order<P: Progress>(
     alloc: Global,
     config: &Config,
     scripts: &mut [Script],
@@ -33,7 +60,36 @@ pub fn order_giving_apart<P: Progress>(
     if !groups.are_one() && groups.are_apart(config) {
         return order_in_group(alloc, config, &groups, scripts, asked, bound, progress);
     }
-    order_giving_with_progress(alloc, config, scripts, asked, bound, progress)
+    order_giving_with_progress(alloc, config, scripts, false, asked, bound, progress)
+}
+
+/// An order that ends with the call and gives it this reply, which some order of all calls does. It searches like
+/// `order_giving_apart`.
+pub fn order_of_reply<P: Progress>(
+    alloc: Global,
+    config: &Config,
+    scripts: &mut [Script],
+    clock: bool,
+    one: &PossibleReply,
+    bound: usize,
+    progress: &mut P,
+) -> Result<Order, OrdersFault>
+    requires count { length scripts.old ≡ length config.now.partitions }
+    requires possible { CanOccurWith clock config.now scripts.old one.now }
+    ensures same { scripts.new ≡ scripts.old }
+    ensures given { IfOk result (λ order. IsGivenByWith clock config.now scripts.old one.now order) }
+    ensures undecided { IsUndecidedWith clock P.CanStop config.now scripts.old bound result }
+{
+    let asked = Asked {
+        partition: one.partition,
+        index: one.index,
+        admitted: Admitted::Reply(one.reply.copy()),
+    };
+    match order_giving_apart(alloc, config, scripts, clock, &asked, bound, progress) {
+        Err(fault) => Err(fault),
+        Ok(Some(order)) => Ok(order),
+        Ok(None) => unreachable!(),
+    }
 }
 
 /// Searches the calls of the group of the call's partition.

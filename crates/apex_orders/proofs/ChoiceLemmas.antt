@@ -1,18 +1,20 @@
 -- Partitions whose next calls are enough to try.
-use Rattle.std.proofs.Common.{◌≡◌, ◌≢◌, ◌⊎◌, inl, inr, ⊎_elim, ℕ, ◌+◌, ◌-◌, ◌^◌, ◌<◌, Bool, true, false, List, [], length, Option, Some, None, refl, sym, ap, ◌∙◌, subst, arith}
+use Rattle.std.proofs.Common.{◌≡◌, ◌≢◌, ◌⊎◌, ◌↔◌, inl, inr, ⊎_elim, ℕ, ◌+◌, ◌-◌, ◌^◌, ◌<◌, ◌≤◌, Bool, true, false, List, [], length, get_or, Option, Some, None, refl, sym, ap, ◌∙◌, subst, arith}
 use Rattle.std.specs.List.{slice_get}
 use Rattle.std.specs.Option.{unwrap_or}
-use Rattle.std.proofs.lemmas.Bool.{cases_eq}
-use Rattle.std.proofs.lemmas.Option.{slice_get_within}
+use Rattle.std.proofs.lemmas.Bool.{false≢true, cases_eq, cases_lt}
+use Rattle.std.proofs.lemmas.Option.{slice_get_within, slice_get_past, slice_get-get_or, unwrap_or-slice_get}
 use Rattle.apex_types.specs.declared.call.Call.{Call}
 use Rattle.apex_types.specs.declared.moment.Moment.{Moment}
 use Rattle.apex_module.specs.Configuration.{Configuration}
 use Rattle.apex_ports.specs.Counts.{count_of}
 use Rattle.apex_ports.specs.History.{History, entries_of}
-use Rattle.apex_orders.specs.Choices.{HasNoChannel, IsNextCall, IsOnChannel, IsQuietOutside, IsSafeToTry}
+use Rattle.apex_orders.specs.Choices.{is_tried, HasNoChannel, IsNextCall, IsOnChannel, IsQuietOutside, IsSafeToTry}
+use Rattle.apex_orders.specs.Clock.{IsNextDue}
 use Rattle.apex_orders.specs.Enough.{HasNext, IsApartFromRest, IsEnough, IsRefusedEarly}
 use Rattle.apex_orders.specs.Commuting.{names}
 use Rattle.apex_orders.specs.Orders.{Scripts, script_of}
+use Rattle.apex_orders.specs.Searching.{AreDue, IsEnoughWith}
 use Rattle.apex_orders.proofs.UseLemmas.{apart_quiet, apart_unnamed}
 
 pub has_script : (scripts : Scripts) (q k : ℕ) (timed : Moment × Call) → slice_get (script_of scripts q) k ≡ Some timed → q < length scripts
@@ -20,6 +22,15 @@ has_script scripts q k timed at = of_script (slice_get scripts q) refl
   where
     of_script : (o : Option (List (Moment × Call))) → slice_get scripts q ≡ o → q < length scripts
     of_script None none = let empty : slice_get {X = Moment × Call} [] k ≡ Some timed = ap (λ (o : Option (List (Moment × Call))). slice_get (unwrap_or o []) k) (sym none) ∙ at in absurd (cc)
+    of_script (Some script) here = slice_get_within scripts q script here
+
+pub has_calls : (scripts : Scripts) (h : History) (q : ℕ) → HasNext scripts h q → q < length scripts
+has_calls scripts h q has = of_script (slice_get scripts q) refl
+  where
+    of_script : (o : Option (List (Moment × Call))) → slice_get scripts q ≡ o → q < length scripts
+    of_script None none =
+        let empty = ap (λ (o : Option (List (Moment × Call))). length (unwrap_or o [])) none in
+        absurd (omega (arith, empty, has))
     of_script (Some script) here = slice_get_within scripts q script here
 
 pub script_here : (scripts : Scripts) (p : ℕ) (script : List (Moment × Call)) → slice_get scripts p ≡ Some script → script_of scripts p ≡ script
@@ -68,18 +79,29 @@ module _ (config : Configuration) (scripts : Scripts) (h : History) where
 
     pub all_enough : ((p : ℕ) → p < length scripts → tried p ≡ true) → IsEnough config scripts h tried
     all_enough all = record {
-      some = λ q has. (q, all q (has_calls q has), has);
+      some = λ q has. (q, all q (has_calls scripts h q has), has);
       local = λ p timed own at. inr (λ q k other outside past here. absurd (let inside = all q (has_script scripts q k other here) in cc));
     }
-      where
-        has_calls : (q : ℕ) → HasNext scripts h q → q < length scripts
-        has_calls q has = of_script (slice_get scripts q) refl
-          where
-            of_script : (o : Option (List (Moment × Call))) → slice_get scripts q ≡ o → q < length scripts
-            of_script None none =
-                let empty = ap (λ (o : Option (List (Moment × Call))). length (unwrap_or o [])) none in
-                absurd (omega (arith, empty, has))
-            of_script (Some script) here = slice_get_within scripts q script here
+
+-- ---- by the clock
+
+module _ (config : Configuration) (scripts : Scripts) (h : History) (items : List Bool) (count : length items ≡ length scripts)
+    (each : (p : ℕ) (b : Bool) → slice_get items p ≡ Some b → (b ≡ true) ↔ IsNextDue true scripts h p) where
+  here : (p : ℕ) → p < length items → (is_tried items p ≡ true) ↔ IsNextDue true scripts h p
+  here p within = subst (λ (b : Bool). (b ≡ true) ↔ IsNextDue true scripts h p) (sym (unwrap_or-slice_get items p false)) (each p (get_or items p false) (slice_get-get_or items p false within))
+
+  pub all_due : AreDue true scripts h (is_tried items)
+  all_due p own =
+      ⊎_elim
+      (λ (within : p < length items). (here p within).0 own)
+      (λ (past : length items ≤ p). absurd (let none : is_tried items p ≡ false = ap (λ (o : Option Bool). unwrap_or o false) (slice_get_past items p past) in cc))
+      (cases_lt p (length items))
+
+  pub due_enough : IsEnoughWith true config scripts h (is_tried items)
+  due_enough = record {
+    enough = λ off. absurd (false≢true (sym off));
+    all = λ on p has due. (here p (let within = has_calls scripts h p has in omega (arith, within, count))).1 due;
+  }
 
 -- one more index
 pub one_more : (P : ℕ → Type 0) (n : ℕ) → ((k : ℕ) → k < n → P k) → P n → (k : ℕ) → k < n + 1 → P k

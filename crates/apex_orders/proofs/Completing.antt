@@ -1,5 +1,5 @@
 -- A complete search has found each reply and each end.
-use Rattle.std.proofs.Common.{◌≡◌, ◌⊎◌, inl, inr, ⊎_elim, ℕ, zero, suc, ◌+◌, ◌<◌, ◌≤◌, List, [], ◌∷◌, ◌++◌, length, map, Option, Some, None, refl, sym, ap, ◌∙◌, subst, arith, append_assoc, append-nil, length-append}
+use Rattle.std.proofs.Common.{◌≡◌, ◌⊎◌, inl, inr, ⊎_elim, ℕ, zero, suc, ◌+◌, ◌<◌, ◌≤◌, Bool, List, [], ◌∷◌, ◌++◌, length, map, Option, Some, None, refl, sym, ap, ◌∙◌, subst, arith, append_assoc, append-nil, length-append}
 use Rattle.std.specs.List.{slice_get}
 use Rattle.std.specs.Option.{unwrap_or}
 use Rattle.std.proofs.lemmas.Bool.{cases_eq}
@@ -14,13 +14,16 @@ use Rattle.apex_ports.specs.declared.history.Entry.{Entry}
 use Rattle.apex_ports.specs.History.{History, entry_of, entries_of}
 use Rattle.apex_ports.proofs.LawfulSteps.{sound-nil}
 use Rattle.apex_orders.specs.declared.replies.PossibleReply.{PossibleReply}
+use Rattle.apex_orders.specs.Clock.{IsNextDue, IsClocked}
 use Rattle.apex_orders.specs.Orders.{Scripts, script_of, calls_of, replies_of, IsBeginning, IsWay, IsOrder, next_entries, continued, history_of}
-use Rattle.apex_orders.specs.Outcomes.{CanOccur, AreReplies, AreEnds, EndsAtOne}
+use Rattle.apex_orders.specs.Outcomes.{CanOccurWith, AreRepliesWith, AreEndsWith, EndsAtOne}
 use Rattle.apex_orders.specs.Points.{IsSamePoint}
 use Rattle.apex_orders.specs.Lists.{Has}
 use Rattle.apex_orders.specs.Searching.{IsSearched, IsGivenByAnOrder}
 use Rattle.apex_orders.specs.Steps.{Makes}
-use Rattle.apex_orders.proofs.Enough.{begins, enough_goes_first}
+use Rattle.apex_orders.proofs.ClockLemmas.{MadeAsMany, clocked_follow, clocked_next, goes_first, next_due}
+use Rattle.apex_orders.proofs.Enough.{begins}
+use Rattle.apex_orders.proofs.Finishing.{Finishes, finish_all}
 use Rattle.apex_orders.proofs.GoingOn.{lawful_here}
 use Rattle.apex_orders.proofs.Lists.{stays_before, before_or_last, none_past, at_seam, past_both}
 use Rattle.apex_orders.proofs.SameWays.{next_entry}
@@ -112,52 +115,8 @@ module _ (config : Configuration) (scripts : Scripts) (valid : IsConfiguration c
       let rest = grows (h ++ next_entries config scripts h q) order p in
       omega (arith, longer, rest, length-append (calls_of p h) (calls_of p (next_entries config scripts h q)))
 
-  -- an order that completes the history
-  pub record Finishes (h : History) (IsFinished : History → Type 0) : Type 0 where
-    pub order : List ℕ
-    pub is_order : IsOrder config order
-    pub finished : IsFinished (continued config scripts h order)
-
-  finish_one : (left : ℕ) (h : History) (p : ℕ) → p < length config.partitions → length (script_of scripts p) ≤ length (calls_of p h) + left → Finishes h (IsFull p)
-  finish_one zero h p within few = record { order = []; is_order = none_ordered config scripts; finished = omega arith }
-  finish_one (suc left) h p within few =
-      ⊎_elim
-      (λ (done : IsDone config scripts h p).
-      let all = none_past (script_of scripts p) (length (entries_of p h)) done.call in
-      let count = calls_count p h in
-      record { order = []; is_order = none_ordered config scripts; finished = omega (arith, all, count) })
-      (λ (next : IsNext config scripts h p).
-      let longer = ap (λ (g : History). length (calls_of p g)) (one_longer config scripts h p next) in
-      let split = ap (λ (calls : List (Moment × Call)). length calls) (calls_of-append p h (answered config scripts h p next.timed ∷ [])) in
-      let own = calls_count p (answered config scripts h p next.timed ∷ []) ∙ ap (λ (es : History). length es) (own_entry p (answered config scripts h p next.timed) refl) in
-      let fewer : length (script_of scripts p) ≤ length (calls_of p (h ++ next_entries config scripts h p)) + left =
-      omega (arith, few, longer, split, own, length-append (calls_of p h) (calls_of p (answered config scripts h p next.timed ∷ []))) in
-      let rest = finish_one left (h ++ next_entries config scripts h p) p within fewer in
-      record { order = p ∷ rest.order; is_order = first_ordered config scripts p rest.order within rest.is_order; finished = rest.finished })
-      (next_cases config scripts h p)
-
   abbrev AreFull : ℕ → History → Type 0
   AreFull n h = (p : ℕ) → p < n → IsFull p h
-
-  finish_below : (n : ℕ) (h : History) → n ≤ length config.partitions → Finishes h (AreFull n)
-  finish_below zero h within = record { order = []; is_order = none_ordered config scripts; finished = λ p below. absurd (omega arith) }
-  finish_below (suc n) h within =
-      let before = finish_below n h (omega arith) in
-      let g = continued config scripts h before.order in
-      let last = finish_one (length (script_of scripts n)) g n (omega arith) (omega arith) in
-      let joins = continued-append config scripts h before.order last.order in
-      record {
-        order = before.order ++ last.order;
-        is_order = joined config scripts before.order last.order before.is_order last.is_order;
-        finished = λ p below. subst (IsFull p) (sym joins)
-            (⊎_elim
-            (λ (same : p ≡ n). subst (λ (q : ℕ). IsFull q (continued config scripts g last.order)) (sym same) last.finished)
-            (λ (apart : p ≡ n → ⊥).
-            let full = before.finished p (omega (arith, below, apart)) in
-            let more = grows g last.order p in
-            omega (arith, full, more))
-            (cases_eq p n));
-      }
 
   -- if every partition has made as many calls as its script has, the beginning is a way
   pub way_of : length scripts ≡ length config.partitions → (h : History) → IsGood config scripts h → AreFull (length config.partitions) h → IsWay config scripts h
@@ -170,10 +129,18 @@ module _ (config : Configuration) (scripts : Scripts) (valid : IsConfiguration c
       of_index p None none = subst (λ (o : Option (List (Moment × Call))). length (unwrap_or o []) ≤ length (calls_of p h)) (sym none) (omega arith)
       of_index p (Some script) here = full p (let within = slice_get_within scripts p script here in omega (arith, within, count))
 
-  pub finish : length scripts ≡ length config.partitions → (h : History) → IsGood config scripts h → Finishes h (IsWay config scripts)
-  finish count h good =
-      let full = finish_below (length config.partitions) h (omega arith) in
-      record { order = full.order; is_order = full.is_order; finished = way_of count (continued config scripts h full.order) (good_walk config scripts h full.order good full.is_order) full.finished }
+  pub finish : (clock : Bool) → length scripts ≡ length config.partitions → (h : History) → IsGood config scripts h → IsClocked clock scripts h
+      → Finishes config scripts h (λ g. IsWay config scripts g × IsClocked clock scripts g)
+  finish clock count h good clocked =
+      let full = finish_all config scripts clock count h good clocked in
+      record {
+        order = full.order;
+        is_order = full.is_order;
+        finished = (
+          way_of count (continued config scripts h full.order) (good_walk config scripts h full.order good full.is_order) full.finished.0,
+          full.finished.1,
+        );
+      }
 
   -- a way is a beginning
   pub begins_of : (h : History) → IsWay config scripts h → IsBeginning config scripts h
@@ -230,7 +197,7 @@ module _ (config : Configuration) (scripts : Scripts) (valid : IsConfiguration c
               absurd (omega (arith, empty, some))
           by_script (Some script) here = let within = slice_get_within scripts q script here in omega (arith, within, all)
 
-  module _ (orders : List (List ℕ)) (replies : List PossibleReply) (done : IsSearched config scripts orders replies) where
+  module _ (clock : Bool) (orders : List (List ℕ)) (replies : List PossibleReply) (done : IsSearched clock config scripts orders replies) where
     -- what continues one history to a way does so for another that led to the same point
     follow : (rest : List Entry) (h other : History) → IsWay config scripts (h ++ rest) → IsGood config scripts h → IsGood config scripts other → IsSamePoint config h other
         → IsGood config scripts (other ++ rest) × IsSamePoint config (h ++ rest) (other ++ rest)
@@ -262,7 +229,7 @@ module _ (config : Configuration) (scripts : Scripts) (valid : IsConfiguration c
 
     -- a reply is given after one of the orders, and was found
     record IsGivenAndFound (one : PossibleReply) : Type 0 where
-      by : IsGivenByAnOrder config scripts orders one
+      by : IsGivenByAnOrder clock config scripts orders one
       found : Has replies one
 
     -- the search has the way's end, and each reply that the way gives after the history
@@ -271,17 +238,18 @@ module _ (config : Configuration) (scripts : Scripts) (valid : IsConfiguration c
       given : (one : PossibleReply) → one.partition < length config.partitions → IsAnswered way one → IsAnswered h one ⊎ IsGivenAndFound one
 
     follow_way : (n : ℕ) (order : List ℕ) (has : Has orders order) (rest : List Entry) → length rest ≤ n → IsWay config scripts (history_of config scripts order ++ rest)
-        → IsFollowed (history_of config scripts order) (history_of config scripts order ++ rest)
-    follow_way n order has [] few is =
+        → IsClocked clock scripts (history_of config scripts order ++ rest) → IsFollowed (history_of config scripts order) (history_of config scripts order ++ rest)
+    follow_way n order has [] few is clocked =
         let g = history_of config scripts order in record {
           end = record { order = order; here = has; same = subst (λ (h : History). IsSamePoint config h g) (sym (append-nil g)) (same_self config g) };
           given = λ one within here. inl (subst (λ (h : History). IsAnswered h one) (append-nil g) here);
         }
-    follow_way zero order has (x ∷ rest) few is = absurd (omega arith)
-    follow_way (suc n) order has (x ∷ rest) few is =
+    follow_way zero order has (x ∷ rest) few is clocked = absurd (omega arith)
+    follow_way (suc n) order has (x ∷ rest) few is clocked =
         let g = history_of config scripts order in
         let t = done.tried has.0 (slice_get_within orders has.0 order has.1) order has.1 in
-        let first = enough_goes_first config scripts g t.tried x rest t.enough is in
+        let goes = goes_first clock config scripts g t.tried x rest t.enough is clocked in
+        let first = goes.first in
         let e = first.e in
         let more = first.rest in
         let fewer = first.as_long in
@@ -298,7 +266,11 @@ module _ (config : Configuration) (scripts : Scripts) (valid : IsConfiguration c
         let followed = follow more (g ++ e ∷ []) g_too on good good_too same in
         let whole : IsGood config scripts ((g ++ e ∷ []) ++ more) = good_start ((g ++ e ∷ []) ++ more) [] (subst (IsWay config scripts) (sym (append-nil ((g ++ e ∷ []) ++ more))) on) in
         let there = way_of done.all (g_too ++ more) followed.0 (is_full ((g ++ e ∷ []) ++ more) (g_too ++ more) on whole followed.0 followed.1) in
-        let last = follow_way n point.order point.here more (omega (arith, few, fewer)) there in
+        let all = done.all in
+        let as_many : MadeAsMany scripts (g ++ e ∷ []) g_too = λ q has. same_count config scripts done.short (g ++ e ∷ []) g_too q (omega (arith, has, all)) good good_too same in
+        let clocked_too = clocked_follow clock scripts more (g ++ e ∷ []) g_too as_many (subst (IsClocked clock scripts) (sym regroup) goes.clocked)
+        (done.clocked point.here.0 point.order point.here.1) in
+        let last = follow_way n point.order point.here more (omega (arith, few, fewer)) there clocked_too in
         record {
           end = record {
             order = last.end.order;
@@ -323,6 +295,7 @@ module _ (config : Configuration) (scripts : Scripts) (valid : IsConfiguration c
                   given = record {
                     within = subst (λ (p : ℕ). p < length config.partitions) (sym makes.partition) within;
                     makes = subst (λ (p : ℕ). Makes config scripts g p one) (sym makes.partition) makes;
+                    due = subst (IsNextDue clock scripts g) (sym makes.partition) (next_due clock scripts config g e more first.is_way goes.clocked);
                   };
                 };
                 found = step.reply one makes;
@@ -340,33 +313,34 @@ module _ (config : Configuration) (scripts : Scripts) (valid : IsConfiguration c
               (now_or_later (g ++ e ∷ []) more one at);
         }
 
-    follow_from_start : (way : History) → IsWay config scripts way → IsFollowed [] way
-    follow_from_start way is = follow_way (length way) [] done.first way (omega arith) is
+    follow_from_start : (way : History) → IsWay config scripts way → IsClocked clock scripts way → IsFollowed [] way
+    follow_from_start way is clocked = follow_way (length way) [] done.first way (omega arith) is clocked
 
-    found_of_occurs : (one : PossibleReply) → CanOccur config scripts one → IsGivenAndFound one
+    found_of_occurs : (one : PossibleReply) → CanOccurWith clock config scripts one → IsGivenAndFound one
     found_of_occurs one can =
         ⊎_elim
         (λ (never : IsAnswered [] one). absurd (cc))
         (λ (found : IsGivenAndFound one). found)
-        ((follow_from_start can.way can.is_way).given one (is_partition done.all can.way one can.is_way can.reply) can.reply)
+        ((follow_from_start can.way can.is_way can.clocked).given one (is_partition done.all can.way one can.is_way can.reply) can.reply)
 
     -- each reply that can occur is given after one of the orders
-    pub given_of_occurs : (one : PossibleReply) → CanOccur config scripts one → IsGivenByAnOrder config scripts orders one
+    pub given_of_occurs : (one : PossibleReply) → CanOccurWith clock config scripts one → IsGivenByAnOrder clock config scripts orders one
     given_of_occurs one can = (found_of_occurs one can).by
 
-    pub are_replies : AreReplies config scripts replies
-    are_replies one = (occurs, λ (can : CanOccur config scripts one). (found_of_occurs one can).found)
+    pub are_replies : AreRepliesWith clock config scripts replies
+    are_replies one = (occurs, λ (can : CanOccurWith clock config scripts one). (found_of_occurs one can).found)
       where
-        occurs : Has replies one → CanOccur config scripts one
+        occurs : Has replies one → CanOccurWith clock config scripts one
         occurs has =
             let here = done.found one has in
             let h = history_of config scripts here.order in
             let good = good_history here.order here.valid in
             let ahead = h ++ next_entries config scripts h here.partition in
-            let ended = finish done.all ahead (good_next config scripts h here.partition here.within good) in
+            let ended = finish clock done.all ahead (good_next config scripts h here.partition here.within good) (clocked_next clock scripts config h here.partition here.clocked here.due) in
             record {
               way = continued config scripts ahead ended.order;
-              is_way = ended.finished;
+              is_way = ended.finished.0;
+              clocked = ended.finished.1;
               reply = answered_on ahead ended.order one (made_is_answered h here.partition one here.makes);
             }
 
@@ -374,13 +348,14 @@ module _ (config : Configuration) (scripts : Scripts) (valid : IsConfiguration c
     pub are_ends : (ends : List (List ℕ))
         → ((order : List ℕ) → Has ends order → Has orders order × AreFull (length config.partitions) (history_of config scripts order))
         → ((order : List ℕ) → Has orders order → AreFull (length config.partitions) (history_of config scripts order) → Has ends order)
-        → AreEnds config scripts ends
+        → AreEndsWith clock config scripts ends
     are_ends ends each every = record {
       ways = λ order has.
           let is = each order has in
           way_of done.all (history_of config scripts order) (good_history order (done.valid is.0.0 order is.0.1)) is.1;
-      all = λ way is.
-          let end = (follow_from_start way is).end in
+      clocked = λ order has. let is = each order has in done.clocked is.0.0 order is.0.1;
+      all = λ way is clocked.
+          let end = (follow_from_start way is clocked).end in
           let good : IsGood config scripts way = record { sound = record { valid = valid; lawful = is.lawful }; calls = (begins_of way is).calls } in
           let good_too = good_history end.order (done.valid end.here.0 end.order end.here.1) in
           record {

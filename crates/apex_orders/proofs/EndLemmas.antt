@@ -9,8 +9,9 @@ use Rattle.apex_ports.specs.Counts.{count_of}
 use Rattle.apex_ports.specs.History.{History, entries_of}
 use Rattle.apex_orders.specs.declared.orders_fault.OrdersFault.{OrdersFault}
 use Rattle.apex_orders.specs.declared.orders_fault.OrdersFault.TheVariants.{TooManyStates, OutOfMemory, Stopped}
+use Rattle.apex_orders.specs.Clock.{IsClocked}
 use Rattle.apex_orders.specs.Orders.{Scripts, script_of, AreShort, calls_of, IsBeginning, next_entries, continued, history_of, times}
-use Rattle.apex_orders.specs.Outcomes.{HasMorePoints, IsUndecided}
+use Rattle.apex_orders.specs.Outcomes.{HasMorePointsWith, IsUndecidedWith}
 use Rattle.apex_orders.specs.Points.{IsSamePoint}
 use Rattle.apex_orders.specs.Lists.{Has}
 use Rattle.apex_orders.specs.Searching.{HasMadeAll, AreEndsOf, HasMoreOrders, IsGivenUp}
@@ -108,13 +109,16 @@ module _ (config : Configuration) (scripts : Scripts) where
   of_map (order ∷ orders) zero h at = let same : history_of config scripts order ≡ h = cc in (order, refl, same)
   of_map (order ∷ orders) (suc k) h at = of_map orders k h at
 
-  pub more_points : IsConfiguration config → (bound : ℕ) → HasMoreOrders config scripts bound → HasMorePoints config scripts bound
-  more_points valid bound more = record {
+  pub more_points : (clock : Bool) → IsConfiguration config → (bound : ℕ) → HasMoreOrders clock config scripts bound → HasMorePointsWith clock config scripts bound
+  more_points clock valid bound more = record {
     histories = map (history_of config scripts) more.orders;
     many = let count = length-map more.orders (history_of config scripts) in let many = more.many in omega (arith, count, many);
     beginnings = λ h has.
         let from = of_map more.orders has.0 h has.1 in
         subst (IsBeginning config scripts) from.2 (is_beginning config scripts (history_of config scripts from.0) (good_history config scripts valid from.0 (more.valid has.0 from.0 from.1)));
+    clocked = λ h has.
+        let from = of_map more.orders has.0 h has.1 in
+        subst (IsClocked clock scripts) from.2 (more.clocked has.0 from.0 from.1);
     apart = λ j k h other below at at_too same.
         let one = of_map more.orders j h at in
         let two = of_map more.orders k other at_too in
@@ -123,16 +127,16 @@ module _ (config : Configuration) (scripts : Scripts) where
   }
 
 -- running out of memory gives up nothing
-pub given_up_none : {X : Type 0} (can_stop : Type 0) (config : Configuration) (scripts : Scripts) (bound : ℕ) (r : Result X OrdersFault)
-    → IsErrAnd r (λ fault. fault ≡ OutOfMemory) → IsGivenUp can_stop config scripts bound r
-given_up_none can_stop config scripts bound (Ok x) is = tt
-given_up_none can_stop config scripts bound (Err OutOfMemory) is = tt
-given_up_none can_stop config scripts bound (Err TooManyStates) is = absurd (cc)
-given_up_none can_stop config scripts bound (Err Stopped) is = absurd (cc)
+pub given_up_none : {X : Type 0} (clock : Bool) (can_stop : Type 0) (config : Configuration) (scripts : Scripts) (bound : ℕ) (r : Result X OrdersFault)
+    → IsErrAnd r (λ fault. fault ≡ OutOfMemory) → IsGivenUp clock can_stop config scripts bound r
+given_up_none clock can_stop config scripts bound (Ok x) is = tt
+given_up_none clock can_stop config scripts bound (Err OutOfMemory) is = tt
+given_up_none clock can_stop config scripts bound (Err TooManyStates) is = absurd (cc)
+given_up_none clock can_stop config scripts bound (Err Stopped) is = absurd (cc)
 
 -- if a search is given up, the outcomes are undecided
-pub undecided_of : (X Y : Type 0) (can_stop : Type 0) (config : Configuration) (scripts : Scripts) → IsConfiguration config → (bound : ℕ) (fault : OrdersFault)
-    → IsGivenUp {X = X} can_stop config scripts bound (Err fault) → IsUndecided {X = Y} can_stop config scripts bound (Err fault)
-undecided_of X Y can_stop config scripts valid bound TooManyStates given_up = more_points config scripts valid bound given_up
-undecided_of X Y can_stop config scripts valid bound OutOfMemory given_up = tt
-undecided_of X Y can_stop config scripts valid bound Stopped given_up = given_up
+pub undecided_of : (X Y : Type 0) (clock : Bool) (can_stop : Type 0) (config : Configuration) (scripts : Scripts) → IsConfiguration config → (bound : ℕ) (fault : OrdersFault)
+    → IsGivenUp {X = X} clock can_stop config scripts bound (Err fault) → IsUndecidedWith {X = Y} clock can_stop config scripts bound (Err fault)
+undecided_of X Y clock can_stop config scripts valid bound TooManyStates given_up = more_points config scripts clock valid bound given_up
+undecided_of X Y clock can_stop config scripts valid bound OutOfMemory given_up = tt
+undecided_of X Y clock can_stop config scripts valid bound Stopped given_up = given_up

@@ -1,10 +1,12 @@
 pub mod Alike
 pub mod BucketLemmas
 pub mod ChoiceLemmas
+pub mod ClockLemmas
 pub mod Completing
 pub mod Early
 pub mod EndLemmas
 pub mod Enough
+pub mod Finishing
 pub mod Following
 pub mod GoingOn
 pub mod HashLemmas

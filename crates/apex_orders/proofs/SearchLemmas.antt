@@ -1,5 +1,5 @@
 -- The steps of a search.
-use Rattle.std.proofs.Common.{◌≡◌, ◌⊎◌, ⊎_elim, ℕ, ◌<◌, List, [], ◌∷◌, ◌++◌, length, Option, Some, refl, sym, ap, ◌∙◌, subst, arith, append-nil}
+use Rattle.std.proofs.Common.{◌≡◌, ◌⊎◌, ⊎_elim, ℕ, ◌<◌, Bool, List, [], ◌∷◌, ◌++◌, length, Option, Some, refl, sym, ap, ◌∙◌, subst, arith, append-nil}
 use Rattle.std.specs.List.{slice_get}
 use Rattle.std.proofs.lemmas.Option.{slice_get_within, slice_get-get_or}
 use Rattle.apex_types.specs.declared.reply.Reply.{Reply}
@@ -8,12 +8,14 @@ use Rattle.apex_ports.specs.History.{History}
 use Rattle.apex_ports.specs.PortsView.{PortsView}
 use Rattle.apex_orders.specs.declared.asked.Asked.{Asked}
 use Rattle.apex_orders.specs.declared.replies.PossibleReply.{PossibleReply}
+use Rattle.apex_orders.specs.Clock.{IsNextDue, IsClocked}
 use Rattle.apex_orders.specs.Known.{IsAfter}
 use Rattle.apex_orders.specs.Orders.{Scripts, IsOrder, next_entries, history_of}
 use Rattle.apex_orders.specs.Points.{IsSamePoint}
 use Rattle.apex_orders.specs.Lists.{Has}
-use Rattle.apex_orders.specs.Searching.{Knows, Keeps, Includes, AreOrders, AreApart, IsUnansweredAt, IsTried, HasTried, IsFound, AreFound}
+use Rattle.apex_orders.specs.Searching.{Knows, Keeps, Includes, AreOrders, AreApart, AreClocked, IsUnansweredAt, IsTried, HasTried, IsFound, AreFound}
 use Rattle.apex_orders.specs.Steps.{MakesNothing, Makes}
+use Rattle.apex_orders.proofs.ClockLemmas.{clocked_none}
 use Rattle.apex_orders.proofs.Lists.{at_seam, stays_before, before_or_last}
 use Rattle.apex_orders.proofs.Walks.{continued-append, none_ordered, joined, one_ordered}
 use Rattle.apex_orders.proofs.Following.{same_self}
@@ -30,6 +32,14 @@ module _ (config : Configuration) (scripts : Scripts) where
       ⊎_elim
       (λ (before : slice_get orders k ≡ Some other). valid k other before)
       (λ (last : (k ≡ length orders) × (order ≡ other)). subst (IsOrder config) last.1 is)
+      (before_or_last orders order k other at)
+
+  pub clocked_push : (clock : Bool) (orders : List (List ℕ)) (order : List ℕ) → AreClocked clock config scripts orders → IsClocked clock scripts (history_of config scripts order)
+      → AreClocked clock config scripts (orders ++ order ∷ [])
+  clocked_push clock orders order clocked is k other at =
+      ⊎_elim
+      (λ (before : slice_get orders k ≡ Some other). clocked k other before)
+      (λ (last : (k ≡ length orders) × (order ≡ other)). subst (λ (o : List ℕ). IsClocked clock scripts (history_of config scripts o)) last.1 is)
       (before_or_last orders order k other at)
 
   pub longer_is_order : (order : List ℕ) (p : ℕ) → IsOrder config order → p < length config.partitions → IsOrder config (order ++ p ∷ [])
@@ -71,11 +81,14 @@ module _ (config : Configuration) (scripts : Scripts) where
   pub first_valid : AreOrders config ([] ∷ [])
   first_valid = orders_push [] [] (λ k order at. absurd (cc)) (none_ordered config scripts)
 
+  pub first_clocked : (clock : Bool) → AreClocked clock config scripts ([] ∷ [])
+  first_clocked clock = clocked_push clock [] [] (λ k order at. absurd (cc)) (clocked_none clock scripts)
+
   pub first_apart : AreApart config scripts ([] ∷ [])
   first_apart = apart_push [] [] [] refl (λ j k order other below at listed. absurd (cc)) (λ known. absurd (let at = known.here.1 in cc))
 
-  pub none_found : AreFound config scripts []
-  none_found one has = absurd (let at = has.1 in cc)
+  pub none_found : (clock : Bool) → AreFound clock config scripts []
+  none_found clock one has = absurd (let at = has.1 in cc)
 
   -- ---- tries
 
@@ -121,12 +134,14 @@ module _ (config : Configuration) (scripts : Scripts) where
     reply = λ other makes_too. subst (Has replies) (same_made (history_of config scripts order) p one other makes makes_too) has;
   }
 
-  pub found_one : (old new : List PossibleReply) (order : List ℕ) (p : ℕ) (one : PossibleReply) → AreFound config scripts old → IsOrder config order → p < length config.partitions
-      → Makes config scripts (history_of config scripts order) p one → ((other : PossibleReply) → Has new other → Has old other ⊎ (other ≡ one)) → AreFound config scripts new
-  found_one old new order p one found is within makes only other has =
+  pub found_one : (clock : Bool) (old new : List PossibleReply) (order : List ℕ) (p : ℕ) (one : PossibleReply) → AreFound clock config scripts old → IsOrder config order → p < length config.partitions
+      → Makes config scripts (history_of config scripts order) p one → IsNextDue clock scripts (history_of config scripts order) p → IsClocked clock scripts (history_of config scripts order)
+      → ((other : PossibleReply) → Has new other → Has old other ⊎ (other ≡ one)) → AreFound clock config scripts new
+  found_one clock old new order p one found is within makes due clocked only other has =
       ⊎_elim
       (λ (before : Has old other). found other before)
-      (λ (same : other ≡ one). subst (IsFound config scripts) (sym same) (record { order = order; valid = is; partition = p; within = within; makes = makes }))
+      (λ (same : other ≡ one).
+      subst (IsFound clock config scripts) (sym same) (record { order = order; valid = is; partition = p; within = within; makes = makes; due = due; clocked = clocked }))
       (only other has)
 
   -- ---- what was tried stays tried
@@ -151,13 +166,13 @@ module _ (config : Configuration) (scripts : Scripts) where
       let was = slice_get-get_or old k order within in
       was ∙ (sym (keeps k _ was) ∙ at)
 
-  pub unanswered_kept : (asked : Option Asked) (old new : List (List ℕ)) (k : ℕ) → Keeps old new → k < length old
-      → IsUnansweredAt config scripts asked old k → IsUnansweredAt config scripts asked new k
-  unanswered_kept asked old new k keeps within unanswered order at = unanswered order (same_index old new k order keeps within at)
+  pub unanswered_kept : (clock : Bool) (asked : Option Asked) (old new : List (List ℕ)) (k : ℕ) → Keeps old new → k < length old
+      → IsUnansweredAt clock config scripts asked old k → IsUnansweredAt clock config scripts asked new k
+  unanswered_kept clock asked old new k keeps within unanswered order at = unanswered order (same_index old new k order keeps within at)
 
-  pub has_tried_kept : (old new : List (List ℕ)) (replies more : List PossibleReply) (k : ℕ) → Keeps old new → Includes replies more → k < length old
-      → HasTried config scripts old replies k → HasTried config scripts new more k
-  has_tried_kept old new replies more k keeps includes within tried order at =
+  pub has_tried_kept : (clock : Bool) (old new : List (List ℕ)) (replies more : List PossibleReply) (k : ℕ) → Keeps old new → Includes replies more → k < length old
+      → HasTried clock config scripts old replies k → HasTried clock config scripts new more k
+  has_tried_kept clock old new replies more k keeps includes within tried order at =
       let was = tried order (same_index old new k order keeps within at) in
       record {
         tried = was.tried;

@@ -1,22 +1,24 @@
 -- An order in which a call gets a reply.
-use Rattle.std.proofs.Common.{◌≡◌, ℕ, List, [], ◌∷◌, ◌++◌, Option, Some, None, refl, sym, ap, ◌∙◌, subst}
+use Rattle.std.proofs.Common.{◌≡◌, ℕ, Bool, List, [], ◌∷◌, ◌++◌, Option, Some, None, refl, sym, ap, ◌∙◌, subst}
 use Rattle.std.proofs.lemmas.Option.{slice_get_within}
 use Rattle.apex_module.specs.Configuration.{Configuration, IsConfiguration}
 use Rattle.apex_ports.specs.History.{History, entry_of}
 use Rattle.apex_orders.specs.declared.asked.Asked.{Asked}
 use Rattle.apex_orders.specs.declared.replies.PossibleReply.{PossibleReply}
+use Rattle.apex_orders.specs.Clock.{IsClocked}
 use Rattle.apex_orders.specs.Orders.{Scripts, IsOrder, IsBeginning, next_entries, history_of}
-use Rattle.apex_orders.specs.Outcomes.{CanBeAnswered, IsAnsweredBy, IsGivenBy}
+use Rattle.apex_orders.specs.Outcomes.{CanBeAnsweredWith, IsAnsweredByWith, IsGivenByWith}
 use Rattle.apex_orders.specs.Searching.{HasEnded, IsAnsweredAfter, IsGivenAfter, IsSearched, IsSearchedInVain}
+use Rattle.apex_orders.proofs.ClockLemmas.{clocked_next}
 use Rattle.apex_orders.proofs.Walks.{good_next, is_beginning}
 use Rattle.apex_orders.proofs.Completing.{IsAnswered, given_of_occurs, good_history, made_is_answered}
 use Rattle.apex_orders.proofs.SearchLemmas.{behind, longer_is_order}
 
-module _ (config : Configuration) (scripts : Scripts) where
+module _ (clock : Bool) (config : Configuration) (scripts : Scripts) where
   -- followed by the call, the order gives the reply
-  pub longer_gives : IsConfiguration config → (order : List ℕ) (one : PossibleReply) → IsOrder config order → IsGivenAfter config scripts order one
-      → IsGivenBy config scripts one (order ++ one.partition ∷ [])
-  longer_gives valid order one is given =
+  pub longer_gives : IsConfiguration config → (order : List ℕ) (one : PossibleReply) → IsOrder config order → IsClocked clock scripts (history_of config scripts order) → IsGivenAfter clock config scripts order one
+      → IsGivenByWith clock config scripts one (order ++ one.partition ∷ [])
+  longer_gives valid order one is clocked given =
       let p = one.partition in
       let h = history_of config scripts order in
       let makes = given.makes in
@@ -25,6 +27,7 @@ module _ (config : Configuration) (scripts : Scripts) where
       record {
         valid = longer_is_order config scripts order p is given.within;
         begins = subst (IsBeginning config scripts) (sym ahead) (is_beginning config scripts (h ++ next_entries config scripts h p) good);
+        clocked = subst (IsClocked clock scripts) (sym ahead) (clocked_next clock scripts config h p clocked given.due);
         reply = subst (λ (g : History). IsAnswered g one) (sym ahead) (made_is_answered config scripts valid h p one makes);
         last = record {
           before = h;
@@ -38,26 +41,26 @@ module _ (config : Configuration) (scripts : Scripts) where
 
   -- ---- questions
 
-  pub longer_answers : IsConfiguration config → (asked : Asked) (order : List ℕ) → IsOrder config order → IsAnsweredAfter config scripts asked order
-      → IsAnsweredBy config scripts asked (order ++ asked.partition ∷ [])
-  longer_answers valid asked order is answered = record {
+  pub longer_answers : IsConfiguration config → (asked : Asked) (order : List ℕ) → IsOrder config order → IsClocked clock scripts (history_of config scripts order) → IsAnsweredAfter clock config scripts asked order
+      → IsAnsweredByWith clock config scripts asked (order ++ asked.partition ∷ [])
+  longer_answers valid asked order is clocked answered = record {
     one = answered.one;
     answers = answered.answers;
-    given = subst (λ (p : ℕ). IsGivenBy config scripts answered.one (order ++ p ∷ [])) answered.answers.partition (longer_gives valid order answered.one is answered.given);
+    given = subst (λ (p : ℕ). IsGivenByWith clock config scripts answered.one (order ++ p ∷ [])) answered.answers.partition (longer_gives valid order answered.one is clocked answered.given);
   }
 
   -- what none of a complete search's orders answers, no way answers
   pub never_answered : IsConfiguration config → (asked : Asked) (orders : List (List ℕ)) (replies : List PossibleReply)
-      → IsSearchedInVain config scripts (Some asked) orders replies → CanBeAnswered config scripts asked → ⊥
+      → IsSearchedInVain clock config scripts (Some asked) orders replies → CanBeAnsweredWith clock config scripts asked → ⊥
   never_answered valid asked orders replies ended can =
-      let by = given_of_occurs config scripts valid orders replies ended.searched can.one can.occurs in
+      let by = given_of_occurs config scripts valid clock orders replies ended.searched can.one can.occurs in
       ended.unanswered by.here.0 (slice_get_within orders by.here.0 by.order by.here.1) by.order by.here.1
       (record { one = can.one; answers = can.answers; given = by.given })
 
   -- ---- what a search ended with
 
   -- if nothing is asked, everything was searched
-  pub searched_all : (orders : List (List ℕ)) (replies : List PossibleReply) (answer : Option (List ℕ)) → HasEnded config scripts None orders replies answer
-      → IsSearched config scripts orders replies
+  pub searched_all : (orders : List (List ℕ)) (replies : List PossibleReply) (answer : Option (List ℕ)) → HasEnded clock config scripts None orders replies answer
+      → IsSearched clock config scripts orders replies
   searched_all orders replies None ended = ended.searched
   searched_all orders replies (Some order) ended = absurd ended

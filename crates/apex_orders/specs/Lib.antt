@@ -1,5 +1,6 @@
 pub mod Buckets
 pub mod Choices
+pub mod Clock
 pub mod Commuting
 pub mod Enough
 pub mod Hashes

@@ -1,5 +1,5 @@
 -- All that can happen to scripts, over every order of their calls.
-use Rattle.std.specs.Prelude.{ℕ, ◌≡◌, ◌<◌, ◌↔◌, List, [], ◌∷◌, ◌++◌, length, slice_get, Some, Result, Err}
+use Rattle.std.specs.Prelude.{ℕ, Bool, false, ◌≡◌, ◌<◌, ◌↔◌, List, [], ◌∷◌, ◌++◌, length, slice_get, Some, Result, Err}
 use Rattle.apex_types.specs.Reply.{code_of}
 use Rattle.apex_types.specs.declared.reply.Reply.{Reply}
 use Rattle.apex_types.specs.declared.reply.Reply.TheVariants as reply
@@ -12,15 +12,21 @@ use Rattle.apex_orders.specs.declared.asked.Asked.{Asked}
 use Rattle.apex_orders.specs.declared.orders_fault.OrdersFault.{OrdersFault}
 use Rattle.apex_orders.specs.declared.orders_fault.OrdersFault.TheVariants.{TooManyStates, Stopped}
 use Rattle.apex_orders.specs.declared.replies.PossibleReply.{PossibleReply}
+use Rattle.apex_orders.specs.Clock.{IsClocked}
 use Rattle.apex_orders.specs.Orders.{Scripts, IsBeginning, IsWay, IsOrder, history_of, replies_of}
 use Rattle.apex_orders.specs.Points.{IsSamePoint}
 use Rattle.apex_orders.specs.Lists.{Has}
 
--- some way of all calls gives this reply to the partition's call at the index
-pub record CanOccur (config : Configuration) (scripts : Scripts) (one : PossibleReply) : Type 0 where
+-- some way of all calls gives this reply to the partition's call at the index; with the clock, one on which each call was
+-- due
+pub record CanOccurWith (clock : Bool) (config : Configuration) (scripts : Scripts) (one : PossibleReply) : Type 0 where
   pub way : History
   pub is_way : IsWay config scripts way
+  pub clocked : IsClocked clock scripts way
   pub reply : slice_get (replies_of one.partition way) one.index ≡ Some one.reply
+
+abbrev pub CanOccur : Configuration → Scripts → PossibleReply → Type 0
+CanOccur config scripts one = CanOccurWith false config scripts one
 
 -- the last entry of the history is that of the call at the index, with the reply
 pub record EndsWith (history : History) (one : PossibleReply) : Type 0 where
@@ -31,12 +37,17 @@ pub record EndsWith (history : History) (one : PossibleReply) : Type 0 where
   pub index : one.index ≡ length (entries_of one.partition before)
   pub reply : entry.reply ≡ one.reply
 
--- the calls in this order are a beginning, which ends with the call at the index and gives it the reply
-pub record IsGivenBy (config : Configuration) (scripts : Scripts) (one : PossibleReply) (order : List ℕ) : Type 0 where
+-- the calls in this order are a beginning, which ends with the call at the index and gives it the reply; with the clock,
+-- each was due
+pub record IsGivenByWith (clock : Bool) (config : Configuration) (scripts : Scripts) (one : PossibleReply) (order : List ℕ) : Type 0 where
   pub valid : IsOrder config order
   pub begins : IsBeginning config scripts (history_of config scripts order)
+  pub clocked : IsClocked clock scripts (history_of config scripts order)
   pub reply : slice_get (replies_of one.partition (history_of config scripts order)) one.index ≡ Some one.reply
   pub last : EndsWith (history_of config scripts order) one
+
+abbrev pub IsGivenBy : Configuration → Scripts → PossibleReply → List ℕ → Type 0
+IsGivenBy config scripts one order = IsGivenByWith false config scripts one order
 
 -- ---- questions
 
@@ -57,22 +68,31 @@ pub record Answers (asked : Asked) (one : PossibleReply) : Type 0 where
   pub reply : Admits asked.admitted one.reply
 
 -- some way of all calls gives the asked call an admitted reply
-pub record CanBeAnswered (config : Configuration) (scripts : Scripts) (asked : Asked) : Type 0 where
+pub record CanBeAnsweredWith (clock : Bool) (config : Configuration) (scripts : Scripts) (asked : Asked) : Type 0 where
   pub one : PossibleReply
   pub answers : Answers asked one
-  pub occurs : CanOccur config scripts one
+  pub occurs : CanOccurWith clock config scripts one
+
+abbrev pub CanBeAnswered : Configuration → Scripts → Asked → Type 0
+CanBeAnswered config scripts asked = CanBeAnsweredWith false config scripts asked
 
 -- the calls in this order are a beginning, which ends with the asked call and gives it an admitted reply
-pub record IsAnsweredBy (config : Configuration) (scripts : Scripts) (asked : Asked) (order : List ℕ) : Type 0 where
+pub record IsAnsweredByWith (clock : Bool) (config : Configuration) (scripts : Scripts) (asked : Asked) (order : List ℕ) : Type 0 where
   pub one : PossibleReply
   pub answers : Answers asked one
-  pub given : IsGivenBy config scripts one order
+  pub given : IsGivenByWith clock config scripts one order
+
+abbrev pub IsAnsweredBy : Configuration → Scripts → Asked → List ℕ → Type 0
+IsAnsweredBy config scripts asked order = IsAnsweredByWith false config scripts asked order
 
 -- ---- all replies and ends
 
 -- these are the replies that calls can get, and no others
+abbrev pub AreRepliesWith : Bool → Configuration → Scripts → List PossibleReply → Type 0
+AreRepliesWith clock config scripts replies = (one : PossibleReply) → Has replies one ↔ CanOccurWith clock config scripts one
+
 abbrev pub AreReplies : Configuration → Scripts → List PossibleReply → Type 0
-AreReplies config scripts replies = (one : PossibleReply) → Has replies one ↔ CanOccur config scripts one
+AreReplies config scripts replies = AreRepliesWith false config scripts replies
 
 -- the way leads to the point of one of the orders
 pub record EndsAtOne (config : Configuration) (scripts : Scripts) (ends : List (List ℕ)) (way : History) : Type 0 where
@@ -80,21 +100,30 @@ pub record EndsAtOne (config : Configuration) (scripts : Scripts) (ends : List (
   pub here : Has ends order
   pub same : IsSamePoint config way (history_of config scripts order)
 
--- each listed order makes all calls, and each way leads to the point of one of them
-pub record AreEnds (config : Configuration) (scripts : Scripts) (ends : List (List ℕ)) : Type 0 where
+-- each listed order makes all calls, and each way leads to the point of one of them; with the clock, of those on which
+-- each call was due
+pub record AreEndsWith (clock : Bool) (config : Configuration) (scripts : Scripts) (ends : List (List ℕ)) : Type 0 where
   pub ways : (order : List ℕ) → Has ends order → IsWay config scripts (history_of config scripts order)
-  pub all : (way : History) → IsWay config scripts way → EndsAtOne config scripts ends way
+  pub clocked : (order : List ℕ) → Has ends order → IsClocked clock scripts (history_of config scripts order)
+  pub all : (way : History) → IsWay config scripts way → IsClocked clock scripts way → EndsAtOne config scripts ends way
 
--- beginnings lead to more points than the bound
-pub record HasMorePoints (config : Configuration) (scripts : Scripts) (bound : ℕ) : Type 0 where
+abbrev pub AreEnds : Configuration → Scripts → List (List ℕ) → Type 0
+AreEnds config scripts ends = AreEndsWith false config scripts ends
+
+-- beginnings lead to more points than the bound; with the clock, those on which each call was due
+pub record HasMorePointsWith (clock : Bool) (config : Configuration) (scripts : Scripts) (bound : ℕ) : Type 0 where
   pub histories : List History
   pub many : bound < length histories
   pub beginnings : (history : History) → Has histories history → IsBeginning config scripts history
+  pub clocked : (history : History) → Has histories history → IsClocked clock scripts history
   pub apart : (j k : ℕ) (history other : History) → j < k → slice_get histories j ≡ Some history
       → slice_get histories k ≡ Some other → ¬ IsSamePoint config other history
 
 -- it is undecided only if beginnings lead to more points than the bound, or the search was ended by one who can
+abbrev pub IsUndecidedWith : {X : Type 0} → Bool → Type 0 → Configuration → Scripts → ℕ → Result X OrdersFault → Type 0
+IsUndecidedWith clock can_stop config scripts bound (Err TooManyStates) = HasMorePointsWith clock config scripts bound
+IsUndecidedWith clock can_stop config scripts bound (Err Stopped) = can_stop
+IsUndecidedWith clock can_stop config scripts bound _ = Unit {0}
+
 abbrev pub IsUndecided : {X : Type 0} → Type 0 → Configuration → Scripts → ℕ → Result X OrdersFault → Type 0
-IsUndecided can_stop config scripts bound (Err TooManyStates) = HasMorePoints config scripts bound
-IsUndecided can_stop config scripts bound (Err Stopped) = can_stop
-IsUndecided can_stop config scripts bound _ = Unit {0}
+IsUndecided can_stop config scripts bound result = IsUndecidedWith false can_stop config scripts bound result

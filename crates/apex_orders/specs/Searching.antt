@@ -1,5 +1,5 @@
 -- What a search has found.
-use Rattle.std.specs.Prelude.{ℕ, Bool, true, ◌≡◌, ◌<◌, ◌≤◌, List, ◌∷◌, [], ◌++◌, length, slice_get, Option, Some, None, IfSome, MatchOption, Result, Err}
+use Rattle.std.specs.Prelude.{ℕ, Bool, true, false, ◌≡◌, ◌<◌, ◌≤◌, List, ◌∷◌, [], ◌++◌, length, slice_get, Option, Some, None, IfSome, MatchOption, Result, Err}
 use Rattle.apex_module.specs.Configuration.{Configuration}
 use Rattle.apex_ports.specs.Counts.{count_of}
 use Rattle.apex_ports.specs.History.{History, entries_of}
@@ -8,11 +8,12 @@ use Rattle.apex_orders.specs.declared.replies.PossibleReply.{PossibleReply}
 use Rattle.apex_orders.specs.declared.orders_fault.OrdersFault.{OrdersFault}
 use Rattle.apex_orders.specs.declared.orders_fault.OrdersFault.TheVariants.{TooManyStates, Stopped}
 use Rattle.apex_orders.specs.declared.search.Search.{Search}
-use Rattle.apex_orders.specs.Enough.{IsEnough}
+use Rattle.apex_orders.specs.Clock.{IsClocked, IsNextDue}
+use Rattle.apex_orders.specs.Enough.{IsEnough, HasNext}
 use Rattle.apex_orders.specs.Known.{ArePoints, IsTrialOf}
 use Rattle.apex_orders.specs.LastUses.{AreOfScripts}
 use Rattle.apex_orders.specs.Orders.{Scripts, script_of, AreShort, IsOrder, history_of}
-use Rattle.apex_orders.specs.Outcomes.{Answers, IsAnsweredBy}
+use Rattle.apex_orders.specs.Outcomes.{Answers, IsAnsweredByWith}
 use Rattle.apex_orders.specs.Points.{IsSamePoint}
 use Rattle.apex_orders.specs.Lists.{Has}
 use Rattle.apex_orders.specs.Steps.{Makes}
@@ -41,26 +42,29 @@ pub record IsTried (config : Configuration) (scripts : Scripts) (orders : List (
   pub reply : (one : PossibleReply) → Makes config scripts (history_of config scripts order) p one → Has replies one
 
 -- each reply is given after an order
-pub record IsFound (config : Configuration) (scripts : Scripts) (one : PossibleReply) : Type 0 where
+pub record IsFound (clock : Bool) (config : Configuration) (scripts : Scripts) (one : PossibleReply) : Type 0 where
   pub order : List ℕ
   pub valid : IsOrder config order
   pub partition : ℕ
   pub within : partition < length config.partitions
   pub makes : Makes config scripts (history_of config scripts order) partition one
+  pub due : IsNextDue clock scripts (history_of config scripts order) partition
+  pub clocked : IsClocked clock scripts (history_of config scripts order)
 
-abbrev pub AreFound : Configuration → Scripts → List PossibleReply → Type 0
-AreFound config scripts replies = (one : PossibleReply) → Has replies one → IsFound config scripts one
+abbrev pub AreFound : Bool → Configuration → Scripts → List PossibleReply → Type 0
+AreFound clock config scripts replies = (one : PossibleReply) → Has replies one → IsFound clock config scripts one
 
 -- after the order, the partition's next call is the one at the index, and gets the reply
-pub record IsGivenAfter (config : Configuration) (scripts : Scripts) (order : List ℕ) (one : PossibleReply) : Type 0 where
+pub record IsGivenAfter (clock : Bool) (config : Configuration) (scripts : Scripts) (order : List ℕ) (one : PossibleReply) : Type 0 where
   pub within : one.partition < length config.partitions
   pub makes : Makes config scripts (history_of config scripts order) one.partition one
+  pub due : IsNextDue clock scripts (history_of config scripts order) one.partition
 
 -- this holds after one of the orders
-pub record IsGivenByAnOrder (config : Configuration) (scripts : Scripts) (orders : List (List ℕ)) (one : PossibleReply) : Type 0 where
+pub record IsGivenByAnOrder (clock : Bool) (config : Configuration) (scripts : Scripts) (orders : List (List ℕ)) (one : PossibleReply) : Type 0 where
   pub order : List ℕ
   pub here : Has orders order
-  pub given : IsGivenAfter config scripts order one
+  pub given : IsGivenAfter clock config scripts order one
 
 -- no two of the orders lead to one point
 abbrev pub AreApart : Configuration → Scripts → List (List ℕ) → Type 0
@@ -68,13 +72,19 @@ AreApart config scripts orders =
     (j k : ℕ) (order other : List ℕ) → j < k → slice_get orders j ≡ Some order → slice_get orders k ≡ Some other
     → ¬ IsSamePoint config (history_of config scripts other) (history_of config scripts order)
 
+-- in each order, each call was due when it was made
+abbrev pub AreClocked : Bool → Configuration → Scripts → List (List ℕ) → Type 0
+AreClocked clock config scripts orders =
+    (k : ℕ) (order : List ℕ) → slice_get orders k ≡ Some order → IsClocked clock scripts (history_of config scripts order)
+
 -- the invariant of a search
-pub record IsSearch (config : Configuration) (scripts : Scripts) (current : Search) : Type 0 where
+pub record IsSearch (clock : Bool) (config : Configuration) (scripts : Scripts) (current : Search) : Type 0 where
   pub all : length scripts ≡ length config.partitions
   pub orders : AreOrders config current.orders.items
+  pub clocked : AreClocked clock config scripts current.orders.items
   pub apart : AreApart config scripts current.orders.items
   pub points : ArePoints config scripts current.orders.items current.points
-  pub found : AreFound config scripts current.replies
+  pub found : AreFound clock config scripts current.replies
   pub trial : IsTrialOf config current.trial
   pub uses : AreOfScripts config scripts current.uses.items
 
@@ -83,53 +93,63 @@ pub record IsLater (old new : Search) : Type 0 where
   pub orders : Keeps old.orders.items new.orders.items
   pub replies : Includes old.replies new.replies
 
+-- these are enough to try after the history; with the clock, all whose next calls are due
+pub record IsEnoughWith (clock : Bool) (config : Configuration) (scripts : Scripts) (h : History) (tried : ℕ → Bool) : Type 0 where
+  pub enough : clock ≡ false → IsEnough config scripts h tried
+  pub all : clock ≡ true → (p : ℕ) → HasNext scripts h p → IsNextDue clock scripts h p → tried p ≡ true
+
+-- the next call of each of these is due
+abbrev pub AreDue : Bool → Scripts → History → (ℕ → Bool) → Type 0
+AreDue clock scripts h tried = (p : ℕ) → tried p ≡ true → IsNextDue clock scripts h p
+
 -- after the order the next calls of enough partitions were tried
-pub record HasTriedEnough (config : Configuration) (scripts : Scripts) (orders : List (List ℕ)) (replies : List PossibleReply) (order : List ℕ) : Type 0 where
+pub record HasTriedEnough (clock : Bool) (config : Configuration) (scripts : Scripts) (orders : List (List ℕ)) (replies : List PossibleReply) (order : List ℕ) : Type 0 where
   pub tried : ℕ → Bool
-  pub enough : IsEnough config scripts (history_of config scripts order) tried
+  pub enough : IsEnoughWith clock config scripts (history_of config scripts order) tried
   pub each : (p : ℕ) → p < length config.partitions → tried p ≡ true → IsTried config scripts orders replies order p
 
 -- this holds for the order at the index
-abbrev pub HasTried : Configuration → Scripts → List (List ℕ) → List PossibleReply → ℕ → Type 0
-HasTried config scripts orders replies k =
-    (order : List ℕ) → slice_get orders k ≡ Some order → HasTriedEnough config scripts orders replies order
+abbrev pub HasTried : Bool → Configuration → Scripts → List (List ℕ) → List PossibleReply → ℕ → Type 0
+HasTried clock config scripts orders replies k =
+    (order : List ℕ) → slice_get orders k ≡ Some order → HasTriedEnough clock config scripts orders replies order
 
 -- the search is complete
-pub record IsSearched (config : Configuration) (scripts : Scripts) (orders : List (List ℕ)) (replies : List PossibleReply) : Type 0 where
+pub record IsSearched (clock : Bool) (config : Configuration) (scripts : Scripts) (orders : List (List ℕ)) (replies : List PossibleReply) : Type 0 where
   pub all : length scripts ≡ length config.partitions
   pub short : AreShort config scripts
   pub first : Has orders []
   pub valid : AreOrders config orders
-  pub found : AreFound config scripts replies
-  pub tried : (k : ℕ) → k < length orders → HasTried config scripts orders replies k
+  pub clocked : AreClocked clock config scripts orders
+  pub found : AreFound clock config scripts replies
+  pub tried : (k : ℕ) → k < length orders → HasTried clock config scripts orders replies k
 
 -- after the order, the asked call is its partition's next one and gets an admitted reply
-pub record IsAnsweredAfter (config : Configuration) (scripts : Scripts) (asked : Asked) (order : List ℕ) : Type 0 where
+pub record IsAnsweredAfter (clock : Bool) (config : Configuration) (scripts : Scripts) (asked : Asked) (order : List ℕ) : Type 0 where
   pub one : PossibleReply
   pub answers : Answers asked one
-  pub given : IsGivenAfter config scripts order one
+  pub given : IsGivenAfter clock config scripts order one
 
 -- if something is asked, it isn't answered after the order
-abbrev pub IsUnanswered : Configuration → Scripts → Option Asked → List ℕ → Type 0
-IsUnanswered config scripts asked order = IfSome asked (λ one. ¬ IsAnsweredAfter config scripts one order)
+abbrev pub IsUnanswered : Bool → Configuration → Scripts → Option Asked → List ℕ → Type 0
+IsUnanswered clock config scripts asked order = IfSome asked (λ one. ¬ IsAnsweredAfter clock config scripts one order)
 
 -- nor after the order at the index
-abbrev pub IsUnansweredAt : Configuration → Scripts → Option Asked → List (List ℕ) → ℕ → Type 0
-IsUnansweredAt config scripts asked orders k = (order : List ℕ) → slice_get orders k ≡ Some order → IsUnanswered config scripts asked order
+abbrev pub IsUnansweredAt : Bool → Configuration → Scripts → Option Asked → List (List ℕ) → ℕ → Type 0
+IsUnansweredAt clock config scripts asked orders k = (order : List ℕ) → slice_get orders k ≡ Some order → IsUnanswered clock config scripts asked order
 
 -- the search is complete without an answer
-pub record IsSearchedInVain (config : Configuration) (scripts : Scripts) (asked : Option Asked) (orders : List (List ℕ)) (replies : List PossibleReply) : Type 0 where
-  pub searched : IsSearched config scripts orders replies
-  pub unanswered : (k : ℕ) → k < length orders → IsUnansweredAt config scripts asked orders k
+pub record IsSearchedInVain (clock : Bool) (config : Configuration) (scripts : Scripts) (asked : Option Asked) (orders : List (List ℕ)) (replies : List PossibleReply) : Type 0 where
+  pub searched : IsSearched clock config scripts orders replies
+  pub unanswered : (k : ℕ) → k < length orders → IsUnansweredAt clock config scripts asked orders k
 
 -- if something is asked, the order answers it; otherwise there is no such order
-abbrev pub IsAnswer : Configuration → Scripts → Option Asked → List ℕ → Type 0
-IsAnswer config scripts None order = ⊥
-IsAnswer config scripts (Some asked) order = IsAnsweredBy config scripts asked order
+abbrev pub IsAnswer : Bool → Configuration → Scripts → Option Asked → List ℕ → Type 0
+IsAnswer clock config scripts None order = ⊥
+IsAnswer clock config scripts (Some asked) order = IsAnsweredByWith clock config scripts asked order
 
 -- the search has an answer, or is complete without one
-abbrev pub HasEnded : Configuration → Scripts → Option Asked → List (List ℕ) → List PossibleReply → Option (List ℕ) → Type 0
-HasEnded config scripts asked orders replies answer = MatchOption answer (IsSearchedInVain config scripts asked orders replies) (IsAnswer config scripts asked)
+abbrev pub HasEnded : Bool → Configuration → Scripts → Option Asked → List (List ℕ) → List PossibleReply → Option (List ℕ) → Type 0
+HasEnded clock config scripts asked orders replies answer = MatchOption answer (IsSearchedInVain clock config scripts asked orders replies) (IsAnswer clock config scripts asked)
 
 -- each partition has made all calls of its script
 abbrev pub HasMadeAll : Configuration → Scripts → History → Type 0
@@ -142,14 +162,15 @@ pub record AreEndsOf (config : Configuration) (scripts : Scripts) (orders ends :
   pub every : (order : List ℕ) → Has orders order → HasMadeAll config scripts (history_of config scripts order) → Has ends order
 
 -- more orders than the bound lead to points that all differ
-pub record HasMoreOrders (config : Configuration) (scripts : Scripts) (bound : ℕ) : Type 0 where
+pub record HasMoreOrders (clock : Bool) (config : Configuration) (scripts : Scripts) (bound : ℕ) : Type 0 where
   pub orders : List (List ℕ)
   pub many : bound < length orders
   pub valid : AreOrders config orders
+  pub clocked : AreClocked clock config scripts orders
   pub apart : AreApart config scripts orders
 
 -- a search is given up only if there are more points than the bound, or one who can ended it
-abbrev pub IsGivenUp : {X : Type 0} → Type 0 → Configuration → Scripts → ℕ → Result X OrdersFault → Type 0
-IsGivenUp can_stop config scripts bound (Err TooManyStates) = HasMoreOrders config scripts bound
-IsGivenUp can_stop config scripts bound (Err Stopped) = can_stop
-IsGivenUp can_stop config scripts bound _ = Unit {0}
+abbrev pub IsGivenUp : {X : Type 0} → Bool → Type 0 → Configuration → Scripts → ℕ → Result X OrdersFault → Type 0
+IsGivenUp clock can_stop config scripts bound (Err TooManyStates) = HasMoreOrders clock config scripts bound
+IsGivenUp clock can_stop config scripts bound (Err Stopped) = can_stop
+IsGivenUp clock can_stop config scripts bound _ = Unit {0}

@@ -6,6 +6,7 @@ ghost use Rattle.apex_orders.specs.Orders.{IsOrder};
 ghost use Rattle.apex_orders.specs.Searching.{IsAnswer, IsAnsweredAfter, IsSearch, IsUnansweredAt};
 
 use crate::asked::Asked;
+use crate::choice::is_due;
 use crate::order::PackedOrder;
 use crate::points::go_to;
 use crate::search::Search;
@@ -20,17 +21,18 @@ pub(crate) fn answer_after(
     alloc: Global,
     config: &Config,
     scripts: &[Script],
+    clock: bool,
     asked: Option<&Asked>,
     current: &mut Search,
     i: usize,
 ) -> Result<Option<PackedOrder>, OutOfMemory>
-    requires valid { IsSearch config.now scripts.now current.old }
+    requires valid { IsSearch clock config.now scripts.now current.old }
     requires within { i < length current.old.orders.items }
     ensures answer { let asked = option_copied asked.entry in
         IfOk result (λ answer. MatchOption answer
-        (IsUnansweredAt config.now scripts.now asked current.old.orders.items i)
-        (IsAnswer config.now scripts.now asked)) }
-    ensures valid { OnOk result (IsSearch config.now scripts.now current.new) }
+        (IsUnansweredAt clock config.now scripts.now asked current.old.orders.items i)
+        (IsAnswer clock config.now scripts.now asked)) }
+    ensures valid { OnOk result (IsSearch clock config.now scripts.now current.new) }
     ensures orders { current.new.orders.items ≡ current.old.orders.items }
     ensures replies { current.new.replies ≡ current.old.replies }
 {
@@ -44,7 +46,7 @@ pub(crate) fn answer_after(
     let order = &current.orders[i];
     let saved = current.points.saved_at(i);
     let ports = &mut current.trial.ports;
-    if !gives(alloc, config, scripts, asked, order, saved, ports)? {
+    if !gives(alloc, config, scripts, clock, asked, order, saved, ports)? {
         return Ok(None);
     }
     let answer = order.followed_by(alloc, asked.partition)?;
@@ -56,6 +58,7 @@ fn gives(
     alloc: Global,
     config: &Config,
     scripts: &[Script],
+    clock: bool,
     asked: &Asked,
     order: &PackedOrder,
     saved: Option<&SavedPorts>,
@@ -67,10 +70,13 @@ fn gives(
     requires saved { IfSome saved (λ one. IsAfter config.now scripts.now order.now one.now) }
     requires config { ports.old.config ≡ config.now }
     ensures given { IfOk result (λ given. IsTrue given
-        ↔ IsAnsweredAfter config.now scripts.now asked.now order.now) }
+        ↔ IsAnsweredAfter clock config.now scripts.now asked.now order.now) }
     ensures config { ports.new.config ≡ config.now }
 {
     go_to(alloc, config, scripts, order, saved, ports)?;
+    if clock && !is_due(ports, scripts, asked.partition) {
+        return Ok(false);
+    }
     match step(ports, scripts, asked.partition) {
         None => Ok(false),
         Some(one) => Ok(asked.is_answered_by(&one)),

@@ -1,10 +1,12 @@
 //! The partitions whose next calls are enough to try.
-ghost use Rattle.std.specs.Prelude.{◌≡◌, ◌<◌, length, slice_get, Some, IfOk, IfSome, IsTrue};
+ghost use Rattle.std.specs.Prelude.{◌≡◌, ◌<◌, ◌↔◌, length, true, slice_get, Some, None, IfOk, MatchOption, IsTrue};
 ghost use Rattle.apex_ports.specs.History.{entries_of};
 ghost use Rattle.apex_orders.specs.Choices.{AreNextUses, IsNextUse, IsQuietOutside, IsSafeToTry, is_tried};
+ghost use Rattle.apex_orders.specs.Clock.{IsNextDue};
 ghost use Rattle.apex_orders.specs.Enough.{IsEnough, is_early};
 ghost use Rattle.apex_orders.specs.LastUses.{AreOfScripts};
 ghost use Rattle.apex_orders.specs.Orders.{script_of};
+ghost use Rattle.apex_orders.specs.Searching.{AreDue, IsEnoughWith};
 
 use crate::commuting::{channel_named, is_change};
 use crate::last_uses::LastUses;
@@ -41,8 +43,8 @@ fn is_early(row: Row) -> bool
 fn next_call<'a>(ports: &Ports, scripts: &'a [Script], p: usize) -> Option<&'a (Moment, Call)>
     requires partition { p < length ports.now.config.partitions }
     requires scripts { length scripts.now ≡ length ports.now.config.partitions }
-    ensures { IfSome result (λ timed.
-        slice_get (script_of scripts.now p) (length (entries_of p ports.now.history)) ≡ Some timed.now) }
+    ensures { let next = slice_get (script_of scripts.now p) (length (entries_of p ports.now.history)) in
+        MatchOption result (next ≡ None) (λ timed. next ≡ Some timed.now) }
 {
     let script = &scripts[p];
     let index = ports.calls(p) as usize;
@@ -96,9 +98,66 @@ pub(crate) fn is_tried(tried: &[bool], p: usize) -> bool
     tried.get(p).copied().unwrap_or(false)
 }
 
+/// Whether no partition's next call has a smaller moment than this partition's.
+pub(crate) fn is_due(ports: &Ports, scripts: &[Script], p: usize) -> bool
+    requires partition { p < length ports.now.config.partitions }
+    requires scripts { length scripts.now ≡ length ports.now.config.partitions }
+    ensures { IsTrue result ↔ IsNextDue true scripts.now ports.now.history p }
+{
+    let Some(timed) = next_call(ports, scripts, p) else {
+        return true;
+    };
+    for q in 0..scripts.len() {
+        if let Some(other) = next_call(ports, scripts, q) {
+            if other.0.0 < timed.0.0 {
+                return false;
+            }
+        }
+    }
+    true
+}
+
+/// The partitions whose next calls are due by the clock.
+fn due(alloc: Global, ports: &Ports, scripts: &[Script]) -> Result<Vec<bool>, OutOfMemory>
+    requires { length scripts.now ≡ length ports.now.config.partitions }
+    ensures enough { IfOk result (λ tried.
+        IsEnoughWith true ports.now.config scripts.now ports.now.history (is_tried tried.items)) }
+    ensures due { IfOk result (λ tried.
+        AreDue true scripts.now ports.now.history (is_tried tried.items)) }
+{
+    let mut tried = Vec::with_capacity(alloc, scripts.len())?;
+    for p in 0..scripts.len() {
+        let is_next = is_due(ports, scripts, p);
+        tried.push(is_next)?;
+    }
+    Ok(tried)
+}
+
+/// Partitions whose next calls are enough to try. With the clock, those whose calls are due.
+pub(crate) fn choose(
+    alloc: Global,
+    ports: &Ports,
+    scripts: &[Script],
+    clock: bool,
+    uses: &[LastUses],
+    from: Option<usize>,
+) -> Result<Vec<bool>, OutOfMemory>
+    requires scripts { length scripts.now ≡ length ports.now.config.partitions }
+    requires uses { AreOfScripts ports.now.config scripts.now uses.now }
+    ensures enough { IfOk result (λ tried.
+        IsEnoughWith clock ports.now.config scripts.now ports.now.history (is_tried tried.items)) }
+    ensures due { IfOk result (λ tried.
+        AreDue clock scripts.now ports.now.history (is_tried tried.items)) }
+{
+    if clock {
+        return due(alloc, ports, scripts);
+    }
+    enough(alloc, ports, scripts, uses, from)
+}
+
 /// Partitions whose next calls are enough to try: the set that grows from this partition's next call, else the smallest
 /// that grows from one, else all.
-pub(crate) fn choose(
+fn enough(
     alloc: Global,
     ports: &Ports,
     scripts: &[Script],

@@ -5,6 +5,7 @@
 mod answer;
 pub mod asked;
 mod choice;
+pub mod clock_law;
 mod commuting;
 pub mod commuting_law;
 mod hash;

@@ -2,7 +2,7 @@
 ghost use Rattle.std.specs.Prelude.{◌≡◌, length, IfOk, IsTrue, ◌↔◌};
 ghost use Rattle.apex_module.specs.Configuration.{Configuration};
 ghost use Rattle.apex_orders.specs.Orders.{IsOrder, history_of};
-ghost use Rattle.apex_orders.specs.Outcomes.{AreReplies, AreEnds, IsUndecided};
+ghost use Rattle.apex_orders.specs.Outcomes.{AreReplies, AreRepliesWith, AreEnds, AreEndsWith, IsUndecided, IsUndecidedWith};
 ghost use Rattle.apex_orders.specs.Searching.{AreOrders, AreEndsOf, HasMadeAll};
 
 use crate::order::{Order, PackedOrder};
@@ -41,27 +41,30 @@ pub fn all_outcomes(
     ensures ends { IfOk result (λ found. AreEnds config.now scripts.now found.ends.items) }
     ensures undecided { IsUndecided ⊥ config.now scripts.now bound result }
 {
-    all_outcomes_with_progress(alloc, config, scripts, bound, &mut NoProgress)
+    all_outcomes_with_progress(alloc, config, scripts, false, bound, &mut NoProgress)
 }
 
-/// Answers like `all_outcomes`. `progress` receives from time to time how far the search is, and
-/// may end it.
+/// Answers like `all_outcomes`. With `clock`, the moments of all partitions are of one clock: each call is made before
+/// every call of another partition that has a greater moment. `progress` receives from time to time how far the search
+/// is, and may end it.
 pub fn all_outcomes_with_progress<P: Progress>(
     alloc: Global,
     config: &Config,
     scripts: &[Script],
+    clock: bool,
     bound: usize,
     progress: &mut P,
 ) -> Result<Outcomes, OrdersFault>
     requires { length scripts.now ≡ length config.now.partitions }
     ensures replies { IfOk result
-        (λ found. AreReplies config.now scripts.now found.replies.items) }
-    ensures ends { IfOk result (λ found. AreEnds config.now scripts.now found.ends.items) }
-    ensures undecided { IsUndecided P.CanStop config.now scripts.now bound result }
+        (λ found. AreRepliesWith clock config.now scripts.now found.replies.items) }
+    ensures ends { IfOk result
+        (λ found. AreEndsWith clock config.now scripts.now found.ends.items) }
+    ensures undecided { IsUndecidedWith clock P.CanStop config.now scripts.now bound result }
 {
     let partitions = config.partitions();
     prove!(scripts.len() == partitions);
-    let found = match search_points(alloc, config, scripts, None, bound, progress) {
+    let found = match search_points(alloc, config, scripts, clock, None, bound, progress) {
         Err(fault) => return Err(fault),
         Ok(found) => found,
     };

@@ -1,11 +1,12 @@
 //! The search of all points that orders lead to.
-ghost use Rattle.std.specs.Prelude.{◌≡◌, ◌<◌, ◌++◌, [], ◌∷◌, ℕ, true, length, IfOk, OnOk, IfSome};
+ghost use Rattle.std.specs.Prelude.{◌≡◌, ◌<◌, ◌++◌, [], ◌∷◌, ℕ, Bool, true, length, IfOk, OnOk, IfSome};
 ghost use Rattle.std.specs.Option.{option_copied};
 ghost use Rattle.apex_orders.specs.Choices.{is_tried};
+ghost use Rattle.apex_orders.specs.Clock.{IsClocked, IsNextDue};
 ghost use Rattle.apex_orders.specs.Known.{IsAfter};
 ghost use Rattle.apex_orders.specs.Lists.{Has};
 ghost use Rattle.apex_orders.specs.Orders.{IsOrder, history_of};
-ghost use Rattle.apex_orders.specs.Searching.{Knows, HasEnded, IsTried, HasTried, HasTriedEnough, IsGivenUp, IsSearch, IsLater};
+ghost use Rattle.apex_orders.specs.Searching.{AreDue, Knows, HasEnded, IsTried, HasTried, HasTriedEnough, IsGivenUp, IsSearch, IsLater};
 
 use crate::answer::answer_after;
 use crate::asked::Asked;
@@ -40,22 +41,23 @@ pub(crate) fn search_points<P: Progress>(
     alloc: Global,
     config: &Config,
     scripts: &[Script],
+    clock: bool,
     asked: Option<&Asked>,
     bound: usize,
     progress: &mut P,
 ) -> Result<Found, OrdersFault>
     requires { length scripts.now ≡ length config.now.partitions }
     ensures ended { let asked = option_copied asked.entry in
-        IfOk result (λ found. HasEnded config.now scripts.now asked
+        IfOk result (λ found. HasEnded clock config.now scripts.now asked
         found.orders.items found.replies.items found.answer) }
-    ensures given_up { IsGivenUp P.CanStop config.now scripts.now bound result }
+    ensures given_up { IsGivenUp clock P.CanStop config.now scripts.now bound result }
 {
     progress.begin();
     let mut current = Search::new(alloc, config, scripts, asked)?;
     let mut level = Level::new();
     let mut i = 0;
     while i < current.orders.len() {
-        if let Some(order) = answer_after(alloc, config, scripts, asked, &mut current, i)? {
+        if let Some(order) = answer_after(alloc, config, scripts, clock, asked, &mut current, i)? {
             return Ok(current.into_found(Some(order)));
         }
         if current.orders.len() > bound {
@@ -64,7 +66,7 @@ pub(crate) fn search_points<P: Progress>(
         if !level.goes_on(progress, i, current.orders.len(), current.bytes()) {
             return Err(OrdersFault::Stopped);
         }
-        current.try_all(alloc, config, scripts, i)?;
+        current.try_all(alloc, config, scripts, clock, i)?;
         i += 1;
     }
     Ok(current.into_found(None))
@@ -93,7 +95,7 @@ impl Search {
         asked: Option<&Asked>,
     ) -> Result<Search, OutOfMemory>
         requires { length scripts.now ≡ length config.now.partitions }
-        ensures valid { IfOk result (λ one. IsSearch config.now scripts.now one) }
+        ensures valid { IfOk result (λ one. (clock : Bool) → IsSearch clock config.now scripts.now one) }
         ensures first { IfOk result (λ one. Has one.orders.items []) }
     {
         let orders = first_orders(alloc)?;
@@ -127,19 +129,20 @@ impl Search {
         alloc: Global,
         config: &Config,
         scripts: &[Script],
+        clock: bool,
         i: usize,
     ) -> Result<(), OutOfMemory>
-        requires valid { IsSearch config.now scripts.now self.old }
+        requires valid { IsSearch clock config.now scripts.now self.old }
         requires within { i < length self.old.orders.items }
-        ensures valid { OnOk result (IsSearch config.now scripts.now self.new) }
+        ensures valid { OnOk result (IsSearch clock config.now scripts.now self.new) }
         ensures later { OnOk result (IsLater self.old self.new) }
         ensures tried { OnOk result
-            (HasTried config.now scripts.now self.new.orders.items self.new.replies i) }
+            (HasTried clock config.now scripts.now self.new.orders.items self.new.replies i) }
     {
         let order = self.orders[i].copy(alloc)?;
         let saved = self.points.take(i);
         self.memory.take();
-        self.try_each(alloc, config, scripts, &order, saved.as_ref())?;
+        self.try_each(alloc, config, scripts, clock, &order, saved.as_ref())?;
         Ok(())
     }
 
@@ -149,21 +152,29 @@ impl Search {
         alloc: Global,
         config: &Config,
         scripts: &[Script],
+        clock: bool,
         order: &PackedOrder,
         saved: Option<&SavedPorts>,
     ) -> Result<(), OutOfMemory>
-        requires valid { IsSearch config.now scripts.now self.old }
+        requires valid { IsSearch clock config.now scripts.now self.old }
         requires here { Has self.old.orders.items order.now }
         requires saved { IfSome saved
             (λ ports. IsAfter config.now scripts.now order.now ports.now) }
-        ensures valid { OnOk result (IsSearch config.now scripts.now self.new) }
+        ensures valid { OnOk result (IsSearch clock config.now scripts.now self.new) }
         ensures later { OnOk result (IsLater self.old self.new) }
-        ensures tried { OnOk result (HasTriedEnough config.now scripts.now
+        ensures tried { OnOk result (HasTriedEnough clock config.now scripts.now
             self.new.orders.items self.new.replies order.now) }
     {
         go_to(alloc, config, scripts, order, saved, &mut self.trial.ports)?;
-        let tried = choose(alloc, &self.trial.ports, scripts, &self.uses, self.from)?;
-        self.try_those(alloc, config, scripts, order, saved, &tried)?;
+        let tried = choose(
+            alloc,
+            &self.trial.ports,
+            scripts,
+            clock,
+            &self.uses,
+            self.from,
+        )?;
+        self.try_those(alloc, config, scripts, clock, order, saved, &tried)?;
         Ok(())
     }
 
@@ -173,15 +184,18 @@ impl Search {
         alloc: Global,
         config: &Config,
         scripts: &[Script],
+        clock: bool,
         order: &PackedOrder,
         saved: Option<&SavedPorts>,
         tried: &[bool],
     ) -> Result<(), OutOfMemory>
-        requires valid { IsSearch config.now scripts.now self.old }
+        requires valid { IsSearch clock config.now scripts.now self.old }
         requires here { Has self.old.orders.items order.now }
         requires saved { IfSome saved
             (λ ports. IsAfter config.now scripts.now order.now ports.now) }
-        ensures valid { OnOk result (IsSearch config.now scripts.now self.new) }
+        requires due { AreDue clock scripts.now (history_of config.now scripts.now order.now)
+            (is_tried tried.now) }
+        ensures valid { OnOk result (IsSearch clock config.now scripts.now self.new) }
         ensures later { OnOk result (IsLater self.old self.new) }
         ensures tried { OnOk result ((p : ℕ) → p < length config.now.partitions
             → is_tried tried.now p ≡ true
@@ -189,7 +203,7 @@ impl Search {
     {
         for p in 0..config.partitions() {
             if is_tried(tried, p) {
-                self.try_partition(alloc, config, scripts, order, saved, p)?;
+                self.try_partition(alloc, config, scripts, clock, order, saved, p)?;
             }
         }
         Ok(())
@@ -201,16 +215,18 @@ impl Search {
         alloc: Global,
         config: &Config,
         scripts: &[Script],
+        clock: bool,
         order: &PackedOrder,
         saved: Option<&SavedPorts>,
         p: usize,
     ) -> Result<(), OutOfMemory>
-        requires valid { IsSearch config.now scripts.now self.old }
+        requires valid { IsSearch clock config.now scripts.now self.old }
         requires partition { p < length config.now.partitions }
         requires here { Has self.old.orders.items order.now }
         requires saved { IfSome saved
             (λ ports. IsAfter config.now scripts.now order.now ports.now) }
-        ensures valid { OnOk result (IsSearch config.now scripts.now self.new) }
+        requires due { IsNextDue clock scripts.now (history_of config.now scripts.now order.now) p }
+        ensures valid { OnOk result (IsSearch clock config.now scripts.now self.new) }
         ensures later { OnOk result (IsLater self.old self.new) }
         ensures tried { OnOk result
             (IsTried config.now scripts.now self.new.orders.items self.new.replies order.now p) }
@@ -221,7 +237,7 @@ impl Search {
             Some(one) => one,
         };
         self.replies.add(one)?;
-        self.learn(alloc, config, scripts, order, p)?;
+        self.learn(alloc, config, scripts, clock, order, p)?;
         Ok(())
     }
 
@@ -231,15 +247,17 @@ impl Search {
         alloc: Global,
         config: &Config,
         scripts: &[Script],
+        clock: bool,
         order: &PackedOrder,
         p: usize,
     ) -> Result<(), OutOfMemory>
-        requires valid { IsSearch config.now scripts.now self.old }
+        requires valid { IsSearch clock config.now scripts.now self.old }
         requires partition { p < length config.now.partitions }
         requires history { self.old.trial.ports.history
             ≡ history_of config.now scripts.now (order.now ++ p ∷ []) }
         requires order { IsOrder config.now order.now }
-        ensures valid { OnOk result (IsSearch config.now scripts.now self.new) }
+        requires clocked { IsClocked clock scripts.now self.old.trial.ports.history }
+        ensures valid { OnOk result (IsSearch clock config.now scripts.now self.new) }
         ensures later { OnOk result (IsLater self.old self.new) }
         ensures known { OnOk result
             (Knows config.now scripts.now self.new.orders.items self.old.trial.ports.history) }

@@ -1,6 +1,6 @@
 //! An order in which a call gets a reply.
 ghost use Rattle.std.specs.Prelude.{◌≡◌, length, IfOk, IfSome, IfNone};
-ghost use Rattle.apex_orders.specs.Outcomes.{CanBeAnswered, IsAnsweredBy, IsUndecided};
+ghost use Rattle.apex_orders.specs.Outcomes.{CanBeAnswered, CanBeAnsweredWith, IsAnsweredBy, IsAnsweredByWith, IsUndecided, IsUndecidedWith};
 
 use crate::asked::Asked;
 use crate::order::Order;
@@ -28,29 +28,31 @@ pub fn order_giving(
         (λ answer. IfNone answer (¬ CanBeAnswered config.now scripts.now asked.now)) }
     ensures undecided { IsUndecided ⊥ config.now scripts.now bound result }
 {
-    order_giving_with_progress(alloc, config, scripts, asked, bound, &mut NoProgress)
+    order_giving_with_progress(alloc, config, scripts, false, asked, bound, &mut NoProgress)
 }
 
-/// Answers like `order_giving`. `progress` receives from time to time how far the search is, and
-/// may end it.
+/// Answers like `order_giving`. With `clock`, the moments of all partitions are of one clock, as for
+/// `all_outcomes_with_progress`. `progress` receives from time to time how far the search is, and may end it.
 pub fn order_giving_with_progress<P: Progress>(
     alloc: Global,
     config: &Config,
     scripts: &[Script],
+    clock: bool,
     asked: &Asked,
     bound: usize,
     progress: &mut P,
 ) -> Result<Option<Order>, OrdersFault>
     requires { length scripts.now ≡ length config.now.partitions }
     ensures found { IfOk result
-        (λ answer. IfSome answer (λ order. IsAnsweredBy config.now scripts.now asked.now order)) }
+        (λ answer. IfSome answer (λ order.
+        IsAnsweredByWith clock config.now scripts.now asked.now order)) }
     ensures never { IfOk result
-        (λ answer. IfNone answer (¬ CanBeAnswered config.now scripts.now asked.now)) }
-    ensures undecided { IsUndecided P.CanStop config.now scripts.now bound result }
+        (λ answer. IfNone answer (¬ CanBeAnsweredWith clock config.now scripts.now asked.now)) }
+    ensures undecided { IsUndecidedWith clock P.CanStop config.now scripts.now bound result }
 {
     let partitions = config.partitions();
     prove!(scripts.len() == partitions);
-    let found = match search_points(alloc, config, scripts, Some(asked), bound, progress) {
+    let found = match search_points(alloc, config, scripts, clock, Some(asked), bound, progress) {
         Err(fault) => return Err(fault),
         Ok(found) => found,
     };

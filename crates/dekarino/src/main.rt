@@ -1,4 +1,4 @@
-//! The tool for people: what configurations, traces, logs and scripts come to.
+//! The tool for people: it explains and draws traces, judges logs, and searches all orders of scripts.
 #![tactic(auto)]
 
 use dekarino_command_line::start_given;

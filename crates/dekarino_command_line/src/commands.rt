@@ -31,9 +31,13 @@ pub(crate) const SCRIPTS: &str = "NAME=SCRIPT";
 
 pub(crate) const STATES: &str = "states";
 
+pub(crate) const CLOCK: &str = "clock";
+
 pub(crate) const WHEN: &str = "when";
 
 pub(crate) const NEVER: &str = "never";
+
+pub(crate) const WITNESS: &str = "witness";
 
 pub(crate) const JSON: &str = "json";
 
@@ -168,8 +172,10 @@ fn orders<'a>(alloc: Global) -> Result<Command<'a>, AllocError> {
         .arg(option(alloc, SECONDS, "N", help::SECONDS))?
         .arg(option(alloc, MEMORY, "MIB", help::MEMORY))?
         .arg(option(alloc, STATES, "N", help::STATES))?
+        .arg(flag(alloc, CLOCK, help::CLOCK))?
         .arg(question(alloc, WHEN, help::WHEN))?
         .arg(question(alloc, NEVER, help::NEVER))?
+        .arg(option(alloc, WITNESS, "FOLDER", help::WITNESS))?
         .arg(json(alloc))
 }
 

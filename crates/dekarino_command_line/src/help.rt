@@ -104,11 +104,17 @@ pub(crate) const DEAD_ENDS: &str =
 
 pub(crate) const ORDERS: &str = "\
 Each partition makes the calls of its script in order. Nothing else says which call comes first; moments order nothing
-between partitions. For each call, by the line of its script, it prints all replies that some order gives, and no others,
-after `*` if there are several; and for each queuing channel the least and the greatest of its counts in the end. Then
-come the number of states tried and of different ends, in a line for each group of partitions that shares no channel with
-others, and the number of calls with several replies. A search that meets a bound of seconds, memory or states gives up:
-the status is 5. Each question has a search of its own, and so has each such group.
+between partitions, unless `--clock` says that they are of one clock. For each call, by the line of its script, it
+prints all replies that some order gives, and no others, after `*` if there are several; and for each queuing channel
+the least and the greatest of its counts in the end. Then come the number of states tried and of different ends, in a
+line for each group of partitions that shares no channel with others, and the number of calls with several replies. A
+search that meets a bound of seconds, memory or states gives up: the status is 5. Each question has a search of its own,
+and so has each such group.
+
+With --witness FOLDER, each reply of several has a file NAME_LINE_REPLY.log in FOLDER, named behind the reply: a shortest
+order that ends with that call and that reply, as a log in which `judge` finds no departure. FOLDER is made if it isn't
+there, and a file with that name is replaced. At most 1,000 files are written, the first in the order of the report. Each
+has a search of its own.
 
 A question NAME:LINE = REPLY is about the call on that line of the partition's script. A return code alone means
 every reply with that code. The first order that gives such a reply ends the search. A question CHANNEL COUNT OP NUMBER,
@@ -132,11 +138,17 @@ pub(crate) const MEMORY: &str =
 
 pub(crate) const STATES: &str = "Gives up a search above this many states";
 
+pub(crate) const CLOCK: &str =
+    "Takes moments to be of one clock: a call comes before all later calls of other partitions";
+
 pub(crate) const WHEN: &str =
     "Prints an order with such a reply or such an end, as a log; status 4 if there is none";
 
 pub(crate) const NEVER: &str =
     "Status 0 if no order has such a reply or such an end; otherwise 4, with such an order";
+
+pub(crate) const WITNESS: &str =
+    "Writes a shortest order for each reply of several to a file in FOLDER, as a log";
 
 pub(crate) const ROWS: &str = "\
 Prints the rows of each service in order. The first row whose condition holds gives the reply, and `explain` prints its

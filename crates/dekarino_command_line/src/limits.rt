@@ -11,8 +11,8 @@ const SECONDS: usize = 60;
 /// The MiB, if no number is given.
 const MEMORY: usize = 1_024;
 
-/// How much a search may take. Each question has a search of its own, and so has each group of partitions that share no
-/// channel with others.
+/// How much a search may take, and whether moments are of one clock in it. Each question has a search of its own, and so
+/// has each group of partitions that share no channel with others.
 #[derive(Clone, Copy, Debug, PartialEq, Eq)]
 pub struct SearchLimits {
     pub seconds: usize,
@@ -20,6 +20,8 @@ pub struct SearchLimits {
     pub memory: usize,
     /// The number of states that it may find, if that is limited.
     pub states: Option<usize>,
+    /// Each call comes before every call of another partition that has a greater moment.
+    pub clock: bool,
 }
 
 impl SearchLimits {
@@ -38,6 +40,7 @@ pub(crate) fn limits_in(given: &ArgMatches<'_>) -> Result<SearchLimits, &'static
         seconds: seconds.unwrap_or(SECONDS),
         memory: memory.unwrap_or(MEMORY),
         states,
+        clock: false,
     })
 }
 

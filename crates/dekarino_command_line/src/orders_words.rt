@@ -11,10 +11,11 @@ use std::alloc::{AllocError, Global};
 
 /// The task of the words.
 pub(crate) fn orders_in<'a>(alloc: Global, given: &ArgMatches<'a>) -> Result<Task<'a>, WordsFault> {
-    let limits = match limits_in(given) {
+    let mut limits = match limits_in(given) {
         Ok(limits) => limits,
         Err(message) => return Err(orders_fault(alloc, message)),
     };
+    limits.clock = given.get_flag(commands::CLOCK);
     let words = given.get_strs(commands::SCRIPTS).unwrap_or(&[]);
     if !words.iter().all(|word| names_partition(word)) {
         return Err(orders_fault(
@@ -22,13 +23,23 @@ pub(crate) fn orders_in<'a>(alloc: Global, given: &ArgMatches<'a>) -> Result<Tas
             "each of the words after CONFIG has to be NAME=SCRIPT",
         ));
     }
+    let questions = questions_in(alloc, given)?;
+    let witness = given.get_str(commands::WITNESS);
+    if witness == Some("") {
+        return Err(orders_fault(alloc, "--witness takes a folder"));
+    }
+    if witness.is_some() && !questions.is_empty() {
+        let message = "--witness goes without --when and --never";
+        return Err(orders_fault(alloc, message));
+    }
     let mut scripts = Vec::new(alloc);
     scripts.extend_from_slice(words)?;
     Ok(Task::Orders {
         config: config_in(alloc, given)?,
         scripts,
         limits,
-        questions: questions_in(alloc, given)?,
+        questions,
+        witness,
         form: form_in(given),
     })
 }

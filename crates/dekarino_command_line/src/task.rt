@@ -47,13 +47,14 @@ pub enum Task<'a> {
         time_outs: bool,
         form: Form,
     },
-    /// Prints all replies that scripts can get over every order of their calls, or answers questions about them; it gives
-    /// up at the limits.
+    /// Prints all replies that scripts can get over every order of their calls, and writes an order for each reply of several
+    /// to a file in a folder, if that is given; or answers questions about the orders. It gives up at the limits.
     Orders {
         config: &'a str,
         scripts: Vec<&'a str>,
         limits: SearchLimits,
         questions: Vec<Question<'a>>,
+        witness: Option<&'a str>,
         form: Form,
     },
     /// Prints the reply table: the rows of a service, or of all.

@@ -23,4 +23,8 @@ impl<R: Files> FileWriter for InputFiles<'_, R> {
     fn write_file(&self, path: &str, bytes: &[u8]) -> io::Result<()> {
         fs::write(self.rt, path, bytes)
     }
+
+    fn make_folder(&self, path: &str) -> io::Result<()> {
+        fs::create_dir_all(self.rt, path)
+    }
 }

@@ -10,7 +10,8 @@ use dekarino_texts::{OutcomeSink, Ranges};
 use serde::Serialize;
 use std::alloc::{AllocError, Global};
 
-/// A call: the line of its script, from 1, and the replies that it can get.
+/// A call: the line of its script, from 1, the replies that it can get, and the files with orders for them, if any are
+/// written.
 #[derive(Drop, Serialize)]
 struct CallLine<'a> {
     partition: &'a str,
@@ -18,6 +19,8 @@ struct CallLine<'a> {
     at: u64,
     service: &'static str,
     replies: Vec<String>,
+    #[serde(skip_serializing_if = "Option::is_none")]
+    witnesses: Option<Vec<&'a str>>,
 }
 
 /// A queuing channel: the lowest and the highest of each count in the end.
@@ -73,6 +76,7 @@ impl OutcomeSink for OutcomeObjects {
             at,
             service: Service::of(call.call).word(),
             replies: texts,
+            witnesses: names_of(alloc, call.files)?,
         };
         push_object(alloc, &mut self.text, &object)
     }
@@ -97,6 +101,18 @@ impl OutcomeSink for OutcomeObjects {
         }
         Ok(())
     }
+}
+
+/// The names of files; `None` if there are none.
+fn names_of<'a>(alloc: Global, files: &'a [String]) -> Result<Option<Vec<&'a str>>, AllocError> {
+    if files.is_empty() {
+        return Ok(None);
+    }
+    let mut names = Vec::with_capacity(alloc, files.len())?;
+    for file in files {
+        names.push(file.as_str())?;
+    }
+    Ok(Some(names))
 }
 
 fn push_group(text: &mut String, config: &Config, group: &GroupCounts) -> Result<(), AllocError> {

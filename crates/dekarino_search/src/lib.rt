@@ -5,6 +5,7 @@
 
 mod answers;
 mod bound;
+mod clock;
 mod configuration;
 mod end_questions;
 mod file_writer;
@@ -32,6 +33,7 @@ mod search_progress;
 pub mod unfinished;
 mod unreadable;
 mod verdict;
+mod witnesses;
 
 pub use crate::bound::Bound;
 pub use crate::configuration::read_config;

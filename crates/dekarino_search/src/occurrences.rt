@@ -46,9 +46,25 @@ pub(crate) fn find_occurrence<'a, P: Progress>(
     let states = progress.states();
     let found = match asked {
         AskedOf::Call(asked) => {
-            order_giving_apart(alloc, config, scripts, asked, states, &mut progress)
+            order_giving_apart(
+                alloc,
+                config,
+                scripts,
+                limits.clock,
+                asked,
+                states,
+                &mut progress,
+            )
         }
-        AskedOf::End(asked) => order_to_end(alloc, config, scripts, asked, states, &mut progress),
+        AskedOf::End(asked) => order_to_end(
+            alloc,
+            config,
+            scripts,
+            limits.clock,
+            asked,
+            states,
+            &mut progress,
+        ),
     };
     let order = match found {
         Ok(order) => order,
@@ -76,7 +92,7 @@ fn answer_text(
 }
 
 /// The calls in an order as a log: each with its reply.
-fn order_text(
+pub(crate) fn order_text(
     alloc: Global,
     config: &Config,
     scripts: &[Script],

@@ -67,7 +67,7 @@ pub(crate) fn question_error<'a>(
     fault: QuestionFault<'a>,
 ) -> Unfinished<'a> {
     match reason_of(alloc, config, lines, fault) {
-        Ok(reason) => Unfinished::BadQuestion { words, reason },
+        Ok(reason) => Unfinished::BadArgument { words, reason },
         Err(error) => Unfinished::from(error),
     }
 }

@@ -3,13 +3,16 @@ ghost use Rattle.std.specs.Prelude.{◌≡◌, length};
 
 use crate::answers::answers_to;
 use crate::bound::Bound;
+use crate::clock::check_moments;
 use crate::configuration::read_config;
+use crate::file_writer::FileWriter;
 use crate::json_outcomes::OutcomeObjects;
 use crate::outcome::Outcome;
 use crate::progress::Progress;
 use crate::scripts::{Scripts, read_scripts};
 use crate::search_progress::SearchProgress;
 use crate::unfinished::Unfinished;
+use crate::witnesses::write_witnesses;
 use apex_files::Opener;
 use apex_groups::{OutcomesApart, all_outcomes_apart};
 use apex_module::Config;
@@ -21,15 +24,17 @@ use dekarino_command_line::{Form, Question, SearchLimits};
 use dekarino_texts::{LineNumbers, OutcomeText, walk_outcomes};
 use std::alloc::{AllocError, Global};
 
-/// What the scripts that the arguments name can come to, on the configuration in a file: all of it, or the answers to
-/// questions. A search gives up at the limits.
-pub fn outcomes_of_scripts<'a, O: Opener, P: Progress>(
+/// All replies that the scripts named by the arguments can get, on the configuration in a file, or the answers to
+/// questions. If `witness` is given, orders for the replies of calls that have several are written to files in that
+/// folder. A search gives up at the limits.
+pub fn outcomes_of_scripts<'a, O: Opener + FileWriter, P: Progress>(
     alloc: Global,
     opener: &O,
     config: &'a str,
     arguments: &[&'a str],
     limits: SearchLimits,
     questions: &[Question<'a>],
+    witness: Option<&'a str>,
     form: Form,
     progress: &mut P,
 ) -> Result<Outcome, Unfinished<'a>> {
@@ -37,16 +42,43 @@ pub fn outcomes_of_scripts<'a, O: Opener, P: Progress>(
     let Scripts { scripts, lines } = read_scripts(alloc, opener, &config, arguments, form)?;
     let mut scripts = unpack_all(alloc, scripts.as_slice())?;
     let (scripts, lines) = (scripts.as_mut_slice(), lines.as_slice());
+    if limits.clock {
+        check_moments(alloc, &config, arguments, scripts, lines)?;
+    }
     if !questions.is_empty() {
         return answers_to(alloc, &config, scripts, lines, limits, questions, progress);
     }
     let mut progress = SearchProgress::new(progress, limits);
     let states = progress.states();
-    let found = match all_outcomes_apart(alloc, &config, scripts, states, &mut progress) {
+    let found = all_outcomes_apart(alloc, &config, scripts, limits.clock, states, &mut progress);
+    let found = match found {
         Ok(found) => found,
         Err(fault) => return Err(unfinished_by(fault, &progress)),
     };
-    let text = outcomes_text(alloc, &config, scripts, lines, &found, form)?;
+    let replies = found.replies.as_slice();
+    let files = match write_witnesses(
+        alloc,
+        opener,
+        &config,
+        scripts,
+        limits.clock,
+        lines,
+        replies,
+        witness,
+        &mut progress,
+    ) {
+        Ok(files) => files,
+        Err(unfinished) => return Err(unfinished),
+    };
+    let text = outcomes_text(
+        alloc,
+        &config,
+        scripts,
+        lines,
+        &found,
+        files.as_slice(),
+        form,
+    )?;
     Ok(Outcome::Done(text.into_bytes()))
 }
 
@@ -56,6 +88,7 @@ fn outcomes_text(
     scripts: &[Script],
     lines: &[LineNumbers],
     outcomes: &OutcomesApart,
+    files: &[String],
     form: Form,
 ) -> Result<String, OutOfMemory>
     requires { length scripts.now ≡ length config.now.partitions }
@@ -63,12 +96,12 @@ fn outcomes_text(
     match form {
         Form::Text => {
             let mut sink = OutcomeText::new(alloc);
-            walk_outcomes(alloc, config, scripts, lines, outcomes, &mut sink)?;
+            walk_outcomes(alloc, config, scripts, lines, outcomes, files, &mut sink)?;
             Ok(sink.into_text())
         }
         Form::Json => {
             let mut sink = OutcomeObjects::new(alloc);
-            walk_outcomes(alloc, config, scripts, lines, outcomes, &mut sink)?;
+            walk_outcomes(alloc, config, scripts, lines, outcomes, files, &mut sink)?;
             Ok(sink.into_text())
         }
     }

@@ -51,8 +51,13 @@ pub enum Unfinished<'a> {
     },
     /// The file at this path can't be written.
     UnwritableFile(&'a str),
-    /// The words of `--when` or `--never` are no question, for this reason.
-    BadQuestion {
+    /// The file with this name in the folder can't be written.
+    UnwritableFileIn {
+        folder: &'a str,
+        name: String,
+    },
+    /// Words of the command are at fault, for this reason: a question, or a script that `--clock` refuses.
+    BadArgument {
         words: &'a str,
         reason: String,
     },

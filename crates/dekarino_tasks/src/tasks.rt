@@ -105,8 +105,11 @@ fn finish<W: Write, E: Write>(
         Err(Unfinished::TooManyCalls { .. }) => return too_many_calls(errors),
         Err(Unfinished::FaultyLog(faulty)) => return faulty_log(faulty, errors),
         Err(Unfinished::UnwritableFile(file)) => return unwritable_file(file, errors),
-        Err(Unfinished::BadQuestion { words, reason }) => {
-            return bad_question(words, &reason, errors);
+        Err(Unfinished::UnwritableFileIn { folder, name }) => {
+            return unwritable_file_in(folder, &name, errors);
+        }
+        Err(Unfinished::BadArgument { words, reason }) => {
+            return bad_argument(words, &reason, errors);
         }
         Err(Unfinished::Undecided(bound)) => return undecided(bound, errors),
     };
@@ -194,8 +197,14 @@ fn unwritable_file<E: Write>(file: &str, errors: &mut E) -> u8 {
     UNWRITABLE
 }
 
-/// Writes why words are no question, and answers the status.
-fn bad_question<E: Write>(words: &str, reason: &str, errors: &mut E) -> u8 {
+/// Writes which file in a folder can't be written, and answers the status.
+fn unwritable_file_in<E: Write>(folder: &str, name: &str, errors: &mut E) -> u8 {
+    let _ = writeln!(errors, "cannot write {folder}/{name}");
+    UNWRITABLE
+}
+
+/// Writes why words of the command are at fault, and answers the status.
+fn bad_argument<E: Write>(words: &str, reason: &str, errors: &mut E) -> u8 {
     let _ = writeln!(errors, "argument fault: {words}: {reason}");
     MISUSED
 }
@@ -267,6 +276,7 @@ fn perform<'a, R: Threads + Wait + Sync, O: Opener + FileWriter, P: Progress, W:
             scripts,
             limits,
             questions,
+            witness,
             form,
         } => outcomes_of_scripts(
             alloc,
@@ -275,6 +285,7 @@ fn perform<'a, R: Threads + Wait + Sync, O: Opener + FileWriter, P: Progress, W:
             scripts.as_slice(),
             limits,
             questions.as_slice(),
+            witness,
             form,
             progress,
         ),

@@ -18,6 +18,10 @@ pub struct OutcomeText {
     text: String,
     /// The number of calls so far that have several replies.
     depending: usize,
+    /// The number of their replies whose order is in a file.
+    written: usize,
+    /// The number of the others.
+    unwritten: usize,
 }
 
 impl OutcomeText {
@@ -26,6 +30,8 @@ impl OutcomeText {
         OutcomeText {
             text: String::new(alloc),
             depending: 0,
+            written: 0,
+            unwritten: 0,
         }
     }
 
@@ -36,20 +42,27 @@ impl OutcomeText {
 }
 
 impl OutcomeSink for OutcomeText {
-    /// Writes `NAME:LINE MOMENT CALL ARGUMENTS -> REPLY | REPLY`, after `* ` if there are several replies.
+    /// Writes `NAME:LINE MOMENT CALL ARGUMENTS -> REPLY | REPLY`, after `* ` if there are several replies. If an order for a
+    /// reply is in a file, its name follows the reply as ` (FILE)`.
     fn call(&mut self, call: &ScriptCall<'_>, replies: &[&Reply]) -> Result<(), AllocError> {
-        let text = &mut self.text;
+        let (text, files) = (&mut self.text, call.files);
         if replies.len() > 1 {
             self.depending = self.depending.saturating_add(1);
+            self.written = self.written.saturating_add(files.len());
+            let unwritten = replies.len().saturating_sub(files.len());
+            self.unwritten = self.unwritten.saturating_add(unwritten);
             text.push_str("* ")?;
         }
         let Moment(at) = call.at;
         write!(text, "{}:{} {at} ", call.partition.text(), call.line)?;
         push_call(text, call.call)?;
         let mut separator = " -> ";
-        for reply in replies {
+        for (index, reply) in replies.iter().enumerate() {
             text.push_str(separator)?;
             push_reply(text, reply)?;
+            if let Some(file) = files.get(index) {
+                write!(text, " ({file})")?;
+            }
             separator = " | ";
         }
         text.push('\n')
@@ -73,12 +86,20 @@ impl OutcomeSink for OutcomeText {
         writeln!(text, " waiting {waiting}")
     }
 
-    /// Writes the counts of the only group, or a line for each of several, and the number of calls that depend on the order.
+    /// Writes the counts of the only group, or a line for each of several, how many orders are in no file if others are, and
+    /// the number of calls that depend on the order.
     fn groups(&mut self, config: &Config, groups: &[GroupCounts]) -> Result<(), AllocError> {
         if let [group] = groups {
             push_counts(&mut self.text, group)?;
         } else {
             push_each_counts(&mut self.text, config, groups)?;
+        }
+        if self.written > 0 && self.unwritten > 0 {
+            let (written, unwritten) = (self.written, self.unwritten);
+            writeln!(
+                self.text,
+                "{written} orders are written, and {unwritten} more are not"
+            )?;
         }
         match self.depending {
             0 => self.text.push_str("no call depends on the order\n"),

@@ -21,6 +21,8 @@ pub struct ScriptCall<'a> {
     pub partition: &'a Name,
     pub at: Moment,
     pub call: &'a Call,
+    /// The names of the files with an order for each of its replies, if they are written. The last ones can lack a file.
+    pub files: &'a [String],
 }
 
 /// Takes the outcomes of scripts: the calls, then the queuing channels, then the groups.
@@ -35,28 +37,24 @@ pub trait OutcomeSink {
     fn groups(&mut self, config: &Config, groups: &[GroupCounts]) -> Result<(), AllocError>;
 }
 
-/// Hands all outcomes to the sink. `lines` has the numbers of the lines of each partition's calls.
+/// Hands all outcomes to the sink. `lines` has the numbers of the lines of each partition's calls, and `files` the names of
+/// the files of the replies to calls that have several, in the order of the calls.
 pub fn walk_outcomes<S: OutcomeSink>(
     alloc: Global,
     config: &Config,
     scripts: &[Script],
     lines: &[LineNumbers],
     outcomes: &OutcomesApart,
+    files: &[String],
     sink: &mut S,
 ) -> Result<(), OutOfMemory>
     requires { length scripts.now ≡ length config.now.partitions }
 {
     let replies = outcomes.replies.as_slice();
+    let mut files = files;
     for (p, script) in scripts.iter().enumerate() {
-        walk_script(
-            alloc,
-            config,
-            p,
-            script,
-            numbers_of(lines, p),
-            replies,
-            sink,
-        )?;
+        let numbers = numbers_of(lines, p);
+        files = walk_script(alloc, config, p, script, numbers, replies, files, sink)?;
     }
     walk_channels(alloc, config, scripts, outcomes.ends.as_slice(), sink)?;
     sink.groups(config, outcomes.groups.as_slice())?;
@@ -73,40 +71,46 @@ pub fn numbers_of(lines: &[LineNumbers], p: usize) -> &[usize]
     }
 }
 
-/// Hands the calls of a partition's script to the sink.
-fn walk_script<S: OutcomeSink>(
+/// Hands the calls of a partition's script to the sink, and returns the files of later calls.
+fn walk_script<'f, S: OutcomeSink>(
     alloc: Global,
     config: &Config,
     p: usize,
     script: &Script,
     numbers: &[usize],
     replies: &[PossibleReply],
+    files: &'f [String],
     sink: &mut S,
-) -> Result<(), AllocError>
+) -> Result<&'f [String], AllocError>
     requires { p < length config.now.partitions }
 {
+    let mut files = files;
     for (index, (at, call)) in script.calls.iter().enumerate() {
+        let replies = replies_to(alloc, p, index, replies)?;
+        let count = if replies.len() > 1 { replies.len() } else { 0 };
+        let (own, later) = files.split_at(count.min(files.len()));
+        files = later;
         let call = ScriptCall {
             line: line_at(numbers, index),
             partition: config.partition_name(p),
             at: *at,
             call,
+            files: own,
         };
-        let replies = replies_to(alloc, p, index, replies)?;
         sink.call(&call, replies.as_slice())?;
     }
-    Ok(())
+    Ok(files)
 }
 
 /// The number at an index; 0 if there is none.
-fn line_at(numbers: &[usize], index: usize) -> usize
+pub fn line_at(numbers: &[usize], index: usize) -> usize
     ensures { result ≡ line_at numbers.now index }
 {
     numbers.get(index).copied().unwrap_or(0)
 }
 
 /// The replies to the call at an index of the partition's script.
-fn replies_to<'a>(
+pub fn replies_to<'a>(
     alloc: Global,
     p: usize,
     index: usize,
@@ -125,7 +129,7 @@ fn replies_to<'a>(
 }
 
 /// Whether it is a reply to the call at an index of the partition's script.
-fn is_to(one: &PossibleReply, p: usize, index: usize) -> bool
+pub fn is_to(one: &PossibleReply, p: usize, index: usize) -> bool
     ensures { result ≡ is_to p index one.now }
 {
     one.partition == p && one.index == index

@@ -8,9 +8,9 @@ abbrev pub invariant-loop-i : goal.invariant-loop-i
 invariant-loop-i g l = record {
   within : l.i ≤ l.bound;
   first : Has l.current.orders.items [];
-  valid : IsSearch l.config l.scripts l.current;
-  unanswered : (k : ℕ) → k < l.i → IsUnansweredAt l.config l.scripts (option_copied l.asked) l.current.orders.items k;
-  tried : (k : ℕ) → k < l.i → HasTried l.config l.scripts l.current.orders.items l.current.replies k;
+  valid : IsSearch l.clock l.config l.scripts l.current;
+  unanswered : (k : ℕ) → k < l.i → IsUnansweredAt l.clock l.config l.scripts (option_copied l.asked) l.current.orders.items k;
+  tried : (k : ℕ) → k < l.i → HasTried l.clock l.config l.scripts l.current.orders.items l.current.replies k;
 }
 
 abbrev pub decreases-loop-i : goal.decreases-loop-i

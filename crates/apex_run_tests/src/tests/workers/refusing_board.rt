@@ -62,7 +62,7 @@ fn fault_over<R: Threads + Wait + Sync + Abort>(
     Ok(run_over(rt, alloc, fake, &OpenGate, &scripts).err())
 }
 
-const WANTING: Option<AskFault> = Some(AskFault::OutOfMemory);
+const NO_MEMORY: Option<AskFault> = Some(AskFault::OutOfMemory);
 
 const FOREIGN: Option<AskFault> = Some(AskFault::NoPartition);
 
@@ -70,11 +70,11 @@ const FOREIGN: Option<AskFault> = Some(AskFault::NoPartition);
 /// fault.
 const CASES: [([Option<AskFault>; 2], [u64; 2], Option<RunFault>); 6] = [
     ([None, None], [4, 4], None),
-    ([WANTING, None], [2, 4], Some(RunFault::OutOfMemory)),
-    ([None, WANTING], [4, 2], Some(RunFault::OutOfMemory)),
+    ([NO_MEMORY, None], [2, 4], Some(RunFault::OutOfMemory)),
+    ([None, NO_MEMORY], [4, 2], Some(RunFault::OutOfMemory)),
     ([None, FOREIGN], [4, 2], Some(RunFault::ResultsDiffer)),
-    ([FOREIGN, WANTING], [2, 2], Some(RunFault::ResultsDiffer)),
-    ([WANTING, FOREIGN], [2, 2], Some(RunFault::OutOfMemory)),
+    ([FOREIGN, NO_MEMORY], [2, 2], Some(RunFault::ResultsDiffer)),
+    ([NO_MEMORY, FOREIGN], [2, 2], Some(RunFault::OutOfMemory)),
 ];
 
 #[test]

@@ -1,18 +1,19 @@
 use Rattle.std.proofs.Common.{◌≡◌, ◌++◌, ◌∷◌, [], List, ℕ, ap, sym, ◌∙◌, subst}
 use Rattle.std.proofs.lemmas.Bool.{false≢true}
 use Rattle.apex_ports.specs.PortsView.{PortsView}
+use Rattle.apex_orders.specs.Clock.{IsClocked}
 use Rattle.apex_orders.specs.Known.{IsAfter, ArePoints}
 use Rattle.apex_orders.specs.Hashes.{hash_of}
 use Rattle.apex_orders.specs.Orders.{IsOrder, history_of}
-use Rattle.apex_orders.specs.Searching.{Knows, AreOrders, AreApart, Keeps}
+use Rattle.apex_orders.specs.Searching.{Knows, AreOrders, AreApart, AreClocked, Keeps}
 use Rattle.apex_orders.proofs.KnownLemmas.{points_push}
-use Rattle.apex_orders.proofs.SearchLemmas.{apart_push, keeps_push, knows_push, longer_is_order, orders_push}
+use Rattle.apex_orders.proofs.SearchLemmas.{apart_push, clocked_push, keeps_push, knows_push, longer_is_order, orders_push}
 use Rattle.apex_orders.proofs.search.Search.learn.Goals as goal
 
 pub returns-then-branch-clause-valid : goal.returns-then-branch-clause-valid
 returns-then-branch-clause-valid c =
     let was = c.requires.valid in
-    record { all = was.all; orders = was.orders; apart = was.apart; points = was.points; found = was.found; trial = c.is_known.ensures.trial; uses = was.uses }
+    record { all = was.all; orders = was.orders; clocked = was.clocked; apart = was.apart; points = was.points; found = was.found; trial = c.is_known.ensures.trial; uses = was.uses }
 
 pub returns-then-branch-clause-later : goal.returns-then-branch-clause-later
 returns-then-branch-clause-later c = record { orders = λ k x at. at; replies = λ x has. has }
@@ -36,6 +37,7 @@ returns-clause-valid c =
     record {
       all = was.all;
       orders = subst (AreOrders config) pushed (orders_push config scripts orders longer was.orders is_order);
+      clocked = subst (AreClocked c.args.clock config scripts) pushed (clocked_push config scripts c.args.clock orders longer was.clocked (subst (IsClocked c.args.clock scripts) leads c.requires.clocked));
       apart = subst (AreApart config scripts) pushed (apart_push config scripts orders longer h leads was.apart unknown);
       points = subst (λ (all : List (List ℕ)). ArePoints config scripts all c.push.new.self) pushed
           (points_push config scripts orders c.args.self.now.points c.push.new.self was.points longer ports c.hash_of-hash.result after hash

@@ -1,21 +1,22 @@
 use Rattle.std.proofs.Common.{List, ℕ, [], refl, sym, subst}
 use Rattle.apex_orders.specs.Known.{ArePoints}
 use Rattle.apex_orders.specs.Lists.{Has}
-use Rattle.apex_orders.specs.Searching.{AreOrders, AreApart, AreFound}
-use Rattle.apex_orders.proofs.SearchLemmas.{first_valid, first_apart, none_found}
+use Rattle.apex_orders.specs.Searching.{AreOrders, AreApart, AreClocked, AreFound}
+use Rattle.apex_orders.proofs.SearchLemmas.{first_valid, first_clocked, first_apart, none_found}
 use Rattle.apex_orders.proofs.search.Search.new.Goals as goal
 
 pub returns-clause-valid : goal.returns-clause-valid
-returns-clause-valid c =
+returns-clause-valid c clock =
     let config = c.args.config.now in
     let scripts = c.args.scripts.now in
     let first = sym c.in_ok-orders.ensures in
     record {
       all = c.requires;
       orders = subst (AreOrders config) first (first_valid config scripts);
+      clocked = subst (AreClocked clock config scripts) first (first_clocked config scripts clock);
       apart = subst (AreApart config scripts) first (first_apart config scripts);
       points = subst (λ (orders : List (List ℕ)). ArePoints config scripts orders c.in_ok-points.points) first (c.in_ok-points.ensures.points scripts);
-      found = subst (AreFound config scripts) (sym c.in_ok-replies.ensures) (none_found config scripts);
+      found = subst (AreFound clock config scripts) (sym c.in_ok-replies.ensures) (none_found config scripts clock);
       trial = c.in_ok-trial.ensures;
       uses = c.in_ok-uses.ensures;
     }

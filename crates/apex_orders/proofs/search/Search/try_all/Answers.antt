@@ -11,6 +11,7 @@ try_each-requires-clause-valid c =
     record {
       all = was.all;
       orders = was.orders;
+      clocked = was.clocked;
       apart = was.apart;
       points = points_after c.args.config.now c.args.scripts.now c.args.self.now.orders.items c.args.self.now.points c.take-saved.new.self was.points c.args.i c.take-saved.result c.take-saved.ensures;
       found = was.found;
@@ -38,4 +39,4 @@ returns-clause-tried c = λ order at.
     let was : slice_get c.args.self.now.orders.items c.args.i ≡ Some item = at_index c.args.self.now.orders.items c.args.i item c.requires.within c.index.ensures in
     let both : Some item ≡ Some order = sym (c.in_ok-try_each.ensures.later.orders c.args.i item was) ∙ at in
     let same : item ≡ order = cc in
-    subst (HasTriedEnough c.args.config.now c.args.scripts.now c.try_each.new.self.orders.items c.try_each.new.self.replies) (c.in_ok-order.ensures ∙ same) c.in_ok-try_each.ensures.tried
+    subst (HasTriedEnough c.args.clock c.args.config.now c.args.scripts.now c.try_each.new.self.orders.items c.try_each.new.self.replies) (c.in_ok-order.ensures ∙ same) c.in_ok-try_each.ensures.tried

@@ -3,8 +3,8 @@ use Rattle.apex_module.specs.Configuration.{Configuration}
 use Rattle.apex_ports.specs.History.{History}
 use Rattle.apex_orders.specs.declared.last_uses.LastUses.{LastUses}
 use Rattle.apex_orders.specs.Choices.{is_tried}
-use Rattle.apex_orders.specs.Enough.{IsEnough}
 use Rattle.apex_orders.specs.LastUses.{AreOfScripts}
+use Rattle.apex_orders.specs.Searching.{AreDue, IsEnoughWith}
 use Rattle.apex_orders.proofs.search.Search.try_each.Goals as goal
 
 pub choose-requires-clause-scripts : goal.choose-requires-clause-scripts
@@ -20,12 +20,17 @@ try_those-requires-clause-valid c =
     record {
       all = was.all;
       orders = was.orders;
+      clocked = was.clocked;
       apart = was.apart;
       points = was.points;
       found = was.found;
       trial = record { ports = c.in_ok-go_to.ensures.after.configured; other = was.trial.other };
       uses = was.uses;
     }
+
+pub try_those-requires-clause-due : goal.try_those-requires-clause-due
+try_those-requires-clause-due c =
+    subst (λ (x : History × List Bool). AreDue c.args.clock c.args.scripts.now x.0 (is_tried x.1)) (λ i. (c.in_ok-go_to.ensures.after.history i, sym c.deref-2.ensures.value i)) c.in_ok-tried.ensures.due
 
 pub returns-clause-later : goal.returns-clause-later
 returns-clause-later c = let later = c.in_ok-try_those.ensures.later in record { orders = later.orders; replies = later.replies }
@@ -35,6 +40,6 @@ returns-clause-tried c =
     let after = c.in_ok-go_to.ensures.after in
     record {
       tried = is_tried c.in_ok-tried.tried.items;
-      enough = subst (λ (x : Configuration × History). IsEnough x.0 c.args.scripts.now x.1 (is_tried c.in_ok-tried.tried.items)) (λ i. (after.configured i, after.history i)) c.in_ok-tried.ensures;
+      enough = subst (λ (x : Configuration × History). IsEnoughWith c.args.clock x.0 c.args.scripts.now x.1 (is_tried c.in_ok-tried.tried.items)) (λ i. (after.configured i, after.history i)) c.in_ok-tried.ensures.enough;
       each = λ p within own. c.in_ok-try_those.ensures.tried p within (subst (λ (items : List Bool). is_tried items p ≡ true) (sym c.deref-2.ensures.value) own);
     }

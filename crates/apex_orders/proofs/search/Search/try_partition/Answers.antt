@@ -1,10 +1,12 @@
-use Rattle.std.proofs.Common.{inl, inr, ◌∙◌, refl, subst}
+use Rattle.std.proofs.Common.{inl, inr, ◌∙◌, refl, sym, subst}
 use Rattle.apex_module.specs.Configuration.{Configuration}
 use Rattle.apex_ports.specs.History.{History}
+use Rattle.apex_orders.specs.Clock.{IsClocked}
 use Rattle.apex_orders.specs.Orders.{history_of}
 use Rattle.apex_orders.specs.Searching.{Knows}
 use Rattle.apex_orders.specs.Steps.{MakesNothing}
-use Rattle.apex_orders.proofs.SearchLemmas.{found_one, makes_after, steps_to, tried_nothing, tried_one}
+use Rattle.apex_orders.proofs.ClockLemmas.{clocked_next}
+use Rattle.apex_orders.proofs.SearchLemmas.{behind, found_one, makes_after, steps_to, tried_nothing, tried_one}
 use Rattle.apex_orders.proofs.search.Search.try_partition.Goals as goal
 
 pub returns-in-None-clause-valid : goal.returns-in-None-clause-valid
@@ -13,6 +15,7 @@ returns-in-None-clause-valid c =
     record {
       all = was.all;
       orders = was.orders;
+      clocked = was.clocked;
       apart = was.apart;
       points = was.points;
       found = was.found;
@@ -39,16 +42,28 @@ learn-requires-clause-valid c =
     record {
       all = was.all;
       orders = was.orders;
+      clocked = was.clocked;
       apart = was.apart;
       points = was.points;
-      found = found_one c.args.config.now c.args.scripts.now c.args.self.now.replies c.add.new.self c.args.order.now c.args.p c.in-Some.one was.found (was.orders here.0 c.args.order.now here.1)
-          c.requires.partition (makes_after c.args.config.now c.args.scripts.now c.go_to.new.ports c.args.order.now c.args.p c.in-Some.one c.in_ok-go_to.ensures.after c.in-Some.ensures.call) (λ other. (c.in_ok-add.ensures other).0);
+      found = found_one c.args.config.now c.args.scripts.now c.args.clock c.args.self.now.replies c.add.new.self c.args.order.now c.args.p c.in-Some.one was.found (was.orders here.0 c.args.order.now here.1)
+          c.requires.partition (makes_after c.args.config.now c.args.scripts.now c.go_to.new.ports c.args.order.now c.args.p c.in-Some.one c.in_ok-go_to.ensures.after c.in-Some.ensures.call)
+          c.requires.due (was.clocked here.0 c.args.order.now here.1) (λ other. (c.in_ok-add.ensures other).0);
       trial = record { ports = c.step.ensures.config ∙ c.in_ok-go_to.ensures.after.configured; other = was.trial.other };
       uses = was.uses;
     }
 
 pub learn-requires-clause-history : goal.learn-requires-clause-history
 learn-requires-clause-history c = steps_to c.args.config.now c.args.scripts.now c.go_to.new.ports c.args.order.now c.args.p c.step.new.ports.history c.in_ok-go_to.ensures.after c.step.ensures.history
+
+pub learn-requires-clause-clocked : goal.learn-requires-clause-clocked
+learn-requires-clause-clocked c =
+    let config = c.args.config.now in
+    let scripts = c.args.scripts.now in
+    let order = c.args.order.now in
+    let here = c.requires.here in
+    let leads = steps_to config scripts c.go_to.new.ports order c.args.p c.step.new.ports.history c.in_ok-go_to.ensures.after c.step.ensures.history in
+    subst (IsClocked c.args.clock scripts) (sym (leads ∙ behind config scripts order c.args.p))
+    (clocked_next c.args.clock scripts config (history_of config scripts order) c.args.p (c.requires.valid.clocked here.0 order here.1) c.requires.due)
 
 pub learn-requires-clause-order : goal.learn-requires-clause-order
 learn-requires-clause-order c = let here = c.requires.here in c.requires.valid.orders here.0 c.args.order.now here.1

@@ -25,8 +25,8 @@ loop-p-preserved c =
     let AreTried : ℕ → Search → Type 0 = λ n s. (p : ℕ) → p < n → is_tried tried p ≡ true → IsTried config scripts s.orders.items s.replies order p in
     record {
       valid = elim c.if-is_tried.branch [
-        | then-is_tried+in_ok-try_partition w ↦ subst (IsSearch config scripts) (sym w.self-is) w.in_ok-try_partition.ensures.valid
-        | else-is_tried w ↦ subst (IsSearch config scripts) (sym w.self-is) was.valid
+        | then-is_tried+in_ok-try_partition w ↦ subst (IsSearch c.args.clock config scripts) (sym w.self-is) w.in_ok-try_partition.ensures.valid
+        | else-is_tried w ↦ subst (IsSearch c.args.clock config scripts) (sym w.self-is) was.valid
       ];
       later = elim c.if-is_tried.branch [
         | then-is_tried+in_ok-try_partition w ↦

@@ -5,7 +5,7 @@ use Rattle.apex_orders.proofs.search.Search.try_those.Given as goal
 
 abbrev pub invariant-loop-p : goal.invariant-loop-p
 invariant-loop-p l = record {
-  valid : IsSearch l.config l.scripts l.self;
+  valid : IsSearch l.clock l.config l.scripts l.self;
   later : IsLater l.initial.self l.self;
   tried : (p : ℕ) → p < l.p → is_tried l.tried p ≡ true → IsTried l.config l.scripts l.self.orders.items l.self.replies l.order p;
 }

@@ -3,7 +3,7 @@ use Rattle.std.proofs.lemmas.List.{get_or-replicate}
 use Rattle.std.proofs.lemmas.Option.{unwrap_or-slice_get}
 use Rattle.apex_orders.specs.Choices.{is_tried}
 use Rattle.apex_orders.proofs.ChoiceLemmas.{all_enough}
-use Rattle.apex_orders.proofs.choice.choose.Goals as goal
+use Rattle.apex_orders.proofs.choice.enough.Goals as goal
 
 pub returns : goal.returns
 returns c =
