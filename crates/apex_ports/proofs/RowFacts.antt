@@ -5,7 +5,6 @@ use Rattle.apex_types.specs.Mode.{mode_numbered}
 use Rattle.apex_types.specs.declared.call.Call.{Call}
 use Rattle.apex_types.specs.declared.call.Call.TheVariants as call
 use Rattle.apex_types.specs.declared.mode.Mode.{Mode}
-use Rattle.apex_types.specs.declared.mode.Mode.TheVariants.{Idle}
 use Rattle.apex_types.specs.declared.moment.Moment.{Moment}
 use Rattle.apex_types.specs.declared.reply.Reply.TheVariants as reply
 use Rattle.apex_types.specs.declared.return_code.ReturnCode.TheVariants.{NoError}

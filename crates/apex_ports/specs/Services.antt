@@ -1,14 +1,38 @@
--- The answers of the services that use a message in the caller's buffer.
+-- The answers of the services, and the replies that they stand for.
 use Rattle.std.specs.Prelude.{ℕ, List, take, Option, Some, None, Result, Ok, Err}
 use Rattle.apex_types.specs.declared.reply.Reply.{Reply}
-use Rattle.apex_types.specs.declared.reply.Reply.TheVariants.{NotMade, Code, Received, Read}
+use Rattle.apex_types.specs.declared.reply.Reply.TheVariants as reply
+use Rattle.apex_types.specs.declared.reply.Reply.TheVariants.{NotMade, Code, Id, Received, Read}
 use Rattle.apex_types.specs.declared.return_code.ReturnCode.{ReturnCode}
 use Rattle.apex_types.specs.declared.validity.Validity.{Validity}
+use Rattle.apex_ports.specs.declared.statuses.QueuingStatus.{QueuingStatus}
+use Rattle.apex_ports.specs.declared.statuses.SamplingStatus.{SamplingStatus}
 
 -- the reply with only this return code; without one the call isn't made
 abbrev pub reply_coded : Option ReturnCode → Reply
 reply_coded None = NotMade
 reply_coded (Some code) = Code code
+
+-- the reply with an identifier
+abbrev pub reply_id : Result ℕ (Option ReturnCode) → Reply
+reply_id (Ok id) = Id id
+reply_id (Err code) = reply_coded code
+
+abbrev pub with_queuing_status : QueuingStatus → Reply
+with_queuing_status status = reply.QueuingStatus status.waiting status.depth status.size status.direction
+
+-- the reply with a queuing port's status
+abbrev pub reply_queuing_status : Result QueuingStatus (Option ReturnCode) → Reply
+reply_queuing_status (Ok status) = with_queuing_status status
+reply_queuing_status (Err code) = reply_coded code
+
+abbrev pub with_sampling_status : SamplingStatus → Reply
+with_sampling_status status = reply.SamplingStatus status.refresh status.size status.direction status.last
+
+-- the reply with a sampling port's status
+abbrev pub reply_sampling_status : Result SamplingStatus (Option ReturnCode) → Reply
+reply_sampling_status (Ok status) = with_sampling_status status
+reply_sampling_status (Err code) = reply_coded code
 
 -- the reply with a message of this length, from the first bytes of the buffer
 abbrev pub reply_received : Result ℕ (Option ReturnCode) → List ℕ → Reply

@@ -6,14 +6,16 @@ ghost use Rattle.apex_types.specs.declared.return_code.ReturnCode.TheVariants.{N
 ghost use Rattle.apex_ports.specs.declared.rows.Row.TheVariants as row;
 ghost use Rattle.apex_ports.specs.History.{entry_of};
 ghost use Rattle.apex_ports.specs.Kept.{IsCurrent, IsKeptWith};
+ghost use Rattle.apex_ports.specs.Noted.{call_by};
 ghost use Rattle.apex_ports.specs.ReplyTable.{row_of, oldest_reply, last_reply};
 ghost use Rattle.apex_ports.specs.Seen.{seen};
 
+use crate::noted::CallRef;
 use crate::partition::PortState;
 use crate::state::State;
 use crate::table::lookup::configured_port;
 use apex_module::Config;
-use apex_types::{Call, MESSAGE_LIMIT, Mode, Moment, Validity};
+use apex_types::{MESSAGE_LIMIT, Mode, Moment, Validity};
 use std::alloc::Allocator;
 
 /// The state of a port that was created and has not read yet.
@@ -29,14 +31,14 @@ impl<A: Allocator> State<A> {
         config: &Config,
         partition: usize,
         at: Moment,
-        call: &Call,
+        call: CallRef<'_>,
         id: u32,
     )
         requires partition { partition < length config.now.partitions }
         requires current { IsCurrent config.now self.old }
         requires row { let here = seen config.now self.old.history partition in
-            row_of config.now here partition at call.now ≡ row.Created id }
-        ensures kept { let entry = entry_of partition at call.now (Id id) in
+            row_of config.now here partition at (call_by call) ≡ row.Created id }
+        ensures kept { let entry = entry_of partition at (call_by call.entry) (Id id) in
             IsKeptWith config.now self.old entry self.new }
         ensures history { self.new.history ≡ self.old.history }
     {

@@ -1,8 +1,9 @@
 //! Calls and replies by reference: a name or a message stays where the caller has it.
 ghost use Rattle.std.specs.Prelude.{◌≡◌, ◌≤◌, length};
 ghost use Rattle.apex_ports.specs.Noted.{call_by, reply_by};
-ghost use Rattle.apex_ports.specs.Services.{length_read, length_received, reply_coded, reply_read, reply_received};
+ghost use Rattle.apex_ports.specs.Services.{length_read, length_received, reply_coded, reply_id, reply_queuing_status, reply_read, reply_received, reply_sampling_status};
 
+use crate::statuses::{QueuingStatus, SamplingStatus};
 use apex_types::{Call, Direction, Moment, Name, Reply, ReturnCode, Validity};
 
 /// A call. A contract sees it as the `Call` with the same name and values.
@@ -150,6 +151,49 @@ impl<'a> ReplyRef<'a> {
         match code {
             None => ReplyRef::NotMade,
             Some(code) => ReplyRef::Code(code),
+        }
+    }
+
+    /// The reply with an identifier, or with a return code.
+    #[inline(always)]
+    pub fn identified(answer: Result<u32, Option<ReturnCode>>) -> ReplyRef<'a>
+        ensures { reply_by result ≡ reply_id answer }
+    {
+        match answer {
+            Ok(id) => ReplyRef::Id(id),
+            Err(code) => ReplyRef::coded(code),
+        }
+    }
+
+    /// The reply with a queuing port's status, or with a return code.
+    #[inline(always)]
+    pub fn queuing_status(answer: Result<QueuingStatus, Option<ReturnCode>>) -> ReplyRef<'a>
+        ensures { reply_by result ≡ reply_queuing_status answer }
+    {
+        match answer {
+            Ok(status) => ReplyRef::QueuingStatus {
+                waiting: status.waiting,
+                depth: status.depth,
+                size: status.size,
+                direction: status.direction,
+            },
+            Err(code) => ReplyRef::coded(code),
+        }
+    }
+
+    /// The reply with a sampling port's status, or with a return code.
+    #[inline(always)]
+    pub fn sampling_status(answer: Result<SamplingStatus, Option<ReturnCode>>) -> ReplyRef<'a>
+        ensures { reply_by result ≡ reply_sampling_status answer }
+    {
+        match answer {
+            Ok(status) => ReplyRef::SamplingStatus {
+                refresh: status.refresh,
+                size: status.size,
+                direction: status.direction,
+                last: status.last,
+            },
+            Err(code) => ReplyRef::coded(code),
         }
     }
 

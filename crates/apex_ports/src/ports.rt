@@ -9,6 +9,7 @@ use apex_types::{Call, Moment, OutOfMemory, Reply};
 use std::alloc::{Allocator, Global};
 use std::marker::Model;
 
+mod naming;
 mod readers;
 pub mod saved;
 mod services;
@@ -89,10 +90,15 @@ impl<A: Allocator> Ports<A> {
         ensures sound { IsSound self.new.config self.new.history }
     {
         self.state.answer(&self.config, partition, at, call, reply);
-        self.calls[partition] = self.calls[partition].saturating_add(1);
+        let asked = CallRef::of(call);
         let answered = ReplyRef::of(reply);
-        self.state
-            .history
-            .push(partition, at, CallRef::of(call), answered);
+        self.state.note(
+            &self.config,
+            &mut self.calls,
+            partition,
+            at,
+            asked,
+            answered,
+        );
     }
 }

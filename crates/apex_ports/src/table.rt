@@ -5,9 +5,7 @@ ghost use Rattle.apex_ports.specs.ReplyTable.{row_of, service_row};
 
 use crate::modes::is_idle;
 use crate::rows::{Refusal, Row};
-use crate::table::creation::{
-    create_queuing_row, create_sampling_row, queuing_id_row, sampling_id_row,
-};
+use crate::table::creation::{created_queuing_id, created_sampling_id, queuing_id, sampling_id};
 use crate::table::modes::set_mode_row;
 use crate::table::queuing::{clear_row, queuing_status_row, receive_row, send_row};
 use crate::table::sampling::{read_row, sampling_status_row, write_row};
@@ -15,7 +13,7 @@ use crate::view::View;
 use apex_module::Config;
 use apex_types::{Call, Moment};
 
-mod creation;
+pub(crate) mod creation;
 pub mod lookup;
 pub(crate) mod modes;
 pub(crate) mod queuing;
@@ -57,12 +55,20 @@ fn accepted_row<V: View>(
             size,
             direction,
             refresh,
-        } => create_sampling_row(view, config, partition, name, *size, *direction, *refresh),
+        } => {
+            let id = created_sampling_id(
+                view, config, partition, name, *size, *direction, *refresh,
+            )?;
+            Ok(Row::Created { id })
+        }
         Call::WriteSampling { id, message } => {
             write_row(view, config, partition, *id, message.bytes())
         }
         Call::ReadSampling { id } => read_row(view, config, partition, at, *id),
-        Call::SamplingId { name } => sampling_id_row(view, config, partition, name),
+        Call::SamplingId { name } => {
+            let id = sampling_id(view, config, partition, name)?;
+            Ok(Row::Identified { id })
+        }
         Call::SamplingStatus { id } => sampling_status_row(view, config, partition, *id),
         Call::CreateQueuing {
             name,
@@ -70,21 +76,27 @@ fn accepted_row<V: View>(
             depth,
             direction,
             discipline,
-        } => create_queuing_row(
-            view,
-            config,
-            partition,
-            name,
-            *size,
-            *depth,
-            *direction,
-            *discipline,
-        ),
+        } => {
+            let id = created_queuing_id(
+                view,
+                config,
+                partition,
+                name,
+                *size,
+                *depth,
+                *direction,
+                *discipline,
+            )?;
+            Ok(Row::Created { id })
+        }
         Call::SendQueuing { id, message } => {
             send_row(view, config, partition, *id, message.bytes())
         }
         Call::ReceiveQueuing { id } => receive_row(view, config, partition, *id),
-        Call::QueuingId { name } => queuing_id_row(view, config, partition, name),
+        Call::QueuingId { name } => {
+            let id = queuing_id(view, config, partition, name)?;
+            Ok(Row::Identified { id })
+        }
         Call::QueuingStatus { id } => queuing_status_row(view, config, partition, *id),
         Call::ClearQueuing { id } => clear_row(view, config, partition, *id),
         Call::SetMode { mode } => set_mode_row(view.mode(config, partition), *mode),

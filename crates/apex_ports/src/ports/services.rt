@@ -31,14 +31,14 @@ impl<A: Allocator> Ports<A> {
         ensures config { self.new.config ≡ self.old.config }
         ensures sound { IsSound self.new.config self.new.history }
     {
-        let code = self
+        let answer = self
             .state
             .answer_send(&self.config, partition, at, id, message);
-        self.calls[partition] = self.calls[partition].saturating_add(1);
         let asked = CallRef::SendQueuing { id, message };
-        let reply = ReplyRef::coded(code);
-        self.state.history.push(partition, at, asked, reply);
-        code
+        let reply = ReplyRef::coded(answer);
+        self.state
+            .note(&self.config, &mut self.calls, partition, at, asked, reply);
+        answer
     }
 
     /// RECEIVE_QUEUING_MESSAGE with a time-out of zero: the message's length, with its bytes at the start of the buffer; or
@@ -67,10 +67,10 @@ impl<A: Allocator> Ports<A> {
         let answer = self
             .state
             .answer_receive(&self.config, partition, at, id, buffer);
-        self.calls[partition] = self.calls[partition].saturating_add(1);
         let asked = CallRef::ReceiveQueuing { id };
         let reply = ReplyRef::received(answer, buffer);
-        self.state.history.push(partition, at, asked, reply);
+        self.state
+            .note(&self.config, &mut self.calls, partition, at, asked, reply);
         answer
     }
 
@@ -91,14 +91,14 @@ impl<A: Allocator> Ports<A> {
         ensures config { self.new.config ≡ self.old.config }
         ensures sound { IsSound self.new.config self.new.history }
     {
-        let code = self
+        let answer = self
             .state
             .answer_write(&self.config, partition, at, id, message);
-        self.calls[partition] = self.calls[partition].saturating_add(1);
         let asked = CallRef::WriteSampling { id, message };
-        let reply = ReplyRef::coded(code);
-        self.state.history.push(partition, at, asked, reply);
-        code
+        let reply = ReplyRef::coded(answer);
+        self.state
+            .note(&self.config, &mut self.calls, partition, at, asked, reply);
+        answer
     }
 
     /// READ_SAMPLING_MESSAGE: the message's length and validity, with its bytes at the start of the buffer; or the return
@@ -127,10 +127,10 @@ impl<A: Allocator> Ports<A> {
         let answer = self
             .state
             .answer_read(&self.config, partition, at, id, buffer);
-        self.calls[partition] = self.calls[partition].saturating_add(1);
         let asked = CallRef::ReadSampling { id };
         let reply = ReplyRef::read(answer, buffer);
-        self.state.history.push(partition, at, asked, reply);
+        self.state
+            .note(&self.config, &mut self.calls, partition, at, asked, reply);
         answer
     }
 
@@ -145,12 +145,12 @@ impl<A: Allocator> Ports<A> {
         ensures config { self.new.config ≡ self.old.config }
         ensures sound { IsSound self.new.config self.new.history }
     {
-        let code = self.state.answer_clear(&self.config, partition, at, id);
-        self.calls[partition] = self.calls[partition].saturating_add(1);
+        let answer = self.state.answer_clear(&self.config, partition, at, id);
         let asked = CallRef::ClearQueuing { id };
-        let reply = ReplyRef::coded(code);
-        self.state.history.push(partition, at, asked, reply);
-        code
+        let reply = ReplyRef::coded(answer);
+        self.state
+            .note(&self.config, &mut self.calls, partition, at, asked, reply);
+        answer
     }
 
     /// SET_PARTITION_MODE, to the mode with a number: the return code. `None` if the partition is in IDLE.
@@ -164,13 +164,13 @@ impl<A: Allocator> Ports<A> {
         ensures config { self.new.config ≡ self.old.config }
         ensures sound { IsSound self.new.config self.new.history }
     {
-        let code = self
+        let answer = self
             .state
             .answer_change_mode(&self.config, partition, at, number);
-        self.calls[partition] = self.calls[partition].saturating_add(1);
         let asked = CallRef::SetMode { mode: number };
-        let reply = ReplyRef::coded(code);
-        self.state.history.push(partition, at, asked, reply);
-        code
+        let reply = ReplyRef::coded(answer);
+        self.state
+            .note(&self.config, &mut self.calls, partition, at, asked, reply);
+        answer
     }
 }

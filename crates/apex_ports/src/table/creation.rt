@@ -1,11 +1,11 @@
-//! The rows of CREATE_QUEUING_PORT, CREATE_SAMPLING_PORT, GET_QUEUING_PORT_ID and GET_SAMPLING_PORT_ID.
-ghost use Rattle.std.specs.Prelude.{◌≡◌, ◌<◌, length};
-ghost use Rattle.apex_ports.specs.Decisions.{IsRowOfDecision};
+//! What CREATE_QUEUING_PORT, CREATE_SAMPLING_PORT, GET_QUEUING_PORT_ID and GET_SAMPLING_PORT_ID decide.
+ghost use Rattle.std.specs.Prelude.{◌≡◌, ◌<◌, length, MatchResult};
+ghost use Rattle.apex_ports.specs.declared.rows.Row.TheVariants as row;
 ghost use Rattle.apex_ports.specs.Ports.{queuing_named, sampling_named};
 ghost use Rattle.apex_ports.specs.ReplyTable.{create_queuing_row, create_sampling_row, id_row};
 
 use crate::modes::is_normal;
-use crate::rows::{Refusal, Row};
+use crate::rows::Refusal;
 use crate::table::lookup::{queuing_named, sampling_named};
 use crate::view::View;
 use apex_module::Config;
@@ -14,8 +14,8 @@ use apex_types::Name;
 /// The greatest QUEUING_DISCIPLINE: FIFO is 0, PRIORITY is 1.
 const PRIORITY: u32 = 1;
 
-/// The row of CREATE_QUEUING_PORT, or why it is refused.
-pub(crate) fn create_queuing_row<V: View>(
+/// The identifier of the port that CREATE_QUEUING_PORT creates, or why it is refused.
+pub(crate) fn created_queuing_id<V: View>(
     view: &V,
     config: &Config,
     partition: usize,
@@ -24,13 +24,14 @@ pub(crate) fn create_queuing_row<V: View>(
     depth: u32,
     direction: u32,
     discipline: u32,
-) -> Result<Row, Refusal>
+) -> Result<u32, Refusal>
     requires partition { partition < length config.now.partitions }
     requires kept { V.is_kept config.now view.now }
     ensures { let here = V.seen config.now view.now partition in
         let named = queuing_named config.now partition name.now in
-        let row = create_queuing_row config.now here named size depth direction discipline in
-        IsRowOfDecision row result }
+        let given = create_queuing_row config.now here named size depth direction discipline in
+        MatchResult result (λ id. given ≡ row.Created id)
+        (λ refusal. given ≡ row.Refused refusal) }
 {
     let Some((id, port)) = queuing_named(config, partition, name) else {
         return Err(Refusal::NotConfigured);
@@ -49,12 +50,12 @@ pub(crate) fn create_queuing_row<V: View>(
     } else if is_normal(view.mode(config, partition)) {
         Err(Refusal::InNormal)
     } else {
-        Ok(Row::Created { id })
+        Ok(id)
     }
 }
 
-/// The row of CREATE_SAMPLING_PORT, or why it is refused.
-pub(crate) fn create_sampling_row<V: View>(
+/// The identifier of the port that CREATE_SAMPLING_PORT creates, or why it is refused.
+pub(crate) fn created_sampling_id<V: View>(
     view: &V,
     config: &Config,
     partition: usize,
@@ -62,13 +63,14 @@ pub(crate) fn create_sampling_row<V: View>(
     size: u32,
     direction: u32,
     refresh: u64,
-) -> Result<Row, Refusal>
+) -> Result<u32, Refusal>
     requires partition { partition < length config.now.partitions }
     requires kept { V.is_kept config.now view.now }
     ensures { let here = V.seen config.now view.now partition in
         let named = sampling_named config.now partition name.now in
-        let row = create_sampling_row config.now here named size direction refresh in
-        IsRowOfDecision row result }
+        let given = create_sampling_row config.now here named size direction refresh in
+        MatchResult result (λ id. given ≡ row.Created id)
+        (λ refusal. given ≡ row.Refused refusal) }
 {
     let Some((id, port)) = sampling_named(config, partition, name) else {
         return Err(Refusal::NotConfigured);
@@ -85,44 +87,48 @@ pub(crate) fn create_sampling_row<V: View>(
     } else if is_normal(view.mode(config, partition)) {
         Err(Refusal::InNormal)
     } else {
-        Ok(Row::Created { id })
+        Ok(id)
     }
 }
 
-/// The row of GET_QUEUING_PORT_ID, or why it is refused.
-pub(crate) fn queuing_id_row<V: View>(
+/// The identifier that GET_QUEUING_PORT_ID gives, or why it is refused.
+pub(crate) fn queuing_id<V: View>(
     view: &V,
     config: &Config,
     partition: usize,
     name: &Name,
-) -> Result<Row, Refusal>
+) -> Result<u32, Refusal>
     requires partition { partition < length config.now.partitions }
     requires kept { V.is_kept config.now view.now }
     ensures { let here = V.seen config.now view.now partition in
         let named = queuing_named config.now partition name.now in
-        IsRowOfDecision (id_row here named) result }
+        let given = id_row here named in
+        MatchResult result (λ id. given ≡ row.Identified id)
+        (λ refusal. given ≡ row.Refused refusal) }
 {
     match queuing_named(config, partition, name) {
-        Some((id, _)) if view.is_created(config, partition, id) => Ok(Row::Identified { id }),
+        Some((id, _)) if view.is_created(config, partition, id) => Ok(id),
         _ => Err(Refusal::NotCreated),
     }
 }
 
-/// The row of GET_SAMPLING_PORT_ID, or why it is refused.
-pub(crate) fn sampling_id_row<V: View>(
+/// The identifier that GET_SAMPLING_PORT_ID gives, or why it is refused.
+pub(crate) fn sampling_id<V: View>(
     view: &V,
     config: &Config,
     partition: usize,
     name: &Name,
-) -> Result<Row, Refusal>
+) -> Result<u32, Refusal>
     requires partition { partition < length config.now.partitions }
     requires kept { V.is_kept config.now view.now }
     ensures { let here = V.seen config.now view.now partition in
         let named = sampling_named config.now partition name.now in
-        IsRowOfDecision (id_row here named) result }
+        let given = id_row here named in
+        MatchResult result (λ id. given ≡ row.Identified id)
+        (λ refusal. given ≡ row.Refused refusal) }
 {
     match sampling_named(config, partition, name) {
-        Some((id, _)) if view.is_created(config, partition, id) => Ok(Row::Identified { id }),
+        Some((id, _)) if view.is_created(config, partition, id) => Ok(id),
         _ => Err(Refusal::NotCreated),
     }
 }

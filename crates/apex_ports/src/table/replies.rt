@@ -1,12 +1,14 @@
 //! The reply of a row, by what its partition sees.
-ghost use Rattle.std.specs.Prelude.{◌≡◌, ◌<◌, ◌≤◌, [], length, IfSome, MatchOption};
+ghost use Rattle.std.specs.Prelude.{◌≡◌, ◌<◌, ◌≤◌, length, IfSome, MatchOption};
 ghost use Rattle.std.specs.Option.{option_copied};
 ghost use Rattle.apex_types.specs.declared.reply.Reply.TheVariants.{Code, Received};
-ghost use Rattle.apex_types.specs.declared.return_code.ReturnCode.TheVariants.{NotAvailable};
+ghost use Rattle.apex_types.specs.declared.return_code.ReturnCode.TheVariants.{InvalidParam, NotAvailable};
 ghost use Rattle.apex_ports.specs.ReplyTable.{reply_of, oldest_reply, last_reply, queuing_status_reply, sampling_status_reply};
 ghost use Rattle.apex_ports.specs.Seen.{queuing_port, sampling_port};
+ghost use Rattle.apex_ports.specs.Services.{with_queuing_status, with_sampling_status};
 
 use crate::rows::Row;
+use crate::statuses::{QueuingStatus, SamplingStatus};
 use crate::table::lookup::{configured_port, queuing_port, sampling_port};
 use crate::view::View;
 use apex_module::Config;
@@ -27,10 +29,10 @@ pub fn reply<V: View>(view: &V, config: &Config, partition: usize, row: Row) -> 
         Row::Sent => Reply::Code(ReturnCode::NoError),
         Row::OldestReceived { id } => oldest_reply(view, config, partition, id),
         Row::Cleared => Reply::Code(ReturnCode::NoError),
-        Row::QueuingStatus { id } => queuing_status(view, config, partition, id),
+        Row::QueuingStatus { id } => queuing_status_reply(view, config, partition, id),
         Row::Written => Reply::Code(ReturnCode::NoError),
         Row::LastRead { id, validity } => last_reply(view, config, partition, id, validity),
-        Row::SamplingStatus { id } => sampling_status(view, config, partition, id),
+        Row::SamplingStatus { id } => sampling_status_reply(view, config, partition, id),
         Row::ModeSet => Reply::Code(ReturnCode::NoError),
     }
 }
@@ -66,45 +68,6 @@ pub fn sample_at<'a, V: View>(
     view.sample(config, partition, id, port)
 }
 
-/// Makes the reply the one with the oldest message.
-pub(crate) fn put_oldest<V: View>(
-    view: &V,
-    config: &Config,
-    partition: usize,
-    id: u32,
-    reply: &mut Reply,
-)
-    requires kept { V.is_kept config.now view.now }
-    ensures { let here = V.seen config.now view.now partition in
-        reply.new ≡ oldest_reply (here.waiting id) }
-{
-    match oldest_at(view, config, partition, id) {
-        Some(message) => put_received(reply, message),
-        None => *reply = Reply::Code(ReturnCode::NotAvailable),
-    }
-}
-
-// Makes the reply a message. If it already is one, only the message's bytes are written, and not the room of the longest.
-fn put_received(reply: &mut Reply, bytes: &[u8])
-    requires { length bytes.now ≤ MESSAGE_LIMIT }
-    ensures { reply.new ≡ Received bytes.now }
-{
-    if !matches!(reply, Reply::Received(_)) {
-        make_received(reply);
-    }
-    if let Reply::Received(message) = reply {
-        message.read_bytes(bytes).unwrap();
-    }
-}
-
-// Makes the reply an empty message. Not inlined, since a function clears the stack room of a new message when it begins.
-#[inline(never)]
-fn make_received(reply: &mut Reply)
-    ensures { reply.new ≡ Received [] }
-{
-    *reply = Reply::Received(Message::empty());
-}
-
 fn oldest_reply<V: View>(view: &V, config: &Config, partition: usize, id: u32) -> Reply
     requires kept { V.is_kept config.now view.now }
     ensures { let here = V.seen config.now view.now partition in
@@ -116,8 +79,8 @@ fn oldest_reply<V: View>(view: &V, config: &Config, partition: usize, id: u32) -
     }
 }
 
-/// The reply with the sample written last, with this validity.
-pub(crate) fn last_reply<V: View>(
+// The reply with the sample written last, with this validity.
+fn last_reply<V: View>(
     view: &V,
     config: &Config,
     partition: usize,
@@ -137,41 +100,79 @@ pub(crate) fn last_reply<V: View>(
     }
 }
 
-/// The reply of GET_QUEUING_PORT_STATUS.
-pub fn queuing_status<V: View>(view: &V, config: &Config, partition: usize, id: u32) -> Reply
+/// What GET_QUEUING_PORT_STATUS shows; `None` if there is no such port.
+pub(crate) fn queuing_status<V: View>(
+    view: &V,
+    config: &Config,
+    partition: usize,
+    id: u32,
+) -> Option<QueuingStatus>
+    requires partition { partition < length config.now.partitions }
+    requires kept { V.is_kept config.now view.now }
+    ensures { let here = V.seen config.now view.now partition in
+        let port = queuing_port config.now here partition id in
+        let given = queuing_status_reply config.now here id port in
+        MatchOption result (given ≡ Code InvalidParam)
+        (λ status. given ≡ with_queuing_status status) }
+{
+    let port = queuing_port(view, config, partition, id)?;
+    let channel = config.channel(port.channel);
+    Some(QueuingStatus {
+        waiting: view.waiting_count(config, partition, id, port) as u32,
+        depth: channel.kind.depth(),
+        size: channel.size,
+        direction: port.direction,
+    })
+}
+
+/// What GET_SAMPLING_PORT_STATUS shows; `None` if there is no such port.
+pub(crate) fn sampling_status<V: View>(
+    view: &V,
+    config: &Config,
+    partition: usize,
+    id: u32,
+) -> Option<SamplingStatus>
+    requires partition { partition < length config.now.partitions }
+    requires kept { V.is_kept config.now view.now }
+    ensures { let here = V.seen config.now view.now partition in
+        let port = sampling_port config.now here partition id in
+        let given = sampling_status_reply config.now here id port in
+        MatchOption result (given ≡ Code InvalidParam)
+        (λ status. given ≡ with_sampling_status status) }
+{
+    let port = sampling_port(view, config, partition, id)?;
+    Some(SamplingStatus {
+        refresh: port.kind.refresh(),
+        size: config.channel(port.channel).size,
+        direction: port.direction,
+        last: view.last_validity(config, partition, id),
+    })
+}
+
+// The reply with a queuing port's status.
+fn queuing_status_reply<V: View>(view: &V, config: &Config, partition: usize, id: u32) -> Reply
     requires partition { partition < length config.now.partitions }
     requires kept { V.is_kept config.now view.now }
     ensures { let here = V.seen config.now view.now partition in
         let port = queuing_port config.now here partition id in
         result ≡ queuing_status_reply config.now here id port }
 {
-    let Some(port) = queuing_port(view, config, partition, id) else {
-        return Reply::Code(ReturnCode::InvalidParam);
-    };
-    let channel = config.channel(port.channel);
-    Reply::QueuingStatus {
-        waiting: view.waiting_count(config, partition, id, port) as u32,
-        depth: channel.kind.depth(),
-        size: channel.size,
-        direction: port.direction,
+    match queuing_status(view, config, partition, id) {
+        Some(status) => status.reply(),
+        None => Reply::Code(ReturnCode::InvalidParam),
     }
 }
 
-/// The reply of GET_SAMPLING_PORT_STATUS.
-pub fn sampling_status<V: View>(view: &V, config: &Config, partition: usize, id: u32) -> Reply
+// The reply with a sampling port's status.
+fn sampling_status_reply<V: View>(view: &V, config: &Config, partition: usize, id: u32) -> Reply
     requires partition { partition < length config.now.partitions }
     requires kept { V.is_kept config.now view.now }
     ensures { let here = V.seen config.now view.now partition in
         let port = sampling_port config.now here partition id in
         result ≡ sampling_status_reply config.now here id port }
 {
-    let Some(port) = sampling_port(view, config, partition, id) else {
-        return Reply::Code(ReturnCode::InvalidParam);
-    };
-    Reply::SamplingStatus {
-        refresh: port.kind.refresh(),
-        size: config.channel(port.channel).size,
-        direction: port.direction,
-        last: view.last_validity(config, partition, id),
+    match sampling_status(view, config, partition, id) {
+        Some(status) => status.reply(),
+        None => Reply::Code(ReturnCode::InvalidParam),
     }
 }

@@ -1,0 +1,18 @@
+use Rattle.std.proofs.Common.{◌≡◌, false, sym, ap, ◌∙◌}
+use Rattle.apex_ports.specs.Modes.{is_idle}
+use Rattle.apex_ports.specs.Seen.{seen}
+use Rattle.apex_ports.proofs.Stays.{quiet_keeps, not_made_is_quiet, refused_is_quiet}
+use Rattle.apex_ports.proofs.state.State.answer_create_sampling.Goals as goal
+
+pub returns-then-is_idle-clause-kept : goal.returns-then-is_idle-clause-kept
+returns-then-is_idle-clause-kept g c = quiet_keeps _ _ _ _ _ c.args.at _ _ c.requires.current.kept (not_made_is_quiet _)
+
+pub create-requires-clause-row : goal.create-requires-clause-row
+create-requires-clause-row g c =
+    let s = seen c.args.config.now c.args.self.now.history c.args.partition in
+    let active : is_idle s.mode ≡ false = ap is_idle (sym c.mode.ensures) ∙ (sym c.is_idle.ensures ∙ c.if-is_idle.false) in
+    rw active (c.in-Ok.ensures)
+
+pub returns-in-Err-clause-kept : goal.returns-in-Err-clause-kept
+returns-in-Err-clause-kept g c =
+    quiet_keeps _ _ _ _ _ c.args.at _ _ c.requires.current.kept (refused_is_quiet _ c.code.result c.code.ensures.refused)
