@@ -8,42 +8,19 @@ use Rattle.apex_types.specs.declared.validity.Validity.TheVariants.{Invalid}
 use Rattle.apex_module.specs.Configuration.{Configuration, port_of}
 use Rattle.apex_module.specs.declared.port.Port.{Port}
 use Rattle.apex_ports.specs.declared.history.Entry.{Entry}
-use Rattle.apex_ports.specs.declared.rows.Refusal.{Refusal}
-use Rattle.apex_ports.specs.declared.rows.Refusal.TheVariants as refusal
 use Rattle.apex_ports.specs.declared.rows.Row.{Row}
 use Rattle.apex_ports.specs.declared.rows.Row.TheVariants as row
 use Rattle.apex_ports.specs.Channels.{last_validity_of}
 use Rattle.apex_ports.specs.History.{History, entry_of}
-use Rattle.apex_ports.specs.Modes.{is_no_error, is_restart, mode_of}
+use Rattle.apex_ports.specs.Modes.{is_restart, mode_of}
 use Rattle.apex_ports.specs.Ports.{is_created}
 use Rattle.apex_ports.specs.ReplyTable.{reply_of, reply_to, row_of}
 use Rattle.apex_ports.specs.Rows.{code_of}
 use Rattle.apex_ports.specs.Seen.{Seen, seen, sample_of, waiting_of}
+use Rattle.apex_ports.proofs.RowCalls.{is_an_error}
 use Rattle.apex_ports.proofs.Appends.{is_created-append, last_validity_of-append, mode_of-append}
 use Rattle.apex_ports.proofs.Stays.{IsQuiet, LeavesPartition, not_made_is_quiet, or_not, quiet_leaves_channel, quiet_leaves_partition, refused_is_quiet, sample_stays, waiting_stays}
 use Rattle.apex_c.specs.Law.{is_refusal, RefusedLeavesSeen}
-
-is_an_error : (r : Refusal) → is_no_error (code_of r) ≡ false
-is_an_error refusal.NotConfigured = refl
-is_an_error refusal.AlreadyCreated = refl
-is_an_error refusal.SizeDiffers = refl
-is_an_error refusal.DepthDiffers = refl
-is_an_error refusal.DirectionDiffers = refl
-is_an_error refusal.RefreshDiffers = refl
-is_an_error refusal.UnknownDiscipline = refl
-is_an_error refusal.InNormal = refl
-is_an_error refusal.NotCreated = refl
-is_an_error refusal.NoSuchPort = refl
-is_an_error refusal.EmptyMessage = refl
-is_an_error refusal.MessageTooLong = refl
-is_an_error refusal.NotSource = refl
-is_an_error refusal.NotDestination = refl
-is_an_error refusal.QueueFull = refl
-is_an_error refusal.QueueEmpty = refl
-is_an_error refusal.NeverWritten = refl
-is_an_error refusal.UnknownMode = refl
-is_an_error refusal.AlreadyNormal = refl
-is_an_error refusal.WarmStartInColdStart = refl
 
 quiet_row : (config : Configuration) (s : Seen) (p : ℕ) (call : Call) (r : Row) → is_refusal r ≡ true → IsQuiet call (reply_of config s p r)
 quiet_row config s p call row.Idle has = not_made_is_quiet call

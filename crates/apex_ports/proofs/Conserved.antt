@@ -53,7 +53,7 @@ sampling_configured true (Some port) q is = by_kind (is_queuing_port port.kind) 
     by_kind true kind h = absurd (cc)
     by_kind false kind h = let same : port ≡ q = cc in (h, subst (λ (x : Port). is_queuing_port x.kind ≡ false) same kind)
 
-channel_of_source : (port : Option Port) (q : Port) (c : ℕ) → port ≡ Some q → is_source_of c port ≡ true → q.channel ≡ c
+pub channel_of_source : (port : Option Port) (q : Port) (c : ℕ) → port ≡ Some q → is_source_of c port ≡ true → q.channel ≡ c
 channel_of_source port q c is source =
     let test = (and_true (is_source q.direction) (q.channel == c) (ap (is_source_of c) (sym is) ∙ source)).1 in
     grind (arith, nat_tests)

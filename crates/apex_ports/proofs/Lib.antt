@@ -17,6 +17,7 @@ pub mod Refused
 pub mod RowCalls
 pub mod RowFacts
 pub mod Saving
+pub mod Sizes
 pub mod Stays
 mod Walks
 pub mod WithoutClears

@@ -17,10 +17,36 @@ use Rattle.apex_ports.specs.declared.rows.Refusal.TheVariants as refusal
 use Rattle.apex_ports.specs.declared.rows.Row.{Row}
 use Rattle.apex_ports.specs.declared.rows.Row.TheVariants as row
 use Rattle.apex_ports.specs.declared.rows.Row.TheVariants.{Refused}
-use Rattle.apex_ports.specs.Modes.{is_idle, is_normal, is_cold_start}
+use Rattle.apex_ports.specs.Modes.{is_code_no_error, is_cold_start, is_idle, is_no_error, is_normal}
 use Rattle.apex_ports.specs.Ports.{NamedPort, is_create, is_source, queuing_named, sampling_named}
-use Rattle.apex_ports.specs.ReplyTable.{size_of, depth_of, create_queuing_row, create_sampling_row, id_row, send_row, oldest_row, receive_row, clear_row, write_row, last_row, read_row, status_row, set_mode_row, service_row, row_of}
+use Rattle.apex_ports.specs.ReplyTable.{size_of, depth_of, create_queuing_row, create_sampling_row, id_row, send_row, oldest_row, receive_row, clear_row, write_row, last_row, read_row, status_row, set_mode_row, service_row, row_of, reply_of}
+use Rattle.apex_ports.specs.Rows.{code_of}
 use Rattle.apex_ports.specs.Seen.{Seen, queuing_port, sampling_port}
+
+-- ---- refusals
+
+-- a refusal isn't NO_ERROR
+pub is_an_error : (r : Refusal) → is_no_error (code_of r) ≡ false
+is_an_error refusal.NotConfigured = refl
+is_an_error refusal.AlreadyCreated = refl
+is_an_error refusal.SizeDiffers = refl
+is_an_error refusal.DepthDiffers = refl
+is_an_error refusal.DirectionDiffers = refl
+is_an_error refusal.RefreshDiffers = refl
+is_an_error refusal.UnknownDiscipline = refl
+is_an_error refusal.InNormal = refl
+is_an_error refusal.NotCreated = refl
+is_an_error refusal.NoSuchPort = refl
+is_an_error refusal.EmptyMessage = refl
+is_an_error refusal.MessageTooLong = refl
+is_an_error refusal.NotSource = refl
+is_an_error refusal.NotDestination = refl
+is_an_error refusal.QueueFull = refl
+is_an_error refusal.QueueEmpty = refl
+is_an_error refusal.NeverWritten = refl
+is_an_error refusal.UnknownMode = refl
+is_an_error refusal.AlreadyNormal = refl
+is_an_error refusal.WarmStartInColdStart = refl
 
 -- ---- which rows a call can get
 
@@ -192,6 +218,23 @@ module _ (config : Configuration) (s : Seen) (p : ℕ) (now : Moment) where
 
   pub sent_only : (of : Call) → row_of config s p now of ≡ row.Sent → (id : ℕ) × (message : List ℕ) × (of ≡ call.SendQueuing id message)
   sent_only of is = sending of (row_fits of row.Sent is)
+
+  -- NO_ERROR to a send or a write is the reply of its own row
+  accepted_send : (id : ℕ) (message : List ℕ) (given : Row) → fits (call.SendQueuing id message) given ≡ true → is_code_no_error (reply_of config s p given) ≡ true → given ≡ row.Sent
+  accepted_send id message row.Sent fit ok = refl
+  accepted_send id message (Refused refusal) fit ok = let no = is_an_error refusal in absurd (cc)
+  accepted_send id message _ fit ok = absurd (cc)
+
+  pub sent_by_code : (id : ℕ) (message : List ℕ) → is_code_no_error (reply_of config s p (row_of config s p now (call.SendQueuing id message))) ≡ true → row_of config s p now (call.SendQueuing id message) ≡ row.Sent
+  sent_by_code id message ok = accepted_send id message _ (row_fits (call.SendQueuing id message) _ refl) ok
+
+  accepted_write : (id : ℕ) (message : List ℕ) (given : Row) → fits (call.WriteSampling id message) given ≡ true → is_code_no_error (reply_of config s p given) ≡ true → given ≡ row.Written
+  accepted_write id message row.Written fit ok = refl
+  accepted_write id message (Refused refusal) fit ok = let no = is_an_error refusal in absurd (cc)
+  accepted_write id message _ fit ok = absurd (cc)
+
+  pub written_by_code : (id : ℕ) (message : List ℕ) → is_code_no_error (reply_of config s p (row_of config s p now (call.WriteSampling id message))) ≡ true → row_of config s p now (call.WriteSampling id message) ≡ row.Written
+  written_by_code id message ok = accepted_write id message _ (row_fits (call.WriteSampling id message) _ refl) ok
 
   receiving : (of : Call) (id : ℕ) → fits of (row.OldestReceived id) ≡ true → of ≡ call.ReceiveQueuing id
   receiving (call.ReceiveQueuing n) id is = ap call.ReceiveQueuing (sym (is_number id n is))

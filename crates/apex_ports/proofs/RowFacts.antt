@@ -95,18 +95,21 @@ module _ (config : Configuration) (s : Seen) (p : ℕ) (now : Moment) where
           by_tests false false false true h = absurd (cc)
           by_tests false false false false h = (refl, refl)
 
-  pub written_at : (id : ℕ) (message : List ℕ) → row_of config s p now (call.WriteSampling id message) ≡ row.Written → (port : Port) × IsSourceAt config p id port
+  pub written_at : (id : ℕ) (message : List ℕ) → row_of config s p now (call.WriteSampling id message) ≡ row.Written → (port : Port) × IsSourceAt config p id port × (length message ≤ size_of config port)
   written_at id message is = by_port (sampling_port config s p id) refl (served (is_idle s.mode) (service_row config s p now (call.WriteSampling id message)) row.Written refl is)
     where
-      by_port : (port : Option Port) → sampling_port config s p id ≡ port → write_row config port message ≡ row.Written → (q : Port) × IsSourceAt config p id q
+      by_port : (port : Option Port) → sampling_port config s p id ≡ port → write_row config port message ≡ row.Written → (q : Port) × IsSourceAt config p id q × (length message ≤ size_of config q)
       by_port None found given = absurd (cc)
-      by_port (Some q) found given = (q, record { found = (sampling_configured (s.created id) (port_of config p id) q found).0; source = not_false (is_source q.direction) (by_tests _ _ _ given) })
+      by_port (Some q) found given =
+          let tests = by_tests _ (nat_lt (size_of config q) (length message)) _ given in
+          let short = tests.0 in
+          (q, record { found = (sampling_configured (s.created id) (port_of config p id) q found).0; source = not_false (is_source q.direction) tests.1 }, grind (arith, nat_tests))
         where
-          by_tests : (a b c : Bool) → ◌≡◌ {A = Row} (if a then Refused refusal.EmptyMessage else if b then Refused refusal.MessageTooLong else if c then Refused refusal.NotSource else row.Written) row.Written → c ≡ false
+          by_tests : (a b c : Bool) → ◌≡◌ {A = Row} (if a then Refused refusal.EmptyMessage else if b then Refused refusal.MessageTooLong else if c then Refused refusal.NotSource else row.Written) row.Written → (b ≡ false) × (c ≡ false)
           by_tests true b c h = absurd (cc)
           by_tests false true c h = absurd (cc)
           by_tests false false true h = absurd (cc)
-          by_tests false false false h = refl
+          by_tests false false false h = (refl, refl)
 
   pub received_at : (id n : ℕ) → row_of config s p now (call.ReceiveQueuing id) ≡ row.OldestReceived n → (port : Port) × IsDestinationAt config p id port × (0 < length (s.waiting id))
   received_at id n is = by_port (queuing_port config s p id) refl (served (is_idle s.mode) (service_row config s p now (call.ReceiveQueuing id)) (row.OldestReceived n) refl is)
@@ -262,7 +265,7 @@ writes_there config h p id m q found active decided = record {
     replied at = ap (reply_of config s p) (given at)
 
     source : is_source_of q.channel (port_of config p id) ≡ true
-    source = let at : Moment = record { 0 = 0 } in source_of config p id (written_at config s p at id m (given at)).0 q (written_at config s p at id m (given at)).1 (sym found)
+    source = let at : Moment = record { 0 = 0 } in let there = written_at config s p at id m (given at) in source_of config p id there.0 q there.1 (sym found)
 
     other_channel : (other : ℕ) → other ≢ q.channel → (q.channel == other) ≡ false
     other_channel other apart = grind (arith, nat_tests)

@@ -13,7 +13,7 @@ use Rattle.apex_types.specs.declared.reply.Reply.TheVariants as reply
 use Rattle.apex_types.specs.declared.return_code.ReturnCode.TheVariants.{NoError, NoAction, NotAvailable, InvalidParam}
 use Rattle.apex_types.specs.declared.sample.Sample.{Sample}
 use Rattle.apex_types.specs.declared.validity.Validity.{Validity}
-use Rattle.apex_module.specs.Configuration.{Configuration, channel_of, is_queuing_channel, depth_of_kind, refresh_of_kind}
+use Rattle.apex_module.specs.Configuration.{Configuration, channel_of, port_of, is_queuing_channel, depth_of_kind, refresh_of_kind}
 use Rattle.apex_module.specs.declared.channel.Channel.{Channel}
 use Rattle.apex_module.specs.declared.port.Port.{Port}
 use Rattle.apex_ports.specs.declared.rows.Row.{Row}
@@ -35,6 +35,14 @@ size_in (Some channel) = channel.size
 -- the maximum length of a message, in bytes
 abbrev pub size_of : Configuration → Port → ℕ
 size_of config port = size_in (channel_of config port.channel)
+
+abbrev pub size_of_port : Configuration → Option Port → ℕ
+size_of_port config None = 0
+size_of_port config (Some port) = size_of config port
+
+-- the same for the partition's port with an identifier; 0 if there is no such port
+abbrev pub size_at : Configuration → ℕ → ℕ → ℕ
+size_at config partition id = size_of_port config (port_of config partition id)
 
 abbrev pub depth_in : Option Channel → ℕ
 depth_in None = 0

@@ -3,7 +3,7 @@ ghost use Rattle.std.specs.Prelude.{◌≡◌, ◌<◌, ◌≤◌, length, take,
 ghost use Rattle.apex_types.specs.declared.call.Call.TheVariants as call;
 ghost use Rattle.apex_ports.specs.History.{entry_of};
 ghost use Rattle.apex_ports.specs.Kept.{IsCurrent, IsKeptWith};
-ghost use Rattle.apex_ports.specs.ReplyTable.{reply_to};
+ghost use Rattle.apex_ports.specs.ReplyTable.{reply_to, size_at};
 ghost use Rattle.apex_ports.specs.Services.{length_read, length_received, reply_coded, reply_read, reply_received};
 
 use crate::modes::is_idle;
@@ -58,7 +58,7 @@ impl<A: Allocator> State<A> {
     ) -> Result<usize, Option<ReturnCode>>
         requires partition { partition < length config.now.partitions }
         requires current { IsCurrent config.now self.old }
-        requires room { MESSAGE_LIMIT ≤ length buffer.old }
+        requires room { size_at config.now partition id ≤ length buffer.old }
         ensures reply { let asked = call.ReceiveQueuing id in reply_received result buffer.new
             ≡ reply_to config.now self.old.history partition at asked }
         ensures short { length_received result ≤ MESSAGE_LIMIT }
@@ -125,7 +125,7 @@ impl<A: Allocator> State<A> {
     ) -> Result<(usize, Validity), Option<ReturnCode>>
         requires partition { partition < length config.now.partitions }
         requires current { IsCurrent config.now self.old }
-        requires room { MESSAGE_LIMIT ≤ length buffer.old }
+        requires room { size_at config.now partition id ≤ length buffer.old }
         ensures reply { let asked = call.ReadSampling id in reply_read result buffer.new
             ≡ reply_to config.now self.old.history partition at asked }
         ensures short { length_read result ≤ MESSAGE_LIMIT }

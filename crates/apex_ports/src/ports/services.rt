@@ -10,7 +10,7 @@ use std::alloc::Allocator;
 
 impl<A: Allocator> Ports<A> {
     ghost use Rattle.apex_ports.specs.History.{entry_of};
-    ghost use Rattle.apex_ports.specs.ReplyTable.{reply_to};
+    ghost use Rattle.apex_ports.specs.ReplyTable.{reply_to, size_at};
     ghost use Rattle.apex_ports.specs.Services.{length_read, length_received, reply_coded, reply_read, reply_received};
     ghost use Rattle.apex_ports.specs.Sound.{IsSound};
 
@@ -51,7 +51,7 @@ impl<A: Allocator> Ports<A> {
         buffer: &mut [u8],
     ) -> Result<usize, Option<ReturnCode>>
         requires partition { partition < length self.old.config.partitions }
-        requires room { MESSAGE_LIMIT ≤ length buffer.old }
+        requires room { size_at self.old.config partition id ≤ length buffer.old }
         ensures reply { let asked = call.ReceiveQueuing id in reply_received result buffer.new
             ≡ reply_to self.old.config self.old.history partition at asked }
         ensures short { length_received result ≤ MESSAGE_LIMIT }
@@ -111,7 +111,7 @@ impl<A: Allocator> Ports<A> {
         buffer: &mut [u8],
     ) -> Result<(usize, Validity), Option<ReturnCode>>
         requires partition { partition < length self.old.config.partitions }
-        requires room { MESSAGE_LIMIT ≤ length buffer.old }
+        requires room { size_at self.old.config partition id ≤ length buffer.old }
         ensures reply { let asked = call.ReadSampling id in reply_read result buffer.new
             ≡ reply_to self.old.config self.old.history partition at asked }
         ensures short { length_read result ≤ MESSAGE_LIMIT }

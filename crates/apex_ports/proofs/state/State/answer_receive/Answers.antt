@@ -1,6 +1,8 @@
-use Rattle.std.proofs.Common.{◌≡◌, false, sym, ap, ◌∙◌}
+use Rattle.std.proofs.Common.{◌≡◌, false, sym, ap, ◌∙◌, arith}
+use Rattle.apex_module.specs.Configuration.{port_of}
 use Rattle.apex_ports.specs.Modes.{is_idle}
 use Rattle.apex_ports.specs.Seen.{seen}
+use Rattle.apex_ports.proofs.Sizes.{received_short}
 use Rattle.apex_ports.proofs.Stays.{quiet_keeps, not_made_is_quiet, refused_is_quiet}
 use Rattle.apex_ports.proofs.state.State.answer_receive.Goals as goal
 
@@ -16,3 +18,10 @@ receive-requires-clause-row g c =
 pub returns-in-Err-clause-kept : goal.returns-in-Err-clause-kept
 returns-in-Err-clause-kept g c =
     quiet_keeps _ _ _ _ _ c.args.at _ _ c.requires.current.kept (refused_is_quiet _ c.code.result c.code.ensures.refused)
+
+pub put_bytes-length-requires : goal.put_bytes-length-requires
+put_bytes-length-requires g c =
+    let config = c.args.config.now in
+    let short = received_short config c.args.self.now.history c.requires.current.sound.lawful (port_of config c.args.partition c.args.id) c.in-Ok.message.now c.in-Ok.ensures.message in
+    let room = c.requires.room in
+    omega (arith, short, room)
