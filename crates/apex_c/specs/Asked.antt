@@ -1,5 +1,5 @@
 -- What C asks for: a call, or the number that says why it isn't one. If it isn't one, nothing changes.
-use Rattle.std.specs.Prelude.{ℕ, nat_lt, if◌then◌else◌, List, length, Option, None, Result, Ok, Err}
+use Rattle.std.specs.Prelude.{ℕ, nat_lt, if◌then◌else◌, List, length, Option, None, Some, Result, Ok, Err}
 use Rattle.apex_types.specs.Name.{name_of}
 use Rattle.apex_types.specs.declared.call.Call.{Call}
 use Rattle.apex_types.specs.declared.call.Call.TheVariants as call
@@ -7,6 +7,7 @@ use Rattle.apex_types.specs.declared.message.TheConstants.{MESSAGE_LIMIT}
 use Rattle.apex_types.specs.declared.moment.Moment.{Moment}
 use Rattle.apex_types.specs.declared.name.NameFault.{NameFault}
 use Rattle.apex_types.specs.declared.reply.Reply.{Reply}
+use Rattle.apex_ports.specs.ReplyTable.{size_at}
 use Rattle.apex_c.specs.Calls.{answer_in, ports_after, reply_in}
 use Rattle.apex_c.specs.Held.{PortsHeld}
 use Rattle.apex_c.specs.declared.answer.TheConstants.{NO_NAME, SHORT_BUFFER, TOO_LONG}
@@ -69,13 +70,18 @@ send id message = with_message (λ bytes. call.SendQueuing id bytes) message
 abbrev pub write : ℕ → List ℕ → Asked
 write id message = with_message (λ bytes. call.WriteSampling id bytes) message
 
--- ---- calls that write a message into a buffer of this many bytes, which may be too few for the longest
+-- ---- calls that write a message into a buffer of this many bytes, which may have no room for the channel's messages
 
-abbrev pub with_buffer : ℕ → Call → Asked
-with_buffer bytes call = if nat_lt bytes MESSAGE_LIMIT then Err SHORT_BUFFER else Ok call
+-- the bytes that a message may take at the port with the identifier
+abbrev pub room_at : PortsHeld → ℕ → ℕ → ℕ
+room_at None p id = 0
+room_at (Some ports) p id = size_at ports.config p id
 
-abbrev pub receive : ℕ → ℕ → Asked
-receive bytes id = with_buffer bytes (call.ReceiveQueuing id)
+abbrev pub with_buffer : ℕ → ℕ → Call → Asked
+with_buffer bytes room call = if nat_lt bytes room then Err SHORT_BUFFER else Ok call
 
-abbrev pub read : ℕ → ℕ → Asked
-read bytes id = with_buffer bytes (call.ReadSampling id)
+abbrev pub receive : PortsHeld → ℕ → ℕ → ℕ → Asked
+receive ports p bytes id = with_buffer bytes (room_at ports p id) (call.ReceiveQueuing id)
+
+abbrev pub read : PortsHeld → ℕ → ℕ → ℕ → Asked
+read ports p bytes id = with_buffer bytes (room_at ports p id) (call.ReadSampling id)

@@ -1,11 +1,12 @@
 //! Services through a handle that make no call and no reply: a message stays in C's place.
 ghost use Rattle.std.specs.Prelude.{◌≡◌, ◌<◌, ◌≤◌, length, Some};
 ghost use Rattle.apex_types.specs.declared.call.Call.TheVariants as call;
-ghost use Rattle.apex_types.specs.declared.message.TheConstants.{MESSAGE_LIMIT};
-ghost use Rattle.apex_c.specs.Calls.{answer_in, moment_of, ports_after, ports_with, reply_in, reply_number, reply_of_ports};
+ghost use Rattle.apex_ports.specs.ReplyTable.{size_at};
+ghost use Rattle.apex_c.specs.Asked.{asked_answer, asked_ports, asked_reply, read, receive};
+ghost use Rattle.apex_c.specs.Calls.{answer_in, moment_of, ports_after, ports_with, reply_number, reply_of_ports};
 ghost use Rattle.apex_c.specs.Places.{buffer_after, length_after, message_in, validity_after};
 
-use crate::answer::{NO_PARTITION, NOT_OPEN};
+use crate::answer::{NO_PARTITION, NOT_OPEN, SHORT_BUFFER};
 use crate::handle::{Handle, number_of_code};
 use apex_ports::Ports;
 use apex_types::{Moment, ReturnCode};
@@ -38,7 +39,8 @@ impl Handle {
         answer
     }
 
-    /// RECEIVE_QUEUING_MESSAGE, with the message and its length in their places. Answers as `call`.
+    /// RECEIVE_QUEUING_MESSAGE, with the message and its length in their places. Answers as `call`, or
+    /// `SHORT_BUFFER`.
     pub(crate) fn receive(
         &mut self,
         alloc: Global,
@@ -48,16 +50,15 @@ impl Handle {
         buffer: &mut [u8],
         message_length: &mut u32,
     ) -> u32
-        requires room { MESSAGE_LIMIT ≤ length buffer.old }
-        ensures answer { result
-            ≡ answer_in self.old.held.ports partition (moment_of at) (call.ReceiveQueuing id) }
-        ensures ports { self.new.held.ports
-            ≡ ports_after self.old.held.ports partition (moment_of at) (call.ReceiveQueuing id) }
-        ensures buffer { let asked = call.ReceiveQueuing id in
-            let reply = reply_in self.old.held.ports partition (moment_of at) asked in
+        ensures answer { let asked = receive self.old.held.ports partition (length buffer.old) id in
+            result ≡ asked_answer self.old.held.ports partition (moment_of at) asked }
+        ensures ports { let asked = receive self.old.held.ports partition (length buffer.old) id in
+            self.new.held.ports ≡ asked_ports self.old.held.ports partition (moment_of at) asked }
+        ensures buffer { let asked = receive self.old.held.ports partition (length buffer.old) id in
+            let reply = asked_reply self.old.held.ports partition (moment_of at) asked in
             buffer.new ≡ buffer_after (message_in reply) buffer.old }
-        ensures message_length { let asked = call.ReceiveQueuing id in
-            let reply = reply_in self.old.held.ports partition (moment_of at) asked in
+        ensures message_length { let asked = receive self.old.held.ports partition (length buffer.old) id in
+            let reply = asked_reply self.old.held.ports partition (moment_of at) asked in
             message_length.new ≡ length_after (message_in reply) message_length.old }
     {
         let Some(mut ports) = self.take(alloc) else {
@@ -65,14 +66,18 @@ impl Handle {
         };
         let answer = if (partition as usize) < ports.config().partitions() {
             let partition = partition as usize;
-            receive(
-                &mut ports,
-                partition,
-                Moment(at),
-                id,
-                buffer,
-                message_length,
-            )
+            if buffer.len() < ports.size_at(partition, id) {
+                SHORT_BUFFER
+            } else {
+                receive(
+                    &mut ports,
+                    partition,
+                    Moment(at),
+                    id,
+                    buffer,
+                    message_length,
+                )
+            }
         } else {
             NO_PARTITION
         };
@@ -106,7 +111,8 @@ impl Handle {
         answer
     }
 
-    /// READ_SAMPLING_MESSAGE, with the message, its length and its validity in their places. Answers as `call`.
+    /// READ_SAMPLING_MESSAGE, with the message, its length and its validity in their places. Answers as
+    /// `call`, or `SHORT_BUFFER`.
     pub(crate) fn read_sample(
         &mut self,
         alloc: Global,
@@ -117,19 +123,18 @@ impl Handle {
         message_length: &mut u32,
         validity: &mut u32,
     ) -> u32
-        requires room { MESSAGE_LIMIT ≤ length buffer.old }
-        ensures answer { result
-            ≡ answer_in self.old.held.ports partition (moment_of at) (call.ReadSampling id) }
-        ensures ports { self.new.held.ports
-            ≡ ports_after self.old.held.ports partition (moment_of at) (call.ReadSampling id) }
-        ensures buffer { let asked = call.ReadSampling id in
-            let reply = reply_in self.old.held.ports partition (moment_of at) asked in
+        ensures answer { let asked = read self.old.held.ports partition (length buffer.old) id in
+            result ≡ asked_answer self.old.held.ports partition (moment_of at) asked }
+        ensures ports { let asked = read self.old.held.ports partition (length buffer.old) id in
+            self.new.held.ports ≡ asked_ports self.old.held.ports partition (moment_of at) asked }
+        ensures buffer { let asked = read self.old.held.ports partition (length buffer.old) id in
+            let reply = asked_reply self.old.held.ports partition (moment_of at) asked in
             buffer.new ≡ buffer_after (message_in reply) buffer.old }
-        ensures message_length { let asked = call.ReadSampling id in
-            let reply = reply_in self.old.held.ports partition (moment_of at) asked in
+        ensures message_length { let asked = read self.old.held.ports partition (length buffer.old) id in
+            let reply = asked_reply self.old.held.ports partition (moment_of at) asked in
             message_length.new ≡ length_after (message_in reply) message_length.old }
-        ensures validity { let asked = call.ReadSampling id in
-            let reply = reply_in self.old.held.ports partition (moment_of at) asked in
+        ensures validity { let asked = read self.old.held.ports partition (length buffer.old) id in
+            let reply = asked_reply self.old.held.ports partition (moment_of at) asked in
             validity.new ≡ validity_after reply validity.old }
     {
         let Some(mut ports) = self.take(alloc) else {
@@ -137,15 +142,19 @@ impl Handle {
         };
         let answer = if (partition as usize) < ports.config().partitions() {
             let partition = partition as usize;
-            read(
-                &mut ports,
-                partition,
-                Moment(at),
-                id,
-                buffer,
-                message_length,
-                validity,
-            )
+            if buffer.len() < ports.size_at(partition, id) {
+                SHORT_BUFFER
+            } else {
+                read(
+                    &mut ports,
+                    partition,
+                    Moment(at),
+                    id,
+                    buffer,
+                    message_length,
+                    validity,
+                )
+            }
         } else {
             NO_PARTITION
         };
@@ -211,7 +220,7 @@ fn receive(
     message_length: &mut u32,
 ) -> u32
     requires partition { partition < length ports.old.config.partitions }
-    requires room { MESSAGE_LIMIT ≤ length buffer.old }
+    requires room { size_at ports.old.config partition id ≤ length buffer.old }
     ensures answer { result
         ≡ reply_number (reply_of_ports ports.old partition at (call.ReceiveQueuing id)) }
     ensures ports { ports.new ≡ ports_with ports.old partition at (call.ReceiveQueuing id) }
@@ -250,7 +259,7 @@ fn read(
     validity: &mut u32,
 ) -> u32
     requires partition { partition < length ports.old.config.partitions }
-    requires room { MESSAGE_LIMIT ≤ length buffer.old }
+    requires room { size_at ports.old.config partition id ≤ length buffer.old }
     ensures answer { result
         ≡ reply_number (reply_of_ports ports.old partition at (call.ReadSampling id)) }
     ensures ports { ports.new ≡ ports_with ports.old partition at (call.ReadSampling id) }

@@ -4,7 +4,7 @@ ghost use Rattle.std.specs.Option.{option_copied};
 
 use crate::ports::Ports;
 use crate::rows::Row;
-use crate::table::lookup::sampling_port;
+use crate::table::lookup::{configured_port, sampling_port};
 use crate::table::row;
 use apex_module::Config;
 use apex_types::{Call, MESSAGE_LIMIT, Message, Mode, Moment, Sample, Validity};
@@ -16,7 +16,7 @@ impl<A: Allocator> Ports<A> {
     ghost use Rattle.apex_ports.specs.History.{entries_of};
     ghost use Rattle.apex_ports.specs.Modes.{mode_of};
     ghost use Rattle.apex_ports.specs.Ports.{is_created, is_queuing};
-    ghost use Rattle.apex_ports.specs.ReplyTable.{row_of};
+    ghost use Rattle.apex_ports.specs.ReplyTable.{row_of, size_at};
     ghost use Rattle.apex_ports.specs.Rules.{IsConserved};
     ghost use Rattle.apex_ports.specs.Seen.{seen, sampling_port, validity_shown};
     ghost use Rattle.apex_ports.specs.Sound.{IsSound};
@@ -36,6 +36,18 @@ impl<A: Allocator> Ports<A> {
         ensures { result ≡ mode_of p self.now.history }
     {
         self.state.partitions[p].mode
+    }
+
+    /// The maximum length of a message at the port of partition `p` with the identifier, in bytes, whether the port is created
+    /// or not; 0 if there is no such port.
+    pub fn size_at(&self, p: usize, id: u32) -> usize
+        ensures size { result ≡ size_at self.now.config p id }
+        ensures short { result ≤ MESSAGE_LIMIT }
+    {
+        match configured_port(&self.config, p, id) {
+            Some(port) => self.config.channel(port.channel).size as usize,
+            None => 0,
+        }
     }
 
     /// The number of calls of partition `p`, including those that were not made; at most `u64::MAX`.
