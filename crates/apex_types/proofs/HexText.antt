@@ -1,14 +1,12 @@
 -- The hexadecimal texts of messages.
 use Rattle.std.proofs.Common.{◌≡◌, ◌∙◌, refl, ℕ, ◌*◌, ◌%◌, ◌<◌, ◌≤◌, Bool, true, false, ◌&&◌, List, [], ◌∷◌, length, Result, Ok, Err, arith, inl, inr}
-use Rattle.std.specs.Prelude.{MatchResult}
-use Rattle.std.specs.List.{list_all, refill}
+use Rattle.std.specs.List.{list_all}
 use Rattle.std.specs.Str.{IsAscii, bytes_eq}
 use Rattle.std.proofs.lemmas.Bool.Decides.{nat_tests}
-use Rattle.std.proofs.Math.Seq.{take-append_seam}
 use Rattle.std.proofs.lemmas.List.Sums.{AllPass-from_list_all, list_all-from_AllPass}
-use Rattle.hex.specs.Hex.{IsBytes, decode_of, decode_sized, encode_lower, is_hex_digit, lower_digits}
+use Rattle.hex.specs.Hex.{IsBytes, decode_of, encode_lower, is_hex_digit, lower_digits}
 use Rattle.hex.specs.declared.error.FromHexError.{FromHexError}
-use Rattle.hex.proofs.HexLemmas.{decode_of-digits, decode_of-encode_lower, decode_of-err, decode_of-ok, decode_sized-twice, length-encode_with, IsAscii-encode_with}
+use Rattle.hex.proofs.HexLemmas.{decode_of-digits, decode_of-encode_lower, decode_of-err, decode_of-ok, length-encode_with, IsAscii-encode_with}
 use Rattle.apex_types.proofs.NameLemmas.{name_is_ascii}
 use Rattle.apex_types.specs.Message.{empty_word, hex_text_of, message_of_digits, message_of_hex}
 use Rattle.apex_types.specs.declared.message.HexFault.TheVariants.{BadDigit, TooLong}
@@ -54,20 +52,6 @@ fault_of_result text (Err e) refused even bad = bad_digit text e even refused
 -- digits, one of which is bad
 pub some_bad_digit : (text : List ℕ) → length text % 2 ≡ 0 → list_all is_hex_digit text ≡ false → message_of_digits (decode_of text) ≡ Err BadDigit
 some_bad_digit text even bad = fault_of_result text (decode_of text) refl even bad
-
--- ---- reading into a buffer
-
--- what was decoded into a buffer with one byte for each pair of digits
-decoded_in : (digits room out : List ℕ) (decoded : Result (List ℕ) FromHexError) (answer : Result Unit FromHexError) → decode_of digits ≡ decoded → length digits % 2 ≡ 0 → length digits ≤ 2 * MESSAGE_LIMIT → length digits ≡ 2 * length room → MatchResult decoded (λ bytes. (answer ≡ Ok tt) × (out ≡ bytes)) (λ e. answer ≡ Err e) → MatchResult answer (λ _. message_of_digits (decode_of digits) ≡ Ok (refill (length room) room out)) (λ _. message_of_digits (decode_of digits) ≡ Err BadDigit)
-decoded_in digits room out (Ok bytes) answer read even short twice is =
-    let bytes_twice = (decode_of-ok digits bytes read).2 in
-    let full : length room ≡ length bytes = omega (arith, twice, bytes_twice) in
-    rw (is.0, is.1, full, take-append_seam) (good_digits digits bytes short read)
-decoded_in digits room out (Err e) answer read even short twice is = rw is (bad_digit digits e even read)
-
-pub read_in_place : (digits room out : List ℕ) (answer : Result Unit FromHexError) → length digits % 2 ≡ 0 → length digits ≤ 2 * MESSAGE_LIMIT → length digits ≡ 2 * length room → MatchResult (decode_sized digits (length room)) (λ bytes. (answer ≡ Ok tt) × (out ≡ bytes)) (λ e. answer ≡ Err e) → MatchResult answer (λ _. message_of_digits (decode_of digits) ≡ Ok (refill (length room) room out)) (λ _. message_of_digits (decode_of digits) ≡ Err BadDigit)
-read_in_place digits room out answer even short twice is =
-    decoded_in digits room out (decode_of digits) answer refl even short twice (rw (decode_sized-twice digits (length room) twice) at is)
 
 -- ---- the text `-`
 

@@ -1,3 +1,5 @@
+pub mod DigitLemmas
+pub mod DigitTables
 pub mod HexText
 pub mod NameLemmas
 pub mod ReadText

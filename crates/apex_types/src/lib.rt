@@ -4,6 +4,7 @@
 #![tactic(auto)]
 
 pub mod call;
+mod digits;
 pub mod direction;
 pub mod message;
 pub mod mode;
@@ -18,7 +19,7 @@ pub mod validity;
 
 pub use crate::call::{ANY_CALL, Call};
 pub use crate::direction::Direction;
-pub use crate::message::{HEX_LIMIT, HexFault, MESSAGE_LIMIT, Message, TooLong};
+pub use crate::message::{HEX_LIMIT, HexFault, MESSAGE_LIMIT, Message, TooLong, hex_text};
 pub use crate::mode::Mode;
 pub use crate::moment::Moment;
 pub use crate::name::{NAME_LIMIT, Name, NameFault};

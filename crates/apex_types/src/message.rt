@@ -1,9 +1,10 @@
 //! Messages.
-ghost use Rattle.std.specs.Prelude.{◌≡◌, ◌%◌, ◌≤◌, ◌<◌, [], length, Ok, Err, MatchResult};
+ghost use Rattle.std.specs.Prelude.{◌≡◌, ◌*◌, ◌%◌, ◌≤◌, ◌<◌, [], length, Ok, Err, MatchResult};
 ghost use Rattle.std.specs.List.{list_all};
 ghost use Rattle.hex.specs.Hex.{decode_of, is_hex_digit};
 ghost use Rattle.apex_types.specs.Message.{message_of_digits, message_of_hex, hex_text_of};
 
+use crate::digits::{decode, encode};
 use arrayvec::{ArrayString, ArrayVec};
 use std::marker::Model;
 use std::str;
@@ -15,7 +16,7 @@ pub const MESSAGE_LIMIT: usize = 1024;
 /// The length of the longest message's hexadecimal text, in bytes: two digits a byte.
 pub const HEX_LIMIT: usize = 2 * MESSAGE_LIMIT;
 
-// The initial contents of the buffer that a text is read into.
+// What a buffer that grows is filled with.
 static BLANK: [u8; MESSAGE_LIMIT] = [0; MESSAGE_LIMIT];
 
 /// A message of at most `MESSAGE_LIMIT` bytes. A contract sees it as the list of its bytes.
@@ -73,8 +74,10 @@ impl Message {
             (λ _. MESSAGE_LIMIT < length bytes.now) }
     {
         let mut message = Message::empty();
-        message.read_bytes(bytes)?;
-        Ok(message)
+        match message.bytes.try_extend_from_slice(bytes) {
+            Ok(()) => Ok(message),
+            Err(_) => Err(TooLong),
+        }
     }
 
     /// Replaces the message by these bytes, in no more time than they need. After a fault the message is unspecified.
@@ -83,11 +86,12 @@ impl Message {
             (λ _. (self.new ≡ bytes.now) × (length bytes.now ≤ MESSAGE_LIMIT))
             (λ _. MESSAGE_LIMIT < length bytes.now) }
     {
-        self.bytes.clear();
-        match self.bytes.try_extend_from_slice(bytes) {
-            Ok(()) => Ok(()),
-            Err(_) => Err(TooLong),
+        if bytes.len() > MESSAGE_LIMIT {
+            return Err(TooLong);
         }
+        set_len(&mut self.bytes, bytes.len());
+        self.bytes.as_mut_slice().copy_from_slice(bytes);
+        Ok(())
     }
 
     /// Reads hexadecimal digits of either case. `-` and the empty text are the empty message. If there are several
@@ -105,11 +109,18 @@ impl Message {
         ensures { MatchResult result (λ _. message_of_hex text.now ≡ Ok self.new)
             (λ fault. message_of_hex text.now ≡ Err fault) }
     {
-        if text == "-" {
+        self.read_hex_bytes(text.as_bytes())
+    }
+
+    /// Reads as `read_hex` does, from bytes, which need not be UTF-8.
+    pub fn read_hex_bytes(&mut self, digits: &[u8]) -> Result<(), HexFault>
+        ensures { MatchResult result (λ _. message_of_hex digits.now ≡ Ok self.new)
+            (λ fault. message_of_hex digits.now ≡ Err fault) }
+    {
+        if digits == "-".as_bytes() {
             self.bytes.clear();
             return Ok(());
         }
-        let digits = text.as_bytes();
         if digits.len() % 2 != 0 {
             return Err(HexFault::OddLength);
         }
@@ -131,14 +142,8 @@ impl Message {
             (λ _. message_of_digits (decode_of digits.now) ≡ Ok self.new)
             (λ fault. message_of_digits (decode_of digits.now) ≡ Err fault) }
     {
-        self.bytes.clear();
-        self.bytes
-            .try_extend_from_slice(&BLANK[..digits.len() / 2])
-            .unwrap();
-        match hex::decode_to_slice(digits, self.bytes.as_mut_slice()) {
-            Ok(()) => Ok(()),
-            Err(_) => Err(HexFault::BadDigit),
-        }
+        set_len(&mut self.bytes, digits.len() / 2);
+        decode(digits, self.bytes.as_mut_slice())
     }
 
     /// The lower-case hexadecimal text of the message, `-` for the empty message. `from_hex` reads it back.
@@ -172,7 +177,10 @@ impl Message {
         ensures { result ≡ self.now }
     {
         let mut message = Message::empty();
-        message.copy_from(self);
+        message
+            .bytes
+            .try_extend_from_slice(self.bytes.as_slice())
+            .unwrap();
         message
     }
 
@@ -180,10 +188,23 @@ impl Message {
     pub fn copy_from(&mut self, other: &Message)
         ensures { self.new ≡ other.now }
     {
-        self.bytes.clear();
+        set_len(&mut self.bytes, other.bytes.len());
         self.bytes
-            .try_extend_from_slice(other.bytes.as_slice())
-            .unwrap();
+            .as_mut_slice()
+            .copy_from_slice(other.bytes.as_slice());
+    }
+}
+
+// Gives the buffer this length, with unspecified bytes. It writes only those that are added or dropped.
+fn set_len(bytes: &mut ArrayVec<u8, MESSAGE_LIMIT>, len: usize)
+    requires { len ≤ MESSAGE_LIMIT }
+    ensures { length bytes.new.items ≡ len }
+{
+    let old = bytes.len();
+    if len < old {
+        bytes.truncate(len);
+    } else if len > old {
+        bytes.try_extend_from_slice(&BLANK[..len - old]).unwrap();
     }
 }
 
@@ -193,17 +214,19 @@ fn has_hex_digits(text: &[u8]) -> bool
     text.iter().all(|byte| byte.is_ascii_hexdigit())
 }
 
-fn hex_text<'a>(bytes: &[u8], digits: &'a mut [u8; HEX_LIMIT]) -> &'a str
-    requires { length bytes.now ≤ MESSAGE_LIMIT }
+/// The hexadecimal text of these bytes, as `Message::to_hex` gives it, with its digits in the caller's buffer.
+pub fn hex_text<'a>(bytes: &[u8], digits: &'a mut [u8]) -> &'a str
+    requires { 2 * length bytes.now ≤ length digits.old }
     ensures text { result.now ≡ hex_text_of bytes.now }
-    ensures length { length result.now ≤ HEX_LIMIT }
-    ensures reads_back { message_of_hex (hex_text_of bytes.now) ≡ Ok bytes.now }
+    ensures length { length bytes.now ≤ MESSAGE_LIMIT → length result.now ≤ HEX_LIMIT }
+    ensures reads_back { length bytes.now ≤ MESSAGE_LIMIT →
+        message_of_hex (hex_text_of bytes.now) ≡ Ok bytes.now }
 {
     if bytes.is_empty() {
         return "-";
     }
     let digits = &mut digits[..2 * bytes.len()];
-    hex::encode_to_slice(bytes, digits).unwrap();
+    encode(bytes, digits);
     // SAFETY: hexadecimal digits are ASCII.
     unsafe { str::from_utf8_unchecked(digits) }
 }

@@ -7,8 +7,8 @@ use Rattle.apex_types.proofs.message.hex_text.Goals as goal
 
 pub from_utf8_unchecked-requires : goal.from_utf8_unchecked-requires
 from_utf8_unchecked-requires c =
-    let digits : c.encode_to_slice.new.output ≡ encode_lower c.args.bytes.now = search rules in
+    let digits : c.encode.new.digits ≡ encode_lower c.args.bytes.now = search rules in
     IsUtf8-from_ascii _ (subst IsAscii (sym digits) (digits_are_ascii c.args.bytes.now))
 
 pub returns-clause-reads_back : goal.returns-clause-reads_back
-returns-clause-reads_back c = text_reads_back c.args.bytes.now (λ i. let fits = c.type_inv.bytes i in omega arith) c.requires
+returns-clause-reads_back c short = text_reads_back c.args.bytes.now (λ i. let fits = c.type_inv.bytes i in omega arith) short
