@@ -41,7 +41,7 @@ enum {
     APEX_NO_PARTITION = 9,  /* the module has no partition of the number; nothing changed */
     APEX_TOO_LONG = 10,     /* more than APEX_MESSAGE_LIMIT bytes, or APEX_LINE_LIMIT in a line; nothing changed */
     APEX_NO_NAME = 11,      /* the text isn't 1 to 30 letters, digits or _; nothing changed */
-    APEX_SHORT_BUFFER = 12, /* the buffer has fewer bytes than the longest message or name; nothing changed */
+    APEX_SHORT_BUFFER = 12, /* the buffer has too little room; nothing changed */
     APEX_NO_CHANNEL = 13,   /* a reader's answer: the module has no channel of the number */
     APEX_NO_SAMPLE = 14,    /* apex_last_sample's answer: a queuing channel, or one that was never written */
     APEX_NO_PORT = 15,      /* a reader's answer: the partition has no port of the identifier */
@@ -95,7 +95,8 @@ uint32_t apex_close(struct apex_handle *handle);
 /* The services. `partition` is the partition's number, from 0 in the order of the configuration; `at` is the moment in
  * nanoseconds; then come the parameters of the standard in its order. Time-outs are zero. What a service gives beside
  * its answer goes to its place (`id`, `status`, `message_length`, `validity`, the buffer's first bytes) if the
- * answer is 0, and otherwise the place stays as it was. */
+ * answer is 0, and otherwise the place stays as it was. The buffer of a receive or a read needs room for the messages of
+ * the port's channel, or the answer is APEX_SHORT_BUFFER. */
 
 /* CREATE_SAMPLING_PORT. `size` is in bytes, `refresh` in nanoseconds.
  * Assumed: `name` points to `name_length` bytes. */

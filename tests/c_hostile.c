@@ -21,7 +21,7 @@ static uint32_t any_number(void) {
 }
 
 static size_t any_length(void) {
-    static const size_t edges[] = {0, 1, 2, 4, 4, 1023, 1024, 1024, 1025, 70000};
+    static const size_t edges[] = {0, 1, 2, 3, 4, 4, 1023, 1024, 1024, 1025, 70000};
     return edges[any(sizeof edges / sizeof *edges)];
 }
 
@@ -99,6 +99,16 @@ static uint32_t make_call(unsigned service, const struct given *g, struct places
     }
 }
 
+/* The most bytes that a message at the port may have; 0 if there is no such port. */
+static size_t room_at(const struct given *g) {
+    struct apex_configured_port port;
+    struct apex_configured_channel channel = {0, 0, false};
+    if (apex_port_configuration(&handles[g->handle], g->partition, g->id, &port) == 0) {
+        apex_channel_configuration(&handles[g->handle], port.channel, &channel);
+    }
+    return channel.size;
+}
+
 /* What the call is refused with, or 0. */
 static uint32_t refusal(unsigned service, const struct given *g) {
     if (service < 4 && !is_name(g->name, g->name_length)) {
@@ -107,10 +117,10 @@ static uint32_t refusal(unsigned service, const struct given *g) {
     if ((service == 4 || service == 5) && g->length > APEX_MESSAGE_LIMIT) {
         return APEX_TOO_LONG;
     }
-    if ((service == 6 || service == 7) && g->length < APEX_MESSAGE_LIMIT) {
-        return APEX_SHORT_BUFFER;
+    if (!is_open[g->handle] || g->partition >= partitions) {
+        return !is_open[g->handle] ? APEX_NOT_OPEN : APEX_NO_PARTITION;
     }
-    return !is_open[g->handle] ? APEX_NOT_OPEN : g->partition >= partitions ? APEX_NO_PARTITION : 0;
+    return (service == 6 || service == 7) && g->length < room_at(g) ? APEX_SHORT_BUFFER : 0;
 }
 
 /* The right parameters of a port of the examples' configurations, so that some calls do their work. */

@@ -1,13 +1,14 @@
 //! The services of queuing ports.
 ghost use Rattle.std.specs.Prelude.{◌≡◌, length};
 ghost use Rattle.apex_types.specs.declared.call.Call.TheVariants as call;
-ghost use Rattle.apex_c.specs.Asked.{asked_answer, asked_ports, asked_reply, create_queuing, queuing_id, receive};
+ghost use Rattle.apex_c.specs.Asked.{asked_answer, asked_ports, asked_reply, create_queuing, queuing_id, receive, send};
 ghost use Rattle.apex_c.specs.Calls.{answer_in, ports_after, moment_of, reply_in};
 ghost use Rattle.apex_c.specs.Places.{buffer_after, id_after, length_after, message_in, queuing_status_after};
 
+use crate::answer::TOO_LONG;
 use crate::calls::{create_queuing, queuing_id};
 use crate::handle::Handle;
-use apex_types::{Call, Reply};
+use apex_types::{Call, MESSAGE_LIMIT, Reply};
 use std::alloc::Global;
 
 /// CREATE_QUEUING_PORT, with the identifier in its place if the answer is NO_ERROR. The size is in bytes, the depth
@@ -47,11 +48,14 @@ pub extern "C" fn apex_send_queuing_message(
     id: u32,
     message: &[u8],
 ) -> u32
-    ensures answer { let asked = call.SendQueuing id message.now in
-        result ≡ answer_in handle.old.held.ports partition (moment_of at) asked }
-    ensures ports { let asked = call.SendQueuing id message.now in
-        handle.new.held.ports ≡ ports_after handle.old.held.ports partition (moment_of at) asked }
+    ensures answer { let asked = send id message.now in
+        result ≡ asked_answer handle.old.held.ports partition (moment_of at) asked }
+    ensures ports { let asked = send id message.now in
+        handle.new.held.ports ≡ asked_ports handle.old.held.ports partition (moment_of at) asked }
 {
+    if message.len() > MESSAGE_LIMIT {
+        return TOO_LONG;
+    }
     handle.send(alloc, partition, at, id, message)
 }
 
