@@ -101,10 +101,7 @@ pub(crate) fn read_message(word: &[u8], message: &mut Message) -> Result<(), Lin
     ensures { Gives (λ _. message.new) result
         (or_fault LineFault.Message (message_in word.now)) }
 {
-    let Ok(text) = str::from_utf8(word) else {
-        return Err(LineFault::Message);
-    };
-    message.read_hex(text).map_err(|_| LineFault::Message)
+    message.read_hex_bytes(word).map_err(|_| LineFault::Message)
 }
 
 /// The service that a call word names.

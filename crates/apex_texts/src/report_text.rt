@@ -10,7 +10,7 @@ use crate::service::Service;
 use apex_module::{Channel, ChannelKind};
 use apex_ports::Ports;
 use apex_types::{
-    Call, Direction, HEX_LIMIT, MESSAGE_LIMIT, Message, Moment, Reply, Sample, Validity,
+    Call, Direction, HEX_LIMIT, MESSAGE_LIMIT, Message, Moment, Reply, Sample, Validity, hex_text,
 };
 use itoa::Buffer;
 use std::alloc::AllocError;
@@ -32,6 +32,7 @@ fn push_word(text: &mut String, word: &str) -> Result<(), AllocError>
     text.push_str(word)
 }
 
+#[inline(always)]
 fn push_ascii(text: &mut String, character: char) -> Result<(), AllocError>
     requires { character < 128 }
     ensures { OnOk result (string_bytes text.new ≡ string_bytes text.old ++ character ∷ []) }
@@ -59,9 +60,11 @@ fn push_message(text: &mut String, message: &Message) -> Result<(), AllocError>
     ensures { OnOk result (string_bytes text.new
         ≡ string_bytes text.old ++ hex_text_of message.now) }
 {
-    let mut digits = [0; HEX_LIMIT];
-    push_word(text, message.hex_in(&mut digits))
+    push_bytes(text, message.bytes())
 }
+
+/// The length of the longest message whose digits go through a small buffer, in bytes.
+const SHORT_LIMIT: usize = 32;
 
 /// A message, given by its bytes.
 fn push_bytes(text: &mut String, bytes: &[u8]) -> Result<(), AllocError>
@@ -69,8 +72,23 @@ fn push_bytes(text: &mut String, bytes: &[u8]) -> Result<(), AllocError>
     ensures { OnOk result (string_bytes text.new
         ≡ string_bytes text.old ++ hex_text_of bytes.now) }
 {
-    let message = Message::from_bytes(bytes).unwrap();
-    push_message(text, &message)
+    if bytes.len() > SHORT_LIMIT {
+        return push_long(text, bytes);
+    }
+    let mut digits = [0; 2 * SHORT_LIMIT];
+    push_word(text, hex_text(bytes, &mut digits))
+}
+
+// A function clears the stack room of its values when it begins, including those of functions inlined into it. So this
+// one, which has room for the digits of any message, is not inlined.
+#[inline(never)]
+fn push_long(text: &mut String, bytes: &[u8]) -> Result<(), AllocError>
+    requires { length bytes.now ≤ MESSAGE_LIMIT }
+    ensures { OnOk result (string_bytes text.new
+        ≡ string_bytes text.old ++ hex_text_of bytes.now) }
+{
+    let mut digits = [0; HEX_LIMIT];
+    push_word(text, hex_text(bytes, &mut digits))
 }
 
 /// `NUMBER MOMENT PARTITION CALLWORD REPLY`.

@@ -1,5 +1,5 @@
 //! Lines, words and numbers of a text, which is read as bytes.
-ghost use Rattle.std.specs.Prelude.{◌≡◌, ◌<◌, [], ◌∷◌, length, not, position, IfSome, MatchOption};
+ghost use Rattle.std.specs.Prelude.{◌≡◌, ◌<◌, false, [], ◌∷◌, length, slice_index, not, position, Some, IfSome, MatchOption};
 ghost use Rattle.std.specs.List.{after_first};
 ghost use Rattle.std.specs.Str.Lines.{lines, strip_carriage_return};
 ghost use Rattle.apex_texts.specs.Text.{is_line_feed, is_blank, words_of, number_up_to};
@@ -62,6 +62,14 @@ pub fn blank_in(line: &[u8]) -> Option<usize>
     }
 }
 
+// The first blank of a line, if it is near.
+fn near_blank_in(line: &[u8]) -> Option<usize>
+    ensures { IfSome result (λ at. position is_blank line.now ≡ Some at) }
+{
+    let (near, _) = line.split_at(line.len().min(NEAR_BYTES));
+    blank_near_in(near)
+}
+
 fn blank_near_in(line: &[u8]) -> Option<usize>
     ensures { result ≡ position is_blank line.now }
 {
@@ -91,6 +99,23 @@ pub fn next_word(line: &[u8]) -> Option<(&[u8], &[u8])>
         return None;
     };
     let (_, line) = line.split_at(start);
+    match near_blank_in(line) {
+        Some(end) => Some(line.split_at(end)),
+        None => long_word(line),
+    }
+}
+
+// The first word of a line that begins with it, if it may be long. It is not inlined, so that short words save no
+// registers for the search in it.
+#[cold]
+#[inline(never)]
+fn long_word(line: &[u8]) -> Option<(&[u8], &[u8])>
+    requires some { 0 < length line.now }
+    requires word { is_blank (slice_index line.now 0) ≡ false }
+    ensures word { MatchOption result (words_of line.now ≡ [])
+        (λ x. words_of line.now ≡ x.0.now ∷ words_of x.1.now) }
+    ensures shorter { IfSome result (λ x. length x.1.now < length line.now) }
+{
     match blank_in(line) {
         Some(end) => Some(line.split_at(end)),
         None => Some((line, &line[line.len()..])),
