@@ -1,5 +1,5 @@
 -- Histories in which each call was due when it was made.
-use Rattle.std.proofs.Common.{◌≡◌, ◌≢◌, ◌⊎◌, ⊎_elim, ℕ, ◌+◌, ◌<◌, ◌≤◌, Bool, true, false, List, [], ◌∷◌, ◌++◌, length, take, Some, refl, sym, ap, ◌∙◌, subst, arith, append_assoc, append-nil, length-append}
+use Rattle.std.proofs.Common.{◌≡◌, ◌≢◌, ⊎_elim, ℕ, ◌+◌, ◌<◌, ◌≤◌, Bool, true, false, List, [], ◌∷◌, ◌++◌, length, take, Some, refl, sym, ap, ◌∙◌, subst, arith, append_assoc, append-nil, length-append}
 use Rattle.std.specs.List.{slice_get}
 use Rattle.std.proofs.lemmas.Bool.{false≢true, cases_eq}
 use Rattle.std.proofs.lemmas.List.{take-append-le}
@@ -10,7 +10,7 @@ use Rattle.apex_types.specs.declared.moment.Moment.{Moment}
 use Rattle.apex_module.specs.Configuration.{Configuration}
 use Rattle.apex_ports.specs.declared.history.Entry.{Entry}
 use Rattle.apex_ports.specs.History.{History, entries_of}
-use Rattle.apex_orders.specs.Clock.{ClockedNeverFalls, IsAscending, IsDue, IsNextDue, IsClocked}
+use Rattle.apex_orders.specs.Clock.{ClockedNeverFalls, IsDue, IsNextDue, IsClocked}
 use Rattle.apex_orders.specs.Enough.{HasSameByTried}
 use Rattle.apex_orders.specs.Orders.{Scripts, script_of, IsWay, next_entries}
 use Rattle.apex_orders.specs.Searching.{IsEnoughWith}

@@ -1,5 +1,5 @@
 -- A complete search has found each reply and each end.
-use Rattle.std.proofs.Common.{◌≡◌, ◌⊎◌, inl, inr, ⊎_elim, ℕ, zero, suc, ◌+◌, ◌<◌, ◌≤◌, Bool, List, [], ◌∷◌, ◌++◌, length, map, Option, Some, None, refl, sym, ap, ◌∙◌, subst, arith, append_assoc, append-nil, length-append}
+use Rattle.std.proofs.Common.{◌≡◌, ◌⊎◌, inl, inr, ⊎_elim, ℕ, zero, suc, ◌<◌, ◌≤◌, Bool, List, [], ◌∷◌, ◌++◌, length, map, Option, Some, None, refl, sym, ap, ◌∙◌, subst, arith, append_assoc, append-nil, length-append}
 use Rattle.std.specs.List.{slice_get}
 use Rattle.std.specs.Option.{unwrap_or}
 use Rattle.std.proofs.lemmas.Bool.{cases_eq}
@@ -28,7 +28,7 @@ use Rattle.apex_orders.proofs.GoingOn.{lawful_here}
 use Rattle.apex_orders.proofs.Lists.{stays_before, before_or_last, none_past, at_seam, past_both}
 use Rattle.apex_orders.proofs.SameWays.{next_entry}
 use Rattle.apex_orders.proofs.Swapping.{lawful_start}
-use Rattle.apex_orders.proofs.Walks.{own_entry, other_entry, calls_of-append, replies_of-append, calls_count, replies_count, IsGood, IsDone, IsNext, answered, next_cases, same_history, one_longer, good_next, none_ordered, first_ordered, joined, good_walk, continued-append}
+use Rattle.apex_orders.proofs.Walks.{own_entry, other_entry, calls_of-append, replies_of-append, calls_count, replies_count, IsGood, IsDone, IsNext, answered, next_cases, same_history, one_longer, good_next, good_walk, continued-append}
 use Rattle.apex_orders.proofs.Following.{same_self, same_along, same_next, same_count, point_next}
 
 -- the call at the index got this reply

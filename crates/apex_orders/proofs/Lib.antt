@@ -9,6 +9,7 @@ pub mod Enough
 pub mod Finishing
 pub mod Following
 pub mod GoingOn
+pub mod GrowthLemmas
 pub mod HashLemmas
 pub mod KnownLemmas
 pub mod Leaving

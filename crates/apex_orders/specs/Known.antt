@@ -2,6 +2,7 @@
 use Rattle.std.specs.Prelude.{ℕ, ◌≡◌, ◌+◌, List, ◌∷◌, length, slice_get, Some}
 use Rattle.apex_module.specs.Configuration.{Configuration}
 use Rattle.apex_ports.specs.PortsView.{PortsView}
+use Rattle.apex_ports.specs.Sound.{IsSound}
 use Rattle.apex_orders.specs.declared.trial.Trial.{Trial}
 use Rattle.apex_orders.specs.declared.points.Points.{Points}
 use Rattle.apex_orders.specs.Hashes.{AreHashes}
@@ -11,6 +12,11 @@ use Rattle.apex_orders.specs.Orders.{Scripts, history_of}
 pub record IsAfter (config : Configuration) (scripts : Scripts) (order : List ℕ) (ports : PortsView) : Type 0 where
   pub configured : ports.config ≡ config
   pub history : ports.history ≡ history_of config scripts order
+
+-- and the next call can be made on them
+pub record IsReadyAfter (config : Configuration) (scripts : Scripts) (order : List ℕ) (ports : PortsView) : Type 0 where
+  pub after : IsAfter config scripts order ports
+  pub sound : IsSound ports.config ports.history
 
 -- each order has the hash of its point, and the ports that the last orders lead to are saved
 pub record ArePoints (config : Configuration) (scripts : Scripts) (orders : List (List ℕ)) (points : Points) : Type 0 where

@@ -3,6 +3,7 @@ pub mod Choices
 pub mod Clock
 pub mod Commuting
 pub mod Enough
+pub mod Growth
 pub mod Hashes
 pub mod Known
 pub mod LastUses

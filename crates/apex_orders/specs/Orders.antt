@@ -1,5 +1,5 @@
 -- Orders of the calls of scripts, and the histories that they lead to.
-use Rattle.std.specs.Prelude.{ℕ, ◌≡◌, ◌<◌, ◌≤◌, ◌-◌, ◌^◌, List, [], ◌∷◌, ◌++◌, length, map, take, count_by, ◌==◌, slice_get, unwrap_or, Option, Some, None}
+use Rattle.std.specs.Prelude.{ℕ, ◌≡◌, ◌<◌, ◌≤◌, ◌-◌, ◌^◌, List, [], ◌∷◌, ◌++◌, length, map, take, count_by, ◌==◌, slice_get, slice_index_or, unwrap_or, Option, Some, None}
 use Rattle.apex_types.specs.declared.call.Call.{Call}
 use Rattle.apex_types.specs.declared.moment.Moment.{Moment}
 use Rattle.apex_types.specs.declared.reply.Reply.{Reply}
@@ -50,6 +50,10 @@ order_of history = map (λ entry. entry.partition) history
 -- each number is a partition of the configuration
 abbrev pub IsOrder : Configuration → List ℕ → Type 0
 IsOrder config order = (k p : ℕ) → slice_get order k ≡ Some p → p < length config.partitions
+
+-- the order at the index; no calls if there is none
+abbrev pub order_at : List (List ℕ) → ℕ → List ℕ
+order_at orders k = slice_index_or orders k []
 
 -- the number of calls that are the partition's
 abbrev pub times : ℕ → List ℕ → ℕ

@@ -80,17 +80,17 @@ AreClocked clock config scripts orders =
 -- the invariant of a search
 pub record IsSearch (clock : Bool) (config : Configuration) (scripts : Scripts) (current : Search) : Type 0 where
   pub all : length scripts ≡ length config.partitions
-  pub orders : AreOrders config current.orders.items
-  pub clocked : AreClocked clock config scripts current.orders.items
-  pub apart : AreApart config scripts current.orders.items
-  pub points : ArePoints config scripts current.orders.items current.points
+  pub orders : AreOrders config current.orders
+  pub clocked : AreClocked clock config scripts current.orders
+  pub apart : AreApart config scripts current.orders
+  pub points : ArePoints config scripts current.orders current.points
   pub found : AreFound clock config scripts current.replies
   pub trial : IsTrialOf config current.trial
   pub uses : AreOfScripts config scripts current.uses.items
 
 -- nothing that was found is lost
 pub record IsLater (old new : Search) : Type 0 where
-  pub orders : Keeps old.orders.items new.orders.items
+  pub orders : Keeps old.orders new.orders
   pub replies : Includes old.replies new.replies
 
 -- these are enough to try after the history; with the clock, all whose next calls are due

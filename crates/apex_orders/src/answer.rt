@@ -2,12 +2,13 @@
 ghost use Rattle.std.specs.Prelude.{◌≡◌, ◌<◌, ◌↔◌, length, IsTrue, IfOk, OnOk, IfSome, MatchOption};
 ghost use Rattle.std.specs.Option.{option_copied};
 ghost use Rattle.apex_orders.specs.Known.{IsAfter};
-ghost use Rattle.apex_orders.specs.Orders.{IsOrder};
+ghost use Rattle.apex_orders.specs.Orders.{IsOrder, order_at};
 ghost use Rattle.apex_orders.specs.Searching.{IsAnswer, IsAnsweredAfter, IsSearch, IsUnansweredAt};
 
 use crate::asked::Asked;
 use crate::choice::is_due;
 use crate::order::PackedOrder;
+use crate::orders::Orders;
 use crate::points::go_to;
 use crate::search::Search;
 use crate::step::step;
@@ -27,13 +28,13 @@ pub(crate) fn answer_after(
     i: usize,
 ) -> Result<Option<PackedOrder>, OutOfMemory>
     requires valid { IsSearch clock config.now scripts.now current.old }
-    requires within { i < length current.old.orders.items }
+    requires within { i < length current.old.orders }
     ensures answer { let asked = option_copied asked.entry in
         IfOk result (λ answer. MatchOption answer
-        (IsUnansweredAt clock config.now scripts.now asked current.old.orders.items i)
+        (IsUnansweredAt clock config.now scripts.now asked current.old.orders i)
         (IsAnswer clock config.now scripts.now asked)) }
     ensures valid { OnOk result (IsSearch clock config.now scripts.now current.new) }
-    ensures orders { current.new.orders.items ≡ current.old.orders.items }
+    ensures orders { current.new.orders ≡ current.old.orders }
     ensures replies { current.new.replies ≡ current.old.replies }
 {
     let Some(asked) = asked else {
@@ -43,37 +44,43 @@ pub(crate) fn answer_after(
     if asked.partition >= partitions {
         return Ok(None);
     }
-    let order = &current.orders[i];
+    let orders = &current.orders;
     let saved = current.points.saved_at(i);
     let ports = &mut current.trial.ports;
-    if !gives(alloc, config, scripts, clock, asked, order, saved, ports)? {
+    if !gives(
+        alloc, config, scripts, clock, asked, orders, i, saved, ports,
+    )? {
         return Ok(None);
     }
+    let order = current.orders.order(alloc, i)?;
     let answer = order.followed_by(alloc, asked.partition)?;
     Ok(Some(answer))
 }
 
-/// Whether the asked call is its partition's next after the order and gets an admitted reply.
+/// Whether the asked call is its partition's next after the order at the index and gets an admitted reply.
 fn gives(
     alloc: Global,
     config: &Config,
     scripts: &[Script],
     clock: bool,
     asked: &Asked,
-    order: &PackedOrder,
+    orders: &Orders,
+    index: usize,
     saved: Option<&SavedPorts>,
     ports: &mut Ports,
 ) -> Result<bool, OutOfMemory>
     requires scripts { length scripts.now ≡ length config.now.partitions }
     requires partition { asked.now.partition < length config.now.partitions }
-    requires order { IsOrder config.now order.now }
-    requires saved { IfSome saved (λ one. IsAfter config.now scripts.now order.now one.now) }
+    requires index { index < length orders.now }
+    requires order { IsOrder config.now (order_at orders.now index) }
+    requires saved { IfSome saved
+        (λ one. IsAfter config.now scripts.now (order_at orders.now index) one.now) }
     requires config { ports.old.config ≡ config.now }
     ensures given { IfOk result (λ given. IsTrue given
-        ↔ IsAnsweredAfter clock config.now scripts.now asked.now order.now) }
+        ↔ IsAnsweredAfter clock config.now scripts.now asked.now (order_at orders.now index)) }
     ensures config { ports.new.config ≡ config.now }
 {
-    go_to(alloc, config, scripts, order, saved, ports)?;
+    go_to(alloc, config, scripts, orders, index, saved, ports)?;
     if clock && !is_due(ports, scripts, asked.partition) {
         return Ok(false);
     }

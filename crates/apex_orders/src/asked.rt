@@ -25,7 +25,8 @@ pub struct Asked {
 }
 
 impl Admitted {
-    /// What a reply asks for: a return code without data admits every reply with that code, and any other reply only itself.
+    /// What a reply asks for: a return code without data admits every reply with that code, and any other reply only
+    /// itself.
     pub fn of(reply: Reply) -> Admitted
         ensures { result ≡ admitted_by reply }
     {

@@ -1,5 +1,5 @@
 //! The partitions whose next calls are enough to try.
-ghost use Rattle.std.specs.Prelude.{◌≡◌, ◌<◌, ◌↔◌, length, true, slice_get, Some, None, IfOk, MatchOption, IsTrue};
+ghost use Rattle.std.specs.Prelude.{◌≡◌, ◌<◌, ◌↔◌, length, true, slice_get, Some, None, OnOk, MatchOption, IsTrue};
 ghost use Rattle.apex_ports.specs.History.{entries_of};
 ghost use Rattle.apex_orders.specs.Choices.{AreNextUses, IsNextUse, IsQuietOutside, IsSafeToTry, is_tried};
 ghost use Rattle.apex_orders.specs.Clock.{IsNextDue};
@@ -23,6 +23,28 @@ enum NextUse {
     NoChannel,
     /// It reads the channel, or changes it.
     Channel { channel: usize, is_change: bool },
+}
+
+/// The partitions whose next calls are tried, and the lists that are made to find them. They are kept from one point to
+/// the next.
+#[derive(Drop)]
+pub(crate) struct Choice {
+    pub(crate) tried: Vec<bool>,
+    nexts: Vec<NextUse>,
+    members: Vec<usize>,
+    smallest: Vec<usize>,
+}
+
+impl Choice {
+    /// No partitions.
+    pub(crate) fn new(alloc: Global) -> Choice {
+        Choice {
+            tried: Vec::new(alloc),
+            nexts: Vec::new(alloc),
+            members: Vec::new(alloc),
+            smallest: Vec::new(alloc),
+        }
+    }
 }
 
 /// Whether the row is that of a call that is refused, or not made, before the channel is read.
@@ -78,17 +100,17 @@ fn next_use(ports: &Ports, scripts: &[Script], p: usize) -> NextUse
 }
 
 /// How all next calls use channels.
-fn next_uses(alloc: Global, ports: &Ports, scripts: &[Script]) -> Result<Vec<NextUse>, OutOfMemory>
+fn next_uses(ports: &Ports, scripts: &[Script], nexts: &mut Vec<NextUse>) -> Result<(), OutOfMemory>
     requires { length scripts.now ≡ length ports.now.config.partitions }
-    ensures { IfOk result (λ nexts.
-        AreNextUses ports.now.config scripts.now ports.now.history nexts.items) }
+    ensures { OnOk result
+        (AreNextUses ports.now.config scripts.now ports.now.history nexts.new.items) }
 {
-    let mut nexts = Vec::with_capacity(alloc, scripts.len())?;
+    nexts.clear();
     for p in 0..scripts.len() {
         let next = next_use(ports, scripts, p);
         nexts.push(next)?;
     }
-    Ok(nexts)
+    Ok(())
 }
 
 /// Whether the partition is in the set.
@@ -118,19 +140,19 @@ pub(crate) fn is_due(ports: &Ports, scripts: &[Script], p: usize) -> bool
 }
 
 /// The partitions whose next calls are due by the clock.
-fn due(alloc: Global, ports: &Ports, scripts: &[Script]) -> Result<Vec<bool>, OutOfMemory>
+fn due(ports: &Ports, scripts: &[Script], tried: &mut Vec<bool>) -> Result<(), OutOfMemory>
     requires { length scripts.now ≡ length ports.now.config.partitions }
-    ensures enough { IfOk result (λ tried.
-        IsEnoughWith true ports.now.config scripts.now ports.now.history (is_tried tried.items)) }
-    ensures due { IfOk result (λ tried.
-        AreDue true scripts.now ports.now.history (is_tried tried.items)) }
+    ensures enough { OnOk result (IsEnoughWith true ports.now.config scripts.now
+        ports.now.history (is_tried tried.new.items)) }
+    ensures due { OnOk result
+        (AreDue true scripts.now ports.now.history (is_tried tried.new.items)) }
 {
-    let mut tried = Vec::with_capacity(alloc, scripts.len())?;
+    tried.clear();
     for p in 0..scripts.len() {
         let is_next = is_due(ports, scripts, p);
         tried.push(is_next)?;
     }
-    Ok(tried)
+    Ok(())
 }
 
 /// Partitions whose next calls are enough to try. With the clock, those whose calls are due.
@@ -141,18 +163,19 @@ pub(crate) fn choose(
     clock: bool,
     uses: &[LastUses],
     from: Option<usize>,
-) -> Result<Vec<bool>, OutOfMemory>
+    choice: &mut Choice,
+) -> Result<(), OutOfMemory>
     requires scripts { length scripts.now ≡ length ports.now.config.partitions }
     requires uses { AreOfScripts ports.now.config scripts.now uses.now }
-    ensures enough { IfOk result (λ tried.
-        IsEnoughWith clock ports.now.config scripts.now ports.now.history (is_tried tried.items)) }
-    ensures due { IfOk result (λ tried.
-        AreDue clock scripts.now ports.now.history (is_tried tried.items)) }
+    ensures enough { OnOk result (IsEnoughWith clock ports.now.config scripts.now
+        ports.now.history (is_tried choice.new.tried.items)) }
+    ensures due { OnOk result
+        (AreDue clock scripts.now ports.now.history (is_tried choice.new.tried.items)) }
 {
     if clock {
-        return due(alloc, ports, scripts);
+        return due(ports, scripts, &mut choice.tried);
     }
-    enough(alloc, ports, scripts, uses, from)
+    enough(alloc, ports, scripts, uses, from, choice)
 }
 
 /// Partitions whose next calls are enough to try: the set that grows from this partition's next call, else the smallest
@@ -163,20 +186,24 @@ fn enough(
     scripts: &[Script],
     uses: &[LastUses],
     from: Option<usize>,
-) -> Result<Vec<bool>, OutOfMemory>
+    choice: &mut Choice,
+) -> Result<(), OutOfMemory>
     requires scripts { length scripts.now ≡ length ports.now.config.partitions }
     requires uses { AreOfScripts ports.now.config scripts.now uses.now }
-    ensures { IfOk result (λ tried.
-        IsEnough ports.now.config scripts.now ports.now.history (is_tried tried.items)) }
+    ensures { OnOk result (IsEnough ports.now.config scripts.now
+        ports.now.history (is_tried choice.new.tried.items)) }
 {
-    let nexts = next_uses(alloc, ports, scripts)?;
-    let members = members(alloc, ports, uses, &nexts, from)?;
-    let tried = set_of(alloc, &members, scripts.len())?;
-    if are_enough(ports, scripts, uses, &nexts, &tried) {
-        return Ok(tried);
+    next_uses(ports, scripts, &mut choice.nexts)?;
+    let nexts = choice.nexts.as_slice();
+    let (smallest, members) = (&mut choice.smallest, &mut choice.members);
+    find_members(ports, uses, nexts, from, smallest, members)?;
+    set_of(&choice.smallest, scripts.len(), &mut choice.tried)?;
+    if are_enough(ports, scripts, uses, &choice.nexts, &choice.tried) {
+        return Ok(());
     }
     let all = vec![in alloc; true; scripts.len()]?;
-    Ok(all)
+    choice.tried = all;
+    Ok(())
 }
 
 /// Whether the set is enough to try.
@@ -252,44 +279,47 @@ fn is_quiet_outside(
     true
 }
 
-/// The set that grows from this partition's next call, or else the smallest that grows from one. No clause says so:
-/// `choose` checks whether it is enough.
-fn members(
-    alloc: Global,
+/// The set that grows from this partition's next call, or else the smallest that grows from one, in `smallest`. No
+/// clause says so: `choose` checks whether it is enough.
+fn find_members(
     ports: &Ports,
     uses: &[LastUses],
     nexts: &[NextUse],
     from: Option<usize>,
-) -> Result<Vec<usize>, OutOfMemory>
+    smallest: &mut Vec<usize>,
+    members: &mut Vec<usize>,
+) -> Result<(), OutOfMemory>
     requires { length uses.now ≡ length ports.now.config.partitions }
 {
     if let Some(p) = from {
         if has_call(nexts, p) {
-            return grown(alloc, ports, uses, nexts, p);
+            return grow(ports, uses, nexts, p, smallest);
         }
     }
-    smallest(alloc, ports, uses, nexts)
+    find_smallest(ports, uses, nexts, smallest, members)
 }
 
 /// The smallest set that grows from one partition's next call.
-fn smallest(
-    alloc: Global,
+fn find_smallest(
     ports: &Ports,
     uses: &[LastUses],
     nexts: &[NextUse],
-) -> Result<Vec<usize>, OutOfMemory>
+    smallest: &mut Vec<usize>,
+    members: &mut Vec<usize>,
+) -> Result<(), OutOfMemory>
     requires { length uses.now ≡ length ports.now.config.partitions }
 {
-    let mut smallest = Vec::new(alloc);
+    smallest.clear();
     for p in 0..nexts.len() {
         if has_call(nexts, p) && smallest.len() != 1 {
-            let members = grown(alloc, ports, uses, nexts, p)?;
+            grow(ports, uses, nexts, p, members)?;
             if smallest.is_empty() || members.len() < smallest.len() {
-                smallest = members;
+                smallest.clear();
+                smallest.extend_from_slice(members.as_slice())?;
             }
         }
     }
-    Ok(smallest)
+    Ok(())
 }
 
 fn has_call(nexts: &[NextUse], p: usize) -> bool {
@@ -301,19 +331,19 @@ fn has_call(nexts: &[NextUse], p: usize) -> bool {
 }
 
 /// The partition, with those that disturb the next call of a member.
-fn grown(
-    alloc: Global,
+fn grow(
     ports: &Ports,
     uses: &[LastUses],
     nexts: &[NextUse],
     first: usize,
-) -> Result<Vec<usize>, OutOfMemory>
+    members: &mut Vec<usize>,
+) -> Result<(), OutOfMemory>
     requires { length uses.now ≡ length ports.now.config.partitions }
 {
-    let mut members = Vec::new(alloc);
+    members.clear();
     members.push(first)?;
     for i in 0..uses.len() {
-        if let Some(next) = next_of(&members, i, nexts) {
+        if let Some(next) = next_of(members, i, nexts) {
             for q in 0..uses.len() {
                 if !members.contains(&q) && disturbs(ports, uses, q, next) {
                     members.push(q)?;
@@ -321,7 +351,7 @@ fn grown(
             }
         }
     }
-    Ok(members)
+    Ok(())
 }
 
 /// How a member's next call uses a channel.
@@ -344,12 +374,10 @@ fn disturbs(ports: &Ports, uses: &[LastUses], q: usize, next: NextUse) -> bool
     }
 }
 
-fn set_of(alloc: Global, members: &[usize], partitions: usize) -> Result<Vec<bool>, OutOfMemory> {
-    let mut set = vec![in alloc; false; partitions]?;
-    for p in members {
-        if let Some(it) = set.get_mut(*p) {
-            *it = true;
-        }
+fn set_of(members: &[usize], partitions: usize, set: &mut Vec<bool>) -> Result<(), OutOfMemory> {
+    set.clear();
+    for p in 0..partitions {
+        set.push(members.contains(&p))?;
     }
-    Ok(set)
+    Ok(())
 }

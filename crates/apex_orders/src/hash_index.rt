@@ -96,7 +96,7 @@ impl HashIndex {
     }
 
     /// Whether the hash is at the index.
-    pub(crate) fn stands_at(&self, hash: u64, k: usize) -> bool
+    pub(crate) fn has_hash(&self, hash: u64, k: usize) -> bool
         ensures { IsTrue result ↔ (slice_get self.now k ≡ Some hash) }
     {
         k < self.hashes.len() && self.hashes[k] == hash

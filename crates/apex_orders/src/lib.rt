@@ -12,6 +12,7 @@ mod hash;
 mod hash_index;
 mod last_uses;
 pub mod order;
+mod orders;
 pub mod orders_fault;
 pub mod outcomes;
 mod point;

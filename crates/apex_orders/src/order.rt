@@ -1,5 +1,5 @@
 //! Orders of calls.
-ghost use Rattle.std.specs.Prelude.{◌≡◌, ◌++◌, ◌∷◌, [], ◌<◌, IfOk};
+ghost use Rattle.std.specs.Prelude.{◌≡◌, ◌++◌, ◌∷◌, [], ◌<◌, reverse, IfOk, OnOk};
 ghost use Rattle.apex_orders.specs.Orders.{times};
 
 use std::alloc::{AllocError, Global};
@@ -79,12 +79,26 @@ impl PackedOrder {
         count
     }
 
-    /// A copy of the order.
-    pub(crate) fn copy(&self, alloc: Global) -> Result<PackedOrder, AllocError>
-        ensures { IfOk result (λ order. order ≡ self.now) }
+    /// Removes all calls.
+    pub(crate) fn clear(&mut self)
+        ensures { self.new ≡ [] }
     {
-        let partitions = Vec::from_slice(alloc, self.partitions.as_slice())?;
-        Ok(PackedOrder { partitions })
+        self.partitions.clear();
+    }
+
+    /// Adds a call at the end.
+    pub(crate) fn push(&mut self, p: u8) -> Result<(), AllocError>
+        ensures { OnOk result (self.new ≡ self.old ++ p ∷ []) }
+    {
+        self.partitions.push(p)?;
+        Ok(())
+    }
+
+    /// Puts the calls into the opposite order.
+    pub(crate) fn reverse(&mut self)
+        ensures { self.new ≡ reverse self.old }
+    {
+        self.partitions.as_mut_slice().reverse();
     }
 
     /// The order followed by one more call.

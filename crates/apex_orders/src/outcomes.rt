@@ -6,6 +6,7 @@ ghost use Rattle.apex_orders.specs.Outcomes.{AreReplies, AreRepliesWith, AreEnds
 ghost use Rattle.apex_orders.specs.Searching.{AreOrders, AreEndsOf, HasMadeAll};
 
 use crate::order::{Order, PackedOrder};
+use crate::orders::Orders;
 use crate::orders_fault::OrdersFault;
 use crate::progress::{NoProgress, Progress};
 use crate::replay::replay;
@@ -68,7 +69,7 @@ pub fn all_outcomes_with_progress<P: Progress>(
         Err(fault) => return Err(fault),
         Ok(found) => found,
     };
-    let ends = ends_of(alloc, config, scripts, found.orders.as_slice())?;
+    let ends = ends_of(alloc, config, scripts, &found.orders)?;
     let states = found.orders.len();
     Ok(Outcomes {
         replies: found.replies,
@@ -82,7 +83,7 @@ fn ends_of(
     alloc: Global,
     config: &Config,
     scripts: &[Script],
-    orders: &[PackedOrder],
+    orders: &Orders,
 ) -> Result<Vec<Order>, OutOfMemory>
     requires scripts { length scripts.now ≡ length config.now.partitions }
     requires orders { AreOrders config.now orders.now }
@@ -90,8 +91,10 @@ fn ends_of(
         (λ ends. AreEndsOf config.now scripts.now orders.now ends.items) }
 {
     let mut ends = Vec::new(alloc);
-    for order in orders {
-        if is_end(alloc, config, scripts, order)? {
+    let mut order = PackedOrder::new(alloc);
+    for k in 0..orders.len() {
+        orders.read(k, &mut order)?;
+        if is_end(alloc, config, scripts, &order)? {
             let end = order.unpacked(alloc)?;
             ends.push(end)?;
         }

@@ -1,15 +1,15 @@
 //! The known points: their hashes, and the ports at those from which the search has yet to continue.
-ghost use Rattle.std.specs.Prelude.{◌≡◌, ◌-◌, ◌<◌, ◌≤◌, ◌↔◌, ◌++◌, [], ◌∷◌, ℕ, List, length, IfOk, OnOk, IfSome, MatchOption, IsTrue, slice_get, Some};
+ghost use Rattle.std.specs.Prelude.{◌≡◌, ◌-◌, ◌<◌, ◌≤◌, ◌↔◌, ◌++◌, [], ◌∷◌, ℕ, List, length, IfOk, OnOk, IfSome, MatchOption, IsTrue, slice_get, Some, true};
 ghost use Rattle.apex_ports.specs.Sound.{IsSound};
-ghost use Rattle.apex_orders.specs.Known.{ArePoints, IsAfter, IsTrialOf, IsLeft, IsTaken};
+ghost use Rattle.apex_orders.specs.Known.{ArePoints, IsAfter, IsReadyAfter, IsTrialOf, IsLeft, IsTaken};
 ghost use Rattle.apex_orders.specs.Hashes.{hash_of};
-ghost use Rattle.apex_orders.specs.Orders.{Scripts, IsOrder, history_of};
+ghost use Rattle.apex_orders.specs.Orders.{Scripts, IsOrder, history_of, order_at};
 ghost use Rattle.apex_orders.specs.Points.{IsSamePoint};
 ghost use Rattle.apex_orders.specs.Searching.{Knows, AreOrders};
 
 use crate::hash::hash_of;
 use crate::hash_index::HashIndex;
-use crate::order::PackedOrder;
+use crate::orders::Orders;
 use crate::point::is_same_point;
 use crate::replay::replay;
 use crate::trial::Trial;
@@ -102,7 +102,7 @@ pub(crate) fn is_known(
     alloc: Global,
     config: &Config,
     scripts: &[Script],
-    orders: &[PackedOrder],
+    orders: &Orders,
     points: &Points,
     trial: &mut Trial,
     hash: u64,
@@ -118,15 +118,10 @@ pub(crate) fn is_known(
     ensures trial { IsTrialOf config.now trial.new }
 {
     for k in points.hashes.indexes(hash) {
-        if points.hashes.stands_at(hash, *k) {
-            go_to(
-                alloc,
-                config,
-                scripts,
-                &orders[*k],
-                points.saved_at(*k),
-                &mut trial.other,
-            )?;
+        if points.hashes.has_hash(hash, *k) {
+            let saved = points.saved_at(*k);
+            let other = &mut trial.other;
+            go_to(alloc, config, scripts, orders, *k, saved, other)?;
             if is_same_point(&trial.ports, &trial.other) {
                 return Ok(true);
             }
@@ -135,26 +130,62 @@ pub(crate) fn is_known(
     Ok(false)
 }
 
-/// Sets the ports to what the order leads to: the saved ports, or else new ports on which the order is run.
+/// Sets the ports to what the order at the index leads to: the saved ports, or else new ports on which it is run.
 pub(crate) fn go_to(
     alloc: Global,
     config: &Config,
     scripts: &[Script],
-    order: &PackedOrder,
+    orders: &Orders,
+    index: usize,
     saved: Option<&SavedPorts>,
     ports: &mut Ports,
 ) -> Result<(), OutOfMemory>
     requires scripts { length scripts.now ≡ length config.now.partitions }
-    requires order { IsOrder config.now order.now }
-    requires saved { IfSome saved (λ one. IsAfter config.now scripts.now order.now one.now) }
+    requires index { index < length orders.now }
+    requires order { IsOrder config.now (order_at orders.now index) }
+    requires saved { IfSome saved
+        (λ one. IsAfter config.now scripts.now (order_at orders.now index) one.now) }
     requires config { ports.old.config ≡ config.now }
-    ensures after { OnOk result (IsAfter config.now scripts.now order.now ports.new) }
+    ensures after { OnOk result
+        (IsAfter config.now scripts.now (order_at orders.now index) ports.new) }
     ensures sound { OnOk result (IsSound ports.new.config ports.new.history) }
     ensures config { ports.new.config ≡ config.now }
 {
     match saved {
         Some(saved) => ports.restore(saved),
-        None => *ports = replay(alloc, config, scripts, order)?,
+        None => {
+            let order = orders.order(alloc, index)?;
+            *ports = replay(alloc, config, scripts, &order)?;
+        }
+    }
+    Ok(())
+}
+
+/// Sets the ports as `go_to` does, unless they are there already.
+pub(crate) fn return_to(
+    alloc: Global,
+    config: &Config,
+    scripts: &[Script],
+    orders: &Orders,
+    index: usize,
+    saved: Option<&SavedPorts>,
+    is_there: bool,
+    ports: &mut Ports,
+) -> Result<(), OutOfMemory>
+    requires scripts { length scripts.now ≡ length config.now.partitions }
+    requires index { index < length orders.now }
+    requires order { IsOrder config.now (order_at orders.now index) }
+    requires saved { IfSome saved
+        (λ one. IsAfter config.now scripts.now (order_at orders.now index) one.now) }
+    requires config { ports.old.config ≡ config.now }
+    requires there { is_there ≡ true →
+        IsReadyAfter config.now scripts.now (order_at orders.now index) ports.old }
+    ensures after { OnOk result
+        (IsAfter config.now scripts.now (order_at orders.now index) ports.new) }
+    ensures sound { OnOk result (IsSound ports.new.config ports.new.history) }
+{
+    if !is_there {
+        go_to(alloc, config, scripts, orders, index, saved, ports)?;
     }
     Ok(())
 }

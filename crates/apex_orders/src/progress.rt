@@ -16,8 +16,8 @@ pub trait Progress {
     /// A search begins. Each group of partitions that is searched by itself has a search of its own.
     fn begin(&mut self);
 
-    /// The search continues from points after `depth` calls, has found this many states, and keeps about this many bytes
-    /// for them. Returns whether the search is to go on.
+    /// The search continues from points after `depth` calls, has found this many states, and keeps about this many
+    /// bytes for them. Returns whether the search is to go on.
     fn level(&mut self, depth: usize, states: usize, bytes: usize) -> bool
         ensures { result ≡ false → CanStop };
 }

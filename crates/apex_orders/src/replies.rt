@@ -18,6 +18,18 @@ pub struct PossibleReply {
     pub reply: Reply,
 }
 
+impl PossibleReply {
+    fn copy(&self) -> PossibleReply
+        ensures { result ≡ self.now }
+    {
+        PossibleReply {
+            partition: self.partition,
+            index: self.index,
+            reply: self.reply.copy(),
+        }
+    }
+}
+
 /// The number of buckets for the hashes of replies: a prime.
 const BUCKETS: usize = 1_021;
 
@@ -50,20 +62,20 @@ impl Replies {
     }
 
     /// Adds the reply, unless it is there already.
-    pub(crate) fn add(&mut self, one: PossibleReply) -> Result<(), OutOfMemory>
+    pub(crate) fn add(&mut self, one: &PossibleReply) -> Result<(), OutOfMemory>
         ensures { OnOk result ((other : PossibleReply) →
-            Has self.new other ↔ (Has self.old other ⊎ (other ≡ one))) }
+            Has self.new other ↔ (Has self.old other ⊎ (other ≡ one.now))) }
     {
-        let hash = call_hash(&one);
+        let hash = call_hash(one);
         for k in self.hashes.indexes(hash) {
             if let Some(known) = self.found.get(*k) {
-                if is_same_possible(known, &one) {
+                if is_same_possible(known, one) {
                     return Ok(());
                 }
             }
         }
         self.hashes.push(hash)?;
-        self.found.push(one)?;
+        self.found.push(one.copy())?;
         Ok(())
     }
 

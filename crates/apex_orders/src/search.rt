@@ -3,23 +3,24 @@ ghost use Rattle.std.specs.Prelude.{◌≡◌, ◌<◌, ◌++◌, [], ◌∷◌,
 ghost use Rattle.std.specs.Option.{option_copied};
 ghost use Rattle.apex_orders.specs.Choices.{is_tried};
 ghost use Rattle.apex_orders.specs.Clock.{IsClocked, IsNextDue};
-ghost use Rattle.apex_orders.specs.Known.{IsAfter};
+ghost use Rattle.apex_orders.specs.Known.{IsAfter, IsReadyAfter};
 ghost use Rattle.apex_orders.specs.Lists.{Has};
-ghost use Rattle.apex_orders.specs.Orders.{IsOrder, history_of};
+ghost use Rattle.apex_orders.specs.Orders.{history_of, order_at};
 ghost use Rattle.apex_orders.specs.Searching.{AreDue, Knows, HasEnded, IsTried, HasTried, HasTriedEnough, IsGivenUp, IsSearch, IsLater};
 
 use crate::answer::answer_after;
 use crate::asked::Asked;
-use crate::choice::{choose, is_tried};
+use crate::choice::{Choice, choose, is_tried};
 use crate::hash::hash_of;
 use crate::last_uses::{LastUses, last_uses};
 use crate::order::PackedOrder;
+use crate::orders::Orders;
 use crate::orders_fault::OrdersFault;
-use crate::points::{Points, go_to, is_known};
+use crate::points::{Points, go_to, is_known, return_to};
 use crate::progress::{Level, Progress};
 use crate::replies::{PossibleReply, Replies};
 use crate::sizes::PointMemory;
-use crate::step::step;
+use crate::step::step_into;
 use crate::trial::Trial;
 use apex_module::Config;
 use apex_ports::{SavedPorts, Script};
@@ -30,7 +31,7 @@ use std::alloc::Global;
 /// the search.
 #[derive(Drop)]
 pub(crate) struct Found {
-    pub(crate) orders: Vec<PackedOrder>,
+    pub(crate) orders: Orders,
     pub(crate) replies: Vec<PossibleReply>,
     pub(crate) answer: Option<PackedOrder>,
 }
@@ -49,12 +50,13 @@ pub(crate) fn search_points<P: Progress>(
     requires { length scripts.now ≡ length config.now.partitions }
     ensures ended { let asked = option_copied asked.entry in
         IfOk result (λ found. HasEnded clock config.now scripts.now asked
-        found.orders.items found.replies.items found.answer) }
+        found.orders found.replies.items found.answer) }
     ensures given_up { IsGivenUp clock P.CanStop config.now scripts.now bound result }
 {
     progress.begin();
     let mut current = Search::new(alloc, config, scripts, asked)?;
     let mut level = Level::new();
+    let mut choice = Choice::new(alloc);
     let mut i = 0;
     while i < current.orders.len() {
         if let Some(order) = answer_after(alloc, config, scripts, clock, asked, &mut current, i)? {
@@ -66,18 +68,18 @@ pub(crate) fn search_points<P: Progress>(
         if !level.goes_on(progress, i, current.orders.len(), current.bytes()) {
             return Err(OrdersFault::Stopped);
         }
-        current.try_all(alloc, config, scripts, clock, i)?;
+        current.try_all(alloc, config, scripts, clock, i, &mut choice)?;
         i += 1;
     }
     Ok(current.into_found(None))
 }
 
 /// A search: one order to each point, in the order in which they are found; what is kept of the points; the replies;
-/// ports on which calls are tried; the memory that is kept; the last uses of channels by the scripts; and the partition that a question is
-/// about, whose next call is always tried, so that an order that answers is short.
+/// ports on which calls are tried; the memory that is kept; the last uses of channels by the scripts; and the partition
+/// that a question is about, whose next call is always tried, so that an order that answers is short.
 #[derive(Drop)]
 pub(crate) struct Search {
-    pub(crate) orders: Vec<PackedOrder>,
+    pub(crate) orders: Orders,
     pub(crate) points: Points,
     pub(crate) replies: Replies,
     pub(crate) trial: Trial,
@@ -96,9 +98,9 @@ impl Search {
     ) -> Result<Search, OutOfMemory>
         requires { length scripts.now ≡ length config.now.partitions }
         ensures valid { IfOk result (λ one. (clock : Bool) → IsSearch clock config.now scripts.now one) }
-        ensures first { IfOk result (λ one. Has one.orders.items []) }
+        ensures first { IfOk result (λ one. Has one.orders []) }
     {
-        let orders = first_orders(alloc)?;
+        let orders = Orders::new(alloc);
         let points = Points::new(alloc, config)?;
         let replies = Replies::new(alloc)?;
         let trial = Trial::new(alloc, config)?;
@@ -131,18 +133,20 @@ impl Search {
         scripts: &[Script],
         clock: bool,
         i: usize,
+        choice: &mut Choice,
     ) -> Result<(), OutOfMemory>
         requires valid { IsSearch clock config.now scripts.now self.old }
-        requires within { i < length self.old.orders.items }
+        requires within { i < length self.old.orders }
         ensures valid { OnOk result (IsSearch clock config.now scripts.now self.new) }
         ensures later { OnOk result (IsLater self.old self.new) }
         ensures tried { OnOk result
-            (HasTried clock config.now scripts.now self.new.orders.items self.new.replies i) }
+            (HasTried clock config.now scripts.now self.new.orders self.new.replies i) }
     {
-        let order = self.orders[i].copy(alloc)?;
+        let orders = self.orders.len();
+        prove!(i < orders);
         let saved = self.points.take(i);
         self.memory.take();
-        self.try_each(alloc, config, scripts, clock, &order, saved.as_ref())?;
+        self.try_each(alloc, config, scripts, clock, i, saved.as_ref(), choice)?;
         Ok(())
     }
 
@@ -153,57 +157,60 @@ impl Search {
         config: &Config,
         scripts: &[Script],
         clock: bool,
-        order: &PackedOrder,
+        i: usize,
         saved: Option<&SavedPorts>,
+        choice: &mut Choice,
     ) -> Result<(), OutOfMemory>
         requires valid { IsSearch clock config.now scripts.now self.old }
-        requires here { Has self.old.orders.items order.now }
+        requires within { i < length self.old.orders }
         requires saved { IfSome saved
-            (λ ports. IsAfter config.now scripts.now order.now ports.now) }
+            (λ ports. IsAfter config.now scripts.now (order_at self.old.orders i) ports.now) }
         ensures valid { OnOk result (IsSearch clock config.now scripts.now self.new) }
         ensures later { OnOk result (IsLater self.old self.new) }
         ensures tried { OnOk result (HasTriedEnough clock config.now scripts.now
-            self.new.orders.items self.new.replies order.now) }
+            self.new.orders self.new.replies (order_at self.old.orders i)) }
     {
-        go_to(alloc, config, scripts, order, saved, &mut self.trial.ports)?;
-        let tried = choose(
-            alloc,
-            &self.trial.ports,
-            scripts,
-            clock,
-            &self.uses,
-            self.from,
-        )?;
-        self.try_those(alloc, config, scripts, clock, order, saved, &tried)?;
+        let ports = &mut self.trial.ports;
+        go_to(alloc, config, scripts, &self.orders, i, saved, ports)?;
+        let uses = self.uses.as_slice();
+        let ports = &self.trial.ports;
+        choose(alloc, ports, scripts, clock, uses, self.from, choice)?;
+        let tried = choice.tried.as_slice();
+        self.try_those(alloc, config, scripts, clock, i, saved, tried)?;
         Ok(())
     }
 
-    /// Tries the next calls of these partitions after the order.
+    /// Tries the next calls of these partitions after the order. The trial's ports are there.
     fn try_those(
         &mut self,
         alloc: Global,
         config: &Config,
         scripts: &[Script],
         clock: bool,
-        order: &PackedOrder,
+        i: usize,
         saved: Option<&SavedPorts>,
         tried: &[bool],
     ) -> Result<(), OutOfMemory>
         requires valid { IsSearch clock config.now scripts.now self.old }
-        requires here { Has self.old.orders.items order.now }
+        requires within { i < length self.old.orders }
         requires saved { IfSome saved
-            (λ ports. IsAfter config.now scripts.now order.now ports.now) }
-        requires due { AreDue clock scripts.now (history_of config.now scripts.now order.now)
-            (is_tried tried.now) }
+            (λ ports. IsAfter config.now scripts.now (order_at self.old.orders i) ports.now) }
+        requires ready { IsReadyAfter config.now scripts.now (order_at self.old.orders i)
+            self.old.trial.ports }
+        requires due { AreDue clock scripts.now
+            (history_of config.now scripts.now (order_at self.old.orders i)) (is_tried tried.now) }
         ensures valid { OnOk result (IsSearch clock config.now scripts.now self.new) }
         ensures later { OnOk result (IsLater self.old self.new) }
         ensures tried { OnOk result ((p : ℕ) → p < length config.now.partitions
             → is_tried tried.now p ≡ true
-            → IsTried config.now scripts.now self.new.orders.items self.new.replies order.now p) }
+            → IsTried config.now scripts.now self.new.orders self.new.replies
+            (order_at self.old.orders i) p) }
     {
+        let mut is_there = true;
         for p in 0..config.partitions() {
             if is_tried(tried, p) {
-                self.try_partition(alloc, config, scripts, clock, order, saved, p)?;
+                self.try_partition(alloc, config, scripts, clock, i, saved, is_there, p)?;
+                is_there = false;
             }
         }
         Ok(())
@@ -216,28 +223,33 @@ impl Search {
         config: &Config,
         scripts: &[Script],
         clock: bool,
-        order: &PackedOrder,
+        i: usize,
         saved: Option<&SavedPorts>,
+        is_there: bool,
         p: usize,
     ) -> Result<(), OutOfMemory>
         requires valid { IsSearch clock config.now scripts.now self.old }
         requires partition { p < length config.now.partitions }
-        requires here { Has self.old.orders.items order.now }
+        requires within { i < length self.old.orders }
         requires saved { IfSome saved
-            (λ ports. IsAfter config.now scripts.now order.now ports.now) }
-        requires due { IsNextDue clock scripts.now (history_of config.now scripts.now order.now) p }
+            (λ ports. IsAfter config.now scripts.now (order_at self.old.orders i) ports.now) }
+        requires there { is_there ≡ true → IsReadyAfter config.now scripts.now
+            (order_at self.old.orders i) self.old.trial.ports }
+        requires due { IsNextDue clock scripts.now
+            (history_of config.now scripts.now (order_at self.old.orders i)) p }
         ensures valid { OnOk result (IsSearch clock config.now scripts.now self.new) }
         ensures later { OnOk result (IsLater self.old self.new) }
-        ensures tried { OnOk result
-            (IsTried config.now scripts.now self.new.orders.items self.new.replies order.now p) }
+        ensures tried { OnOk result (IsTried config.now scripts.now self.new.orders
+            self.new.replies (order_at self.old.orders i) p) }
     {
-        go_to(alloc, config, scripts, order, saved, &mut self.trial.ports)?;
-        let one = match step(&mut self.trial.ports, scripts, p) {
-            None => return Ok(()),
-            Some(one) => one,
-        };
-        self.replies.add(one)?;
-        self.learn(alloc, config, scripts, clock, order, p)?;
+        let ports = &mut self.trial.ports;
+        let orders = &self.orders;
+        return_to(alloc, config, scripts, orders, i, saved, is_there, ports)?;
+        if !step_into(&mut self.trial.ports, scripts, p, &mut self.trial.reply) {
+            return Ok(());
+        }
+        self.replies.add(&self.trial.reply)?;
+        self.learn(alloc, config, scripts, clock, i, p)?;
         Ok(())
     }
 
@@ -248,39 +260,31 @@ impl Search {
         config: &Config,
         scripts: &[Script],
         clock: bool,
-        order: &PackedOrder,
+        i: usize,
         p: usize,
     ) -> Result<(), OutOfMemory>
         requires valid { IsSearch clock config.now scripts.now self.old }
         requires partition { p < length config.now.partitions }
+        requires within { i < length self.old.orders }
         requires history { self.old.trial.ports.history
-            ≡ history_of config.now scripts.now (order.now ++ p ∷ []) }
-        requires order { IsOrder config.now order.now }
+            ≡ history_of config.now scripts.now (order_at self.old.orders i ++ p ∷ []) }
         requires clocked { IsClocked clock scripts.now self.old.trial.ports.history }
         ensures valid { OnOk result (IsSearch clock config.now scripts.now self.new) }
         ensures later { OnOk result (IsLater self.old self.new) }
         ensures known { OnOk result
-            (Knows config.now scripts.now self.new.orders.items self.old.trial.ports.history) }
+            (Knows config.now scripts.now self.new.orders self.old.trial.ports.history) }
     {
         let hash = hash_of(&self.trial.ports);
-        let known = self.orders.as_slice();
-        if is_known(
-            alloc,
-            config,
-            scripts,
-            known,
-            &self.points,
-            &mut self.trial,
-            hash,
-        )? {
+        let (orders, points) = (&self.orders, &self.points);
+        let trial = &mut self.trial;
+        if is_known(alloc, config, scripts, orders, points, trial, hash)? {
             return Ok(());
         }
         let partitions = config.partitions();
         prove!(p < partitions);
-        let longer = order.followed_by(alloc, p)?;
         self.memory.add(&self.trial.ports)?;
         self.points.push(alloc, &self.trial.ports, hash)?;
-        self.orders.push(longer)?;
+        self.orders.push(i, p)?;
         Ok(())
     }
 
@@ -296,13 +300,4 @@ impl Search {
             answer,
         }
     }
-}
-
-/// Only the order without calls.
-fn first_orders(alloc: Global) -> Result<Vec<PackedOrder>, OutOfMemory>
-    ensures { IfOk result (λ orders. orders.items ≡ [] ∷ []) }
-{
-    let mut orders = Vec::new(alloc);
-    orders.push(PackedOrder::new(alloc))?;
-    Ok(orders)
 }

@@ -6,10 +6,9 @@ use apex_types::OutOfMemory;
 use std::alloc::Global;
 use std::collections::VecDeque;
 
-/// What a point takes in lists besides its order, in bytes: the list of orders, its hash and the index of the hash. Lists
-/// grow by doubling, so on average they have room for half as many again. Runs with a million points took 4 % less to 8 %
-/// more than is counted so.
-const LISTED: usize = 64;
+/// What a known point takes in lists, in bytes: its last call, its hash and the index of the hash. Lists grow by
+/// doubling, so on average they have room for half as many again.
+const LISTED: usize = 40;
 
 /// What saved ports take in their list, in bytes: three lists and their size, with the room of the list.
 const SAVED: usize = 120;
@@ -46,7 +45,7 @@ impl PointMemory {
     pub(crate) fn add(&mut self, ports: &Ports) -> Result<(), OutOfMemory> {
         let saved = size_of_saved(ports);
         self.saved.push_back(saved)?;
-        let size = size_of_order(ports).saturating_add(saved);
+        let size = LISTED.saturating_add(saved);
         self.bytes = self.bytes.saturating_add(size);
         Ok(())
     }
@@ -71,15 +70,6 @@ fn block(bytes: usize) -> usize {
     } else {
         bytes.saturating_add(16)
     }
-}
-
-/// The bytes that a known point takes: its order, a byte for each call, and what is listed of it.
-pub(crate) fn size_of_order(ports: &Ports) -> usize {
-    let mut calls = 0u64;
-    for p in 0..ports.config().partitions() {
-        calls = calls.saturating_add(ports.calls(p));
-    }
-    block(calls as usize).saturating_add(LISTED)
 }
 
 /// The bytes that the ports take where they are saved.

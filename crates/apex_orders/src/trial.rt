@@ -2,16 +2,18 @@
 ghost use Rattle.std.specs.Prelude.{IfOk};
 ghost use Rattle.apex_orders.specs.Known.{IsTrialOf};
 
+use crate::replies::PossibleReply;
 use apex_module::Config;
 use apex_ports::Ports;
-use apex_types::OutOfMemory;
+use apex_types::{OutOfMemory, Reply};
 use std::alloc::Global;
 
-/// Ports on which a call is tried, and others to compare them with.
+/// Ports on which a call is tried, others to compare them with, and the place for the reply.
 #[derive(Drop)]
 pub(crate) struct Trial {
     pub(crate) ports: Ports,
     pub(crate) other: Ports,
+    pub(crate) reply: PossibleReply,
 }
 
 impl Trial {
@@ -21,6 +23,15 @@ impl Trial {
     {
         let ports = Ports::new(alloc, config.copy()?)?;
         let other = Ports::new(alloc, config.copy()?)?;
-        Ok(Trial { ports, other })
+        let reply = PossibleReply {
+            partition: 0,
+            index: 0,
+            reply: Reply::NotMade,
+        };
+        Ok(Trial {
+            ports,
+            other,
+            reply,
+        })
     }
 }

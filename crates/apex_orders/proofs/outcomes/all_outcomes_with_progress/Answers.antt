@@ -1,5 +1,3 @@
-use Rattle.std.proofs.Common.{ℕ, List, subst}
-use Rattle.apex_orders.specs.Searching.{AreEndsOf}
 use Rattle.apex_orders.specs.Orders.{history_of}
 use Rattle.apex_orders.proofs.Completing.{are_replies, are_ends}
 use Rattle.apex_orders.proofs.EndLemmas.{full_of_made, made_of_full, undecided_of}
@@ -12,15 +10,15 @@ returns-in-Err-clause-undecided g c =
 
 pub returns-clause-replies : goal.returns-clause-replies
 returns-clause-replies g c =
-    let searched = searched_all c.args.clock c.args.config.now c.args.scripts.now c.in-Ok.found.orders.items c.in-Ok.found.replies.items c.in-Ok.found.answer c.in-Ok.ensures.ended in
-    are_replies c.args.config.now c.args.scripts.now c.partitions-partitions.ensures.valid c.args.clock c.in-Ok.found.orders.items c.in-Ok.found.replies.items searched
+    let searched = searched_all c.args.clock c.args.config.now c.args.scripts.now c.in-Ok.found.orders c.in-Ok.found.replies.items c.in-Ok.found.answer c.in-Ok.ensures.ended in
+    are_replies c.args.config.now c.args.scripts.now c.partitions-partitions.ensures.valid c.args.clock c.in-Ok.found.orders c.in-Ok.found.replies.items searched
 
 pub returns-clause-ends : goal.returns-clause-ends
 returns-clause-ends g c =
     let config = c.args.config.now in
     let scripts = c.args.scripts.now in
-    let searched = searched_all c.args.clock c.args.config.now c.args.scripts.now c.in-Ok.found.orders.items c.in-Ok.found.replies.items c.in-Ok.found.answer c.in-Ok.ensures.ended in
-    let ends = subst (λ (orders : List (List ℕ)). AreEndsOf config scripts orders c.in_ok-ends.ends.items) c.as_slice.ensures.value c.in_ok-ends.ensures.ends in
-    are_ends config scripts c.partitions-partitions.ensures.valid c.args.clock c.in-Ok.found.orders.items c.in-Ok.found.replies.items searched c.in_ok-ends.ends.items
+    let searched = searched_all c.args.clock c.args.config.now c.args.scripts.now c.in-Ok.found.orders c.in-Ok.found.replies.items c.in-Ok.found.answer c.in-Ok.ensures.ended in
+    let ends = c.in_ok-ends.ensures.ends in
+    are_ends config scripts c.partitions-partitions.ensures.valid c.args.clock c.in-Ok.found.orders c.in-Ok.found.replies.items searched c.in_ok-ends.ends.items
     (λ order has. let is = ends.each order has in (is.0, λ p within. full_of_made config scripts (history_of config scripts order) p (is.1 p within)))
     (λ order has full. ends.every order has (λ p within. made_of_full config scripts searched.short (history_of config scripts order) p within (full p within)))

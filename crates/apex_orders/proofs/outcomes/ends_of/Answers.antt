@@ -1,4 +1,4 @@
-use Rattle.std.proofs.Common.{◌≡◌, ◌+◌, ◌++◌, ◌∷◌, [], List, ℕ, take, sym, ap, ◌∙◌, subst}
+use Rattle.std.proofs.Common.{◌≡◌, ◌<◌, ◌+◌, ◌++◌, ◌∷◌, [], List, ℕ, length, take, sym, ap, ◌∙◌, subst, arith}
 use Rattle.std.proofs.lemmas.List.{take_more}
 use Rattle.std.proofs.lemmas.Bool.{false≢true}
 use Rattle.apex_orders.specs.Orders.{history_of}
@@ -7,26 +7,27 @@ use Rattle.apex_orders.proofs.EndLemmas.{one_end, no_end}
 use Rattle.apex_orders.proofs.outcomes.ends_of.Goals as goal
 use Rattle.apex_orders.proofs.outcomes.ends_of.Goals.{then-branch+in_ok-end+in_ok-push, else-branch}
 
-pub loop-order-preserved : goal.loop-order-preserved
-loop-order-preserved c =
+pub loop-k-preserved : goal.loop-k-preserved
+loop-k-preserved c =
     let config = c.args.config.now in
     let scripts = c.args.scripts.now in
     let orders = c.args.orders.now in
-    let i = c.loop-order.order-index in
-    let item = c.order-item.result in
+    let i = c.loop-k.k in
+    let item = c.read.new.order in
+    let within : i < length orders = omega arith in
     let longer : take (i + 1) orders ≡ take i orders ++ item ∷ [] =
-    take_more orders i item c.loop-order-test.true ∙ ap (λ (o : List ℕ). take i orders ++ o ∷ []) (sym c.order-item.is) in
+    take_more orders i [] within ∙ ap (λ (o : List ℕ). take i orders ++ o ∷ []) (sym c.in_ok-read.ensures) in
     elim c.if-branch.branch [
       | then-branch+in_ok-end+in_ok-push w ↦
           let made : HasMadeAll config scripts (history_of config scripts item) = c.in_ok-is_end.ensures.0 w.if-branch.true in
-          let pushed : c.if-branch.ends.items ≡ c.loop-order.ends.items ++ item ∷ [] =
-          ap (λ v. v.items) w.ends-is ∙ (w.in_ok-push.ensures.items ∙ ap (λ (o : List ℕ). c.loop-order.ends.items ++ o ∷ []) w.in_ok-end.ensures) in
+          let pushed : c.if-branch.ends.items ≡ c.loop-k.ends.items ++ item ∷ [] =
+          ap (λ v. v.items) w.ends-is ∙ (w.in_ok-push.ensures.items ∙ ap (λ (o : List ℕ). c.loop-k.ends.items ++ o ∷ []) w.in_ok-end.ensures) in
           subst (λ (x : List (List ℕ) × List (List ℕ)). AreEndsOf config scripts x.0 x.1) (λ j. (sym longer j, sym pushed j))
-          (one_end config scripts (take i orders) c.loop-order.ends.items item c.loop-order.invariant made)
+          (one_end config scripts (take i orders) c.loop-k.ends.items item c.loop-k.invariant made)
       | else-branch w ↦
           let unfinished : HasMadeAll config scripts (history_of config scripts item) → ⊥ =
           λ made. false≢true (sym w.if-branch.false ∙ c.in_ok-is_end.ensures.1 made) in
-          let kept : c.if-branch.ends.items ≡ c.loop-order.ends.items = ap (λ v. v.items) w.ends-is in
+          let kept : c.if-branch.ends.items ≡ c.loop-k.ends.items = ap (λ v. v.items) w.ends-is in
           subst (λ (x : List (List ℕ) × List (List ℕ)). AreEndsOf config scripts x.0 x.1) (λ j. (sym longer j, sym kept j))
-          (no_end config scripts (take i orders) c.loop-order.ends.items item c.loop-order.invariant unfinished)
+          (no_end config scripts (take i orders) c.loop-k.ends.items item c.loop-k.invariant unfinished)
     ]

@@ -5,18 +5,32 @@ use Rattle.std.proofs.lemmas.Option.{slice_get_within, slice_get-get_or}
 use Rattle.apex_module.specs.Configuration.{Configuration}
 use Rattle.apex_ports.specs.History.{History}
 use Rattle.apex_ports.specs.PortsView.{PortsView}
-use Rattle.apex_ports.proofs.Lookups.{at_index}
 use Rattle.apex_orders.specs.declared.trial.Trial.{Trial}
 use Rattle.apex_orders.specs.Known.{IsTrialOf}
-use Rattle.apex_orders.specs.Orders.{history_of}
+use Rattle.apex_orders.specs.Orders.{history_of, order_at}
 use Rattle.apex_orders.specs.Points.{IsSamePoint}
+use Rattle.apex_orders.proofs.GrowthLemmas.{order_here}
 use Rattle.apex_orders.proofs.KnownLemmas.{saved_here}
 use Rattle.apex_orders.proofs.HashLemmas.{same_hash}
 use Rattle.apex_orders.proofs.points.is_known.Goals as goal
-use Rattle.apex_orders.proofs.points.is_known.Goals.{then-stands_at+in_ok-go_to+else-is_same_point, else-stands_at}
+use Rattle.apex_orders.proofs.points.is_known.Goals.{then-has_hash+in_ok-go_to+else-is_same_point, else-has_hash}
 
 abbrev ports_of_trial : Trial → PortsView
 ports_of_trial trial = trial.ports
+
+pub go_to-requires-clause-index : goal.go_to-requires-clause-index
+go_to-requires-clause-index c =
+    let inside = slice_get_within c.args.points.now.hashes (slice_index_or c.indexes-k-items.result.now c.loop-k.k-index 0) c.args.hash (c.has_hash.ensures.0 c.if-has_hash.true) in
+    let count = c.requires.points.hashed.count in
+    omega (arith, inside, count)
+
+pub go_to-requires-clause-order : goal.go_to-requires-clause-order
+go_to-requires-clause-order c =
+    let orders = c.args.orders.now in
+    let k = slice_index_or c.indexes-k-items.result.now c.loop-k.k-index 0 in
+    let inside = slice_get_within c.args.points.now.hashes k c.args.hash (c.has_hash.ensures.0 c.if-has_hash.true) in
+    let count = c.requires.points.hashed.count in
+    c.requires.orders k (order_at orders k) (order_here orders k (omega (arith, inside, count)))
 
 pub go_to-requires-clause-saved : goal.go_to-requires-clause-saved
 go_to-requires-clause-saved c =
@@ -24,19 +38,19 @@ go_to-requires-clause-saved c =
     let orders = c.args.orders.now in
     let indexes = c.indexes-k-items.result.now in
     let k = slice_index_or indexes c.loop-k.k-index 0 in
-    let item = c.index-orders-k.result in
-    let within : k < length orders = let inside = slice_get_within c.args.points.now.hashes k c.args.hash (c.stands_at.ensures.0 c.if-stands_at.true) in let count = c.requires.points.hashed.count in omega (arith, inside, count) in
-    saved_here config c.args.scripts.now orders c.args.points.now c.args.points.now c.requires.points k item c.saved_at.result
-    (at_index orders k item within c.index-orders-k.is) c.saved_at.ensures.index c.saved_at.ensures.ports
+    let item = order_at orders k in
+    let within : k < length orders = let inside = slice_get_within c.args.points.now.hashes k c.args.hash (c.has_hash.ensures.0 c.if-has_hash.true) in let count = c.requires.points.hashed.count in omega (arith, inside, count) in
+    saved_here config c.args.scripts.now orders c.args.points.now c.args.points.now c.requires.points k item c.saved_at-saved.result
+    (order_here orders k within) c.saved_at-saved.ensures.index c.saved_at-saved.ensures.ports
 
 pub returns-then-is_same_point-clause-known : goal.returns-then-is_same_point-clause-known
 returns-then-is_same_point-clause-known c =
     let orders = c.args.orders.now in
     let indexes = c.indexes-k-items.result.now in
     let k = slice_index_or indexes c.loop-k.k-index 0 in
-    let item = c.index-orders-k.result in
-    let within : k < length orders = let inside = slice_get_within c.args.points.now.hashes k c.args.hash (c.stands_at.ensures.0 c.if-stands_at.true) in let count = c.requires.points.hashed.count in omega (arith, inside, count) in
-    let at : slice_get orders k ≡ Some item = at_index orders k item within c.index-orders-k.is in
+    let item = order_at orders k in
+    let within : k < length orders = let inside = slice_get_within c.args.points.now.hashes k c.args.hash (c.has_hash.ensures.0 c.if-has_hash.true) in let count = c.requires.points.hashed.count in omega (arith, inside, count) in
+    let at : slice_get orders k ≡ Some item = order_here orders k within in
     let ports = c.loop-k.invariant.ports in
     let configured : c.loop-k.trial.ports.config ≡ c.args.config.now = ap (λ (v : PortsView). v.config) ports ∙ c.requires.trial.ports in
     let made : c.loop-k.trial.ports.history ≡ c.args.trial.now.ports.history = ap (λ (v : PortsView). v.history) ports in
@@ -51,14 +65,14 @@ returns-then-is_same_point-clause-known c =
 
 pub loop-k-preserved : goal.loop-k-preserved
 loop-k-preserved c = record {
-  ports = elim c.if-stands_at.branch [
-    | then-stands_at+in_ok-go_to+else-is_same_point w ↦ ap ports_of_trial w.trial-is ∙ c.loop-k.invariant.ports
-    | else-stands_at w ↦ ap ports_of_trial w.trial-is ∙ c.loop-k.invariant.ports
+  ports = elim c.if-has_hash.branch [
+    | then-has_hash+in_ok-go_to+else-is_same_point w ↦ ap ports_of_trial w.trial-is ∙ c.loop-k.invariant.ports
+    | else-has_hash w ↦ ap ports_of_trial w.trial-is ∙ c.loop-k.invariant.ports
   ];
-  trial = elim c.if-stands_at.branch [
-    | then-stands_at+in_ok-go_to+else-is_same_point w ↦
+  trial = elim c.if-has_hash.branch [
+    | then-has_hash+in_ok-go_to+else-is_same_point w ↦
         subst (IsTrialOf c.args.config.now) (sym w.trial-is) (record { ports = c.loop-k.invariant.trial.ports; other = w.in_ok-go_to.ensures.config })
-    | else-stands_at w ↦ subst (IsTrialOf c.args.config.now) (sym w.trial-is) c.loop-k.invariant.trial
+    | else-has_hash w ↦ subst (IsTrialOf c.args.config.now) (sym w.trial-is) c.loop-k.invariant.trial
   ];
   others = λ j n order below listed at met.
       let config = c.args.config.now in
@@ -78,18 +92,18 @@ loop-k-preserved c = record {
       (λ (now : j ≡ i).
       let one : Some k ≡ Some n = sym here ∙ (ap (λ (m : ℕ). slice_get indexes m) (sym now) ∙ listed) in
       let is : k ≡ n = cc in
-      elim c.if-stands_at.branch [
-        | then-stands_at+in_ok-go_to+else-is_same_point w ↦
-            let item = w.index-orders-k.result in
+      elim c.if-has_hash.branch [
+        | then-has_hash+in_ok-go_to+else-is_same_point w ↦
+            let item = order_at orders k in
             let within : k < length orders = let inside = slice_get_within orders n order at in omega (arith, inside, is) in
-            let there : slice_get orders k ≡ Some item = at_index orders k item within w.index-orders-k.is in
+            let there : slice_get orders k ≡ Some item = order_here orders k within in
             let both : Some item ≡ Some order = sym there ∙ (ap (λ (m : ℕ). slice_get orders m) is ∙ at) in
             let same : order ≡ item = cc in
             let led : history_of config scripts order ≡ w.go_to.new.ports.history = ap (history_of config scripts) same ∙ sym w.in_ok-go_to.ensures.after.history in
             false≢true (sym w.if-is_same_point.false ∙ w.is_same_point.ensures.1
             (subst (λ (x : Configuration × History × History). IsSamePoint x.0 x.1 x.2) (λ m. (sym configured m, sym made m, led m)) met))
-        | else-stands_at w ↦
-            false≢true (sym w.if-stands_at.false ∙ c.stands_at.ensures.1 (ap (λ (m : ℕ). slice_get c.args.points.now.hashes m) is ∙ hashed))
+        | else-has_hash w ↦
+            false≢true (sym w.if-has_hash.false ∙ c.has_hash.ensures.1 (ap (λ (m : ℕ). slice_get c.args.points.now.hashes m) is ∙ hashed))
       ])
       (λ (earlier : j ≡ i → ⊥). c.loop-k.invariant.others j n order (omega (arith, below, earlier)) listed at met)
       (cases_eq j i);

@@ -38,8 +38,8 @@ loop-i-preserved g c =
     let was = c.loop-i.invariant in
     let now = c.in_ok-try_all.ensures in
     let i = c.loop-i.i in
-    let orders = c.loop-i.current.orders.items in
-    let more = c.try_all.new.self.orders.items in
+    let orders = c.loop-i.current.orders in
+    let more = c.try_all.new.self.orders in
     let replies = c.loop-i.current.replies in
     let replies_now = c.try_all.new.self.replies in
     let count = ap (λ (all : List (List ℕ)). length all) c.answer_after.ensures.orders in
@@ -79,8 +79,8 @@ returns-clause-ended g c =
     let asked : Option Asked = option_copied c.args.asked in
     let was = c.loop-i.invariant in
     let found = c.into_found-2.ensures in
-    let ended : IsSearchedInVain clock config scripts asked c.loop-i.current.orders.items c.loop-i.current.replies = record {
+    let ended : IsSearchedInVain clock config scripts asked c.loop-i.current.orders c.loop-i.current.replies = record {
       searched = record { all = was.valid.all; short = λ p within. let all = was.valid.all in was.valid.uses.short p (omega (arith, all, within)); first = was.first; valid = was.valid.orders; clocked = was.valid.clocked; found = was.valid.found; tried = λ k below. was.tried k (omega (arith, below)) };
       unanswered = λ k below. was.unanswered k (omega (arith, below));
     } in
-    subst (λ (x : List (List ℕ) × List PossibleReply × Option (List ℕ)). HasEnded clock config scripts asked x.0 x.1 x.2) (λ i. ((sym found.orders i).items, sym found.replies i, sym found.answer i)) ended
+    subst (λ (x : List (List ℕ) × List PossibleReply × Option (List ℕ)). HasEnded clock config scripts asked x.0 x.1 x.2) (λ i. (sym found.orders i, sym found.replies i, sym found.answer i)) ended

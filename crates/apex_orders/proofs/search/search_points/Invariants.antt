@@ -7,10 +7,10 @@ use Rattle.apex_orders.proofs.search.search_points.Given as goal
 abbrev pub invariant-loop-i : goal.invariant-loop-i
 invariant-loop-i g l = record {
   within : l.i ≤ l.bound;
-  first : Has l.current.orders.items [];
+  first : Has l.current.orders [];
   valid : IsSearch l.clock l.config l.scripts l.current;
-  unanswered : (k : ℕ) → k < l.i → IsUnansweredAt l.clock l.config l.scripts (option_copied l.asked) l.current.orders.items k;
-  tried : (k : ℕ) → k < l.i → HasTried l.clock l.config l.scripts l.current.orders.items l.current.replies k;
+  unanswered : (k : ℕ) → k < l.i → IsUnansweredAt l.clock l.config l.scripts (option_copied l.asked) l.current.orders k;
+  tried : (k : ℕ) → k < l.i → HasTried l.clock l.config l.scripts l.current.orders l.current.replies k;
 }
 
 abbrev pub decreases-loop-i : goal.decreases-loop-i

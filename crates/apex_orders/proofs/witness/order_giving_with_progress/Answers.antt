@@ -13,7 +13,7 @@ returns-in-None-clause-never g c =
     let config = c.args.config.now in
     let scripts = c.args.scripts.now in
     let asked = c.args.asked.now in
-    let orders = c.in-Ok.found.orders.items in
+    let orders = c.in-Ok.found.orders in
     let replies = c.in-Ok.found.replies.items in
     let ended : IsSearchedInVain c.args.clock config scripts (Some asked) orders replies =
     subst (λ (answer : Option (List ℕ)). HasEnded c.args.clock config scripts (Some asked) orders replies answer) c.in-None.is c.in-Ok.ensures.ended in

@@ -4,8 +4,9 @@ use Rattle.apex_ports.specs.PortsView.{PortsView}
 use Rattle.apex_orders.specs.Clock.{IsClocked}
 use Rattle.apex_orders.specs.Known.{IsAfter, ArePoints}
 use Rattle.apex_orders.specs.Hashes.{hash_of}
-use Rattle.apex_orders.specs.Orders.{IsOrder, history_of}
+use Rattle.apex_orders.specs.Orders.{IsOrder, history_of, order_at}
 use Rattle.apex_orders.specs.Searching.{Knows, AreOrders, AreApart, AreClocked, Keeps}
+use Rattle.apex_orders.proofs.GrowthLemmas.{order_here}
 use Rattle.apex_orders.proofs.KnownLemmas.{points_push}
 use Rattle.apex_orders.proofs.SearchLemmas.{apart_push, clocked_push, keeps_push, knows_push, longer_is_order, orders_push}
 use Rattle.apex_orders.proofs.search.Search.learn.Goals as goal
@@ -23,17 +24,17 @@ returns-clause-valid c =
     let config = c.args.config.now in
     let scripts = c.args.scripts.now in
     let was = c.requires.valid in
-    let orders = c.args.self.now.orders.items in
-    let longer = c.in_ok-longer.longer in
+    let orders = c.args.self.now.orders in
+    let order = order_at orders c.args.i in
+    let longer = order ++ c.args.p ∷ [] in
     let ports = c.args.self.now.trial.ports in
     let h = ports.history in
-    let leads : h ≡ history_of config scripts longer = c.requires.history ∙ ap (λ (order : List ℕ). history_of config scripts order) (sym c.in_ok-longer.ensures) in
-    let pushed = sym c.in_ok-push-2.ensures.items in
-    let is_order : IsOrder config longer = subst (IsOrder config) (sym c.in_ok-longer.ensures) (longer_is_order config scripts c.args.order.now c.args.p c.requires.order c.requires.partition) in
+    let leads : h ≡ history_of config scripts longer = c.requires.history in
+    let pushed = sym c.in_ok-push-2.ensures in
+    let is_order : IsOrder config longer = longer_is_order config scripts order c.args.p (was.orders c.args.i order (order_here orders c.args.i c.requires.within)) c.requires.partition in
     let hash : c.hash_of-hash.result ≡ hash_of config (history_of config scripts longer) = c.hash_of-hash.ensures ∙ (λ i. hash_of (was.trial.ports i) (leads i)) in
     let after : IsAfter config scripts longer ports = record { configured = was.trial.ports; history = leads } in
-    let unknown : Knows config scripts orders h → ⊥ =
-    λ known. false≢true (sym c.if-branch.false ∙ c.in_ok-is_known.ensures.known.1 (subst (λ (all : List (List ℕ)). Knows config scripts all h) (sym c.as_slice-known.ensures.value) known)) in
+    let unknown : Knows config scripts orders h → ⊥ = λ known. false≢true (sym c.if-branch.false ∙ c.in_ok-is_known.ensures.known.1 known) in
     record {
       all = was.all;
       orders = subst (AreOrders config) pushed (orders_push config scripts orders longer was.orders is_order);
@@ -48,16 +49,17 @@ returns-clause-valid c =
     }
 
 pub returns-clause-later : goal.returns-clause-later
-returns-clause-later c = record {
-  orders = subst (Keeps c.args.self.now.orders.items) (sym c.in_ok-push-2.ensures.items) (keeps_push c.args.config.now c.args.scripts.now c.args.self.now.orders.items c.in_ok-longer.longer);
-  replies = λ x has. has;
-}
+returns-clause-later c =
+    let orders = c.args.self.now.orders in
+    record {
+      orders = subst (Keeps orders) (sym c.in_ok-push-2.ensures) (keeps_push c.args.config.now c.args.scripts.now orders (order_at orders c.args.i ++ c.args.p ∷ []));
+      replies = λ x has. has;
+    }
 
 pub returns-clause-known : goal.returns-clause-known
 returns-clause-known c =
     let config = c.args.config.now in
     let scripts = c.args.scripts.now in
+    let orders = c.args.self.now.orders in
     let h = c.args.self.now.trial.ports.history in
-    let longer = c.in_ok-longer.longer in
-    let leads : h ≡ history_of config scripts longer = c.requires.history ∙ ap (λ (order : List ℕ). history_of config scripts order) (sym c.in_ok-longer.ensures) in
-    subst (λ (orders : List (List ℕ)). Knows config scripts orders h) (sym c.in_ok-push-2.ensures.items) (knows_push config scripts c.args.self.now.orders.items longer h leads)
+    subst (λ (all : List (List ℕ)). Knows config scripts all h) (sym c.in_ok-push-2.ensures) (knows_push config scripts orders (order_at orders c.args.i ++ c.args.p ∷ []) h c.requires.history)

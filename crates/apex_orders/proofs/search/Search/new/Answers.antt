@@ -9,7 +9,7 @@ pub returns-clause-valid : goal.returns-clause-valid
 returns-clause-valid c clock =
     let config = c.args.config.now in
     let scripts = c.args.scripts.now in
-    let first = sym c.in_ok-orders.ensures in
+    let first = sym c.new-orders.ensures in
     record {
       all = c.requires;
       orders = subst (AreOrders config) first (first_valid config scripts);
@@ -22,4 +22,4 @@ returns-clause-valid c clock =
     }
 
 pub returns-clause-first : goal.returns-clause-first
-returns-clause-first c = subst (λ (orders : List (List ℕ)). Has orders []) (sym c.in_ok-orders.ensures) (0, refl)
+returns-clause-first c = subst (λ (orders : List (List ℕ)). Has orders []) (sym c.new-orders.ensures) (0, refl)

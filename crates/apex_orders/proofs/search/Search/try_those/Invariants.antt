@@ -1,5 +1,7 @@
 use Rattle.std.proofs.Common.{◌≡◌, ℕ, ◌<◌, true}
 use Rattle.apex_orders.specs.Choices.{is_tried}
+use Rattle.apex_orders.specs.Known.{IsReadyAfter}
+use Rattle.apex_orders.specs.Orders.{order_at}
 use Rattle.apex_orders.specs.Searching.{IsSearch, IsLater, IsTried}
 use Rattle.apex_orders.proofs.search.Search.try_those.Given as goal
 
@@ -7,5 +9,6 @@ abbrev pub invariant-loop-p : goal.invariant-loop-p
 invariant-loop-p l = record {
   valid : IsSearch l.clock l.config l.scripts l.self;
   later : IsLater l.initial.self l.self;
-  tried : (p : ℕ) → p < l.p → is_tried l.tried p ≡ true → IsTried l.config l.scripts l.self.orders.items l.self.replies l.order p;
+  ready : l.is_there ≡ true → IsReadyAfter l.config l.scripts (order_at l.self.orders l.i) l.self.trial.ports;
+  tried : (p : ℕ) → p < l.p → is_tried l.tried p ≡ true → IsTried l.config l.scripts l.self.orders l.self.replies (order_at l.initial.self.orders l.i) p;
 }

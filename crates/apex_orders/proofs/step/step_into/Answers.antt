@@ -7,7 +7,7 @@ use Rattle.apex_ports.specs.History.{History, entry_of, entries_of}
 use Rattle.apex_ports.proofs.Lookups.{at_index}
 use Rattle.apex_orders.specs.Orders.{next_entries}
 use Rattle.apex_orders.proofs.StepLemmas.{makes_nothing, whole_count, makes_next}
-use Rattle.apex_orders.proofs.step.step.Goals as goal
+use Rattle.apex_orders.proofs.step.step_into.Goals as goal
 
 nothing_next : (c : goal.Then-index-len) → next_entries c.args.ports.now.config c.args.scripts.now c.args.ports.now.history c.args.p ≡ []
 nothing_next c =
@@ -21,10 +21,10 @@ nothing_next c =
 pub returns-then-index-len-clause-history : goal.returns-then-index-len-clause-history
 returns-then-index-len-clause-history c = sym (ap (λ (es : History). c.args.ports.now.history ++ es) (nothing_next c) ∙ append-nil c.args.ports.now.history)
 
-pub returns-then-index-len-clause-call : goal.returns-then-index-len-clause-call
-returns-then-index-len-clause-call c = nothing_next c
+pub returns-then-index-len-clause-nothing : goal.returns-then-index-len-clause-nothing
+returns-then-index-len-clause-nothing c = λ is. nothing_next c
 
-whole : (c : goal.After-call-reply) → c.calls-index.result ≡ length (entries_of c.args.p c.args.ports.now.history)
+whole : (c : goal.After-call_into) → c.calls-index.result ≡ length (entries_of c.args.p c.args.ports.now.history)
 whole c =
     let script = c.index-scripts-p.result in
     let within : c.args.p < length c.args.scripts.now = omega arith in
@@ -32,8 +32,8 @@ whole c =
     let few : c.calls-index.result < 2 ^ 64 - 1 = omega (arith, c.if-index-len.false, c.len.type_inv) in
     whole_count c.args.ports.now.config c.args.scripts.now c.args.ports.now.history c.args.p script here c.calls-index.result c.calls-index.ensures few
 
-made_next : (c : goal.After-call-reply) → next_entries c.args.ports.now.config c.args.scripts.now c.args.ports.now.history c.args.p
-    ≡ entry_of c.args.p c.index.result.now.0 c.index.result.now.1 c.call-reply.result ∷ []
+made_next : (c : goal.After-call_into) → next_entries c.args.ports.now.config c.args.scripts.now c.args.ports.now.history c.args.p
+    ≡ entry_of c.args.p c.index.result.now.0 c.index.result.now.1 c.call_into.new.reply ∷ []
 made_next c =
     let script = c.index-scripts-p.result in
     let timed = c.index.result.now in
@@ -43,13 +43,13 @@ made_next c =
     let at : slice_get script c.calls-index.result ≡ Some timed =
     ap (λ (calls : List (Moment × Call)). slice_get calls c.calls-index.result) (sym c.script.view_is) ∙ at_index c.script.inside.calls.items c.calls-index.result timed inside c.index.ensures in
     makes_next c.args.ports.now.config c.args.scripts.now c.args.ports.now.history c.args.p script here c.calls-index.result timed (whole c) at
-    ∙ ap (λ r. entry_of c.args.p timed.0 timed.1 r ∷ []) (sym c.call-reply.ensures.reply)
+    ∙ ap (λ r. entry_of c.args.p timed.0 timed.1 r ∷ []) (sym c.call_into.ensures.reply)
 
 pub returns-clause-history : goal.returns-clause-history
-returns-clause-history c = c.call-reply.ensures.entry ∙ ap (λ (es : History). c.args.ports.now.history ++ es) (sym (made_next c))
+returns-clause-history c = c.call_into.ensures.entry ∙ ap (λ (es : History). c.args.ports.now.history ++ es) (sym (made_next c))
 
 pub returns-clause-call : goal.returns-clause-call
-returns-clause-call c = record {
+returns-clause-call c = λ is. record {
   partition = search rules;
   index = whole c;
   at = c.index.result.now.0;
