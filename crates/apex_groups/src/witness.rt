@@ -77,7 +77,8 @@ pub fn order_of_reply<P: Progress>(
     requires count { length scripts.old ≡ length config.now.partitions }
     requires possible { CanOccurWith clock config.now scripts.old one.now }
     ensures same { scripts.new ≡ scripts.old }
-    ensures given { IfOk result (λ order. IsGivenByWith clock config.now scripts.old one.now order) }
+    ensures given { IfOk result (λ order.
+        IsGivenByWith clock config.now scripts.old one.now order) }
     ensures undecided { IsUndecidedWith clock P.CanStop config.now scripts.old bound result }
 {
     let asked = Asked {

@@ -12,7 +12,6 @@ use Rattle.apex_ports.specs.declared.history.Entry.{Entry}
 use Rattle.apex_ports.specs.History.{History, entry_of}
 use Rattle.apex_ports.specs.Ports.{IsIdentifier, with_id, queuing_only, sampling_only, queuing_of_id, sampling_of_id}
 use Rattle.apex_ports.proofs.Lookups.{is_identifier}
-use Rattle.apex_judge.specs.declared.departure.Expected.{Expected}
 use Rattle.apex_judge.specs.declared.partition.PartitionState.{PartitionState}
 use Rattle.apex_judge.specs.declared.subject.Subject.TheVariants.{Mode}
 use Rattle.apex_judge.specs.Kept.{IsPartitionShown, doubted_of}
@@ -96,13 +95,6 @@ doubts_alike config picture p state at call reply expected shown = by_mode (is_o
     by_mode true port is = shown.mode_doubted
     by_mode false None is = refl
     by_mode false (Some id) is = shown.port_doubted id (about_identifier config p call id is)
-
--- ---- departures
-
--- an entry that departs has another reply than the standard's
-pub departs_as : (b : Bool) (expected standard : Expected) → Some expected ≡ (if b then None else Some standard) → (b ≡ false) × (expected ≡ standard)
-departs_as true expected standard is = absurd (cc)
-departs_as false expected standard is = (refl, cc)
 
 -- ---- messages that wait
 

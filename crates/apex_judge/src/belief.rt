@@ -35,7 +35,8 @@ impl<A: Allocator + Copy> State<A> {
         requires shown { IsShown config.now self.old.log self.old }
         ensures shown { let entry = entry_of partition at call.now reply.now in
             let picture = when_believed config.now entry (picture_of config.now self.old.log) in
-            IfOk result (λ _. Shows config.now (with_doubt partition subject true picture) self.new) }
+            IfOk result (λ _.
+            Shows config.now (with_doubt partition subject true picture) self.new) }
         ensures refused { IfErr result (λ _. IsShown config.now self.old.log self.new) }
         ensures log { self.new.log ≡ self.old.log }
     {

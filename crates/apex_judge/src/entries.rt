@@ -27,8 +27,8 @@ impl<A: Allocator + Copy> State<A> {
     ) -> Result<(), OutOfMemory>
         requires partition { partition < length config.now.partitions }
         requires shown { IsShown config.now self.old.log self.old }
-        requires agrees { agrees (reply_shown config.now self.old.log partition at call.now) reply.now
-            ≡ true }
+        requires agrees { agrees
+            (reply_shown config.now self.old.log partition at call.now) reply.now ≡ true }
         ensures shown { IsShown config.now self.new.log self.new }
         ensures log { IfOk result (λ _. self.new.log
             ≡ self.old.log ++ entry_of partition at call.now reply.now ∷ []) }

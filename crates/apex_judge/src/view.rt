@@ -16,9 +16,11 @@ impl<A: Allocator> View for State<A> {
 
     ghost seen = { λ config state partition. shown config state.log partition };
 
-    ghost nothing_waits = { λ config state p id none. ap (waiting_at (picture_of config state.log)) none };
+    ghost nothing_waits = { λ config state p id none.
+        ap (waiting_at (picture_of config state.log)) none };
 
-    ghost nothing_written = { λ config state p id none. ap (sample_at (picture_of config state.log)) none };
+    ghost nothing_written = { λ config state p id none.
+        ap (sample_at (picture_of config state.log)) none };
 
     fn mode(&self, config: &Config, partition: usize) -> Mode {
         self.partitions[partition].mode

@@ -1,6 +1,6 @@
 -- Reads of messages that can't have been written yet, and writes that come too soon for a read.
 use Rattle.std.proofs.Common.{◌≡◌, ℕ, zero, suc, ◌<◌, ◌==◌, Bool, true, false, cond, if◌then◌else◌, List, [], ◌∷◌, length, Option, Some, None, refl, sym, ap, ◌∙◌, subst, arith}
-use Rattle.std.specs.List.{slice_get, filter_map, cons_option}
+use Rattle.std.specs.List.{slice_get}
 use Rattle.std.proofs.lemmas.Bool.Decides.{nat_tests}
 use Rattle.std.proofs.lemmas.Option.{slice_get_within}
 use Rattle.apex_types.specs.declared.call.Call.TheVariants.{ReadSampling}
@@ -23,6 +23,7 @@ use Rattle.apex_ports.specs.Ports.{is_created, is_source}
 use Rattle.apex_ports.specs.ReplyTable.{read_row, last_row, last_reply, reply_of, reply_to}
 use Rattle.apex_ports.specs.Seen.{Seen, seen, sample_of, sampling_port}
 use Rattle.apex_ports.proofs.Conserved.{sampling_configured}
+use Rattle.apex_ports.proofs.Sizes.{member}
 use Rattle.apex_orders.proofs.Lists.{taken_from}
 use Rattle.apex_log_orders.specs.LogOrders.{Logs, log_in, IsBeginning}
 use Rattle.apex_log_orders.specs.Walking.{GoesOn, next_of}
@@ -30,18 +31,6 @@ use Rattle.apex_log_orders.specs.Stuck.{NeverNext, HaveNoClear, Writes, NoneWrit
 use Rattle.apex_log_orders.proofs.NeverNexts.{same_entry, table}
 
 -- ---- lists
-
--- one of the list's items gives what the list gives
-member : {Y : Type 0} (f : Entry → Option Y) (xs : History) (n : ℕ) (y : Y) → slice_get (filter_map f xs) n ≡ Some y
-    → (k : ℕ) × (e : Entry) × (slice_get xs k ≡ Some e) × (f e ≡ Some y)
-member f [] n y at = absurd cc
-member {Y} f (x ∷ xs) n y at = by_first (f x) refl n at (λ k here. member f xs k y here)
-  where
-    by_first : (o : Option Y) → f x ≡ o → (n : ℕ) → slice_get (cons_option o (filter_map f xs)) n ≡ Some y → ((k : ℕ) → slice_get (filter_map f xs) k ≡ Some y → (j : ℕ) × (e : Entry) × (slice_get xs j ≡ Some e) × (f e ≡ Some y))
-        → (j : ℕ) × (e : Entry) × (slice_get (x ∷ xs) j ≡ Some e) × (f e ≡ Some y)
-    by_first None is n at rest = let found = rest n at in (suc found.0, found.1, found.2, found.3)
-    by_first (Some z) is zero at rest = (0, x, refl, is ∙ at)
-    by_first (Some z) is (suc n) at rest = let found = rest n at in (suc found.0, found.1, found.2, found.3)
 
 -- an entry is among its partition's own
 in_own : (p : ℕ) (h : History) (k : ℕ) (e : Entry) → e.partition ≡ p → slice_get h k ≡ Some e → (j : ℕ) × (slice_get (entries_of p h) j ≡ Some e)

@@ -14,12 +14,12 @@ use Rattle.apex_ports.specs.declared.rows.Row.{Row}
 use Rattle.apex_ports.specs.declared.rows.Row.TheVariants as row
 use Rattle.apex_ports.specs.Channels.{is_receive, is_clear, message_in, message_sent, message_written, sample_at}
 use Rattle.apex_ports.specs.History.{History}
-use Rattle.apex_ports.specs.Modes.{is_idle, is_code_no_error, is_no_error}
+use Rattle.apex_ports.specs.Modes.{is_idle, is_code_no_error}
 use Rattle.apex_ports.specs.Ports.{is_source, NamedPort, queuing_named, sampling_named}
 use Rattle.apex_ports.specs.ReplyTable.{size_of, depth_of, create_queuing_row, create_sampling_row, id_row, send_row, oldest_row, receive_row, last_row, read_row, service_row, row_of, reply_of, reply_to}
-use Rattle.apex_ports.specs.Rows.{code_of}
 use Rattle.apex_ports.specs.Seen.{Seen, seen, queuing_port, sampling_port}
 use Rattle.apex_ports.proofs.PartitionSteps.{leaves_others}
+use Rattle.apex_ports.proofs.RowCalls.{is_an_error}
 use Rattle.apex_ports.proofs.Stays.{LeavesPartition, LeavesChannel, none_or_none}
 use Rattle.apex_orders.specs.Enough.{is_early, IsRefusedEarly}
 use Rattle.apex_orders.proofs.Alike.{partition_left}
@@ -99,28 +99,6 @@ module _ (config : Configuration) (p : ℕ) (s : Seen) (waiting : ℕ → List (
 
 -- ---- replies of early rows
 
-is_code : (r : Refusal) → is_no_error (code_of r) ≡ false
-is_code refusal.NotConfigured = refl
-is_code refusal.AlreadyCreated = refl
-is_code refusal.SizeDiffers = refl
-is_code refusal.DepthDiffers = refl
-is_code refusal.DirectionDiffers = refl
-is_code refusal.RefreshDiffers = refl
-is_code refusal.UnknownDiscipline = refl
-is_code refusal.InNormal = refl
-is_code refusal.NotCreated = refl
-is_code refusal.NoSuchPort = refl
-is_code refusal.EmptyMessage = refl
-is_code refusal.MessageTooLong = refl
-is_code refusal.NotSource = refl
-is_code refusal.NotDestination = refl
-is_code refusal.QueueFull = refl
-is_code refusal.QueueEmpty = refl
-is_code refusal.NeverWritten = refl
-is_code refusal.UnknownMode = refl
-is_code refusal.AlreadyNormal = refl
-is_code refusal.WarmStartInColdStart = refl
-
 same_early : (config : Configuration) (p : ℕ) (s t : Seen) (r : Row) → is_early r ≡ true → reply_of config s p r ≡ reply_of config t p r
 same_early config p s t row.Idle early = refl
 same_early config p s t (row.Refused why) early = refl
@@ -128,7 +106,7 @@ same_early config p s t _ early = absurd (cc)
 
 no_success : (config : Configuration) (p : ℕ) (s : Seen) (r : Row) → is_early r ≡ true → (is_code_no_error (reply_of config s p r) ≡ false) × (message_in (reply_of config s p r) ≡ None)
 no_success config p s row.Idle early = (refl, refl)
-no_success config p s (row.Refused why) early = (is_code why, refl)
+no_success config p s (row.Refused why) early = (is_an_error why, refl)
 no_success config p s _ early = absurd (cc)
 
 leaves_refused : (config : Configuration) (c : ℕ) (e : Entry) → is_code_no_error e.reply ≡ false → message_in e.reply ≡ None → LeavesChannel config c e

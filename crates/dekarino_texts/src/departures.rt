@@ -154,10 +154,12 @@ fn add_if_agreeing(judge: &mut Judge, entry: &Entry, wait: MaxWait) -> Result<bo
 #[inline(never)]
 fn add_if_code(judge: &mut Judge, entry: &Entry, code: ReturnCode) -> Result<bool, OutOfMemory>
     requires { entry.now.partition < length judge.old.config.partitions }
-    ensures agrees { let judged = entry_of entry.now.partition entry.now.at entry.now.call (replies.Code code) in
+    ensures agrees { let judged = entry_of entry.now.partition entry.now.at
+        entry.now.call (replies.Code code) in
         IfOk result (λ agreed.
         agreed ≡ true → instead_of judge.old.config judge.old.log judged ≡ None) }
-    ensures log { let judged = entry_of entry.now.partition entry.now.at entry.now.call (replies.Code code) in
+    ensures log { let judged = entry_of entry.now.partition entry.now.at
+        entry.now.call (replies.Code code) in
         IfOk result (λ agreed.
         agreed ≡ true → judge.new.log ≡ judge.old.log ++ judged ∷ []) }
     ensures same { IfOk result (λ agreed. agreed ≡ false → judge.new.log ≡ judge.old.log) }
@@ -283,9 +285,11 @@ fn judge_code(
     code: ReturnCode,
 ) -> Result<Option<Expected>, OutOfMemory>
     requires { entry.now.partition < length judge.old.config.partitions }
-    ensures judged { let judged = entry_of entry.now.partition entry.now.at entry.now.call (replies.Code code) in
+    ensures judged { let judged = entry_of entry.now.partition entry.now.at
+        entry.now.call (replies.Code code) in
         IfOk result (λ instead. instead ≡ instead_of judge.old.config judge.old.log judged) }
-    ensures log { let judged = entry_of entry.now.partition entry.now.at entry.now.call (replies.Code code) in
+    ensures log { let judged = entry_of entry.now.partition entry.now.at
+        entry.now.call (replies.Code code) in
         IfOk result (λ _. judge.new.log ≡ judge.old.log ++ judged ∷ []) }
     ensures config { judge.new.config ≡ judge.old.config }
 {
