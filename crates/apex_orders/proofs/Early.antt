@@ -8,7 +8,6 @@ use Rattle.apex_types.specs.declared.sample.Sample.{Sample}
 use Rattle.apex_module.specs.Configuration.{Configuration, refresh_of_kind}
 use Rattle.apex_module.specs.declared.port.Port.{Port}
 use Rattle.apex_ports.specs.declared.history.Entry.{Entry}
-use Rattle.apex_ports.specs.declared.rows.Refusal.{Refusal}
 use Rattle.apex_ports.specs.declared.rows.Refusal.TheVariants as refusal
 use Rattle.apex_ports.specs.declared.rows.Row.{Row}
 use Rattle.apex_ports.specs.declared.rows.Row.TheVariants as row
