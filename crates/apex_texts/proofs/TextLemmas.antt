@@ -1,11 +1,11 @@
 -- Lines and words of a text, taken from the front one by one.
-use Rattle.std.proofs.Common.{◌≡◌, ℕ, suc, ◌+◌, ◌<◌, ◌≤◌, Bool, true, false, not, eqb, List, [], ◌∷◌, length, take, drop, get_or, Some, None, refl, sym, ap, ◌∙◌, arith, add-one, add-zero}
+use Rattle.std.proofs.Common.{◌≡◌, ℕ, suc, ◌+◌, ◌-◌, ◌<◌, ◌≤◌, Bool, true, false, not, eqb, List, [], ◌∷◌, length, take, drop, get_or, Some, None, refl, sym, ap, ◌∙◌, arith, add-one, add-zero}
 use Rattle.std.proofs.Math.Seq.{drop-cons}
 use Rattle.std.proofs.Math.ListN.{drop_of_length-le}
 use Rattle.std.specs.Prelude.{filter, position}
 use Rattle.std.specs.List.{slice_split, position_or_len, before_first, after_first}
 use Rattle.std.specs.Str.Lines.{lines, lines_of_parts, strip_carriage_return}
-use Rattle.std.proofs.lemmas.List.{length-take, length-drop, get_or-drop}
+use Rattle.std.proofs.lemmas.List.{length-take, length-drop, get_or-drop, drop-drop}
 use Rattle.std.proofs.lemmas.List.Sums.{fails_before_first, passes_at_first}
 use Rattle.std.proofs.lemmas.List.Splits.{slice_split-cons_yes, slice_split_none, slice_split_first, length-slice_split}
 use Rattle.apex_texts.specs.Text.{is_line_feed, is_blank, words_of}
@@ -108,3 +108,13 @@ from_word line rest start found is =
 
 pub words_none : (line : List ℕ) → position (λ byte. not (is_blank byte)) line ≡ None → words_of line ≡ []
 words_none line missed = sym (words_skip line) ∙ ap words_of (drop_of_length-le line (position_missed (λ byte. not (is_blank byte)) line missed))
+
+-- the first word of a line, by where it starts and its length
+pub words_between : (line rest : List ℕ) (start len : ℕ) → position (λ byte. not (is_blank byte)) line ≡ Some start → rest ≡ drop start line
+    → words_of rest ≡ take len rest ∷ words_of (drop len rest) → words_of line ≡ take (start + len - start) (drop start line) ∷ words_of (drop (start + len) line)
+words_between line rest start len found is cut =
+    let from = from_word line rest start found is in
+    let width : start + len - start ≡ len = omega arith in
+    let after : drop len rest ≡ drop (start + len) line = ap (drop len) is ∙ drop-drop len start line in
+    let first : take len rest ≡ take len (drop start line) = ap (take len) is in
+    rw width (sym from.same ∙ cut ∙ (λ i. first i ∷ words_of (after i)))

@@ -1,5 +1,5 @@
 //! Lines, words and numbers of a text, which is read as bytes.
-ghost use Rattle.std.specs.Prelude.{◌≡◌, ◌<◌, false, [], ◌∷◌, length, slice_index, not, position, Some, IfSome, MatchOption};
+ghost use Rattle.std.specs.Prelude.{◌≡◌, ◌-◌, ◌<◌, ◌≤◌, false, [], ◌∷◌, length, take, drop, slice_index, not, position, Some, IfSome, MatchOption};
 ghost use Rattle.std.specs.List.{after_first};
 ghost use Rattle.std.specs.Str.Lines.{lines, strip_carriage_return};
 ghost use Rattle.apex_texts.specs.Text.{is_line_feed, is_blank, words_of, number_up_to};
@@ -90,35 +90,53 @@ pub fn word_in(line: &[u8]) -> Option<usize>
 }
 
 /// The first word of a line, and the line after it. Spaces and tabs separate words.
+#[inline(always)]
 pub fn next_word(line: &[u8]) -> Option<(&[u8], &[u8])>
     ensures word { MatchOption result (words_of line.now ≡ [])
         (λ x. words_of line.now ≡ x.0.now ∷ words_of x.1.now) }
     ensures shorter { IfSome result (λ x. length x.1.now < length line.now) }
 {
-    let Some(start) = word_in(line) else {
+    let (start, end) = word_bounds(line);
+    if start == end {
         return None;
+    }
+    Some((&line[start..end], &line[end..]))
+}
+
+// Where the first word of a line starts and ends; the two are equal if it has none. A call returns two numbers in
+// registers, and slices in memory.
+#[inline(never)]
+fn word_bounds(line: &[u8]) -> (usize, usize)
+    ensures ordered { result.0 ≤ result.1 }
+    ensures within { result.1 ≤ length line.now }
+    ensures none { result.0 ≡ result.1 → words_of line.now ≡ [] }
+    ensures word { result.0 < result.1 → words_of line.now ≡
+        take (result.1 - result.0) (drop result.0 line.now) ∷ words_of (drop result.1 line.now) }
+{
+    let Some(start) = word_in(line) else {
+        return (0, 0);
     };
-    let (_, line) = line.split_at(start);
-    match near_blank_in(line) {
-        Some(end) => Some(line.split_at(end)),
-        None => long_word(line),
+    let (_, rest) = line.split_at(start);
+    match near_blank_in(rest) {
+        Some(length) => (start, start + length),
+        None => (start, start + long_word(rest)),
     }
 }
 
-// The first word of a line that begins with it, if it may be long. It is not inlined, so that short words save no
-// registers for the search in it.
+// The length of the first word of a line that begins with it, if it may be long. It is not inlined, so that short words
+// save no registers for the search in it.
 #[cold]
 #[inline(never)]
-fn long_word(line: &[u8]) -> Option<(&[u8], &[u8])>
+fn long_word(line: &[u8]) -> usize
     requires some { 0 < length line.now }
     requires word { is_blank (slice_index line.now 0) ≡ false }
-    ensures word { MatchOption result (words_of line.now ≡ [])
-        (λ x. words_of line.now ≡ x.0.now ∷ words_of x.1.now) }
-    ensures shorter { IfSome result (λ x. length x.1.now < length line.now) }
+    ensures some { 0 < result }
+    ensures within { result ≤ length line.now }
+    ensures word { words_of line.now ≡ take result line.now ∷ words_of (drop result line.now) }
 {
     match blank_in(line) {
-        Some(end) => Some(line.split_at(end)),
-        None => Some((line, &line[line.len()..])),
+        Some(end) => end,
+        None => line.len(),
     }
 }
 
