@@ -52,3 +52,9 @@ hashed_push config scripts orders hashes order hash hashed is = record {
       ∙ (at_seam hashes hash [] ∙ ap Some (is ∙ ap (λ (o : List ℕ). hash_of config (history_of config scripts o)) last.1)))
       (before_or_last orders order k other at);
 }
+
+-- an order that leads to the point has its hash
+pub known_hash : (config : Configuration) (scripts : Scripts) (orders : List (List ℕ)) (hashes : List ℕ) (h : History) (hash n : ℕ) (order : List ℕ) → AreHashes config scripts orders hashes
+    → hash ≡ hash_of config h → slice_get orders n ≡ Some order → IsSamePoint config h (history_of config scripts order) → slice_get hashes n ≡ Some hash
+known_hash config scripts orders hashes h hash n order hashed is at met =
+    hashed.each n order at ∙ ap Some (sym (is ∙ same_hash config h (history_of config scripts order) met))

@@ -1,56 +1,22 @@
-//! Hashes in the order in which they were found, with an index of where each is.
-ghost use Rattle.std.specs.Prelude.{◌≡◌, ◌<◌, ◌++◌, ◌∷◌, [], ◌↔◌, ◌%◌, ℕ, length, slice_get, Some, IfOk, OnOk, IsTrue};
-ghost use Rattle.apex_orders.specs.Buckets.{IsIn, StayIn};
-ghost use Rattle.apex_orders.specs.Lists.{Has};
+//! Hashes in the order in which they were found, with a table to look them up.
+ghost use Rattle.std.specs.Prelude.{◌≡◌, ◌<◌, ◌≤◌, ◌+◌, ◌++◌, ◌∷◌, [], ◌%◌, ◌^◌, ℕ, length, slice_get, slice_index_or, Some, IfOk, OnOk};
+ghost use Rattle.apex_orders.specs.Buckets.{AreChained, AreFiled, AreFiledBelow, AreNone, IsLastOf, IsUpToLast};
 
 use apex_types::OutOfMemory;
-use std::alloc::{AllocError, Global};
+use std::alloc::Global;
 use std::marker::Model;
 
-/// The indexes of the hashes with one remainder. A contract sees them as a list.
-#[derive(Drop)]
-struct Bucket {
-    indexes: Vec<usize>,
-}
+/// The first number of buckets. It doubles whenever there are as many hashes.
+const FIRST_BUCKETS: usize = 1_021;
 
-impl Model for Bucket {
-    ghost use Rattle.std.specs.Prelude.{ℕ, List};
-
-    ghost Value = { List ℕ };
-
-    ghost view = { λ bucket. bucket.indexes.items };
-}
-
-impl Bucket {
-    fn new(alloc: Global) -> Bucket
-        ensures { result ≡ [] }
-    {
-        Bucket {
-            indexes: Vec::new(alloc),
-        }
-    }
-
-    /// Adds an index.
-    fn add(&mut self, index: usize) -> Result<(), AllocError>
-        ensures kept { (k : ℕ) → Has self.old k → Has self.new k }
-        ensures added { OnOk result (Has self.new index) }
-    {
-        self.indexes.push(index)?;
-        Ok(())
-    }
-
-    fn indexes(&self) -> &[usize]
-        ensures { result.now ≡ self.now }
-    {
-        self.indexes.as_slice()
-    }
-}
-
-/// The hashes of points, in the order in which they were found. A contract sees them as a list.
+/// Hashes, in the order in which they were found. A contract sees them as a list.
 #[derive(Drop)]
 pub(crate) struct HashIndex {
     hashes: Vec<u64>,
-    buckets: Vec<Bucket>,
+    /// For each hash, the place of the last one before it in the same bucket. A place is an index plus 1, or 0 for none.
+    earlier: Vec<u32>,
+    /// For each bucket, the place of its last hash.
+    last: Vec<u32>,
 }
 
 impl Model for HashIndex {
@@ -59,59 +25,101 @@ impl Model for HashIndex {
 
     ghost Value = { List ℕ };
 
-    ghost view = { λ hashes. hashes.hashes.items };
+    ghost view = { λ index. index.hashes.items };
 
-    ghost invariant = { λ hashes. AreFiled hashes.hashes.items hashes.buckets.items };
+    ghost invariant = { λ index.
+        AreFiled index.hashes.items index.earlier.items index.last.items };
 }
 
 impl HashIndex {
-    /// No hashes, in this number of buckets. A prime spreads them well.
-    pub(crate) fn new(alloc: Global, buckets: usize) -> Result<HashIndex, OutOfMemory>
-        requires { 0 < buckets }
+    /// No hashes.
+    pub(crate) fn new(alloc: Global) -> Result<HashIndex, OutOfMemory>
         ensures { IfOk result (λ hashes. hashes ≡ []) }
     {
-        let buckets = empty_buckets(alloc, buckets)?;
+        let last = no_places(alloc, FIRST_BUCKETS)?;
         Ok(HashIndex {
             hashes: Vec::new(alloc),
-            buckets,
+            earlier: Vec::new(alloc),
+            last,
         })
     }
 
-    /// Adds a hash.
-    pub(crate) fn push(&mut self, hash: u64) -> Result<(), OutOfMemory>
+    /// Adds a hash. There is room for 2^32 - 1 of them.
+    pub(crate) fn push(&mut self, alloc: Global, hash: u64) -> Result<(), OutOfMemory>
         ensures { OnOk result (self.new ≡ self.old ++ hash ∷ []) }
     {
         let index = self.hashes.len();
-        file(&mut self.buckets, hash, index)?;
+        if index >= u32::MAX as usize {
+            return Err(OutOfMemory);
+        }
+        let hashes = self.hashes.as_slice();
+        spread(alloc, hashes, &mut self.earlier, &mut self.last)?;
+        self.earlier.push(0)?;
         self.hashes.push(hash)?;
+        let more = self.hashes.as_slice();
+        file(more, &mut self.earlier, &mut self.last, index);
         Ok(())
     }
 
-    /// Indexes at which the hash may be; it is at no others.
-    pub(crate) fn indexes(&self, hash: u64) -> &[usize]
-        ensures { (k : ℕ) → slice_get self.now k ≡ Some hash → Has result.now k }
+    /// The number of hashes up to the last that equals this one; 0 if none does.
+    pub(crate) fn up_to_last(&self, hash: u64) -> usize
+        ensures { IsUpToLast self.now hash (length self.now) result }
     {
-        let b = bucket_of(hash, self.buckets.len());
-        self.buckets[b].indexes()
+        let buckets = self.last.len();
+        let b = bucket_of(hash, buckets);
+        let first = self.last[b];
+        let hashes = self.hashes.as_slice();
+        let earlier = self.earlier.as_slice();
+        let end = hashes.len();
+        up_to_equal(hashes, earlier, buckets, hash, end, first)
     }
 
-    /// Whether the hash is at the index.
-    pub(crate) fn has_hash(&self, hash: u64, k: usize) -> bool
-        ensures { IsTrue result ↔ (slice_get self.now k ≡ Some hash) }
+    /// The number of hashes up to the last before the index that equals the one there; 0 if none does.
+    pub(crate) fn up_to_earlier(&self, hash: u64, index: usize) -> usize
+        requires { slice_get self.now index ≡ Some hash }
+        ensures { IsUpToLast self.now hash index result }
     {
-        k < self.hashes.len() && self.hashes[k] == hash
+        let buckets = self.last.len();
+        let hashes = self.hashes.as_slice();
+        let earlier = self.earlier.as_slice();
+        let first = earlier[index];
+        up_to_equal(hashes, earlier, buckets, hash, index, first)
     }
 }
 
-/// Buckets without indexes.
-fn empty_buckets(alloc: Global, count: usize) -> Result<Vec<Bucket>, OutOfMemory>
-    ensures { IfOk result (λ buckets. length buckets.items ≡ count) }
+/// Follows the places in a bucket from the first of these to one with the hash.
+fn up_to_equal(
+    hashes: &[u64],
+    earlier: &[u32],
+    buckets: usize,
+    hash: u64,
+    end: usize,
+    first: u32,
+) -> usize
+    requires buckets { 0 < buckets }
+    requires chained { AreChained hashes.now earlier.now buckets (length hashes.now) }
+    requires end { end ≤ length hashes.now }
+    requires first { IsLastOf hashes.now buckets (hash % buckets) end first }
+    ensures { IsUpToLast hashes.now hash end result }
 {
-    let mut buckets = Vec::with_capacity(alloc, count)?;
-    for _ in 0..count {
-        buckets.push(Bucket::new(alloc))?;
+    prove!(buckets > 0 && first as usize <= end);
+    let mut at = first as usize;
+    while at > 0 {
+        if hashes[at - 1] == hash {
+            return at;
+        }
+        at = earlier[at - 1] as usize;
     }
-    Ok(buckets)
+    0
+}
+
+/// Buckets without hashes.
+fn no_places(alloc: Global, buckets: usize) -> Result<Vec<u32>, OutOfMemory>
+    ensures count { IfOk result (λ places. length places.items ≡ buckets) }
+    ensures none { IfOk result (λ places. AreNone places.items) }
+{
+    let places = vec![in alloc; 0u32; buckets]?;
+    Ok(places)
 }
 
 /// The number of the hash's bucket.
@@ -122,13 +130,39 @@ fn bucket_of(hash: u64, buckets: usize) -> usize
     (hash as usize) % buckets
 }
 
-/// Puts the index into the bucket of the hash.
-fn file(buckets: &mut Vec<Bucket>, hash: u64, index: usize) -> Result<(), OutOfMemory>
-    requires { 0 < length buckets.old.items }
-    ensures kept { StayIn buckets.old.items buckets.new.items }
-    ensures filed { OnOk result (IsIn buckets.new.items hash index) }
+/// Files the hashes in more buckets if there are as many hashes as buckets.
+fn spread(
+    alloc: Global,
+    hashes: &[u64],
+    earlier: &mut Vec<u32>,
+    last: &mut Vec<u32>,
+) -> Result<(), OutOfMemory>
+    requires filed { AreFiled hashes.now earlier.old.items last.old.items }
+    requires few { length hashes.now < 2 ^ 32 }
+    ensures { AreFiled hashes.now earlier.new.items last.new.items }
 {
-    let b = bucket_of(hash, buckets.len());
-    buckets[b].add(index)?;
+    if hashes.len() < last.len() {
+        return Ok(());
+    }
+    let buckets = last.len().saturating_mul(2).saturating_add(1);
+    let mut more = no_places(alloc, buckets)?;
+    for index in 0..hashes.len() {
+        file(hashes, earlier, &mut more, index);
+    }
+    *last = more;
     Ok(())
+}
+
+/// Files the hash at the index, where all before it are filed.
+fn file(hashes: &[u64], earlier: &mut Vec<u32>, last: &mut Vec<u32>, index: usize)
+    requires within { index < length hashes.now }
+    requires few { index + 1 < 2 ^ 32 }
+    requires filed { AreFiledBelow hashes.now earlier.old.items last.old.items index }
+    ensures { AreFiledBelow hashes.now earlier.new.items last.new.items (index + 1) }
+{
+    let hash = hashes[index];
+    let b = bucket_of(hash, last.len());
+    let place = last[b];
+    earlier[index] = place;
+    last[b] = index as u32 + 1;
 }

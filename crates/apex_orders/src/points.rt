@@ -19,9 +19,6 @@ use apex_types::OutOfMemory;
 use std::alloc::Global;
 use std::collections::VecDeque;
 
-/// The number of buckets for the hashes of points: a prime.
-const BUCKETS: usize = 131_071;
-
 /// The hashes of all known points, and the ports at those from the index `first` on.
 #[derive(Drop)]
 pub(crate) struct Points {
@@ -38,8 +35,8 @@ impl Points {
             ArePoints config.now scripts ([] ∷ []) points) }
     {
         let ports = Ports::new(alloc, config.copy()?)?;
-        let mut hashes = HashIndex::new(alloc, BUCKETS)?;
-        hashes.push(hash_of(&ports))?;
+        let mut hashes = HashIndex::new(alloc)?;
+        hashes.push(alloc, hash_of(&ports))?;
         let mut saved = VecDeque::new(alloc);
         saved.push_back(ports.save(alloc)?)?;
         Ok(Points {
@@ -79,7 +76,7 @@ impl Points {
         ensures saved { OnOk result
             (self.new.saved.items ≡ self.old.saved.items ++ ports.now ∷ []) }
     {
-        self.hashes.push(hash)?;
+        self.hashes.push(alloc, hash)?;
         self.saved.push_back(ports.save(alloc)?)?;
         Ok(())
     }
@@ -117,15 +114,16 @@ pub(crate) fn is_known(
     ensures ports { trial.new.ports ≡ trial.old.ports }
     ensures trial { IsTrialOf config.now trial.new }
 {
-    for k in points.hashes.indexes(hash) {
-        if points.hashes.has_hash(hash, *k) {
-            let saved = points.saved_at(*k);
-            let other = &mut trial.other;
-            go_to(alloc, config, scripts, orders, *k, saved, other)?;
-            if is_same_point(&trial.ports, &trial.other) {
-                return Ok(true);
-            }
+    let mut count = points.hashes.up_to_last(hash);
+    while count > 0 {
+        let k = count - 1;
+        let saved = points.saved_at(k);
+        let other = &mut trial.other;
+        go_to(alloc, config, scripts, orders, k, saved, other)?;
+        if is_same_point(&trial.ports, &trial.other) {
+            return Ok(true);
         }
+        count = points.hashes.up_to_earlier(hash, k);
     }
     Ok(false)
 }

@@ -30,9 +30,6 @@ impl PossibleReply {
     }
 }
 
-/// The number of buckets for the hashes of replies: a prime.
-const BUCKETS: usize = 1_021;
-
 /// The replies that were found, and hashes to look them up. A contract sees the list of replies.
 #[derive(Drop)]
 pub(crate) struct Replies {
@@ -54,7 +51,7 @@ impl Replies {
     pub(crate) fn new(alloc: Global) -> Result<Replies, OutOfMemory>
         ensures { IfOk result (λ replies. replies ≡ []) }
     {
-        let hashes = HashIndex::new(alloc, BUCKETS)?;
+        let hashes = HashIndex::new(alloc)?;
         Ok(Replies {
             found: Vec::new(alloc),
             hashes,
@@ -62,19 +59,22 @@ impl Replies {
     }
 
     /// Adds the reply, unless it is there already.
-    pub(crate) fn add(&mut self, one: &PossibleReply) -> Result<(), OutOfMemory>
+    pub(crate) fn add(&mut self, alloc: Global, one: &PossibleReply) -> Result<(), OutOfMemory>
         ensures { OnOk result ((other : PossibleReply) →
             Has self.new other ↔ (Has self.old other ⊎ (other ≡ one.now))) }
     {
         let hash = call_hash(one);
-        for k in self.hashes.indexes(hash) {
-            if let Some(known) = self.found.get(*k) {
+        let mut count = self.hashes.up_to_last(hash);
+        while count > 0 {
+            let k = count - 1;
+            if let Some(known) = self.found.get(k) {
                 if is_same_possible(known, one) {
                     return Ok(());
                 }
             }
+            count = self.hashes.up_to_earlier(hash, k);
         }
-        self.hashes.push(hash)?;
+        self.hashes.push(alloc, hash)?;
         self.found.push(one.copy())?;
         Ok(())
     }

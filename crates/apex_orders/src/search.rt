@@ -248,7 +248,7 @@ impl Search {
         if !step_into(&mut self.trial.ports, scripts, p, &mut self.trial.reply) {
             return Ok(());
         }
-        self.replies.add(&self.trial.reply)?;
+        self.replies.add(alloc, &self.trial.reply)?;
         self.learn(alloc, config, scripts, clock, i, p)?;
         Ok(())
     }

@@ -6,9 +6,9 @@ use apex_types::OutOfMemory;
 use std::alloc::Global;
 use std::collections::VecDeque;
 
-/// What a known point takes in lists, in bytes: its last call, its hash and the index of the hash. Lists grow by
+/// What a known point takes in lists, in bytes: its last call, its hash and where the hash is found. Lists grow by
 /// doubling, so on average they have room for half as many again.
-const LISTED: usize = 40;
+const LISTED: usize = 36;
 
 /// What saved ports take in their list, in bytes: three lists and their size, with the room of the list.
 const SAVED: usize = 120;

@@ -1,13 +1,18 @@
-use Rattle.std.proofs.Common.{◌<◌, length, arith}
-use Rattle.apex_orders.proofs.BucketLemmas.{stay_with}
+use Rattle.std.proofs.Common.{◌≡◌, ◌<◌, ◌%◌, ℕ, length, get_or, ap, sym, ◌∙◌, arith, rules}
+use Rattle.std.proofs.lemmas.Option.{slice_get-get_or, get_or_from_slice_get}
+use Rattle.apex_ports.proofs.Lookups.{at_index}
+use Rattle.apex_orders.proofs.BucketLemmas.{filed_one}
 use Rattle.apex_orders.proofs.hash_index.file.Goals as goal
 
-pub returns-in_err-add-clause-kept : goal.returns-in_err-add-clause-kept
-returns-in_err-add-clause-kept c =
-    let within : c.bucket_of-b.result < length c.args.buckets.now.items = omega arith in
-    stay_with c.args.buckets.now.items c.bucket_of-b.result c.add.new.self within c.index_mut.result.now c.index_mut.ensures.value c.add.ensures.kept
-
-pub returns-clause-kept : goal.returns-clause-kept
-returns-clause-kept c =
-    let within : c.bucket_of-b.result < length c.args.buckets.now.items = omega arith in
-    stay_with c.args.buckets.now.items c.bucket_of-b.result c.add.new.self within c.index_mut.result.now c.index_mut.ensures.value c.add.ensures.kept
+pub returns : goal.returns
+returns c =
+    let hashes = c.args.hashes.now in
+    let last = c.args.last.now.items in
+    let hash = get_or hashes c.args.index 0 in
+    let b = c.bucket_of-b.result in
+    let place = c.index-place.result.now in
+    let count : c.len.result ≡ length last = search rules in
+    let within : b < length last = omega arith in
+    filed_one hashes c.args.earlier.now.items last c.args.index hash b place c.requires.filed
+    (slice_get-get_or hashes c.args.index 0 c.requires.within) (c.bucket_of-b.ensures ∙ ap (λ (n : ℕ). hash % n) count) within
+    (sym (get_or_from_slice_get last b place 0 (at_index last b place within c.index-place.ensures)))

@@ -1,14 +1,18 @@
-use Rattle.std.proofs.Common.{◌≡◌, ℕ, ◌<◌, List, Some}
+use Rattle.std.proofs.Common.{◌≡◌, ◌+◌, ℕ, ◌≤◌, List, Some}
 use Rattle.std.specs.List.{slice_get}
 use Rattle.apex_orders.specs.Orders.{history_of}
 use Rattle.apex_orders.specs.Known.{IsTrialOf}
 use Rattle.apex_orders.specs.Points.{IsSamePoint}
 use Rattle.apex_orders.proofs.points.is_known.Given as goal
 
-abbrev pub invariant-loop-k : goal.invariant-loop-k
-invariant-loop-k l = record {
+abbrev pub invariant-loop-count : goal.invariant-loop-count
+invariant-loop-count l = record {
   ports : l.trial.ports ≡ l.initial.trial.ports;
   trial : IsTrialOf l.config l.trial;
-  others : (j n : ℕ) (order : List ℕ) → j < l.k-index → slice_get l.k-items j ≡ Some n → slice_get l.orders n ≡ Some order
+  here : (k : ℕ) → l.count ≡ k + 1 → slice_get l.points.hashes k ≡ Some l.hash;
+  others : (n : ℕ) (order : List ℕ) → l.count ≤ n → slice_get l.orders n ≡ Some order
       → IsSamePoint l.config l.initial.trial.ports.history (history_of l.config l.scripts order) → ⊥;
 }
+
+abbrev pub decreases-loop-count : goal.decreases-loop-count
+decreases-loop-count l = l.count
