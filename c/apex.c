@@ -92,7 +92,7 @@ static size_t name_length(const char *name) { return strnlen(name, MAX_NAME_LENG
 /* A message of a negative length is asked for as one of length 0, and both are answered INVALID_PARAM. */
 static size_t byte_count(MESSAGE_SIZE_TYPE length) { return length < 0 ? 0 : (size_t)length; }
 
-/* Whether a fault that the bench injects meets a message, and what is answered then. */
+/* Whether a fault that the bench injects meets a message, and what is answered then: the ports see nothing of it. */
 static bool meets_fault(struct apex_made made, const APEX_BYTE *bytes, MESSAGE_SIZE_TYPE length, uint32_t *answer) {
     made.bytes = bytes;
     made.length = byte_count(length);
@@ -102,11 +102,6 @@ static bool meets_fault(struct apex_made made, const APEX_BYTE *bytes, MESSAGE_S
         apex_forget_words();
     }
     return is_met;
-}
-
-/* The answer to a message that is longer than any channel's: INVALID_CONFIG if the port has a status. */
-static uint32_t answer_too_long(uint32_t status_answer) {
-    return status_answer == NO_ERROR ? INVALID_CONFIG : status_answer;
 }
 
 void CREATE_SAMPLING_PORT(SAMPLING_PORT_NAME_TYPE SAMPLING_PORT_NAME, MESSAGE_SIZE_TYPE MAX_MESSAGE_SIZE,
@@ -142,18 +137,8 @@ void WRITE_SAMPLING_MESSAGE(SAMPLING_PORT_ID_TYPE SAMPLING_PORT_ID, MESSAGE_ADDR
     pthread_mutex_lock(&lock);
     uint64_t now = moment();
     uint32_t answer;
-    const bool is_met = meets_fault(made_now(now, APEX_WRITE_SAMPLING_MESSAGE, id, 0), MESSAGE_ADDR, LENGTH, &answer);
-    if (!is_met) {
+    if (!meets_fault(made_now(now, APEX_WRITE_SAMPLING_MESSAGE, id, 0), MESSAGE_ADDR, LENGTH, &answer)) {
         answer = apex_write_sampling_message(&module, partition, now, id, MESSAGE_ADDR, byte_count(LENGTH));
-    }
-    if (is_met) {
-        /* the ports see nothing of it */
-    } else if (answer == APEX_TOO_LONG) {
-        struct apex_sampling_port_status status;
-        answer = apex_get_sampling_port_status(&module, partition, now, id, &status);
-        apex_note_status(made_now(now, APEX_GET_SAMPLING_PORT_STATUS, id, answer), NULL, &status);
-        answer = answer_too_long(answer);
-    } else {
         apex_note_message(made_now(now, APEX_WRITE_SAMPLING_MESSAGE, id, answer), MESSAGE_ADDR, byte_count(LENGTH));
     }
     pthread_mutex_unlock(&lock);
@@ -256,18 +241,8 @@ void SEND_QUEUING_MESSAGE(QUEUING_PORT_ID_TYPE QUEUING_PORT_ID, MESSAGE_ADDR_TYP
     pthread_mutex_lock(&lock);
     uint64_t now = moment();
     uint32_t answer;
-    const bool is_met = meets_fault(made_now(now, APEX_SEND_QUEUING_MESSAGE, id, 0), MESSAGE_ADDR, LENGTH, &answer);
-    if (!is_met) {
+    if (!meets_fault(made_now(now, APEX_SEND_QUEUING_MESSAGE, id, 0), MESSAGE_ADDR, LENGTH, &answer)) {
         answer = apex_send_queuing_message(&module, partition, now, id, MESSAGE_ADDR, byte_count(LENGTH));
-    }
-    if (is_met) {
-        /* the ports see nothing of it */
-    } else if (answer == APEX_TOO_LONG) {
-        struct apex_queuing_port_status status;
-        answer = apex_get_queuing_port_status(&module, partition, now, id, &status);
-        apex_note_status(made_now(now, APEX_GET_QUEUING_PORT_STATUS, id, answer), &status, NULL);
-        answer = answer_too_long(answer);
-    } else {
         apex_note_message(made_now(now, APEX_SEND_QUEUING_MESSAGE, id, answer), MESSAGE_ADDR, byte_count(LENGTH));
     }
     pthread_mutex_unlock(&lock);

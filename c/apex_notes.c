@@ -3,6 +3,7 @@
 #include "apex_host.h"
 
 #include <stdio.h>
+#include <stdlib.h>
 #include <string.h>
 
 const struct apex_host *apex_host;
@@ -86,18 +87,24 @@ void apex_tell_lines(char *lines) {
     }
 }
 
+/* The words name the length of a message and no byte of it, so zeros stand for it. There are no
+ * words if memory for them is refused. */
 const char *bench_last_words(void) {
     static _Thread_local char words[512];
-    static const uint8_t no_message[APEX_MESSAGE_LIMIT];
+    static const uint8_t some[APEX_MESSAGE_LIMIT];
+    const bool is_longer = refused.length > sizeof some;
+    uint8_t *longer = is_longer ? calloc(refused.length, 1) : NULL;
+    const uint8_t *message = is_longer ? longer : some;
+    const uint8_t *bytes = apex_has_name(refused.call.service) ? refused_name : message;
     uint64_t length = 0;
     words[0] = '\0';
-    if (refused.answer != NO_ERROR) {
-        apex_call_words(bench_take_handle(), refused.partition, 0, &refused.call,
-                        apex_has_name(refused.call.service) ? refused_name : no_message,
+    if (refused.answer != NO_ERROR && bytes != NULL) {
+        apex_call_words(bench_take_handle(), refused.partition, 0, &refused.call, bytes,
                         refused.length, (uint8_t *)words, sizeof words - 1, &length);
         bench_give_handle_back();
         words[length < sizeof words ? length : 0] = '\0';
     }
+    free(longer);
     return words;
 }
 

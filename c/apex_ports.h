@@ -12,8 +12,7 @@
  * If a function assumes more, its comment says so.
  *
  * All else is tested, and has an answer of its own: a handle that is not open, or is open already; a partition,
- * a channel, an identifier or a service that is not there; a text that is no name; a message that is too long; a buffer
- * that is too short. */
+ * a channel, an identifier or a service that is not there; a text that is no name; a buffer that is too short. */
 #ifndef APEX_PORTS_H
 #define APEX_PORTS_H
 
@@ -39,7 +38,7 @@ enum {
     APEX_NOT_MADE = 7,      /* the partition is in IDLE: the call wasn't made, and is recorded so */
     APEX_NOT_OPEN = 8,      /* the handle isn't open; nothing changed */
     APEX_NO_PARTITION = 9,  /* the module has no partition of the number; nothing changed */
-    APEX_TOO_LONG = 10,     /* more than APEX_MESSAGE_LIMIT bytes, or APEX_LINE_LIMIT in a line; nothing changed */
+    APEX_TOO_LONG = 10,     /* a judge's answer: a message or a line has more bytes than a log's; nothing changed */
     APEX_NO_NAME = 11,      /* the text isn't 1 to 30 letters, digits or _; nothing changed */
     APEX_SHORT_BUFFER = 12, /* the buffer has too little room; nothing changed */
     APEX_NO_CHANNEL = 13,   /* a reader's answer: the module has no channel of the number */
@@ -104,7 +103,7 @@ uint32_t apex_create_sampling_port(struct apex_handle *handle, uint32_t partitio
                                    size_t name_length, uint32_t size, uint32_t direction, uint64_t refresh,
                                    uint32_t *id);
 
-/* WRITE_SAMPLING_MESSAGE. Assumed: `message` points to `message_length` bytes. */
+/* WRITE_SAMPLING_MESSAGE, with a message of any length. Assumed: `message` points to `message_length` bytes. */
 uint32_t apex_write_sampling_message(struct apex_handle *handle, uint32_t partition, uint64_t at, uint32_t id,
                                      const uint8_t *message, size_t message_length);
 
@@ -136,7 +135,7 @@ uint32_t apex_create_queuing_port(struct apex_handle *handle, uint32_t partition
                                   size_t name_length, uint32_t size, uint32_t depth, uint32_t direction,
                                   uint32_t discipline, uint32_t *id);
 
-/* SEND_QUEUING_MESSAGE. Assumed: `message` points to `message_length` bytes. */
+/* SEND_QUEUING_MESSAGE, with a message of any length. Assumed: `message` points to `message_length` bytes. */
 uint32_t apex_send_queuing_message(struct apex_handle *handle, uint32_t partition, uint64_t at, uint32_t id,
                                    const uint8_t *message, size_t message_length);
 
@@ -310,8 +309,8 @@ enum apex_row {
 };
 
 /* The row that a call of the partition would get at the moment `at`. `bytes` are the name of the port that the call is
- * made with, or its message; other calls take none. If the answer isn't 0, the row stays as it was. Answers 0,
- * APEX_NO_SERVICE, APEX_NO_NAME, APEX_TOO_LONG, APEX_NOT_OPEN or APEX_NO_PARTITION, the first that applies.
+ * made with, or its message, of any length; other calls take none. If the answer isn't 0, the row stays as it was.
+ * Answers 0, APEX_NO_SERVICE, APEX_NO_NAME, APEX_NOT_OPEN or APEX_NO_PARTITION, the first that applies.
  * Assumed: `bytes` points to `bytes_length` bytes. */
 uint32_t apex_call_row(struct apex_handle *handle, uint32_t partition, uint64_t at, const struct apex_call *call,
                        const uint8_t *bytes, size_t bytes_length, uint32_t *row);

@@ -39,6 +39,9 @@ static void print_name(FILE *file, struct apex_handle *module, uint32_t number,
     fprintf(file, "%.*s", (int)length, (const char *)name);
 }
 
+/* Whether a call is made with a message of more bytes than a text has. The ports refuse each. */
+static bool is_too_long(const struct apex_made *made) { return made->length > APEX_MESSAGE_LIMIT; }
+
 static void print_arguments(FILE *file, const struct apex_made *made) {
     const struct apex_call *call = &made->call;
     if (apex_has_name(call->service)) {
@@ -52,7 +55,11 @@ static void print_arguments(FILE *file, const struct apex_made *made) {
         fprintf(file, " %u %u %u %u", call->size, call->depth, call->direction, call->discipline);
     } else if (call->service == APEX_SEND_QUEUING_MESSAGE ||
                call->service == APEX_WRITE_SAMPLING_MESSAGE) {
-        print_bytes(file, made->bytes, made->length);
+        if (is_too_long(made)) {
+            fprintf(file, " length %zu", made->length);
+        } else {
+            print_bytes(file, made->bytes, made->length);
+        }
     }
 }
 
@@ -81,8 +88,8 @@ static void print_given(FILE *file, const struct apex_made *made) {
 }
 
 static void keep(const struct apex_made *made) {
-    if (made->call.refresh > INT64_MAX || made->at > INT64_MAX) {
-        fputs("# ", kept); /* no text has such a number, so that a log has it as a comment */
+    if (made->call.refresh > INT64_MAX || made->at > INT64_MAX || is_too_long(made)) {
+        fputs("# ", kept); /* no text has such a number or message: a log has it as a comment */
     }
     fprintf(kept, "%" PRIu64 " ", made->at);
     print_name(kept, made->module, made->partition, apex_partition_name);

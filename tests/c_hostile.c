@@ -5,11 +5,20 @@
 #include "../c/apex_ports.h"
 #include "c_test.h"
 
-enum { HANDLES = 4, PARTITIONS = 8, SERVED = 0, REFUSED = 1, DONE = 2, FILL = 0xa5 };
+enum { HANDLES = 4, PARTITIONS = 8, PORTS = 8, SERVED = 0, REFUSED = 1, DONE = 2, FILL = 0xa5 };
+
+/* The kinds of ports, and numbers of the standard. */
+enum { SAMPLING = 0, QUEUING = 1, IDLE = 0, NORMAL = 3, INVALID_PARAM = 3, INVALID_CONFIG = 4 };
 
 static struct apex_handle handles[HANDLES];
 static bool is_open[HANDLES];
 static uint64_t calls[HANDLES][PARTITIONS];
+
+/* What the calls of each partition made of it: whether it is in IDLE, and which ports of either kind are created, by
+ * their identifiers. */
+static struct {
+    bool is_idle, has_port[2][PORTS];
+} states[HANDLES][PARTITIONS];
 static uint32_t partitions;
 static uint8_t config[65536];
 static size_t config_length;
@@ -95,7 +104,7 @@ static uint32_t make_call(unsigned service, const struct given *g, struct places
     case 10:
         return apex_clear_queuing_port(h, p, g->at, g->id);
     default:
-        return apex_set_partition_mode(h, p, g->at, any(9) == 0 ? n[0] : 1 + (uint32_t)any(3));
+        return apex_set_partition_mode(h, p, g->at, n[0]);
     }
 }
 
@@ -113,9 +122,6 @@ static size_t room_at(const struct given *g) {
 static uint32_t refusal(unsigned service, const struct given *g) {
     if (service < 4 && !is_name(g->name, g->name_length)) {
         return APEX_NO_NAME;
-    }
-    if ((service == 4 || service == 5) && g->length > APEX_MESSAGE_LIMIT) {
-        return APEX_TOO_LONG;
     }
     if (!is_open[g->handle] || g->partition >= partitions) {
         return !is_open[g->handle] ? APEX_NOT_OPEN : APEX_NO_PARTITION;
@@ -178,9 +184,32 @@ static bool are_filled(const uint8_t *bytes, size_t from, size_t length) {
     return true;
 }
 
+/* The answer of the reply table to a message that is longer than any channel's. */
+static uint32_t answer_to_longer(unsigned service, const struct given *g) {
+    const bool *has_port = states[g->handle][g->partition].has_port[service == 4 ? SAMPLING : QUEUING];
+    if (states[g->handle][g->partition].is_idle) {
+        return APEX_NOT_MADE;
+    }
+    return g->id < PORTS && has_port[g->id] ? INVALID_CONFIG : INVALID_PARAM;
+}
+
+/* An accepted creation or mode. */
+static void follow(unsigned service, const struct given *g, uint32_t id) {
+    if (service < 2) {
+        expect(id > 0 && id < PORTS, "the configuration has few ports");
+        states[g->handle][g->partition].has_port[service == 0 ? SAMPLING : QUEUING][id] = true;
+    } else if (service == 11 && g->numbers[0] < NORMAL) {
+        memset(&states[g->handle][g->partition], 0, sizeof states[0][0]);
+        states[g->handle][g->partition].is_idle = g->numbers[0] == IDLE;
+    }
+}
+
 static void call_service(void) {
     const unsigned service = any(100) == 0 ? 11 : (unsigned)any(11);
     struct given g = any_given();
+    if (service == 11 && any(9) != 0) {
+        g.numbers[0] = 1 + (uint32_t)any(3);
+    }
     struct places before, after;
     memset(&before, FILL, sizeof before);
     memcpy(&after, &before, sizeof after);
@@ -189,6 +218,12 @@ static void call_service(void) {
     if (refused == 0) {
         calls[g.handle][g.partition]++;
         expect(answer <= APEX_NOT_MADE && answer != 6, "a call that is served answers a return code or 'not made'");
+        expect((service != 4 && service != 5) || g.length <= APEX_MESSAGE_LIMIT ||
+                   answer == answer_to_longer(service, &g),
+               "a message that is longer than any channel's has the answer of the reply table");
+        if (answer == 0) {
+            follow(service, &g, after.number);
+        }
     } else {
         expect(answer == refused, "a call that is refused has its own answer");
     }
@@ -237,8 +272,13 @@ static void create_ports(uint32_t handle) {
         for (uint32_t i = 0; i < 4; i++) {
             uint32_t id;
             const uint8_t *name = (const uint8_t *)names[i];
-            apex_create_queuing_port(&handles[handle], p, 0, name, strlen(names[i]), 4, 2, i % 2, 0, &id);
-            apex_create_sampling_port(&handles[handle], p, 0, name, strlen(names[i]), 4, i % 2, 50, &id);
+            const struct given g = {.handle = handle, .partition = p};
+            if (apex_create_queuing_port(&handles[handle], p, 0, name, strlen(names[i]), 4, 2, i % 2, 0, &id) == 0) {
+                follow(1, &g, id);
+            }
+            if (apex_create_sampling_port(&handles[handle], p, 0, name, strlen(names[i]), 4, i % 2, 50, &id) == 0) {
+                follow(0, &g, id);
+            }
             calls[handle][p] += 2;
         }
     }
@@ -263,6 +303,7 @@ static void open_or_close(void) {
             /* (a beginning of the text may be a configuration, of fewer partitions) */
             is_open[handle] = length == config_length;
             memset(calls[handle], 0, sizeof calls[handle]);
+            memset(states[handle], 0, sizeof states[handle]);
             expect(is_open[handle] ? are_counted(handle) : apex_close(&handles[handle]) == 0, "what was opened");
         }
         if (answer == 0 && is_open[handle]) {

@@ -7,7 +7,7 @@
 
 struct noted noted[NOTES];
 unsigned noted_count, locks, reads_of_clock;
-uint32_t answer_now, answer_of_status;
+uint32_t answer_now, answer_after;
 int held;
 const uint8_t given_message[GIVEN_LENGTH] = {0xc1, 0xc2, 0xc3, 0xc4, 0xc5, 0xc6};
 
@@ -64,7 +64,7 @@ static struct noted *note(const char *service, struct apex_handle *handle, uint3
     return new;
 }
 
-static uint32_t answer_of(struct noted *new) { return new == &noted[0] ? answer_now : answer_of_status; }
+static uint32_t answer_of(struct noted *new) { return new == &noted[0] ? answer_now : answer_after; }
 
 static void note_text(struct noted *new, const uint8_t *text, size_t length) {
     new->address = text;

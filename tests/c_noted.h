@@ -23,8 +23,8 @@ struct noted {
 extern struct noted noted[NOTES];
 extern unsigned noted_count;
 
-/* What the exports answer: the first call of a service, and a status that is asked for after another call. */
-extern uint32_t answer_now, answer_of_status;
+/* What the exports answer: the first call, and those after it. */
+extern uint32_t answer_now, answer_after;
 
 /* What is given if the answer is 0: each number another, so that no two can be exchanged. */
 enum {

@@ -79,7 +79,8 @@ static void calls(void) {
     SEND_QUEUING_MESSAGE(1, message, 65, 0, &code);
     words_are("message of 65 bytes, channel Q takes 64");
     words_of_threads();
-    SEND_QUEUING_MESSAGE(1, message, 2000, 0, &code);
+    SEND_QUEUING_MESSAGE(1, message, 2000, 0, &code); /* a message that no log has */
+    words_are("message of 2000 bytes, channel Q takes 64");
     GET_QUEUING_PORT_ID(out, &id, &code);
     GET_QUEUING_PORT_STATUS(1, &status, &code);
     SET_PARTITION_MODE(IDLE, &code);

@@ -15,7 +15,7 @@ static struct apex_handle module;
 static struct apex_judge judged;
 static uint8_t config[65536];
 static size_t config_length;
-static unsigned long rows[ROWS], departures;
+static unsigned long rows[ROWS], departures, longer;
 
 /* The message of the last reply, and the places of the last departure. */
 static uint8_t received[APEX_MESSAGE_LIMIT], standard[APEX_MESSAGE_LIMIT], said[WORDS];
@@ -177,8 +177,13 @@ static void judge_reply(const struct asked *it, const struct apex_reply *reply, 
     begin();
 }
 
-/* What is asked is no call, or no partition's: the number that says so, or 0. */
-static uint32_t refusal(const struct asked *it) {
+/* A call with a message of more bytes than a log has: no judge takes it. */
+static bool is_longer(const struct asked *it) {
+    return (it->call.service == 1 || it->call.service == 6) && it->length > APEX_MESSAGE_LIMIT;
+}
+
+/* What is asked, or judged, is no call, or no partition's: the number that says so, or 0. */
+static uint32_t refusal(const struct asked *it, bool is_judged) {
     const uint32_t service = it->call.service;
     if (service >= SERVICES) {
         return APEX_NO_SERVICE;
@@ -186,7 +191,7 @@ static uint32_t refusal(const struct asked *it) {
     if (takes_name(service) && memchr(it->bytes, '.', it->length) != NULL) {
         return APEX_NO_NAME;
     }
-    if ((service == 1 || service == 6) && it->length > APEX_MESSAGE_LIMIT) {
+    if (is_judged && is_longer(it)) {
         return APEX_TOO_LONG;
     }
     return !module.is_open ? APEX_NOT_OPEN : it->partition >= PARTITIONS ? APEX_NO_PARTITION : 0;
@@ -219,6 +224,17 @@ static uint32_t ask(const struct asked *it, uint32_t *row, uint8_t *words, uint6
     return answer;
 }
 
+/* A longer message than any channel's is refused as such where its partition may call and has the port. */
+static void expect_longer(uint32_t row, const uint8_t *words, uint64_t length) {
+    static const char wanted[] = "message of 1025 bytes, channel ";
+    expect(row == APEX_ROW_IN_IDLE || row == APEX_ROW_NO_SUCH_PORT || row == APEX_ROW_MESSAGE_TOO_LONG,
+           "a longer message is not sent");
+    expect(row != APEX_ROW_MESSAGE_TOO_LONG ||
+               (length > strlen(wanted) && memcmp(words, wanted, strlen(wanted)) == 0),
+           "the words have the length of the message");
+    longer += row == APEX_ROW_MESSAGE_TOO_LONG;
+}
+
 static void ask_and_make(void) {
     static struct asked it;
     uint8_t words[WORDS], again[WORDS];
@@ -226,14 +242,14 @@ static void ask_and_make(void) {
     uint32_t row = 77, row_again = 77;
     give(&it);
     apex_call_count(&module, it.partition, &count);
-    const uint32_t refused = refusal(&it), answer = ask(&it, &row, words, &length);
+    const uint32_t refused = refusal(&it, false), answer = ask(&it, &row, words, &length);
     apex_call_count(&module, it.partition, &count_after);
     expect(answer == refused && count == count_after, "asking has its own answers, and makes no call");
     if (refused != 0) {
         const struct apex_reply none = {0, 0, 0, 0, 0, 0, 0, 0};
         received_length = 0;
         expect(row == 77 && length == 77, "the places stay as they were where there is no row");
-        expect(judge(&it, &none) == refused, "what is no call is not judged");
+        expect(judge(&it, &none) == refusal(&it, true), "what is no call is not judged");
         return;
     }
     const struct apex_reply reply = make(&it);
@@ -245,6 +261,11 @@ static void ask_and_make(void) {
         ask(&it, &row_again, again, &length_again);
         expect(row_again == row && length_again == length && memcmp(words, again, WORDS) == 0,
                "a call that was refused has the row and the words that it had before");
+    }
+    if (is_longer(&it)) {
+        expect_longer(row, words, length);
+        expect(judge(&it, &reply) == APEX_TOO_LONG, "no log has a call with such a message");
+        return;
     }
     judge_reply(&it, &reply, row, words, length);
 }
@@ -288,7 +309,7 @@ static void ask_at_random(long calls) {
         all += rows[row];
     }
     expect(kinds == ROWS, "each row was there");
-    expect(departures > 0, "a reply departed");
+    expect(departures > 0 && longer > 0, "a reply departed, and a message was too long");
     printf("%lu calls had %lu rows\n", all, kinds);
     refuse_replies();
     apex_close(&module);

@@ -75,15 +75,6 @@ static void create_or_find(void) {
     done += code == NO_ERROR;
 }
 
-/* The answer beside a message that is longer than any, which is asked for as a status. */
-static uint32_t too_long(bool is_queuing, uint32_t id) {
-    struct apex_queuing_port_status queuing;
-    struct apex_sampling_port_status sampling;
-    const uint32_t answer = is_queuing ? apex_get_queuing_port_status(&beside, partition, at, id, &queuing)
-                                       : apex_get_sampling_port_status(&beside, partition, at, id, &sampling);
-    return answer == 0 ? INVALID_CONFIG : answer;
-}
-
 static void send_or_write(void) {
     static uint8_t bytes[2000];
     const int32_t id = any_id();
@@ -105,9 +96,8 @@ static void send_or_write(void) {
         return;
     }
     const size_t count = length < 0 ? 0 : (size_t)length;
-    answer = count > APEX_MESSAGE_LIMIT ? too_long(is_queuing, (uint32_t)id)
-             : is_queuing ? apex_send_queuing_message(&beside, partition, at, (uint32_t)id, bytes, count)
-                          : apex_write_sampling_message(&beside, partition, at, (uint32_t)id, bytes, count);
+    answer = is_queuing ? apex_send_queuing_message(&beside, partition, at, (uint32_t)id, bytes, count)
+                        : apex_write_sampling_message(&beside, partition, at, (uint32_t)id, bytes, count);
     expect(code == expected(answer, is_queuing ? time_out : 0), "the code of a send or a write");
     done += code == NO_ERROR;
 }

@@ -196,20 +196,12 @@ static void every_parameter(int service) {
     memcpy(name, "NAV_OUT", 7);
 }
 
-/* A message that is longer than any is answered by the status of its port, at the same moment. */
-static void too_long(int service, uint32_t status) {
+/* A message that is longer than any channel's is one call, as any other. */
+static void longer(int service, uint32_t answer) {
     struct given g = ample();
     g.length = 1025;
-    answer_now = APEX_TOO_LONG;
-    answer_of_status = status;
-    const uint64_t at = next_moment();
-    call(service, &g);
-    expect(noted_count == 2 && noted[1].handle == noted[0].handle, "a status is asked for");
-    check_parameters(service, &g, at);
-    expect(strcmp(noted[1].service, service == SEND ? "queuing-status" : "sampling-status") == 0, "the port's status");
-    expect(noted[1].partition == MINE && noted[1].at == at && noted[1].numbers[0] == 11, "the same port and moment");
+    call_and_check(service, &g, answer, next_moment());
     expect(reads_of_clock == 1, "the moment is taken once");
-    check_places(service, status == 0 ? 4 : status, &g, true);
 }
 
 /* Nothing is done if a place is null: INVALID_PARAM, and nothing at all without a place for the code. */
@@ -255,7 +247,7 @@ static void every_function_of_the_bench(void) {
     for (uint32_t answer = 0; answer <= 12; answer++) {
         (void)ample();
         answer_now = answer;
-        answer_of_status = answer + 100;
+        answer_after = answer + 100;
         expect(bench_open(text, 3) == answer && noted_count == 1 && locks == 1 && held == 0, "opening");
         expect(noted[0].address == text && noted[0].length == 3, "the text that is opened");
         expect(bench_close() == answer + 100 && noted_count == 2 && locks == 2 && held == 0, "closing");
@@ -285,11 +277,11 @@ int main(void) {
         every_null(service);
         bench_follow_clock();
         for (size_t i = 0; gives_message(service) && i < sizeof answers / sizeof *answers; i++) {
-            too_long(service, answers[i]);
+            longer(service, answers[i]);
         }
     }
     pthread_t thread;
-    answer_now = answer_of_status = 0;
+    answer_now = answer_after = 0;
     expect(pthread_create(&thread, NULL, of_another_partition, NULL) == 0, "a thread");
     pthread_join(thread, NULL);
     struct given g = ample();

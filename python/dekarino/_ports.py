@@ -5,10 +5,10 @@ from typing import Iterable, List, NoReturn, Optional, Tuple, Union
 
 from ._codes import Mode
 from ._errors import NoCallError
-from ._library import MESSAGE_LIMIT, MOMENT_LIMIT, NUMBER_LIMIT, TOO_LONG, number
+from ._library import MESSAGE_LIMIT, MOMENT_LIMIT, NUMBER_LIMIT, number
 from ._readers import ConfiguredPort, named
 from ._replies import Asked, IdReply, QueuingStatusReply, ReadReply, ReceiveReply, Reply, SamplingStatusReply
-from ._server import NO_CALLS, Call, Server
+from ._server import Call, Server
 from ._services import Places
 
 Message = Union[bytes, bytearray, memoryview]
@@ -138,8 +138,6 @@ class _Port(_Caller):
     def _pass_all_on(self, call: Call, messages: Iterable[Message], at: Optional[int]) -> List[Reply[None]]:
         """Makes a call for each message."""
         sent = [it if type(it) is bytes else message_bytes(it) for it in messages]
-        if max(map(len, sent), default=0) > MESSAGE_LIMIT:
-            raise NoCallError(NO_CALLS[TOO_LONG])
         replies: List[Reply[None]] = []
         for begin in range(0, len(sent), AT_ONCE):
             some = sent[begin : begin + AT_ONCE]

@@ -22,7 +22,6 @@ CODES, ROWS = tuple(Code), tuple(Row)
 LAST = 20
 # Why the library returns that there is no such call.
 NO_CALLS = {_library.NOT_OPEN: "the module is closed", _library.NO_PARTITION: "there is no such partition",
-            _library.TOO_LONG: f"the message has more than {_library.MESSAGE_LIMIT} bytes",
             _library.NO_NAME: "a name has 1 to 30 ASCII letters, digits and `_`"}
 Value = TypeVar("Value")
 

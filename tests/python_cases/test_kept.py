@@ -232,7 +232,7 @@ class Lists(unittest.TestCase):
         """The replies are those of single calls: the rows, the words and the reports too."""
         chance = random.Random(56)
         for _ in range(40):
-            messages = [bytes(chance.randint(0, 5)) for _ in range(chance.randint(0, 130))]
+            messages = [bytes(chance.choice((0, 1, 2, 3, 4, 5, 1025))) for _ in range(chance.randint(0, 130))]
             counts = [chance.randint(0, 130) for _ in range(2)]
             both = []
             for single in (True, False):
@@ -251,7 +251,6 @@ class Lists(unittest.TestCase):
     def test_what_is_no_call(self):
         bench = Bench()
         before = bench.module.report()
-        self.assertRaises(NoCallError, bench.out.send_many, [b"1", bytes(1025)])
         self.assertRaises(NoCallError, bench.nav.receive_many, -1)
         self.assertRaisesRegex(TypeError, "^a message is .* and not str$", bench.out.send_many, [b"1", "2"])
         self.assertRaisesRegex(TypeError, "^a message is .* and not int$", bench.out.send_many, b"12")

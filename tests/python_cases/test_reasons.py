@@ -54,6 +54,10 @@ class Reasons(unittest.TestCase):
                   "no queuing port of identifier 2 is created")
         self.says(out.send(b"12345"), Code.INVALID_CONFIG, Row.MESSAGE_TOO_LONG,
                   "message of 5 bytes, channel NAV takes 4")
+        self.says(out.send(bytes(1025)), Code.INVALID_CONFIG, Row.MESSAGE_TOO_LONG,
+                  "message of 1025 bytes, channel NAV takes 4")
+        self.says(self.fms.queuing_port(2).send(bytes(1025)), Code.INVALID_PARAM, Row.NO_SUCH_PORT,
+                  "no queuing port of identifier 2 is created")
         self.says(self.dsp.get_queuing_port_id("NAV_IN"), Code.INVALID_CONFIG, Row.NOT_CREATED,
                   "no queuing port NAV_IN is created")
         self.says(out.receive(), Code.INVALID_MODE, Row.NOT_A_DESTINATION, "port NAV_OUT is a source")

@@ -1,3 +1,4 @@
 pub mod JournalSteps
 pub mod LeastRoom
 pub mod RoomSteps
+pub mod SampleSteps

@@ -3,4 +3,5 @@ pub mod BoardView
 pub mod Journals
 pub mod Recorded
 pub mod Room
+pub mod Samples
 pub mod OnRequests

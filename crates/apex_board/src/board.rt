@@ -3,11 +3,12 @@ ghost use Rattle.std.specs.Prelude.{◌≡◌, ◌+◌, ◌<◌, ◌≤◌, ◌�
 
 use crate::asked::asked_port;
 use crate::records::Records;
+use crate::samples::{new_samples, put_sample};
 use apex_module::Config;
 use apex_observers::{Observer, ObserverFault, Publishers, Receipt};
 use apex_ports::{Entry, Ports};
 use apex_threads::{new_publishers, publish};
-use apex_types::{Call, Moment, OutOfMemory, Reply};
+use apex_types::{Call, Moment, OutOfMemory, Reply, Sample};
 use std::alloc::{Allocator, Global};
 use std::marker::Model;
 use std::sync::Wait;
@@ -23,6 +24,7 @@ mod readers;
 pub struct Board<A: Allocator = Global> {
     ports: Ports<A>,
     records: Records<A>,
+    samples: Vec<Option<Sample>, A>,
     publishers: Publishers<A>,
 }
 
@@ -42,7 +44,8 @@ impl<A: Allocator> Model for Board<A> {
       log_room = spare board.records.log;
     } };
 
-    ghost invariant = { λ board. IsBoard board.ports board.records board.publishers };
+    ghost invariant = { λ board. IsBoard board.ports board.records
+        board.samples.items board.publishers };
 }
 
 impl<A: Allocator + Copy> Board<A> {
@@ -55,11 +58,13 @@ impl<A: Allocator + Copy> Board<A> {
         ensures log { IfOk result (λ board. board.log ≡ []) }
     {
         let records = Records::new(alloc, &config)?;
+        let samples = new_samples(alloc, &config)?;
         let ports = Ports::new(alloc, config)?;
         let publishers = new_publishers(rt, alloc, ports.config())?;
         Ok(Board {
             ports,
             records,
+            samples,
             publishers,
         })
     }
@@ -178,6 +183,13 @@ impl<A: Allocator> Board<A> {
         let port = asked_port(self.ports.config(), partition, call);
         self.records.make_room(self.ports.config(), port, call)?;
         publish(rt, &mut self.publishers, &self.ports, partition, at, call)?;
+        put_sample(
+            self.samples.as_mut_slice(),
+            &self.ports,
+            partition,
+            at,
+            call,
+        );
         let reply = self.ports.call(partition, at, call);
         let entry = Entry {
             partition,
@@ -214,6 +226,7 @@ impl<A: Allocator> Board<A> {
         let Board {
             ports: _,
             records: _,
+            samples: _,
             publishers,
         } = self;
         publishers.close(rt);

@@ -6,6 +6,7 @@ pub mod board;
 mod journal;
 mod records;
 pub mod requests;
+mod samples;
 
 pub use crate::board::Board;
 pub use crate::requests::{Stopped, run_list};

@@ -30,11 +30,12 @@ abbrev pub asked_reply : PortsHeld → ℕ → Moment → Asked → Option Reply
 asked_reply ports p at (Ok call) = reply_in ports p at call
 asked_reply ports p at (Err number) = None
 
--- ---- calls with a name, which the text may not be
+-- a call with a name or a message, if bytes are one
+abbrev pub asked_with : (List ℕ → Call) → Result (List ℕ) ℕ → Asked
+asked_with call (Ok bytes) = Ok (call bytes)
+asked_with call (Err number) = Err number
 
-abbrev pub with_name : (List ℕ → Call) → Result (List ℕ) NameFault → Asked
-with_name call (Ok name) = Ok (call name)
-with_name call (Err fault) = Err NO_NAME
+-- ---- calls with a name, which the text may not be
 
 -- the name that a text gives, or the number that says that it gives none
 abbrev pub name_asked : Result (List ℕ) NameFault → Result (List ℕ) ℕ
@@ -43,32 +44,33 @@ name_asked (Err fault) = Err NO_NAME
 
 abbrev pub create_sampling : List ℕ → ℕ → ℕ → ℕ → Asked
 create_sampling text size direction refresh =
-    with_name (λ name. call.CreateSampling name size direction refresh) (name_of text)
+    asked_with (λ name. call.CreateSampling name size direction refresh) (name_asked (name_of text))
 
 abbrev pub create_queuing : List ℕ → ℕ → ℕ → ℕ → ℕ → Asked
 create_queuing text size depth direction discipline =
-    with_name (λ name. call.CreateQueuing name size depth direction discipline) (name_of text)
+    asked_with (λ name. call.CreateQueuing name size depth direction discipline) (name_asked (name_of text))
 
 abbrev pub sampling_id : List ℕ → Asked
-sampling_id text = with_name (λ name. call.SamplingId name) (name_of text)
+sampling_id text = asked_with (λ name. call.SamplingId name) (name_asked (name_of text))
 
 abbrev pub queuing_id : List ℕ → Asked
-queuing_id text = with_name (λ name. call.QueuingId name) (name_of text)
+queuing_id text = asked_with (λ name. call.QueuingId name) (name_asked (name_of text))
 
--- ---- calls with a message, which may be longer than any
-
-abbrev pub with_message : (List ℕ → Call) → List ℕ → Asked
-with_message call message = if nat_lt MESSAGE_LIMIT (length message) then Err TOO_LONG else Ok (call message)
+-- ---- entries of a log, whose messages have a greatest length
 
 -- the message that bytes are, or the number that says that they are too many
 abbrev pub message_asked : List ℕ → Result (List ℕ) ℕ
 message_asked message = if nat_lt MESSAGE_LIMIT (length message) then Err TOO_LONG else Ok message
 
-abbrev pub send : ℕ → List ℕ → Asked
-send id message = with_message (λ bytes. call.SendQueuing id bytes) message
+-- the call of an entry, or the number that says that no entry has its message
+abbrev pub entry_call : Call → Asked
+entry_call (call.WriteSampling id message) = asked_with (λ bytes. call.WriteSampling id bytes) (message_asked message)
+entry_call (call.SendQueuing id message) = asked_with (λ bytes. call.SendQueuing id bytes) (message_asked message)
+entry_call other = Ok other
 
-abbrev pub write : ℕ → List ℕ → Asked
-write id message = with_message (λ bytes. call.WriteSampling id bytes) message
+abbrev pub entry_asked : Asked → Asked
+entry_asked (Ok call) = entry_call call
+entry_asked (Err number) = Err number
 
 -- ---- calls that write a message into a buffer of this many bytes, which may have no room for the channel's messages
 

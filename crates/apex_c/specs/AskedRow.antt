@@ -1,5 +1,6 @@
 -- The row of a call that isn't made.
-use Rattle.std.specs.Prelude.{ℕ, ◌==◌, if◌then◌else◌, List, Option, None, Some, Ok, Err}
+use Rattle.std.specs.Prelude.{ℕ, ◌==◌, if◌then◌else◌, List, Option, None, Some, Result, Ok, Err}
+use Rattle.apex_types.specs.Name.{name_of}
 use Rattle.apex_types.specs.declared.call.Call.{Call}
 use Rattle.apex_types.specs.declared.call.Call.TheVariants as call
 use Rattle.apex_types.specs.declared.moment.Moment.{Moment}
@@ -9,7 +10,7 @@ use Rattle.apex_ports.specs.Seen.{seen}
 use Rattle.apex_ports.specs.declared.rows.Row.{Row}
 use Rattle.apex_texts.specs.declared.service.Service.{Service}
 use Rattle.apex_texts.specs.declared.service.Service.TheVariants as service
-use Rattle.apex_c.specs.Asked.{Asked, create_queuing, create_sampling, queuing_id, sampling_id, send, write}
+use Rattle.apex_c.specs.Asked.{Asked, asked_with, entry_asked, name_asked}
 use Rattle.apex_c.specs.Found.{Found, in_partition}
 use Rattle.apex_c.specs.Held.{PortsHeld}
 use Rattle.apex_c.specs.Rows.{row_number}
@@ -33,28 +34,34 @@ service_numbered number =
     else if number == 11 then Some service.SetMode
     else None
 
--- the call of a service, with the name or the message that the bytes are
-abbrev pub call_of : AskedCall → List ℕ → Service → Asked
-call_of asked bytes service.CreateSampling = create_sampling bytes asked.size asked.direction asked.refresh
-call_of asked bytes service.WriteSampling = write asked.id bytes
-call_of asked bytes service.ReadSampling = Ok (call.ReadSampling asked.id)
-call_of asked bytes service.SamplingId = sampling_id bytes
-call_of asked bytes service.SamplingStatus = Ok (call.SamplingStatus asked.id)
-call_of asked bytes service.CreateQueuing = create_queuing bytes asked.size asked.depth asked.direction asked.discipline
-call_of asked bytes service.SendQueuing = send asked.id bytes
-call_of asked bytes service.ReceiveQueuing = Ok (call.ReceiveQueuing asked.id)
-call_of asked bytes service.QueuingId = queuing_id bytes
-call_of asked bytes service.QueuingStatus = Ok (call.QueuingStatus asked.id)
-call_of asked bytes service.ClearQueuing = Ok (call.ClearQueuing asked.id)
-call_of asked bytes service.SetMode = Ok (call.SetMode asked.mode)
+-- the call of a service, with the name that the bytes are, if they are one, or with the bytes as its message
+abbrev pub call_of : AskedCall → Result (List ℕ) ℕ → List ℕ → Service → Asked
+call_of asked name bytes service.CreateSampling =
+    asked_with (λ it. call.CreateSampling it asked.size asked.direction asked.refresh) name
+call_of asked name bytes service.WriteSampling = Ok (call.WriteSampling asked.id bytes)
+call_of asked name bytes service.ReadSampling = Ok (call.ReadSampling asked.id)
+call_of asked name bytes service.SamplingId = asked_with (λ it. call.SamplingId it) name
+call_of asked name bytes service.SamplingStatus = Ok (call.SamplingStatus asked.id)
+call_of asked name bytes service.CreateQueuing =
+    asked_with (λ it. call.CreateQueuing it asked.size asked.depth asked.direction asked.discipline) name
+call_of asked name bytes service.SendQueuing = Ok (call.SendQueuing asked.id bytes)
+call_of asked name bytes service.ReceiveQueuing = Ok (call.ReceiveQueuing asked.id)
+call_of asked name bytes service.QueuingId = asked_with (λ it. call.QueuingId it) name
+call_of asked name bytes service.QueuingStatus = Ok (call.QueuingStatus asked.id)
+call_of asked name bytes service.ClearQueuing = Ok (call.ClearQueuing asked.id)
+call_of asked name bytes service.SetMode = Ok (call.SetMode asked.mode)
 
-abbrev pub call_of_found : AskedCall → List ℕ → Option Service → Asked
-call_of_found asked bytes None = Err NO_SERVICE
-call_of_found asked bytes (Some service) = call_of asked bytes service
+abbrev pub call_of_found : AskedCall → Result (List ℕ) ℕ → List ℕ → Option Service → Asked
+call_of_found asked name bytes None = Err NO_SERVICE
+call_of_found asked name bytes (Some service) = call_of asked name bytes service
 
 -- the call of the number of its service
 abbrev pub call_asked : AskedCall → List ℕ → Asked
-call_asked asked bytes = call_of_found asked bytes (service_numbered asked.service)
+call_asked asked bytes = call_of_found asked (name_asked (name_of bytes)) bytes (service_numbered asked.service)
+
+-- the same as an entry of a log
+abbrev pub call_judged : AskedCall → List ℕ → Asked
+call_judged asked bytes = entry_asked (call_asked asked bytes)
 
 -- the row that the ports have for a call of a partition
 abbrev pub row_of_ports : PortsView → ℕ → Moment → Call → Row

@@ -9,7 +9,7 @@ pub const NOT_OPEN: u32 = 8;
 /// The module has no partition of the number.
 pub const NO_PARTITION: u32 = 9;
 
-/// More bytes than a message can have.
+/// More bytes than a message or a line of a log can have (a judge).
 pub const TOO_LONG: u32 = 10;
 
 /// The text is no name.

@@ -1,21 +1,21 @@
 //! Calls that C asks about, without making them: the row of the reply table that a call gets, and its words.
-ghost use Rattle.std.specs.Prelude.{◌≡◌, ◌≢◌, ◌<◌, length};
+ghost use Rattle.std.specs.Prelude.{◌≡◌, ◌≢◌, ◌<◌, length, Some, Ok, Err, IfOk, IfErr};
 ghost use Rattle.std.specs.Result.{result_unwrap_or};
-ghost use Rattle.apex_c.specs.Asked.{create_queuing};
-ghost use Rattle.apex_c.specs.AskedRow.{call_asked, call_of, row_in, service_numbered};
+ghost use Rattle.apex_ports.specs.Noted.{call_by};
+ghost use Rattle.apex_c.specs.AskedRow.{call_asked, call_judged, call_of, call_of_found, row_in, service_numbered};
 ghost use Rattle.apex_c.specs.Calls.{moment_of};
 ghost use Rattle.apex_c.specs.Found.{answer_of};
 ghost use Rattle.apex_c.specs.Texts.{IsTextFor};
 
-use crate::answer::{NO_MEMORY, NO_SERVICE};
+use crate::answer::{NO_MEMORY, NO_PARTITION, NO_SERVICE, NOT_OPEN};
 use crate::buffer::put_text;
-use crate::calls::{create_queuing, create_sampling, queuing_id, sampling_id, send, write};
+use crate::calls::{entry_call, name_in};
 use crate::found::{partition_of, put};
 use crate::handle::Handle;
 use crate::rows::row_number;
-use apex_ports::Ports;
+use apex_ports::{CallRef, Ports};
 use apex_texts::Service;
-use apex_types::{Call, Moment};
+use apex_types::{Call, Moment, Name};
 use apex_words::push_words;
 use std::alloc::{AllocError, Global};
 
@@ -35,43 +35,85 @@ pub struct AskedCall {
 }
 
 impl AskedCall {
-    /// The call, with the name or the message in the bytes, or the number that says why there is none.
-    pub(crate) fn with(&self, bytes: &[u8]) -> Result<Call, u32>
-        ensures { result ≡ call_asked self.now bytes.now }
+    /// The call with this name, which was read from the bytes, or with the bytes as its message; or the number that says why
+    /// there is none.
+    pub(crate) fn with<'a>(
+        &self,
+        name: &'a Result<Name, u32>,
+        bytes: &'a [u8],
+    ) -> Result<CallRef<'a>, u32>
+        ensures call { let service = service_numbered self.now.service in
+            let asked = call_of_found self.now name.now bytes.now service in
+            IfOk result (λ call. asked ≡ Ok (call_by call)) }
+        ensures refused { let service = service_numbered self.now.service in
+            let asked = call_of_found self.now name.now bytes.now service in
+            IfErr result (λ number. asked ≡ Err number) }
     {
         match service_numbered(self.service) {
-            Some(service) => self.call_of(service, bytes),
+            Some(service) => self.call_of(service, name, bytes),
             None => Err(NO_SERVICE),
         }
     }
 
-    fn call_of(&self, service: Service, bytes: &[u8]) -> Result<Call, u32>
-        ensures { result ≡ call_of self.now bytes.now service }
+    /// The call as an entry of a log has it, or the number that says why there is none.
+    pub(crate) fn entry_call(&self, bytes: &[u8]) -> Result<Call, u32>
+        ensures { result ≡ call_judged self.now bytes.now }
     {
-        let id = self.id;
-        match service {
-            Service::CreateSampling => {
-                create_sampling(bytes, self.size, self.direction, self.refresh)
-            }
-            Service::WriteSampling => write(id, bytes),
-            Service::ReadSampling => Ok(Call::ReadSampling { id }),
-            Service::SamplingId => sampling_id(bytes),
-            Service::SamplingStatus => Ok(Call::SamplingStatus { id }),
-            Service::CreateQueuing => self.create_queuing(bytes),
-            Service::SendQueuing => send(id, bytes),
-            Service::ReceiveQueuing => Ok(Call::ReceiveQueuing { id }),
-            Service::QueuingId => queuing_id(bytes),
-            Service::QueuingStatus => Ok(Call::QueuingStatus { id }),
-            Service::ClearQueuing => Ok(Call::ClearQueuing { id }),
-            Service::SetMode => Ok(Call::SetMode { mode: self.mode }),
+        let name = name_in(bytes);
+        match self.with(&name, bytes) {
+            Ok(call) => entry_call(call),
+            Err(number) => Err(number),
         }
     }
 
-    fn create_queuing(&self, name: &[u8]) -> Result<Call, u32>
-        ensures { result ≡ create_queuing name.now
-            self.now.size self.now.depth self.now.direction self.now.discipline }
+    fn call_of<'a>(
+        &self,
+        service: Service,
+        name: &'a Result<Name, u32>,
+        bytes: &'a [u8],
+    ) -> Result<CallRef<'a>, u32>
+        ensures call { let asked = call_of self.now name.now bytes.now service in
+            IfOk result (λ call. asked ≡ Ok (call_by call)) }
+        ensures refused { let asked = call_of self.now name.now bytes.now service in
+            IfErr result (λ number. asked ≡ Err number) }
     {
-        create_queuing(name, self.size, self.depth, self.direction, self.discipline)
+        let id = self.id;
+        Ok(match service {
+            Service::CreateSampling => CallRef::CreateSampling {
+                name: named(name)?,
+                size: self.size,
+                direction: self.direction,
+                refresh: self.refresh,
+            },
+            Service::WriteSampling => CallRef::WriteSampling { id, message: bytes },
+            Service::ReadSampling => CallRef::ReadSampling { id },
+            Service::SamplingId => CallRef::SamplingId { name: named(name)? },
+            Service::SamplingStatus => CallRef::SamplingStatus { id },
+            Service::CreateQueuing => CallRef::CreateQueuing {
+                name: named(name)?,
+                size: self.size,
+                depth: self.depth,
+                direction: self.direction,
+                discipline: self.discipline,
+            },
+            Service::SendQueuing => CallRef::SendQueuing { id, message: bytes },
+            Service::ReceiveQueuing => CallRef::ReceiveQueuing { id },
+            Service::QueuingId => CallRef::QueuingId { name: named(name)? },
+            Service::QueuingStatus => CallRef::QueuingStatus { id },
+            Service::ClearQueuing => CallRef::ClearQueuing { id },
+            Service::SetMode => CallRef::SetMode { mode: self.mode },
+        })
+    }
+}
+
+// The name, or the number that says that there is none.
+fn named(name: &Result<Name, u32>) -> Result<&Name, u32>
+    ensures name { IfOk result (λ it. name.now ≡ Ok it.now) }
+    ensures none { IfErr result (λ number. name.now ≡ Err number) }
+{
+    match name {
+        Ok(name) => Ok(name),
+        Err(number) => Err(*number),
     }
 }
 
@@ -96,7 +138,7 @@ pub(crate) fn service_numbered(number: u32) -> Option<Service>
 }
 
 /// The number of the row of the reply table that a call of the partition would get at the moment, in its place if
-/// the answer is `READ`. The call isn't made. Answers `READ`, `NO_SERVICE`, `NO_NAME`, `TOO_LONG`, `NOT_OPEN` or
+/// the answer is `READ`. The call isn't made. Answers `READ`, `NO_SERVICE`, `NO_NAME`, `NOT_OPEN` or
 /// `NO_PARTITION`.
 #[unsafe(no_mangle)]
 pub extern "C" fn apex_call_row(
@@ -115,15 +157,39 @@ pub extern "C" fn apex_call_row(
         row.new ≡ result_unwrap_or found row.old }
     ensures ports { handle.new.held.ports ≡ handle.old.held.ports }
 {
-    let call = match call.with(bytes) {
-        Ok(call) => call,
-        Err(number) => return number,
+    let name = name_in(bytes);
+    match call.with(&name, bytes) {
+        Ok(call) => put(row_in(alloc, handle, partition, Moment(at), call), row),
+        Err(number) => number,
+    }
+}
+
+// The number of the row of a call of the partition.
+fn row_in(
+    alloc: Global,
+    handle: &mut Handle,
+    partition: u32,
+    at: Moment,
+    call: CallRef<'_>,
+) -> Result<u32, u32>
+    ensures row { let asked = call_by call.entry in
+        result ≡ row_in handle.old.held.ports partition at (Ok asked) }
+    ensures ports { handle.new.held.ports ≡ handle.old.held.ports }
+{
+    let Some(ports) = handle.take(alloc) else {
+        return Err(NOT_OPEN);
     };
-    let found = handle.read(alloc, |ports| {
-        let partition = partition_of(ports, partition)?;
-        Ok(row_number(ports.row(partition, Moment(at), &call)))
-    });
-    put(found, row)
+    let found = row_of(&ports, partition, at, call);
+    *handle = Handle::of(ports);
+    found
+}
+
+fn row_of(ports: &Ports, partition: u32, at: Moment, call: CallRef<'_>) -> Result<u32, u32>
+    ensures { let asked = call_by call.entry in
+        result ≡ row_in (Some ports.now) partition at (Ok asked) }
+{
+    let partition = partition_of(ports, partition)?;
+    Ok(row_number(ports.row(partition, at, call)))
 }
 
 /// The words of that row: why the call would not be made or would be refused. An accepted call has none. The length of the
@@ -148,18 +214,51 @@ pub extern "C" fn apex_call_words(
         (buffer.new ≡ buffer.old) × (words_length.new ≡ words_length.old) }
     ensures ports { handle.new.held.ports ≡ handle.old.held.ports }
 {
-    let call = match call.with(bytes) {
-        Ok(call) => call,
-        Err(number) => return number,
-    };
-    let found = handle.read(alloc, |ports| {
-        let partition = partition_of(ports, partition)?;
-        words_of_call(alloc, ports, partition, Moment(at), &call).map_err(|_| NO_MEMORY)
-    });
-    match found {
-        Ok(words) => put_text(words.as_bytes(), buffer, words_length),
+    let name = name_in(bytes);
+    match call.with(&name, bytes) {
+        Ok(call) => put_words(
+            alloc,
+            handle,
+            partition,
+            Moment(at),
+            call,
+            buffer,
+            words_length,
+        ),
         Err(number) => number,
     }
+}
+
+// Puts the words of the row of a call of the partition into the buffer, and their length into its place.
+fn put_words(
+    alloc: Global,
+    handle: &mut Handle,
+    partition: u32,
+    at: Moment,
+    call: CallRef<'_>,
+    buffer: &mut [u8],
+    words_length: &mut u64,
+) -> u32
+    ensures words { let asked = call_by call.entry in
+        let row = row_in handle.old.held.ports partition at (Ok asked) in
+        result ≢ NO_MEMORY → IsTextFor row result buffer.old words_length.old buffer.new words_length.new }
+    ensures no_memory { result ≡ NO_MEMORY →
+        (buffer.new ≡ buffer.old) × (words_length.new ≡ words_length.old) }
+    ensures ports { handle.new.held.ports ≡ handle.old.held.ports }
+{
+    let Some(ports) = handle.take(alloc) else {
+        return NOT_OPEN;
+    };
+    let answer = if (partition as usize) < ports.config().partitions() {
+        match words_of_call(alloc, &ports, partition as usize, at, call) {
+            Ok(words) => put_text(words.as_bytes(), buffer, words_length),
+            Err(_) => NO_MEMORY,
+        }
+    } else {
+        NO_PARTITION
+    };
+    *handle = Handle::of(ports);
+    answer
 }
 
 // The words of the row of a call.
@@ -168,7 +267,7 @@ fn words_of_call(
     ports: &Ports,
     partition: usize,
     at: Moment,
-    call: &Call,
+    call: CallRef<'_>,
 ) -> Result<String, AllocError>
     requires { partition < length ports.now.config.partitions }
 {

@@ -1,13 +1,15 @@
-//! The calls that C asks for, or the numbers that say why there is none.
+//! The names, the messages and the calls that C gives, or the numbers that say why they are none.
 ghost use Rattle.std.specs.Prelude.{◌≡◌};
 ghost use Rattle.apex_types.specs.Name.{name_of};
-ghost use Rattle.apex_c.specs.Asked.{create_queuing, create_sampling, message_asked, name_asked, queuing_id, sampling_id, send, write};
+ghost use Rattle.apex_ports.specs.Noted.{call_by};
+ghost use Rattle.apex_c.specs.Asked.{entry_call, message_asked, name_asked};
 
 use crate::answer::{NO_NAME, TOO_LONG};
+use apex_ports::CallRef;
 use apex_types::{Call, Message, Name};
 
 /// The name that the bytes are, or `NO_NAME`.
-fn name_in(bytes: &[u8]) -> Result<Name, u32>
+pub(crate) fn name_in(bytes: &[u8]) -> Result<Name, u32>
     ensures { result ≡ name_asked (name_of bytes.now) }
 {
     match Name::from_bytes(bytes) {
@@ -26,72 +28,50 @@ pub(crate) fn message_in(bytes: &[u8]) -> Result<Message, u32>
     }
 }
 
-/// CREATE_SAMPLING_PORT for the port with this name.
-pub(crate) fn create_sampling(
-    name: &[u8],
-    size: u32,
-    direction: u32,
-    refresh: u64,
-) -> Result<Call, u32>
-    ensures { result ≡ create_sampling name.now size direction refresh }
+/// The call as an entry of a log has it, or `TOO_LONG` if none has its message.
+pub(crate) fn entry_call(call: CallRef<'_>) -> Result<Call, u32>
+    ensures { result ≡ entry_call (call_by call.entry) }
 {
-    let name = name_in(name)?;
-    Ok(Call::CreateSampling {
-        name,
-        size,
-        direction,
-        refresh,
+    Ok(match call {
+        CallRef::CreateSampling {
+            name,
+            size,
+            direction,
+            refresh,
+        } => Call::CreateSampling {
+            name: name.copy(),
+            size,
+            direction,
+            refresh,
+        },
+        CallRef::WriteSampling { id, message } => Call::WriteSampling {
+            id,
+            message: message_in(message)?,
+        },
+        CallRef::ReadSampling { id } => Call::ReadSampling { id },
+        CallRef::SamplingId { name } => Call::SamplingId { name: name.copy() },
+        CallRef::SamplingStatus { id } => Call::SamplingStatus { id },
+        CallRef::CreateQueuing {
+            name,
+            size,
+            depth,
+            direction,
+            discipline,
+        } => Call::CreateQueuing {
+            name: name.copy(),
+            size,
+            depth,
+            direction,
+            discipline,
+        },
+        CallRef::SendQueuing { id, message } => Call::SendQueuing {
+            id,
+            message: message_in(message)?,
+        },
+        CallRef::ReceiveQueuing { id } => Call::ReceiveQueuing { id },
+        CallRef::QueuingId { name } => Call::QueuingId { name: name.copy() },
+        CallRef::QueuingStatus { id } => Call::QueuingStatus { id },
+        CallRef::ClearQueuing { id } => Call::ClearQueuing { id },
+        CallRef::SetMode { mode } => Call::SetMode { mode },
     })
-}
-
-/// CREATE_QUEUING_PORT for the port with this name.
-pub(crate) fn create_queuing(
-    name: &[u8],
-    size: u32,
-    depth: u32,
-    direction: u32,
-    discipline: u32,
-) -> Result<Call, u32>
-    ensures { result ≡ create_queuing name.now size depth direction discipline }
-{
-    let name = name_in(name)?;
-    Ok(Call::CreateQueuing {
-        name,
-        size,
-        depth,
-        direction,
-        discipline,
-    })
-}
-
-/// GET_SAMPLING_PORT_ID for the port with this name.
-pub(crate) fn sampling_id(name: &[u8]) -> Result<Call, u32>
-    ensures { result ≡ sampling_id name.now }
-{
-    let name = name_in(name)?;
-    Ok(Call::SamplingId { name })
-}
-
-/// GET_QUEUING_PORT_ID for the port with this name.
-pub(crate) fn queuing_id(name: &[u8]) -> Result<Call, u32>
-    ensures { result ≡ queuing_id name.now }
-{
-    let name = name_in(name)?;
-    Ok(Call::QueuingId { name })
-}
-
-/// WRITE_SAMPLING_MESSAGE by the port with this identifier.
-pub(crate) fn write(id: u32, message: &[u8]) -> Result<Call, u32>
-    ensures { result ≡ write id message.now }
-{
-    let message = message_in(message)?;
-    Ok(Call::WriteSampling { id, message })
-}
-
-/// SEND_QUEUING_MESSAGE by the port with this identifier.
-pub(crate) fn send(id: u32, message: &[u8]) -> Result<Call, u32>
-    ensures { result ≡ send id message.now }
-{
-    let message = message_in(message)?;
-    Ok(Call::SendQueuing { id, message })
 }

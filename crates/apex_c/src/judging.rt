@@ -3,7 +3,7 @@ ghost use Rattle.std.specs.Prelude.{◌≡◌, ◌≢◌, ◌⊎◌, ◌<◌, �
 ghost use Rattle.apex_config.specs.Meaning.{config_of};
 ghost use Rattle.apex_ports.specs.History.{entry_of};
 ghost use Rattle.apex_judge.specs.Departures.{instead_of};
-ghost use Rattle.apex_c.specs.AskedRow.{call_asked};
+ghost use Rattle.apex_c.specs.AskedRow.{call_judged};
 ghost use Rattle.apex_c.specs.Calls.{moment_of};
 ghost use Rattle.apex_c.specs.Judging.{IsShown, IsShownFor, judge_after, judge_at_start, judged_answer, judged_in, noted_in, reply_given};
 ghost use Rattle.apex_c.specs.Opening.{opening_number};
@@ -19,6 +19,7 @@ use crate::rows::row_number;
 use apex_config::ReadConfig;
 use apex_judge::{Expected, Judge};
 use apex_module::Config;
+use apex_ports::CallRef;
 use apex_types::{Call, MESSAGE_LIMIT, Moment, OutOfMemory, Reply};
 use apex_words::push_words;
 use std::alloc::{AllocError, Global};
@@ -90,17 +91,17 @@ pub extern "C" fn apex_judge_call(
     buffer: &mut [u8],
     words: &mut [u8],
 ) -> u32
-    ensures answer { let asked = call_asked call.now bytes.now in
+    ensures answer { let asked = call_judged call.now bytes.now in
         let given = reply_given call.now reply.now message.now in
         let held = judge.old.held.judge in
         let judged = judged_in (length buffer.old) held partition (moment_of at) asked given in
         result ≢ NO_MEMORY → result ≡ judged_answer judged }
-    ensures noted { let asked = call_asked call.now bytes.now in
+    ensures noted { let asked = call_judged call.now bytes.now in
         let given = reply_given call.now reply.now message.now in
         let held = judge.old.held.judge in
         let noted = noted_in (length buffer.old) held partition (moment_of at) asked given in
         result ≢ NO_MEMORY → judge.new.held.judge ≡ judge_after noted held }
-    ensures shown { let asked = call_asked call.now bytes.now in
+    ensures shown { let asked = call_judged call.now bytes.now in
         let given = reply_given call.now reply.now message.now in
         let held = judge.old.held.judge in
         let judged = judged_in (length buffer.old) held partition (moment_of at) asked given in
@@ -113,7 +114,7 @@ pub extern "C" fn apex_judge_call(
     if buffer.len() < MESSAGE_LIMIT {
         return SHORT_BUFFER;
     }
-    let asked = match call.with(bytes) {
+    let asked = match call.entry_call(bytes) {
         Ok(asked) => asked,
         Err(number) => return number,
     };
@@ -226,7 +227,13 @@ fn words_of(
     requires { partition < length config.now.partitions }
 {
     let mut words = String::new(alloc);
-    push_words(&mut words, config, partition, call, expected.row)?;
+    push_words(
+        &mut words,
+        config,
+        partition,
+        CallRef::of(call),
+        expected.row,
+    )?;
     Ok(words)
 }
 

@@ -18,6 +18,7 @@ pub mod judging;
 pub mod law;
 pub mod modes;
 pub mod names;
+mod naming;
 pub mod opening;
 mod parts;
 pub mod queuing;

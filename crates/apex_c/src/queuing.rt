@@ -1,14 +1,12 @@
 //! The services of queuing ports.
 ghost use Rattle.std.specs.Prelude.{◌≡◌, length};
 ghost use Rattle.apex_types.specs.declared.call.Call.TheVariants as call;
-ghost use Rattle.apex_c.specs.Asked.{asked_answer, asked_ports, asked_reply, create_queuing, queuing_id, receive, send};
+ghost use Rattle.apex_c.specs.Asked.{asked_answer, asked_ports, asked_reply, create_queuing, queuing_id, receive};
 ghost use Rattle.apex_c.specs.Calls.{answer_in, ports_after, moment_of, reply_in};
 ghost use Rattle.apex_c.specs.Places.{buffer_after, id_after, length_after, message_in, queuing_status_after};
 
-use crate::answer::TOO_LONG;
-use crate::calls::{create_queuing, queuing_id};
+use crate::calls::name_in;
 use crate::handle::Handle;
-use apex_types::{Call, MESSAGE_LIMIT, Reply};
 use std::alloc::Global;
 
 /// CREATE_QUEUING_PORT, with the identifier in its place if the answer is NO_ERROR. The size is in bytes, the depth
@@ -34,8 +32,12 @@ pub extern "C" fn apex_create_queuing_port(
         let reply = asked_reply handle.old.held.ports partition (moment_of at) asked in
         id.new ≡ id_after reply id.old }
 {
-    let asked = create_queuing(name, size, depth, direction, discipline);
-    handle.call_for_id(alloc, partition, at, asked, id)
+    match name_in(name) {
+        Ok(name) => handle.create_queuing(
+            alloc, partition, at, &name, size, depth, direction, discipline, id,
+        ),
+        Err(number) => number,
+    }
 }
 
 /// SEND_QUEUING_MESSAGE with a time-out of zero. Answers the return code, or a number of `answer`.
@@ -48,14 +50,11 @@ pub extern "C" fn apex_send_queuing_message(
     id: u32,
     message: &[u8],
 ) -> u32
-    ensures answer { let asked = send id message.now in
-        result ≡ asked_answer handle.old.held.ports partition (moment_of at) asked }
-    ensures ports { let asked = send id message.now in
-        handle.new.held.ports ≡ asked_ports handle.old.held.ports partition (moment_of at) asked }
+    ensures answer { let asked = call.SendQueuing id message.now in
+        result ≡ answer_in handle.old.held.ports partition (moment_of at) asked }
+    ensures ports { let asked = call.SendQueuing id message.now in handle.new.held.ports
+        ≡ ports_after handle.old.held.ports partition (moment_of at) asked }
 {
-    if message.len() > MESSAGE_LIMIT {
-        return TOO_LONG;
-    }
     handle.send(alloc, partition, at, id, message)
 }
 
@@ -104,7 +103,10 @@ pub extern "C" fn apex_get_queuing_port_id(
         let reply = asked_reply handle.old.held.ports partition (moment_of at) asked in
         id.new ≡ id_after reply id.old }
 {
-    handle.call_for_id(alloc, partition, at, queuing_id(name), id)
+    match name_in(name) {
+        Ok(name) => handle.queuing_id(alloc, partition, at, &name, id),
+        Err(number) => number,
+    }
 }
 
 /// CLEAR_QUEUING_PORT. Answers the return code, or a number of `answer`.
@@ -154,22 +156,5 @@ pub extern "C" fn apex_get_queuing_port_status(
         let reply = reply_in handle.old.held.ports partition (moment_of at) asked in
         status.new ≡ queuing_status_after reply status.old }
 {
-    let call = Call::QueuingStatus { id };
-    let mut reply = Reply::NotMade;
-    let answer = handle.call(alloc, partition, at, &call, &mut reply);
-    if let Reply::QueuingStatus {
-        waiting,
-        depth,
-        size,
-        direction,
-    } = reply
-    {
-        *status = QueuingPortStatus {
-            waiting,
-            depth,
-            size,
-            direction: direction.number(),
-        };
-    }
-    answer
+    handle.queuing_status(alloc, partition, at, id, status)
 }

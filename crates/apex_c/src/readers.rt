@@ -87,7 +87,7 @@ pub extern "C" fn apex_last_sample(
     let answer = if (channel as usize) >= ports.config().channels() {
         NO_CHANNEL
     } else if let Some(sample) = ports.last_sample(channel as usize) {
-        *message_length = copy_bytes(sample.message.bytes(), buffer);
+        *message_length = copy_bytes(sample.message, buffer);
         *at = sample.at.0;
         READ
     } else {

@@ -1,15 +1,13 @@
 //! The services of sampling ports.
 ghost use Rattle.std.specs.Prelude.{◌≡◌, length};
 ghost use Rattle.apex_types.specs.declared.call.Call.TheVariants as call;
-ghost use Rattle.apex_c.specs.Asked.{asked_answer, asked_ports, asked_reply, create_sampling, read, sampling_id, write};
+ghost use Rattle.apex_c.specs.Asked.{asked_answer, asked_ports, asked_reply, create_sampling, read, sampling_id};
 ghost use Rattle.apex_c.specs.Calls.{answer_in, ports_after, moment_of, reply_in};
 ghost use Rattle.apex_c.specs.Places.{buffer_after, id_after, length_after, message_in};
 ghost use Rattle.apex_c.specs.Places.{sampling_status_after, validity_after};
 
-use crate::answer::TOO_LONG;
-use crate::calls::{create_sampling, sampling_id};
+use crate::calls::name_in;
 use crate::handle::Handle;
-use apex_types::{Call, MESSAGE_LIMIT, Reply};
 use std::alloc::Global;
 
 /// CREATE_SAMPLING_PORT, with the identifier in its place if the answer is NO_ERROR. The size is in bytes, the
@@ -34,8 +32,12 @@ pub extern "C" fn apex_create_sampling_port(
         let reply = asked_reply handle.old.held.ports partition (moment_of at) asked in
         id.new ≡ id_after reply id.old }
 {
-    let asked = create_sampling(name, size, direction, refresh);
-    handle.call_for_id(alloc, partition, at, asked, id)
+    match name_in(name) {
+        Ok(name) => handle.create_sampling(
+            alloc, partition, at, &name, size, direction, refresh, id,
+        ),
+        Err(number) => number,
+    }
 }
 
 /// WRITE_SAMPLING_MESSAGE. Answers the return code, or a number of `answer`.
@@ -48,14 +50,11 @@ pub extern "C" fn apex_write_sampling_message(
     id: u32,
     message: &[u8],
 ) -> u32
-    ensures answer { let asked = write id message.now in
-        result ≡ asked_answer handle.old.held.ports partition (moment_of at) asked }
-    ensures ports { let asked = write id message.now in
-        handle.new.held.ports ≡ asked_ports handle.old.held.ports partition (moment_of at) asked }
+    ensures answer { let asked = call.WriteSampling id message.now in
+        result ≡ answer_in handle.old.held.ports partition (moment_of at) asked }
+    ensures ports { let asked = call.WriteSampling id message.now in handle.new.held.ports
+        ≡ ports_after handle.old.held.ports partition (moment_of at) asked }
 {
-    if message.len() > MESSAGE_LIMIT {
-        return TOO_LONG;
-    }
     handle.write(alloc, partition, at, id, message)
 }
 
@@ -108,7 +107,10 @@ pub extern "C" fn apex_get_sampling_port_id(
         let reply = asked_reply handle.old.held.ports partition (moment_of at) asked in
         id.new ≡ id_after reply id.old }
 {
-    handle.call_for_id(alloc, partition, at, sampling_id(name), id)
+    match name_in(name) {
+        Ok(name) => handle.sampling_id(alloc, partition, at, &name, id),
+        Err(number) => number,
+    }
 }
 
 /// What GET_SAMPLING_PORT_STATUS shows: the refresh period in nanoseconds, the greatest length of a message in bytes,
@@ -141,22 +143,5 @@ pub extern "C" fn apex_get_sampling_port_status(
         let reply = reply_in handle.old.held.ports partition (moment_of at) asked in
         status.new ≡ sampling_status_after reply status.old }
 {
-    let call = Call::SamplingStatus { id };
-    let mut reply = Reply::NotMade;
-    let answer = handle.call(alloc, partition, at, &call, &mut reply);
-    if let Reply::SamplingStatus {
-        refresh,
-        size,
-        direction,
-        last,
-    } = reply
-    {
-        *status = SamplingPortStatus {
-            refresh,
-            size,
-            direction: direction.number(),
-            last_validity: last.number(),
-        };
-    }
-    answer
+    handle.sampling_status(alloc, partition, at, id, status)
 }

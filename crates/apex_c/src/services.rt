@@ -1,4 +1,5 @@
-//! Services through a handle that make no call and no reply: a message stays in C's place.
+//! Services through a handle that need a port's identifier or a mode: a message stays in C's place. Each answers the number of
+//! the return code, or a number of `answer`.
 ghost use Rattle.std.specs.Prelude.{◌≡◌, ◌<◌, ◌≤◌, length, Some};
 ghost use Rattle.apex_types.specs.declared.call.Call.TheVariants as call;
 ghost use Rattle.apex_ports.specs.ReplyTable.{size_at};
@@ -13,7 +14,7 @@ use apex_types::{Moment, ReturnCode};
 use std::alloc::Global;
 
 impl Handle {
-    /// SEND_QUEUING_MESSAGE. Answers as `call`.
+    /// SEND_QUEUING_MESSAGE.
     pub(crate) fn send(
         &mut self,
         alloc: Global,
@@ -39,8 +40,7 @@ impl Handle {
         answer
     }
 
-    /// RECEIVE_QUEUING_MESSAGE, with the message and its length in their places. Answers as `call`, or
-    /// `SHORT_BUFFER`.
+    /// RECEIVE_QUEUING_MESSAGE, with the message and its length in their places.
     pub(crate) fn receive(
         &mut self,
         alloc: Global,
@@ -85,7 +85,7 @@ impl Handle {
         answer
     }
 
-    /// WRITE_SAMPLING_MESSAGE. Answers as `call`.
+    /// WRITE_SAMPLING_MESSAGE.
     pub(crate) fn write(
         &mut self,
         alloc: Global,
@@ -111,8 +111,7 @@ impl Handle {
         answer
     }
 
-    /// READ_SAMPLING_MESSAGE, with the message, its length and its validity in their places. Answers as
-    /// `call`, or `SHORT_BUFFER`.
+    /// READ_SAMPLING_MESSAGE, with the message, its length and its validity in their places.
     pub(crate) fn read_sample(
         &mut self,
         alloc: Global,
@@ -162,7 +161,7 @@ impl Handle {
         answer
     }
 
-    /// CLEAR_QUEUING_PORT. Answers as `call`.
+    /// CLEAR_QUEUING_PORT.
     pub(crate) fn clear(&mut self, alloc: Global, partition: u32, at: u64, id: u32) -> u32
         ensures answer { result
             ≡ answer_in self.old.held.ports partition (moment_of at) (call.ClearQueuing id) }
@@ -181,7 +180,7 @@ impl Handle {
         answer
     }
 
-    /// SET_PARTITION_MODE. Answers as `call`.
+    /// SET_PARTITION_MODE.
     pub(crate) fn set_mode(&mut self, alloc: Global, partition: u32, at: u64, mode: u32) -> u32
         ensures answer { result
             ≡ answer_in self.old.held.ports partition (moment_of at) (call.SetMode mode) }

@@ -4,8 +4,8 @@ ghost use Rattle.std.specs.Prelude.{◌≡◌, ◌<◌, ◌∷◌, ◌++◌, [],
 use crate::departure::Expected;
 use crate::state::State;
 use apex_module::Config;
-use apex_ports::Row;
 use apex_ports::table::{replies, row};
+use apex_ports::{CallRef, Row};
 use apex_types::{Call, Moment, OutOfMemory, Reply};
 use std::alloc::{Allocator, Global};
 use std::marker::Model;
@@ -72,7 +72,7 @@ impl<A: Allocator> Judge<A> {
         requires { partition < length self.now.config.partitions }
         ensures { result ≡ row_shown self.now.config self.now.log partition at call.now }
     {
-        row(&self.state, &self.config, partition, at, call)
+        row(&self.state, &self.config, partition, at, CallRef::of(call))
     }
 
     /// The reply that the standard has for a call of the partition after the log.
@@ -80,7 +80,7 @@ impl<A: Allocator> Judge<A> {
         requires { partition < length self.now.config.partitions }
         ensures { result ≡ reply_shown self.now.config self.now.log partition at call.now }
     {
-        let row = row(&self.state, &self.config, partition, at, call);
+        let row = row(&self.state, &self.config, partition, at, CallRef::of(call));
         replies::reply(&self.state, &self.config, partition, row)
     }
 
@@ -92,7 +92,7 @@ impl<A: Allocator> Judge<A> {
         ensures exact { IsTrue result ↔
             (reply.now ≡ reply_shown self.now.config self.now.log partition at call.now) }
     {
-        let row = row(&self.state, &self.config, partition, at, call);
+        let row = row(&self.state, &self.config, partition, at, CallRef::of(call));
         self.state.agrees(&self.config, partition, row, reply)
     }
 
@@ -120,7 +120,7 @@ impl<A: Allocator> Judge<A> {
         ensures { (reply : Reply) → result ≡ expected_of self.now.config self.now.log
             (entry_of partition at call.now reply) }
     {
-        let row = row(&self.state, &self.config, partition, at, call);
+        let row = row(&self.state, &self.config, partition, at, CallRef::of(call));
         Expected {
             row,
             reply: replies::reply(&self.state, &self.config, partition, row),

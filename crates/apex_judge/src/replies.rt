@@ -13,7 +13,7 @@ use apex_ports::Row;
 use apex_ports::table::lookup::{queuing_port, sampling_port};
 use apex_ports::table::replies::{oldest_at, sample_at};
 use apex_ports::view::View;
-use apex_types::{Message, Reply, ReturnCode, Validity};
+use apex_types::{Reply, ReturnCode, Validity};
 use std::alloc::Allocator;
 
 impl<A: Allocator> State<A> {
@@ -38,7 +38,7 @@ impl<A: Allocator> State<A> {
             Row::QueuingStatus { id } => self.has_queuing_status(config, partition, id, reply),
             Row::Written => is_code(reply, ReturnCode::NoError),
             Row::LastRead { id, validity } => match sample_at(self, config, partition, id) {
-                Some(sample) => is_read(reply, &sample.message, validity),
+                Some(sample) => is_read(reply, sample.message, validity),
                 None => is_code(reply, ReturnCode::NoAction),
             },
             Row::SamplingStatus { id } => self.has_sampling_status(config, partition, id, reply),
@@ -130,14 +130,14 @@ fn is_received(reply: &Reply, message: &[u8]) -> bool
     }
 }
 
-fn is_read(reply: &Reply, message: &Message, validity: Validity) -> bool
+fn is_read(reply: &Reply, message: &[u8], validity: Validity) -> bool
     ensures { result ≡ is_read_as message.now validity reply.now }
 {
     match reply {
         Reply::Read {
             message: logged,
             validity: shown,
-        } => logged.bytes() == message.bytes() && shown.number() == validity.number(),
+        } => logged.bytes() == message && shown.number() == validity.number(),
         _ => false,
     }
 }

@@ -7,8 +7,9 @@ ghost use Rattle.apex_judge.specs.Steps.{picture_of};
 
 use crate::state::State;
 use apex_module::{Config, Port};
+use apex_ports::SampleRef;
 use apex_ports::view::View;
-use apex_types::{Mode, Sample, Validity};
+use apex_types::{Mode, Validity};
 use std::alloc::Allocator;
 
 impl<A: Allocator> View for State<A> {
@@ -42,7 +43,16 @@ impl<A: Allocator> View for State<A> {
         self.channels[port.channel].oldest()
     }
 
-    fn sample(&self, config: &Config, partition: usize, id: u32, port: &Port) -> Option<&Sample> {
-        self.channels[port.channel].sample.as_ref()
+    fn sample(
+        &self,
+        config: &Config,
+        partition: usize,
+        id: u32,
+        port: &Port,
+    ) -> Option<SampleRef<'_>> {
+        match &self.channels[port.channel].sample {
+            Some(sample) => Some(SampleRef::of(sample)),
+            None => None,
+        }
     }
 }

@@ -10,7 +10,7 @@ ghost use Rattle.apex_orders.specs.Searching.{AreDue, IsEnoughWith};
 
 use crate::commuting::{channel_named, is_change};
 use crate::last_uses::LastUses;
-use apex_ports::{Ports, Refusal, Row, Script};
+use apex_ports::{CallRef, Ports, Refusal, Row, Script};
 use apex_types::{Call, Moment, OutOfMemory};
 use std::alloc::Global;
 
@@ -89,7 +89,7 @@ fn next_use(ports: &Ports, scripts: &[Script], p: usize) -> NextUse
     let Some(channel) = channel_named(ports.config(), p, call) else {
         return NextUse::NoChannel;
     };
-    let row = ports.row(p, *at, call);
+    let row = ports.row(p, *at, CallRef::of(call));
     if is_early(row) {
         return NextUse::NoChannel;
     }

@@ -5,7 +5,6 @@ ghost use Rattle.apex_ports.specs.Channels.{waiting_on, last_write_on};
 ghost use Rattle.apex_orders.specs.States.{IsSameState, IsSamePartition, IsSamePorts, IsSameChannel};
 
 use apex_ports::Ports;
-use apex_types::Sample;
 use std::alloc::Allocator;
 
 /// Whether both histories led to one state. Messages are compared by their bytes, without a copy.
@@ -56,7 +55,20 @@ fn is_same_channel<A: Allocator>(a: &Ports<A>, b: &Ports<A>, c: usize) -> bool
     requires channel { c < length a.now.config.channels }
     ensures { IsTrue result ↔ IsSameChannel a.now.config a.now.history b.now.history c }
 {
-    is_same_sample(a.last_sample(c), b.last_sample(c)) && has_same_messages(a, b, c)
+    has_same_sample(a, b, c) && has_same_messages(a, b, c)
+}
+
+fn has_same_sample<A: Allocator>(a: &Ports<A>, b: &Ports<A>, c: usize) -> bool
+    requires configuration { a.now.config ≡ b.now.config }
+    requires channel { c < length a.now.config.channels }
+    ensures { IsTrue result ↔ (last_write_on a.now.config c a.now.history
+        ≡ last_write_on a.now.config c b.now.history) }
+{
+    match (a.last_sample(c), b.last_sample(c)) {
+        (None, None) => true,
+        (Some(sample), Some(other)) => sample.at == other.at && sample.message == other.message,
+        _ => false,
+    }
 }
 
 fn has_same_messages<A: Allocator>(a: &Ports<A>, b: &Ports<A>, c: usize) -> bool
@@ -82,18 +94,6 @@ fn is_same_message(a: Option<&[u8]>, b: Option<&[u8]>) -> bool
     match (a, b) {
         (None, None) => true,
         (Some(message), Some(other)) => message == other,
-        _ => false,
-    }
-}
-
-fn is_same_sample(a: Option<&Sample>, b: Option<&Sample>) -> bool
-    ensures { IsTrue result ↔ (option_copied a.entry ≡ option_copied b.entry) }
-{
-    match (a, b) {
-        (None, None) => true,
-        (Some(sample), Some(other)) => {
-            sample.at == other.at && sample.message.bytes() == other.message.bytes()
-        }
         _ => false,
     }
 }

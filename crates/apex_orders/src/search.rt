@@ -245,7 +245,14 @@ impl Search {
         let ports = &mut self.trial.ports;
         let orders = &self.orders;
         return_to(alloc, config, scripts, orders, i, saved, is_there, ports)?;
-        if !step_into(&mut self.trial.ports, scripts, p, &mut self.trial.reply) {
+        let trial = &mut self.trial;
+        if !step_into(
+            &mut trial.ports,
+            scripts,
+            p,
+            &mut trial.reply,
+            &mut trial.buffer,
+        ) {
             return Ok(());
         }
         self.replies.add(alloc, &self.trial.reply)?;

@@ -6,21 +6,22 @@ use apex_types::OutOfMemory;
 use std::alloc::Global;
 use std::collections::VecDeque;
 
-/// What a known point takes in lists, in bytes: its last call, its hash and where the hash is found. Lists grow by
-/// doubling, so on average they have room for half as many again.
+// Lists grow by doubling, so on average they have room for half as many again.
+
+/// What a known point takes in lists, in bytes: its last call, its hash and where the hash is found.
 const LISTED: usize = 36;
 
-/// What saved ports take in their list, in bytes: three lists and their size, with the room of the list.
-const SAVED: usize = 120;
+/// What saved ports take in their list, in bytes: five lists and their size, with the room of the list.
+const SAVED: usize = 192;
 
-/// What a partition, a port, a channel and a message take in a list of saved ports, in bytes.
+/// What a partition, a port, a channel and a message besides its bytes take in a list of saved ports, in bytes.
 const PARTITION: usize = 32;
 
 const PORT: usize = 4;
 
-const CHANNEL: usize = 64;
+const CHANNEL: usize = 48;
 
-const MESSAGE: usize = 24;
+const MESSAGE: usize = 16;
 
 /// What a reply takes in a list, in bytes: a message of the greatest length is part of it.
 const REPLY: usize = 1_600;
@@ -72,6 +73,11 @@ fn block(bytes: usize) -> usize {
     }
 }
 
+/// The bytes that a list with this many takes of the allocator if it grew item by item.
+fn grown(bytes: usize) -> usize {
+    block(bytes.saturating_add(bytes / 2))
+}
+
 /// The bytes that the ports take where they are saved.
 pub(crate) fn size_of_saved(ports: &Ports) -> usize {
     let (partitions, channels) = (ports.config().partitions(), ports.config().channels());
@@ -82,30 +88,45 @@ pub(crate) fn size_of_saved(ports: &Ports) -> usize {
     for p in 0..partitions {
         size = size.saturating_add(block(ports.config().ports(p).saturating_mul(PORT)));
     }
-    for c in 0..channels {
-        size = size.saturating_add(size_of_messages(ports, c));
-    }
-    size
+    size.saturating_add(size_of_messages(ports))
 }
 
-/// The bytes that the messages of a channel take where they are saved.
-fn size_of_messages(ports: &Ports, c: usize) -> usize
+/// The bytes that the messages of all channels take where they are saved.
+fn size_of_messages(ports: &Ports) -> usize {
+    let mut messages: usize = 0;
+    let mut bytes: usize = 0;
+    for c in 0..ports.config().channels() {
+        messages = messages.saturating_add(messages_on(ports, c));
+        bytes = bytes.saturating_add(bytes_on(ports, c));
+    }
+    grown(messages.saturating_mul(MESSAGE)).saturating_add(grown(bytes))
+}
+
+/// The number of messages that a channel holds.
+fn messages_on(ports: &Ports, c: usize) -> usize
     requires { c < length ports.now.config.channels }
 {
-    let waiting = ports.waiting_count(c);
-    let mut size = block(waiting.saturating_mul(MESSAGE));
-    for i in 0..waiting {
-        size = size.saturating_add(size_of(ports.waiting(c, i)));
-    }
-    if let Some(sample) = ports.last_sample(c) {
-        size = size.saturating_add(block(sample.message.bytes().len()));
-    }
-    size
+    let samples = if ports.last_sample(c).is_some() { 1 } else { 0 };
+    ports.waiting_count(c).saturating_add(samples)
 }
 
-fn size_of(message: Option<&[u8]>) -> usize {
+/// The number of bytes of the messages that a channel holds.
+fn bytes_on(ports: &Ports, c: usize) -> usize
+    requires { c < length ports.now.config.channels }
+{
+    let mut bytes: usize = 0;
+    for i in 0..ports.waiting_count(c) {
+        bytes = bytes.saturating_add(length_of(ports.waiting(c, i)));
+    }
+    match ports.last_sample(c) {
+        None => bytes,
+        Some(sample) => bytes.saturating_add(sample.message.len()),
+    }
+}
+
+fn length_of(message: Option<&[u8]>) -> usize {
     match message {
         None => 0,
-        Some(message) => block(message.len()),
+        Some(message) => message.len(),
     }
 }

@@ -5,8 +5,8 @@ ghost use Rattle.apex_orders.specs.Orders.{next_entries, script_of};
 ghost use Rattle.apex_orders.specs.Steps.{MakesNothing, Makes};
 
 use crate::replies::PossibleReply;
-use apex_ports::{Ports, Script};
-use apex_types::Reply;
+use apex_ports::{CallRef, Ports, Script};
+use apex_types::{MESSAGE_LIMIT, Reply};
 
 /// Makes the next call of the partition's script. If all are made, it makes no call and returns `None`.
 pub fn step(ports: &mut Ports, scripts: &[Script], p: usize) -> Option<PossibleReply>
@@ -29,21 +29,25 @@ pub fn step(ports: &mut Ports, scripts: &[Script], p: usize) -> Option<PossibleR
         index: 0,
         reply: Reply::NotMade,
     };
-    if step_into(ports, scripts, p, &mut one) {
+    let mut buffer = [0; MESSAGE_LIMIT];
+    if step_into(ports, scripts, p, &mut one, &mut buffer) {
         Some(one)
     } else {
         None
     }
 }
 
-/// Makes the call as `step` does, with the reply in `one`. Returns whether there was a call to make.
+/// Makes the call as `step` does, with the reply in `one`. Returns whether there was a call to make. The buffer has room
+/// for any message.
 pub(crate) fn step_into(
     ports: &mut Ports,
     scripts: &[Script],
     p: usize,
     one: &mut PossibleReply,
+    buffer: &mut [u8],
 ) -> bool
     requires partition { p < length ports.old.config.partitions }
+    requires room { MESSAGE_LIMIT ≤ length buffer.old }
     requires scripts { length scripts.now ≡ length ports.old.config.partitions }
     requires sound { IsSound ports.old.config ports.old.history }
     ensures config { ports.new.config ≡ ports.old.config }
@@ -64,6 +68,7 @@ pub(crate) fn step_into(
     let (at, call) = &script.calls[index];
     one.partition = p;
     one.index = index;
-    ports.call_into(p, *at, call, &mut one.reply);
+    let reply = ports.answer(p, *at, CallRef::of(call), buffer);
+    reply.copy_to(&mut one.reply);
     true
 }

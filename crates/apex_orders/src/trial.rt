@@ -5,15 +5,16 @@ ghost use Rattle.apex_orders.specs.Known.{IsTrialOf};
 use crate::replies::PossibleReply;
 use apex_module::Config;
 use apex_ports::Ports;
-use apex_types::{OutOfMemory, Reply};
+use apex_types::{MESSAGE_LIMIT, OutOfMemory, Reply};
 use std::alloc::Global;
 
-/// Ports on which a call is tried, others to compare them with, and the place for the reply.
+/// Ports on which a call is tried, others to compare them with, and the places for the reply and its message.
 #[derive(Drop)]
 pub(crate) struct Trial {
     pub(crate) ports: Ports,
     pub(crate) other: Ports,
     pub(crate) reply: PossibleReply,
+    pub(crate) buffer: [u8; MESSAGE_LIMIT],
 }
 
 impl Trial {
@@ -32,6 +33,7 @@ impl Trial {
             ports,
             other,
             reply,
+            buffer: [0; MESSAGE_LIMIT],
         })
     }
 }

@@ -20,6 +20,7 @@ use Rattle.apex_ports.specs.Channels.{accepted_on, received_on, cleared_on, wait
 use Rattle.apex_ports.specs.Kept.{IsChannelKept, AreKept}
 use Rattle.apex_ports.specs.ReplyTable.{oldest_reply}
 use Rattle.apex_ports.specs.Rules.{IsConserved}
+use Rattle.apex_ports.specs.Slots.{slot}
 use Rattle.apex_ports.proofs.Counts.{count-push, count-append}
 use Rattle.apex_ports.proofs.Histories.{accepted-sent, received-received, cleared-received, cleared-cleared, waiting-sent, waiting-received, waiting-cleared}
 use Rattle.apex_ports.proofs.OneChannel.{LiesElsewhere, port_elsewhere, sends_elsewhere, receives_elsewhere, clears_elsewhere, writes_elsewhere}
@@ -120,27 +121,27 @@ cleared_keeps config h partitions channels p at id c old new kept conserved dest
     count = ap (λ (xs : List (List ℕ)). length xs) was.waiting ∙ sym (length-map (waiting_on config c h) as_cleared)
 
 -- a sampling channel has no queue
-no_queue : {A : Type 0} (state : ChannelState A) → has_queue state ≡ false → (waiting_in state ≡ []) × (ring_depth state ≡ 0) × (message_size state ≡ 0) × (accepted_in state ≡ 0) × (received_in state ≡ 0) × (cleared_in state ≡ 0)
+no_queue : {A : Type 0} (state : ChannelState A) → has_queue state ≡ false → (waiting_in state ≡ []) × (ring_depth state ≡ 0) × (accepted_in state ≡ 0) × (received_in state ≡ 0) × (cleared_in state ≡ 0)
 no_queue (Queuing queue) kind = absurd (cc)
-no_queue (Sampling sample) kind = (refl, refl, refl, refl, refl, refl)
+no_queue (Sampling held) kind = (refl, refl, refl, refl, refl)
 
 -- the state after an accepted write
 pub written_keeps : {A : Type 0} (config : Configuration) (h : History) (partitions : List (PartitionState A)) (channels : List (ChannelState A)) (p : ℕ) (at : Moment) (id c : ℕ) (m : List ℕ) (old : ChannelState A)
     → AreKept config h partitions channels → is_source_of c (port_of config p id) ≡ true → IsChannelKept config h c old → has_queue old ≡ false
-    → AreKept config (h ++ entry_of p at (WriteSampling id m) (Code NoError) ∷ []) partitions (set channels c (Sampling (Some (record { message = m; at = at }))))
+    → AreKept config (h ++ entry_of p at (WriteSampling id m) (Code NoError) ∷ []) partitions (set channels c (Sampling (slot (Some (record { message = m; at = at })) (message_size old))))
 written_keeps {A} config h partitions channels p at id c m old kept source was sampling =
     let none = no_queue old sampling in
-    channel_changes config h e partitions channels kept c (Sampling (Some (record { message = m; at = at })))
+    channel_changes config h e partitions channels kept c (Sampling (slot (Some (record { message = m; at = at })) (message_size old)))
     (leaves_partition p at (WriteSampling id m) (Code NoError) refl refl (λ _. refl))
     (λ d apart. leaves_channel config d p at (WriteSampling id m) (Code NoError) (writes_elsewhere config d p id m (source_elsewhere (port_of config p id) c d source apart)))
     (record {
       kind = sym sampling ∙ was.kind;
       waiting = sym none.0 ∙ (was.waiting ∙ sym (waiting_stays config c h e refl refl refl));
       depth = sym none.1 ∙ was.depth;
-      size = sym none.2 ∙ was.size;
-      accepted = sym none.3 ∙ (was.accepted ∙ ap count_of (sym (accepted_stays config c h e refl)));
-      received = sym none.4 ∙ (was.received ∙ ap count_of (sym (received_stays config c h e refl)));
-      cleared = sym none.5 ∙ (was.cleared ∙ ap count_of (sym (cleared_stays config c h e refl refl)));
+      size = was.size;
+      accepted = sym none.2 ∙ (was.accepted ∙ ap count_of (sym (accepted_stays config c h e refl)));
+      received = sym none.3 ∙ (was.received ∙ ap count_of (sym (received_stays config c h e refl)));
+      cleared = sym none.4 ∙ (was.cleared ∙ ap count_of (sym (cleared_stays config c h e refl refl)));
       sample = sym (sample_changes config h e c (record { message = m; at = at }) (λ i. sample_at at (if source i then Some m else None)));
     })
   where

@@ -19,5 +19,6 @@ pub mod RowFacts
 pub mod Saving
 pub mod Sizes
 pub mod Stays
+pub mod Stored
 mod Walks
 pub mod WithoutClears

@@ -4,7 +4,8 @@ use Rattle.std.specs.List.{slice_get}
 use Rattle.std.specs.Option.{option_copied}
 use Rattle.std.proofs.lemmas.Bool.Decides.{nat_tests}
 use Rattle.std.proofs.lemmas.Option.{slice_get-get_or, slice_get_within}
-use Rattle.apex_module.specs.Configuration.{Configuration, IsConfiguration, ports_of, port_of, channel_of, IsDepth, depth_of_kind, is_queuing_channel}
+use Rattle.apex_types.specs.declared.sample.Sample.{Sample}
+use Rattle.apex_module.specs.Configuration.{Configuration, IsConfiguration, ports_of, port_of, channel_of, IsDepth, depth_of_kind}
 use Rattle.apex_module.specs.declared.channel.Channel.{Channel}
 use Rattle.apex_module.specs.declared.channel.ChannelKind.{ChannelKind}
 use Rattle.apex_module.specs.declared.channel.ChannelKind.TheVariants.{Queuing, Sampling}
@@ -16,7 +17,9 @@ use Rattle.apex_ports.specs.History.{History}
 use Rattle.apex_module.specs.declared.port.Port.{Port}
 use Rattle.apex_ports.specs.Channels.{waiting_on}
 use Rattle.apex_ports.specs.Ports.{IsIdentifier}
-use Rattle.apex_ports.specs.ReplyTable.{depth_of, depth_in, size_in, queue_size_in}
+use Rattle.apex_ports.specs.ReplyTable.{depth_of, depth_in}
+use Rattle.apex_ports.specs.Noted.{IsSampleBy}
+use Rattle.apex_ports.specs.declared.noted.SampleRef.{SampleRef}
 use Rattle.apex_ports.specs.Kept.{AreKept, IsPartitionKept, IsChannelKept}
 
 -- the item at an index
@@ -27,6 +30,11 @@ at_index xs k x within is = slice_get-get_or xs k x within ∙ ap Some (sym is)
 pub nothing_lent : {X : Type 0} (lent : Option (Bor X)) → option_copied lent ≡ None → lent ≡ None
 nothing_lent None e = refl
 nothing_lent (Some x) e = absurd (cc)
+
+-- no sample is lent if none is held
+pub no_sample : (held : Option Sample) (lent : Option SampleRef) → IsSampleBy held lent → held ≡ None → lent ≡ None
+no_sample held None is none = refl
+no_sample held (Some sample) is none = absurd (cc)
 
 -- a configured port has an index in its partition's list
 pub is_identifier : (config : Configuration) (p id : ℕ) (port : Port) → port_of config p id ≡ Some port → IsIdentifier (ports_of config p) id
@@ -43,15 +51,6 @@ is_identifier config p id port found = by_test (id == 0) refl found
 pub waiting_count_is : {A : Type 0} (config : Configuration) (history : History) (c : ℕ) (state : ChannelState A) → IsChannelKept config history c state
     → length (waiting_in state) ≡ length (waiting_on config c history)
 waiting_count_is config history c state kept = ap (λ (xs : List (List ℕ)). length xs) kept.waiting
-
--- if messages can wait on a channel, each may have the channel's size
-pub queue_size_is : (channel : Option Channel) → 0 < depth_in channel → queue_size_in channel ≡ size_in channel
-queue_size_is None some = absurd (omega arith)
-queue_size_is (Some channel) some = of_kind channel.kind some
-  where
-    of_kind : (kind : ChannelKind) → 0 < depth_of_kind kind → (if is_queuing_channel kind then channel.size else 0) ≡ channel.size
-    of_kind (Queuing depth) some = refl
-    of_kind Sampling some = absurd (omega (arith, some))
 
 depth_in_small : (channel : Option Channel) → ((c : Channel) → channel ≡ Some c → IsDepth c.kind) → depth_in channel ≤ DEPTH_LIMIT
 depth_in_small None limit = omega arith

@@ -15,7 +15,7 @@ use Rattle.apex_ports.specs.History.{History, entries_of}
 use Rattle.apex_ports.specs.Modes.{mode_of}
 use Rattle.apex_ports.specs.Ports.{is_created, is_queuing}
 use Rattle.apex_ports.specs.Channels.{accepted_on, received_on, cleared_on, waiting_on, last_write_on, last_validity_of}
-use Rattle.apex_ports.specs.ReplyTable.{depth_of, queue_size_of}
+use Rattle.apex_ports.specs.ReplyTable.{channel_size, depth_of}
 use Rattle.apex_ports.specs.Sound.{IsSound}
 
 -- what holds for the item at each index
@@ -47,7 +47,7 @@ pub record IsChannelKept {A : Type 0} (config : Configuration) (history : Histor
   pub kind : has_queue state ≡ is_queuing config c
   pub waiting : waiting_in state ≡ waiting_on config c history
   pub depth : ring_depth state ≡ depth_of config c
-  pub size : message_size state ≡ queue_size_of config c
+  pub size : message_size state ≡ channel_size config c
   pub accepted : accepted_in state ≡ count_of (accepted_on config c history)
   pub received : received_in state ≡ count_of (received_on config c history)
   pub cleared : cleared_in state ≡ count_of (cleared_on config c history)

@@ -22,6 +22,8 @@ pub mod RunFault
 pub mod Saved
 pub mod Seen
 pub mod Services
+pub mod Slots
 pub mod Sound
+pub mod Stored
 pub mod WithoutClears
 pub mod Writes

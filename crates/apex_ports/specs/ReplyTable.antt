@@ -13,7 +13,7 @@ use Rattle.apex_types.specs.declared.reply.Reply.TheVariants as reply
 use Rattle.apex_types.specs.declared.return_code.ReturnCode.TheVariants.{NoError, NoAction, NotAvailable, InvalidParam}
 use Rattle.apex_types.specs.declared.sample.Sample.{Sample}
 use Rattle.apex_types.specs.declared.validity.Validity.{Validity}
-use Rattle.apex_module.specs.Configuration.{Configuration, channel_of, port_of, is_queuing_channel, depth_of_kind, refresh_of_kind}
+use Rattle.apex_module.specs.Configuration.{Configuration, channel_of, port_of, depth_of_kind, refresh_of_kind}
 use Rattle.apex_module.specs.declared.channel.Channel.{Channel}
 use Rattle.apex_module.specs.declared.port.Port.{Port}
 use Rattle.apex_ports.specs.declared.rows.Row.{Row}
@@ -52,13 +52,9 @@ depth_in (Some channel) = depth_of_kind channel.kind
 abbrev pub depth_of : Configuration → ℕ → ℕ
 depth_of config channel = depth_in (channel_of config channel)
 
-abbrev pub queue_size_in : Option Channel → ℕ
-queue_size_in None = 0
-queue_size_in (Some channel) = if is_queuing_channel channel.kind then channel.size else 0
-
--- the maximum length of a message that waits on a channel; 0 for a sampling channel, on which none waits
-abbrev pub queue_size_of : Configuration → ℕ → ℕ
-queue_size_of config channel = queue_size_in (channel_of config channel)
+-- the maximum length of a message on a channel
+abbrev pub channel_size : Configuration → ℕ → ℕ
+channel_size config channel = size_in (channel_of config channel)
 
 -- ---- creation, and identifiers by name
 

@@ -1,5 +1,7 @@
 -- The answers of the services, and the replies that they stand for.
-use Rattle.std.specs.Prelude.{ℕ, List, take, Option, Some, None, Result, Ok, Err}
+use Rattle.std.specs.Prelude.{ℕ, List, length, take, Option, Some, None, Result, Ok, Err}
+use Rattle.apex_types.specs.declared.call.Call.{Call}
+use Rattle.apex_types.specs.declared.call.Call.TheVariants.{SendQueuing, WriteSampling}
 use Rattle.apex_types.specs.declared.reply.Reply.{Reply}
 use Rattle.apex_types.specs.declared.reply.Reply.TheVariants as reply
 use Rattle.apex_types.specs.declared.reply.Reply.TheVariants.{NotMade, Code, Id, Received, Read}
@@ -7,6 +9,18 @@ use Rattle.apex_types.specs.declared.return_code.ReturnCode.{ReturnCode}
 use Rattle.apex_types.specs.declared.validity.Validity.{Validity}
 use Rattle.apex_ports.specs.declared.statuses.QueuingStatus.{QueuingStatus}
 use Rattle.apex_ports.specs.declared.statuses.SamplingStatus.{SamplingStatus}
+
+-- the length of the message that a call sends or writes, in bytes
+abbrev pub length_sent : Call → ℕ
+length_sent (SendQueuing id message) = length message
+length_sent (WriteSampling id message) = length message
+length_sent call = 0
+
+-- the length of the reply's message, in bytes
+abbrev pub message_length : Reply → ℕ
+message_length (Received message) = length message
+message_length (Read message validity) = length message
+message_length reply = 0
 
 -- the reply with only this return code; without one the call isn't made
 abbrev pub reply_coded : Option ReturnCode → Reply
@@ -36,11 +50,11 @@ reply_sampling_status (Err code) = reply_coded code
 
 -- the reply with a message of this length, from the first bytes of the buffer
 abbrev pub reply_received : Result ℕ (Option ReturnCode) → List ℕ → Reply
-reply_received (Ok length) buffer = Received (take length buffer)
+reply_received (Ok count) buffer = Received (take count buffer)
 reply_received (Err code) buffer = reply_coded code
 
 abbrev pub length_received : Result ℕ (Option ReturnCode) → ℕ
-length_received (Ok length) = length
+length_received (Ok count) = count
 length_received (Err code) = 0
 
 -- the same with the message's validity

@@ -1,11 +1,15 @@
 //! The state of a channel: the queue of a queuing channel, or the last sample of a sampling channel.
-ghost use Rattle.std.specs.Prelude.{◌≡◌, ◌+◌, ◌<◌, ◌≤◌, ◌^◌, ◌-◌, [], ◌∷◌, ◌++◌, false, length, min, drop, slice_get, Some, None, IfOk, IfSome};
+ghost use Rattle.std.specs.Prelude.{◌≡◌, ◌+◌, ◌<◌, ◌≤◌, ◌^◌, ◌-◌, [], ◌∷◌, ◌++◌, false, length, min, drop, slice_get, Some, IfOk, IfSome};
 ghost use Rattle.std.specs.Option.{option_copied};
 ghost use Rattle.apex_ports.specs.MessageRing.{messages};
+ghost use Rattle.apex_ports.specs.Noted.{IsSampleBy};
+ghost use Rattle.apex_ports.specs.Slots.{slot};
 ghost use Rattle.apex_ports.specs.declared.channel.ChannelState.TheVariants.{Sampling};
 
 use crate::message_ring::MessageRing;
-use apex_types::{MESSAGE_LIMIT, Message, Moment, Sample};
+use crate::noted::SampleRef;
+use crate::sample_slot::SampleSlot;
+use apex_types::{MESSAGE_LIMIT, Moment};
 use std::alloc::{AllocError, Allocator};
 
 /// The messages that wait on a queuing channel, in a ring of its depth and size. A count of accepted, received or cleared
@@ -40,7 +44,7 @@ impl<A: Allocator + Copy> Queue<A> {
 #[derive(Drop)]
 pub(crate) enum ChannelState<A: Allocator> {
     Queuing(Queue<A>),
-    Sampling(Option<Sample>),
+    Sampling(SampleSlot<A>),
 }
 
 impl<A: Allocator> ChannelState<A> {
@@ -98,12 +102,13 @@ impl<A: Allocator> ChannelState<A> {
     }
 
     /// The sample written last.
-    pub(crate) fn sample(&self) -> Option<&Sample>
-        ensures { option_copied result ≡ sample_in self.now }
+    pub(crate) fn sample(&self) -> Option<SampleRef<'_>>
+        ensures sample { IsSampleBy (sample_in self.now) result }
+        ensures short { IfSome result (λ sample. length sample.message.now ≤ MESSAGE_LIMIT) }
     {
         match self {
             ChannelState::Queuing(_) => None,
-            ChannelState::Sampling(sample) => sample.as_ref(),
+            ChannelState::Sampling(slot) => slot.get(),
         }
     }
 
@@ -174,28 +179,13 @@ impl<A: Allocator> ChannelState<A> {
     /// Replaces the sample. The channel has no queue.
     pub(crate) fn write(&mut self, message: &[u8], at: Moment)
         requires kind { has_queue self.old ≡ false }
-        requires short { length message.now ≤ MESSAGE_LIMIT }
-        ensures { self.new ≡ Sampling (Some (record { message = message.now; at = at })) }
+        requires short { length message.now ≤ message_size self.old }
+        ensures { self.new ≡ Sampling (slot
+            (Some (record { message = message.now; at = at })) (message_size self.old)) }
     {
         match self {
             ChannelState::Queuing(_) => unreachable!(),
-            ChannelState::Sampling(Some(sample)) => {
-                sample.message.read_bytes(message).unwrap();
-                sample.at = at;
-            }
-            ChannelState::Sampling(none) => *none = Some(first_sample(message, at)),
+            ChannelState::Sampling(slot) => slot.put(message, at),
         }
-    }
-}
-
-// Not inlined, since a function clears the stack room of a new message when it begins.
-#[inline(never)]
-fn first_sample(message: &[u8], at: Moment) -> Sample
-    requires { length message.now ≤ MESSAGE_LIMIT }
-    ensures { result ≡ record { message = message.now; at = at } }
-{
-    Sample {
-        message: Message::from_bytes(message).unwrap(),
-        at,
     }
 }

@@ -15,7 +15,7 @@ use crate::partition::PortState;
 use crate::state::State;
 use crate::table::lookup::configured_port;
 use apex_module::Config;
-use apex_types::{MESSAGE_LIMIT, Mode, Moment, Validity};
+use apex_types::{Mode, Moment, Validity};
 use std::alloc::Allocator;
 
 /// The state of a port that was created and has not read yet.
@@ -114,7 +114,6 @@ impl<A: Allocator> State<A> {
     )
         requires partition { partition < length config.now.partitions }
         requires current { IsCurrent config.now self.old }
-        requires short { length message.now ≤ MESSAGE_LIMIT }
         requires row { let here = seen config.now self.old.history partition in
             row_of config.now here partition at (call.WriteSampling id message.now) ≡ row.Written }
         ensures kept { let asked = call.WriteSampling id message.now in

@@ -6,6 +6,7 @@ ghost use Rattle.apex_ports.specs.Kept.{EachAt, IsPartitionKept, IsChannelKept, 
 use crate::channel::{ChannelState, Queue};
 use crate::ghost_history::GhostHistory;
 use crate::partition::{PartitionState, PortState};
+use crate::sample_slot::SampleSlot;
 use crate::state::State;
 use apex_module::{ChannelKind, Config};
 use apex_types::{Mode, Validity};
@@ -106,6 +107,9 @@ fn new_channel<A: Allocator + Copy>(
             let queue = Queue::new(alloc, depth, channel.size)?;
             Ok(ChannelState::Queuing(queue))
         }
-        ChannelKind::Sampling => Ok(ChannelState::Sampling(None)),
+        ChannelKind::Sampling => {
+            let slot = SampleSlot::new(alloc, channel.size)?;
+            Ok(ChannelState::Sampling(slot))
+        }
     }
 }

@@ -80,6 +80,7 @@ impl<A: Allocator> MessageRing<A> {
     /// The message at an index; index 0 has the oldest.
     pub(crate) fn get(&self, index: usize) -> Option<&[u8]>
         ensures message { option_copied result ≡ slice_get self.now.items index }
+        ensures fits { IfSome result (λ message. length message.now ≤ self.now.size) }
         ensures short { IfSome result (λ message. length message.now ≤ MESSAGE_LIMIT) }
     {
         let place = self.places.get(index)?;

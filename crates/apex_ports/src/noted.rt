@@ -1,10 +1,13 @@
-//! Calls and replies by reference: a name or a message stays where the caller has it.
+//! Calls, replies and samples by reference: a name or a message stays where it is.
 ghost use Rattle.std.specs.Prelude.{◌≡◌, ◌≤◌, length};
-ghost use Rattle.apex_ports.specs.Noted.{call_by, reply_by};
-ghost use Rattle.apex_ports.specs.Services.{length_read, length_received, reply_coded, reply_id, reply_queuing_status, reply_read, reply_received, reply_sampling_status};
+ghost use Rattle.apex_types.specs.Sample.{validity_at};
+ghost use Rattle.apex_ports.specs.Noted.{call_by, reply_by, sample_by};
+ghost use Rattle.apex_ports.specs.Services.{length_read, length_received, length_sent, message_length, reply_coded, reply_id, reply_queuing_status, reply_read, reply_received, reply_sampling_status};
 
 use crate::statuses::{QueuingStatus, SamplingStatus};
-use apex_types::{Call, Direction, Moment, Name, Reply, ReturnCode, Validity};
+use apex_types::{
+    Call, Direction, MESSAGE_LIMIT, Moment, Name, Reply, ReturnCode, Sample, Validity,
+};
 
 /// A call. A contract sees it as the `Call` with the same name and values.
 #[derive(Clone, Copy, Drop)]
@@ -81,6 +84,13 @@ pub enum ReplyRef<'a> {
     },
 }
 
+/// A sample. A contract sees it as the `Sample` with the same message and moment.
+#[derive(Clone, Copy, Debug, Drop)]
+pub struct SampleRef<'a> {
+    pub message: &'a [u8],
+    pub at: Moment,
+}
+
 /// A call with the reply that it got.
 #[derive(Clone, Copy, Drop)]
 pub struct Event<'a> {
@@ -91,11 +101,36 @@ pub struct Event<'a> {
     pub reply: ReplyRef<'a>,
 }
 
+impl<'a> SampleRef<'a> {
+    /// The sample by reference.
+    pub fn of(sample: &'a Sample) -> SampleRef<'a>
+        ensures sample { sample_by result ≡ sample.now }
+        ensures short { length result.message.now ≤ MESSAGE_LIMIT }
+    {
+        SampleRef {
+            message: sample.message.bytes(),
+            at: sample.at,
+        }
+    }
+
+    /// VALID until `refresh` nanoseconds after the write, that moment included, computed without overflow.
+    pub fn validity(self, now: Moment, refresh: u64) -> Validity
+        ensures { result ≡ validity_at now.0 self.entry.at.0 refresh }
+    {
+        if now.0.saturating_sub(self.at.0) <= refresh {
+            Validity::Valid
+        } else {
+            Validity::Invalid
+        }
+    }
+}
+
 impl<'a> CallRef<'a> {
     /// The call by reference.
     #[inline(always)]
     pub fn of(call: &'a Call) -> CallRef<'a>
-        ensures { call_by result ≡ call.now }
+        ensures call { call_by result ≡ call.now }
+        ensures short { length_sent (call_by result) ≤ MESSAGE_LIMIT }
     {
         match call {
             Call::CreateSampling {
@@ -146,7 +181,8 @@ impl<'a> ReplyRef<'a> {
     /// The reply with only this return code; without one the call isn't made.
     #[inline(always)]
     pub fn coded(code: Option<ReturnCode>) -> ReplyRef<'a>
-        ensures { reply_by result ≡ reply_coded code }
+        ensures reply { reply_by result ≡ reply_coded code }
+        ensures short { message_length (reply_by result) ≤ MESSAGE_LIMIT }
     {
         match code {
             None => ReplyRef::NotMade,
@@ -157,7 +193,8 @@ impl<'a> ReplyRef<'a> {
     /// The reply with an identifier, or with a return code.
     #[inline(always)]
     pub fn identified(answer: Result<u32, Option<ReturnCode>>) -> ReplyRef<'a>
-        ensures { reply_by result ≡ reply_id answer }
+        ensures reply { reply_by result ≡ reply_id answer }
+        ensures short { message_length (reply_by result) ≤ MESSAGE_LIMIT }
     {
         match answer {
             Ok(id) => ReplyRef::Id(id),
@@ -168,7 +205,8 @@ impl<'a> ReplyRef<'a> {
     /// The reply with a queuing port's status, or with a return code.
     #[inline(always)]
     pub fn queuing_status(answer: Result<QueuingStatus, Option<ReturnCode>>) -> ReplyRef<'a>
-        ensures { reply_by result ≡ reply_queuing_status answer }
+        ensures reply { reply_by result ≡ reply_queuing_status answer }
+        ensures short { message_length (reply_by result) ≤ MESSAGE_LIMIT }
     {
         match answer {
             Ok(status) => ReplyRef::QueuingStatus {
@@ -184,7 +222,8 @@ impl<'a> ReplyRef<'a> {
     /// The reply with a sampling port's status, or with a return code.
     #[inline(always)]
     pub fn sampling_status(answer: Result<SamplingStatus, Option<ReturnCode>>) -> ReplyRef<'a>
-        ensures { reply_by result ≡ reply_sampling_status answer }
+        ensures reply { reply_by result ≡ reply_sampling_status answer }
+        ensures short { message_length (reply_by result) ≤ MESSAGE_LIMIT }
     {
         match answer {
             Ok(status) => ReplyRef::SamplingStatus {
@@ -201,7 +240,9 @@ impl<'a> ReplyRef<'a> {
     #[inline(always)]
     pub fn received(answer: Result<usize, Option<ReturnCode>>, buffer: &'a [u8]) -> ReplyRef<'a>
         requires { length_received answer ≤ length buffer.now }
-        ensures { reply_by result ≡ reply_received answer buffer.now }
+        ensures reply { reply_by result ≡ reply_received answer buffer.now }
+        ensures short { length_received answer ≤ MESSAGE_LIMIT →
+            message_length (reply_by result) ≤ MESSAGE_LIMIT }
     {
         match answer {
             Ok(length) => ReplyRef::Received(&buffer[..length]),
@@ -216,7 +257,9 @@ impl<'a> ReplyRef<'a> {
         buffer: &'a [u8],
     ) -> ReplyRef<'a>
         requires { length_read answer ≤ length buffer.now }
-        ensures { reply_by result ≡ reply_read answer buffer.now }
+        ensures reply { reply_by result ≡ reply_read answer buffer.now }
+        ensures short { length_read answer ≤ MESSAGE_LIMIT →
+            message_length (reply_by result) ≤ MESSAGE_LIMIT }
     {
         match answer {
             Ok((length, validity)) => ReplyRef::Read {
@@ -230,7 +273,8 @@ impl<'a> ReplyRef<'a> {
     /// The reply by reference.
     #[inline(always)]
     pub fn of(reply: &'a Reply) -> ReplyRef<'a>
-        ensures { reply_by result ≡ reply.now }
+        ensures reply { reply_by result ≡ reply.now }
+        ensures short { message_length (reply_by result) ≤ MESSAGE_LIMIT }
     {
         match reply {
             Reply::NotMade => ReplyRef::NotMade,

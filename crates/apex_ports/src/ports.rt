@@ -1,11 +1,11 @@
 //! The ports of a module.
-ghost use Rattle.std.specs.Prelude.{◌≡◌, ◌<◌, ◌∷◌, ◌++◌, [], length, IfOk};
+ghost use Rattle.std.specs.Prelude.{◌≡◌, ◌<◌, ◌≤◌, ◌∷◌, ◌++◌, [], length, IfOk};
 
 use crate::initial_state::new_counts;
 use crate::noted::{CallRef, ReplyRef};
 use crate::state::State;
 use apex_module::Config;
-use apex_types::{Call, Moment, OutOfMemory, Reply};
+use apex_types::{Call, MESSAGE_LIMIT, Moment, OutOfMemory, Reply};
 use std::alloc::{Allocator, Global};
 use std::marker::Model;
 
@@ -60,7 +60,9 @@ impl<A: Allocator + Copy> Ports<A> {
 
 impl<A: Allocator> Ports<A> {
     ghost use Rattle.apex_ports.specs.History.{entry_of};
+    ghost use Rattle.apex_ports.specs.Noted.{call_by, reply_by};
     ghost use Rattle.apex_ports.specs.ReplyTable.{reply_to};
+    ghost use Rattle.apex_ports.specs.Services.{message_length};
     ghost use Rattle.apex_ports.specs.Sound.{IsSound};
 
     /// Makes one call of the partition at the moment. It always answers, and doesn't allocate.
@@ -74,31 +76,32 @@ impl<A: Allocator> Ports<A> {
         ensures config { self.new.config ≡ self.old.config }
         ensures sound { IsSound self.new.config self.new.history }
     {
-        let mut reply = Reply::NotMade;
-        self.call_into(partition, at, call, &mut reply);
-        reply
+        let mut buffer = [0; MESSAGE_LIMIT];
+        let reply = self.answer(partition, at, CallRef::of(call), &mut buffer);
+        reply.to_reply()
     }
 
-    /// Makes the call as `call` does, with the reply in `reply`.
-    pub fn call_into(&mut self, partition: usize, at: Moment, call: &Call, reply: &mut Reply)
-        requires { partition < length self.old.config.partitions }
-        ensures reply { reply.new
-            ≡ reply_to self.old.config self.old.history partition at call.now }
+    /// Makes the call as `call` does. The message of the reply is in the buffer.
+    pub fn answer<'a>(
+        &mut self,
+        partition: usize,
+        at: Moment,
+        call: CallRef<'_>,
+        buffer: &'a mut [u8],
+    ) -> ReplyRef<'a>
+        requires partition { partition < length self.old.config.partitions }
+        requires room { MESSAGE_LIMIT ≤ length buffer.old }
+        ensures reply { reply_by result
+            ≡ reply_to self.old.config self.old.history partition at (call_by call.entry) }
+        ensures short { message_length (reply_by result) ≤ MESSAGE_LIMIT }
         ensures entry { self.new.history ≡ self.old.history
-            ++ entry_of partition at call.now reply.new ∷ [] }
+            ++ entry_of partition at (call_by call.entry) (reply_by result) ∷ [] }
         ensures config { self.new.config ≡ self.old.config }
         ensures sound { IsSound self.new.config self.new.history }
     {
-        self.state.answer(&self.config, partition, at, call, reply);
-        let asked = CallRef::of(call);
-        let answered = ReplyRef::of(reply);
-        self.state.note(
-            &self.config,
-            &mut self.calls,
-            partition,
-            at,
-            asked,
-            answered,
-        );
+        let reply = self.state.answer(&self.config, partition, at, call, buffer);
+        self.state
+            .note(&self.config, &mut self.calls, partition, at, call, reply);
+        reply
     }
 }

@@ -142,7 +142,7 @@ impl<A: Allocator> State<A> {
         }
         match read_sample(self, config, partition, at, id) {
             Ok((sample, validity)) => {
-                let length = put_bytes(sample.message.bytes(), buffer);
+                let length = put_bytes(sample.message, buffer);
                 self.read(config, partition, at, id, validity);
                 Ok((length, validity))
             }

@@ -1,9 +1,11 @@
 //! The reply table: the row that a call gets, by what its partition sees. In IDLE no call is made.
 ghost use Rattle.std.specs.Prelude.{◌≡◌, ◌<◌, length};
 ghost use Rattle.apex_ports.specs.Decisions.{IsRowOfDecision};
+ghost use Rattle.apex_ports.specs.Noted.{call_by};
 ghost use Rattle.apex_ports.specs.ReplyTable.{row_of, service_row};
 
 use crate::modes::is_idle;
+use crate::noted::CallRef;
 use crate::rows::{Refusal, Row};
 use crate::table::creation::{created_queuing_id, created_sampling_id, queuing_id, sampling_id};
 use crate::table::modes::set_mode_row;
@@ -11,7 +13,7 @@ use crate::table::queuing::{clear_row, queuing_status_row, receive_row, send_row
 use crate::table::sampling::{read_row, sampling_status_row, write_row};
 use crate::view::View;
 use apex_module::Config;
-use apex_types::{Call, Moment};
+use apex_types::Moment;
 
 pub(crate) mod creation;
 pub mod lookup;
@@ -21,11 +23,17 @@ pub mod replies;
 pub(crate) mod sampling;
 
 /// The row that a call of the partition gets.
-pub fn row<V: View>(view: &V, config: &Config, partition: usize, at: Moment, call: &Call) -> Row
+pub fn row<V: View>(
+    view: &V,
+    config: &Config,
+    partition: usize,
+    at: Moment,
+    call: CallRef<'_>,
+) -> Row
     requires partition { partition < length config.now.partitions }
     requires kept { V.is_kept config.now view.now }
     ensures { let here = V.seen config.now view.now partition in
-        result ≡ row_of config.now here partition at call.now }
+        result ≡ row_of config.now here partition at (call_by call.entry) }
 {
     if is_idle(view.mode(config, partition)) {
         return Row::Idle;
@@ -42,35 +50,33 @@ fn accepted_row<V: View>(
     config: &Config,
     partition: usize,
     at: Moment,
-    call: &Call,
+    call: CallRef<'_>,
 ) -> Result<Row, Refusal>
     requires partition { partition < length config.now.partitions }
     requires kept { V.is_kept config.now view.now }
     ensures { let here = V.seen config.now view.now partition in
-        IsRowOfDecision (service_row config.now here partition at call.now) result }
+        IsRowOfDecision (service_row config.now here partition at (call_by call.entry)) result }
 {
     match call {
-        Call::CreateSampling {
+        CallRef::CreateSampling {
             name,
             size,
             direction,
             refresh,
         } => {
-            let id = created_sampling_id(
-                view, config, partition, name, *size, *direction, *refresh,
-            )?;
+            let id = created_sampling_id(view, config, partition, name, size, direction, refresh)?;
             Ok(Row::Created { id })
         }
-        Call::WriteSampling { id, message } => {
-            write_row(view, config, partition, *id, message.bytes())
+        CallRef::WriteSampling { id, message } => {
+            write_row(view, config, partition, id, message)
         }
-        Call::ReadSampling { id } => read_row(view, config, partition, at, *id),
-        Call::SamplingId { name } => {
+        CallRef::ReadSampling { id } => read_row(view, config, partition, at, id),
+        CallRef::SamplingId { name } => {
             let id = sampling_id(view, config, partition, name)?;
             Ok(Row::Identified { id })
         }
-        Call::SamplingStatus { id } => sampling_status_row(view, config, partition, *id),
-        Call::CreateQueuing {
+        CallRef::SamplingStatus { id } => sampling_status_row(view, config, partition, id),
+        CallRef::CreateQueuing {
             name,
             size,
             depth,
@@ -78,27 +84,18 @@ fn accepted_row<V: View>(
             discipline,
         } => {
             let id = created_queuing_id(
-                view,
-                config,
-                partition,
-                name,
-                *size,
-                *depth,
-                *direction,
-                *discipline,
+                view, config, partition, name, size, depth, direction, discipline,
             )?;
             Ok(Row::Created { id })
         }
-        Call::SendQueuing { id, message } => {
-            send_row(view, config, partition, *id, message.bytes())
-        }
-        Call::ReceiveQueuing { id } => receive_row(view, config, partition, *id),
-        Call::QueuingId { name } => {
+        CallRef::SendQueuing { id, message } => { send_row(view, config, partition, id, message) }
+        CallRef::ReceiveQueuing { id } => receive_row(view, config, partition, id),
+        CallRef::QueuingId { name } => {
             let id = queuing_id(view, config, partition, name)?;
             Ok(Row::Identified { id })
         }
-        Call::QueuingStatus { id } => queuing_status_row(view, config, partition, *id),
-        Call::ClearQueuing { id } => clear_row(view, config, partition, *id),
-        Call::SetMode { mode } => set_mode_row(view.mode(config, partition), *mode),
+        CallRef::QueuingStatus { id } => queuing_status_row(view, config, partition, id),
+        CallRef::ClearQueuing { id } => clear_row(view, config, partition, id),
+        CallRef::SetMode { mode } => set_mode_row(view.mode(config, partition), mode),
     }
 }

@@ -4,12 +4,14 @@ ghost use Rattle.std.proofs.Common.{ap};
 ghost use Rattle.std.specs.Option.{option_copied};
 ghost use Rattle.apex_module.specs.Configuration.{Configuration, port_of, ports_of};
 ghost use Rattle.apex_ports.specs.Kept.{IsCurrent};
+ghost use Rattle.apex_ports.specs.Noted.{IsSampleBy};
 ghost use Rattle.apex_ports.specs.Ports.{IsIdentifier};
 ghost use Rattle.apex_ports.specs.Seen.{Seen, seen, waiting_of, sample_of};
 
+use crate::noted::SampleRef;
 use crate::state::State;
 use apex_module::{Config, Port};
-use apex_types::{MESSAGE_LIMIT, Mode, Sample, Validity};
+use apex_types::{MESSAGE_LIMIT, Mode, Validity};
 use std::alloc::Allocator;
 
 /// A state of the ports of a configuration. It shows each partition its mode and, for each of its ports, whether it is
@@ -59,11 +61,18 @@ pub trait View {
         ensures short { IfSome result (λ message. length message.now ≤ MESSAGE_LIMIT) };
 
     /// The sample written last into the channel of the port with the identifier.
-    fn sample(&self, config: &Config, partition: usize, id: u32, port: &Port) -> Option<&Sample>
+    fn sample(
+        &self,
+        config: &Config,
+        partition: usize,
+        id: u32,
+        port: &Port,
+    ) -> Option<SampleRef<'_>>
         requires kept { is_kept config.now self.now }
         requires port { port_of config.now partition id ≡ Some port.now }
         requires linked { port.now.channel < length config.now.channels }
-        ensures { option_copied result ≡ (seen config.now self.now partition).sample id };
+        ensures sample { IsSampleBy ((seen config.now self.now partition).sample id) result }
+        ensures short { IfSome result (λ sample. length sample.message.now ≤ MESSAGE_LIMIT) };
 
     // if there is no port, nothing is seen
     ghost nothing_waits: { (config : Configuration) (state : Self) (p id : ℕ) →
@@ -102,7 +111,13 @@ impl<A: Allocator> View for State<A> {
         self.channels[port.channel].waiting(0)
     }
 
-    fn sample(&self, config: &Config, partition: usize, id: u32, port: &Port) -> Option<&Sample> {
+    fn sample(
+        &self,
+        config: &Config,
+        partition: usize,
+        id: u32,
+        port: &Port,
+    ) -> Option<SampleRef<'_>> {
         self.channels[port.channel].sample()
     }
 }

@@ -19,7 +19,7 @@ module _ (A : RattleType) (g : Ghosts A.Denot) (s : IsSend A) (y : IsSync A) (f 
 
   RunPorts-send : IsSend (RunPorts.the_row A g)
   RunPorts-send = view_send _ _ _ _ _ (declared_send (RunPortsInside.the_type A g)
-      (Ports-send A g s f, (publishers.the_send A g s y f, (search (as_row_send, Vec-send, Observer-send), (search (sendable, as_row_send, Vec-send), tt)))))
+      (Ports-send A g s f, (publishers.the_send A g s y f, (search (as_row_send, Vec-send, Observer-send), (search (sendable, as_row_send, Vec-send), (search (sendable, as_row_send), tt))))))
 
   pub SharedPorts-sync : IsSync (SharedPorts.the_row A g)
   SharedPorts-sync = declared_sync (SharedPorts.the_type A g) (search (crosses, RunPorts-send), tt)

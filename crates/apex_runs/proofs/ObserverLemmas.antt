@@ -1,12 +1,15 @@
 -- The observers of the sampling channels, one channel after the other.
-use Rattle.std.proofs.Common.{◌≡◌, ◌≢◌, ℕ, zero, suc, ◌+◌, ◌<◌, ◌≤◌, ◌==◌, Bool, true, false, List, set, Some, slice_get, refl, ap, sym, subst, ◌∙◌, arith, ⊎_elim}
+use Rattle.std.proofs.Common.{◌≡◌, ◌≢◌, ℕ, zero, suc, ◌+◌, ◌<◌, ◌≤◌, ◌==◌, Bool, true, false, List, set, Option, None, Some, slice_get, refl, ap, sym, subst, ◌∙◌, arith, ⊎_elim}
 use Rattle.std.proofs.lemmas.Bool.Decides.{nat_tests}
+use Rattle.apex_types.specs.declared.sample.Sample.{Sample}
 use Rattle.apex_module.specs.Configuration.{Configuration, channel_of, is_queuing_channel}
 use Rattle.apex_module.specs.declared.channel.Channel.{Channel}
 use Rattle.apex_observers.specs.Published.{Published, last_of}
 use Rattle.apex_ports.specs.Channels.{last_write_on}
 use Rattle.apex_ports.specs.History.{History}
+use Rattle.apex_ports.specs.Noted.{IsSampleBy}
 use Rattle.apex_ports.specs.Ports.{is_queuing, is_queue}
+use Rattle.apex_ports.specs.declared.noted.SampleRef.{SampleRef}
 use Rattle.apex_ports.proofs.Stays.{slice_get-set_cases}
 use Rattle.apex_runs.specs.Observers.{sampling_before}
 
@@ -80,3 +83,8 @@ module _ (config : Configuration) where
           (λ own. absurd (apart_at apart own.0))
           (λ other. shown d known (omega arith) sampling other.1)
           (slice_get-set_cases observers index now (sampling_before config d) known at)
+
+-- what one reference means is one sample
+pub same_held : (held other : Option Sample) (lent : Option SampleRef) → IsSampleBy held lent → IsSampleBy other lent → held ≡ other
+same_held held other None is same = is ∙ sym same
+same_held held other (Some sample) is same = is ∙ sym same

@@ -1,13 +1,13 @@
 //! Compares what the observers of a run show with the samples of a run on ports.
 ghost use Rattle.std.specs.Prelude.{◌≡◌, map, IfOk, IfErr};
-ghost use Rattle.std.specs.Option.{option_copied};
 ghost use Rattle.apex_observers.specs.Published.{last_of};
+ghost use Rattle.apex_ports.specs.Noted.{IsSampleBy};
 ghost use Rattle.apex_runs.specs.Observers.{ShowSamples, IsReadFault};
 
 use apex_observers::{Observer, Sampled};
-use apex_ports::{Ports, RunFault};
+use apex_ports::{Ports, RunFault, SampleRef};
 use apex_texts::Fault;
-use apex_types::{Moment, Sample};
+use apex_types::Moment;
 use std::alloc::Allocator;
 
 /// Compares what the observers of the sampling channels show, in the channels' order, with the channels' samples.
@@ -37,17 +37,22 @@ pub(crate) fn compare<A: Allocator, B: Allocator>(
 /// Compares what one observer shows with the sample of its channel.
 fn compare_read<A: Allocator>(
     observer: &mut Observer<A>,
-    sample: Option<&Sample>,
+    sample: Option<SampleRef<'_>>,
 ) -> Result<(), Fault>
     ensures channel { observer.new.channel ≡ observer.old.channel }
-    ensures shown { IfOk result (λ _. last_of observer.new.writes ≡ option_copied sample.entry) }
+    ensures shown { IfOk result (λ _. IsSampleBy (last_of observer.new.writes) sample.entry) }
     ensures fault { IfErr result IsReadFault }
 {
     match (observer.read(Moment(0), 0), sample) {
         (Sampled::Gone, _) => Err(Fault::Gone),
         (Sampled::Empty, None) => Ok(()),
-        (Sampled::Sample { message, at, .. }, Some(sample))
-            if message == sample.message && at == sample.at => { Ok(()) }
+        (Sampled::Sample { message, at, .. }, Some(sample)) => {
+            if message.bytes() == sample.message && at == sample.at {
+                Ok(())
+            } else {
+                Err(Fault::Run(RunFault::ResultsDiffer))
+            }
+        }
         _ => Err(Fault::Run(RunFault::ResultsDiffer)),
     }
 }

@@ -1,15 +1,16 @@
 //! The calls of a run, served once more on new ports in the order in which they were made.
-ghost use Rattle.std.specs.Prelude.{◌≡◌, ◌<◌, ◌^◌, ◌∷◌, ◌++◌, [], length, map, replicate, string_bytes, OnOk, IfErr};
+ghost use Rattle.std.specs.Prelude.{◌≡◌, ◌<◌, ◌≤◌, ◌^◌, ◌∷◌, ◌++◌, [], length, map, replicate, string_bytes, OnOk, IfErr};
 ghost use Rattle.apex_ports.specs.History.{entry_of};
+ghost use Rattle.apex_ports.specs.Noted.{call_by};
 ghost use Rattle.apex_ports.specs.Sound.{IsSound};
 ghost use Rattle.apex_runs.specs.Run.{IsReportFault};
 ghost use Rattle.apex_texts.specs.Report.{line_of, entry_lines};
 ghost use Rattle.apex_threads.specs.Collected.{IsCollected};
 
-use apex_ports::{Ports, RunFault};
+use apex_ports::{CallRef, Ports, RunFault};
 use apex_texts::{Fault, push_entry};
 use apex_threads::{PackedReplies, PackedScript, are_complete};
-use apex_types::{ANY_CALL, Call, Moment, Reply};
+use apex_types::{MESSAGE_LIMIT, Moment, Reply};
 use std::alloc::AllocError;
 
 /// Serves the calls of all scripts on new ports, each time the next one of the partition that the order names, and
@@ -39,8 +40,8 @@ pub(crate) fn push_calls(
     ensures short { length ports.new.history < 2 ^ 64 }
     ensures fault { IfErr result IsReportFault }
 {
-    let mut call = ANY_CALL;
     let mut reply = Reply::NotMade;
+    let mut buffer = [0; MESSAGE_LIMIT];
     let mut number: u64 = 0;
     for byte in order {
         let partition = usize::from(*byte);
@@ -49,11 +50,20 @@ pub(crate) fn push_calls(
         }
         let index = counts[partition];
         let script = &scripts[partition];
-        let Some(at) = script.read(index, &mut call) else {
+        let Some((at, call)) = script.get(index) else {
             return Err(Fault::Run(RunFault::ResultsDiffer));
         };
         number += 1;
-        push_call(text, ports, number, partition, at, &call, &mut reply)?;
+        push_call(
+            text,
+            ports,
+            number,
+            partition,
+            at,
+            call,
+            &mut buffer,
+            &mut reply,
+        )?;
         let worker = &replies[partition];
         if !worker.is_at(index, &reply) {
             return Err(Fault::Run(RunFault::ResultsDiffer));
@@ -73,19 +83,22 @@ fn push_call(
     number: u64,
     partition: usize,
     at: Moment,
-    call: &Call,
+    call: CallRef<'_>,
+    buffer: &mut [u8],
     reply: &mut Reply,
 ) -> Result<(), AllocError>
-    requires { partition < length ports.old.config.partitions }
+    requires partition { partition < length ports.old.config.partitions }
+    requires room { MESSAGE_LIMIT ≤ length buffer.old }
     ensures config { ports.new.config ≡ ports.old.config }
     ensures sound { IsSound ports.new.config ports.new.history }
     ensures history { ports.new.history
-        ≡ ports.old.history ++ entry_of partition at call.now reply.new ∷ [] }
-    ensures written { let entry = entry_of partition at call.now reply.new in
+        ≡ ports.old.history ++ entry_of partition at (call_by call.entry) reply.new ∷ [] }
+    ensures written { let entry = entry_of partition at (call_by call.entry) reply.new in
         OnOk result (string_bytes text.new ≡
         string_bytes text.old ++ line_of ports.old.config number entry) }
 {
-    ports.call_into(partition, at, call, reply);
+    let lent = ports.answer(partition, at, call, buffer);
+    lent.copy_to(reply);
     let name = ports.config().partition_name(partition).text();
-    push_entry(text, number, name, at, call, reply)
+    push_entry(text, number, name, at, call, lent)
 }

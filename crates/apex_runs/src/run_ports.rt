@@ -1,23 +1,25 @@
 //! What the workers of a run share, behind a lock.
 ghost use Rattle.std.specs.Prelude.{◌≡◌, ◌↔◌, ◌≤◌, ◌∷◌, ◌++◌, [], length, IfOk, IfErr, IsErrOf, OnErr, OnOk};
 ghost use Rattle.apex_ports.specs.History.{entry_of};
+ghost use Rattle.apex_ports.specs.Noted.{call_by};
 ghost use Rattle.apex_ports.specs.ReplyTable.{reply_to};
 ghost use Rattle.apex_runs.specs.Run.{IsPortsFault};
+ghost use Rattle.apex_ports.specs.Services.{length_sent};
 
 use crate::observers::compare;
 use apex_module::Config;
 use apex_observers::{Observer, Publishers};
-use apex_ports::{Ports, RunFault};
+use apex_ports::{CallRef, Ports, RunFault};
 use apex_texts::Fault;
-use apex_threads::{AskFault, SharedBoard, fault_without, new_publishers, publish};
-use apex_types::{Call, Moment, Reply};
+use apex_threads::{AskFault, SharedBoard, fault_without, new_publishers, publish_by};
+use apex_types::{Call, MESSAGE_LIMIT, Moment, Reply};
 use std::alloc::Allocator;
 use std::marker::Model;
 use std::mem;
 use std::sync::{Mutex, MutexGuard, Wait};
 
-/// The ports of a run, what is published on their sampling channels, an observer of each, and which partition made each
-/// call, in the order of the calls.
+/// The ports of a run, what is published on their sampling channels, an observer of each, which partition made each call, in
+/// the order of the calls, and the place for a reply's message.
 ///
 /// It is not `Drop`: end it with `close`.
 pub(crate) struct RunPorts<A: Allocator> {
@@ -25,6 +27,7 @@ pub(crate) struct RunPorts<A: Allocator> {
     publishers: Publishers<A>,
     observers: Vec<Observer<A>, A>,
     order: Vec<u8, A>,
+    buffer: [u8; MESSAGE_LIMIT],
 }
 
 impl<A: Allocator> Model for RunPorts<A> {
@@ -68,6 +71,7 @@ impl<A: Allocator + Copy> RunPorts<A> {
                 publishers,
                 observers,
                 order,
+                buffer: [0; MESSAGE_LIMIT],
             }),
             Err(fault) => {
                 publishers.close(rt);
@@ -106,14 +110,16 @@ impl<A: Allocator> RunPorts<A> {
         rt: &R,
         partition: usize,
         at: Moment,
-        call: &Call,
+        call: CallRef<'_>,
         reply: &mut Reply,
     ) -> Result<(), AskFault>
+        requires { length_sent (call_by call) ≤ MESSAGE_LIMIT }
         // The reply is the reply table's, and the history gains exactly this entry.
         ensures reply { OnOk result
-            (reply.new ≡ reply_to self.old.config self.old.history partition at call.now) }
+            (reply.new
+            ≡ reply_to self.old.config self.old.history partition at (call_by call.entry)) }
         ensures entry { OnOk result (self.new.history
-            ≡ self.old.history ++ entry_of partition at call.now reply.new ∷ []) }
+            ≡ self.old.history ++ entry_of partition at (call_by call.entry) reply.new ∷ []) }
         ensures config { self.new.config ≡ self.old.config }
         ensures partition { IsErrOf result AskFault.NoPartition
             ↔ (length self.old.config.partitions ≤ partition) }
@@ -125,10 +131,11 @@ impl<A: Allocator> RunPorts<A> {
         if self.order.reserve(1).is_err() {
             return Err(AskFault::OutOfMemory);
         }
-        match publish(rt, &mut self.publishers, &self.ports, partition, at, call) {
+        match publish_by(rt, &mut self.publishers, &self.ports, partition, at, call) {
             Ok(()) => {
                 self.order.push_reserved(partition as u8);
-                self.ports.call_into(partition, at, call, reply);
+                let lent = self.ports.answer(partition, at, call, &mut self.buffer);
+                lent.copy_to(reply);
                 Ok(())
             }
             Err(_refused) => Err(AskFault::OutOfMemory),
@@ -142,6 +149,7 @@ impl<A: Allocator> RunPorts<A> {
             publishers,
             observers: _,
             order: _,
+            buffer: _,
         } = self;
         publishers.close(rt);
     }
@@ -176,7 +184,7 @@ impl<A: Allocator + Send + Sync> SharedBoard for SharedPorts<A> {
         call: &Call,
     ) -> Result<Reply, AskFault> {
         let mut reply = Reply::NotMade;
-        self.ask_into(rt, partition, at, call, &mut reply)?;
+        self.ask_into(rt, partition, at, CallRef::of(call), &mut reply)?;
         Ok(reply)
     }
 
@@ -186,7 +194,7 @@ impl<A: Allocator + Send + Sync> SharedBoard for SharedPorts<A> {
         rt: &R,
         partition: usize,
         at: Moment,
-        call: &Call,
+        call: CallRef<'_>,
         reply: &mut Reply,
     ) -> Result<(), AskFault> {
         let mut guard = self.ports.lock(rt);

@@ -1,5 +1,5 @@
 //! A replay: it reads a configuration and a trace, and writes a report.
-ghost use Rattle.std.specs.Prelude.{◌≡◌, ◌<◌, ◌^◌, ◌∷◌, ◌++◌, [], length, string_bytes, OnOk, IfErr};
+ghost use Rattle.std.specs.Prelude.{◌≡◌, ◌<◌, ◌≤◌, ◌^◌, ◌∷◌, ◌++◌, [], length, string_bytes, OnOk, IfErr};
 ghost use Rattle.apex_ports.specs.Sound.{IsSound};
 ghost use Rattle.apex_texts.specs.Replay.{entry_after, IsServed, IsTraceReplay, IsReplay};
 ghost use Rattle.apex_texts.specs.Report.{line_of, entry_lines};
@@ -11,8 +11,8 @@ use crate::text::next_line;
 use crate::trace::{ANY_REQUEST, read_trace_line};
 use apex_config::ReadConfig;
 use apex_module::Config;
-use apex_ports::{Ports, Request};
-use apex_types::Reply;
+use apex_ports::{CallRef, Ports, Request};
+use apex_types::MESSAGE_LIMIT;
 use std::alloc::{AllocError, Global};
 
 /// The report of a trace's calls on new ports of a configuration, from the two texts.
@@ -61,7 +61,7 @@ fn push_calls(text: &mut String, ports: &mut Ports, trace: &[u8]) -> Result<(), 
 {
     let mut rest = trace;
     let mut request = ANY_REQUEST;
-    let mut reply = Reply::NotMade;
+    let mut buffer = [0; MESSAGE_LIMIT];
     let mut line_number: usize = 0;
     let mut number: u64 = 0;
     while let Some((line, after)) = next_line(rest) {
@@ -69,7 +69,7 @@ fn push_calls(text: &mut String, ports: &mut Ports, trace: &[u8]) -> Result<(), 
         match read_trace_line(ports.config(), line, &mut request) {
             Ok(true) => {
                 number += 1;
-                push_call(text, ports, number, &request, &mut reply)?;
+                push_call(text, ports, number, &request, &mut buffer)?;
             }
             Ok(false) => {}
             Err(fault) => return Err(TraceFault::at(line_number, fault)),
@@ -79,15 +79,16 @@ fn push_calls(text: &mut String, ports: &mut Ports, trace: &[u8]) -> Result<(), 
     Ok(())
 }
 
-/// Serves a request, with its reply in `reply`, and writes its line.
+/// Serves a request, and writes its line. The message of the reply is in the buffer.
 fn push_call(
     text: &mut String,
     ports: &mut Ports,
     number: u64,
     request: &Request,
-    reply: &mut Reply,
+    buffer: &mut [u8],
 ) -> Result<(), AllocError>
-    requires { request.now.partition < length ports.old.config.partitions }
+    requires partition { request.now.partition < length ports.old.config.partitions }
+    requires room { MESSAGE_LIMIT ≤ length buffer.old }
     ensures config { ports.new.config ≡ ports.old.config }
     ensures sound { IsSound ports.new.config ports.new.history }
     ensures history { let entry = entry_after ports.old.config ports.old.history request.now in
@@ -96,7 +97,8 @@ fn push_call(
         OnOk result (string_bytes text.new ≡
         string_bytes text.old ++ line_of ports.old.config number entry) }
 {
-    ports.call_into(request.partition, request.at, &request.call, reply);
+    let call = CallRef::of(&request.call);
+    let reply = ports.answer(request.partition, request.at, call, buffer);
     let name = ports.config().partition_name(request.partition).text();
-    push_entry(text, number, name, request.at, &request.call, reply)
+    push_entry(text, number, name, request.at, call, reply)
 }

@@ -1,17 +1,16 @@
 //! The lines of a report: one for each call, each partition and each channel.
 ghost use Rattle.std.specs.Prelude.{◌≡◌, ◌<◌, ◌≤◌, ◌^◌, ◌∷◌, ◌++◌, [], length, decimal, string_bytes, OnOk};
-ghost use Rattle.std.specs.Option.{option_copied};
 ghost use Rattle.apex_types.specs.Message.{hex_text_of};
-ghost use Rattle.apex_ports.specs.Channels.{accepted_on, received_on, cleared_on, waiting_on};
+ghost use Rattle.apex_ports.specs.Channels.{accepted_on, received_on, cleared_on, waiting_on, last_write_on};
 ghost use Rattle.apex_ports.specs.History.{entries_of};
+ghost use Rattle.apex_ports.specs.Noted.{call_by, reply_by};
+ghost use Rattle.apex_ports.specs.Services.{message_length};
 ghost use Rattle.apex_texts.specs.Report.{queuing_status_text, sampling_status_text, reply_text, entry_line, partition_line, partition_lines, cleared_text, queue_text, sample_text, channel_text, channel_lines, messages_text, totals_of};
 
 use crate::service::Service;
 use apex_module::{Channel, ChannelKind};
-use apex_ports::Ports;
-use apex_types::{
-    Call, Direction, HEX_LIMIT, MESSAGE_LIMIT, Message, Moment, Reply, Sample, Validity, hex_text,
-};
+use apex_ports::{CallRef, Ports, ReplyRef};
+use apex_types::{Direction, HEX_LIMIT, MESSAGE_LIMIT, Moment, Validity, hex_text};
 use itoa::Buffer;
 use std::alloc::AllocError;
 
@@ -56,13 +55,6 @@ fn push_count(text: &mut String, word: &str, number: u64) -> Result<(), AllocErr
     push_number(text, number)
 }
 
-fn push_message(text: &mut String, message: &Message) -> Result<(), AllocError>
-    ensures { OnOk result (string_bytes text.new
-        ≡ string_bytes text.old ++ hex_text_of message.now) }
-{
-    push_bytes(text, message.bytes())
-}
-
 /// The length of the longest message whose digits go through a small buffer, in bytes.
 const SHORT_LIMIT: usize = 32;
 
@@ -98,11 +90,12 @@ pub fn push_entry(
     number: u64,
     name: &str,
     at: Moment,
-    call: &Call,
-    reply: &Reply,
+    call: CallRef<'_>,
+    reply: ReplyRef<'_>,
 ) -> Result<(), AllocError>
-    ensures { OnOk result (string_bytes text.new ≡
-        string_bytes text.old ++ entry_line number name.now at call.now reply.now) }
+    requires { message_length (reply_by reply) ≤ MESSAGE_LIMIT }
+    ensures { let line = entry_line number name.now at (call_by call.entry) (reply_by reply.entry) in
+        OnOk result (string_bytes text.new ≡ string_bytes text.old ++ line) }
 {
     let Moment(nanoseconds) = at;
     push_number(text, number)?;
@@ -119,35 +112,37 @@ pub fn push_entry(
 
 /// The reply in words, as in the line of its call.
 #[tactic(auto, unfolding(crate::specs::Report::reply_text))]
-pub fn push_reply(text: &mut String, reply: &Reply) -> Result<(), AllocError>
-    ensures { OnOk result (string_bytes text.new ≡ string_bytes text.old ++ reply_text reply.now) }
+pub fn push_reply(text: &mut String, reply: ReplyRef<'_>) -> Result<(), AllocError>
+    requires { message_length (reply_by reply) ≤ MESSAGE_LIMIT }
+    ensures { OnOk result (string_bytes text.new
+        ≡ string_bytes text.old ++ reply_text (reply_by reply.entry)) }
 {
     match reply {
-        Reply::NotMade => push_word(text, "not made"),
-        Reply::Code(code) => push_word(text, code.word()),
-        Reply::Id(id) => push_count(text, "NO_ERROR id ", u64::from(*id)),
-        Reply::Received(message) => {
+        ReplyRef::NotMade => push_word(text, "not made"),
+        ReplyRef::Code(code) => push_word(text, code.word()),
+        ReplyRef::Id(id) => push_count(text, "NO_ERROR id ", u64::from(id)),
+        ReplyRef::Received(message) => {
             push_word(text, "NO_ERROR message ")?;
-            push_message(text, message)
+            push_bytes(text, message)
         }
-        Reply::Read { message, validity } => {
+        ReplyRef::Read { message, validity } => {
             push_word(text, "NO_ERROR message ")?;
-            push_message(text, message)?;
+            push_bytes(text, message)?;
             push_word(text, " ")?;
             push_word(text, validity.word())
         }
-        Reply::QueuingStatus {
+        ReplyRef::QueuingStatus {
             waiting,
             depth,
             size,
             direction,
-        } => push_queuing_status(text, *waiting, *depth, *size, *direction),
-        Reply::SamplingStatus {
+        } => push_queuing_status(text, waiting, depth, size, direction),
+        ReplyRef::SamplingStatus {
             refresh,
             size,
             direction,
             last,
-        } => push_sampling_status(text, *refresh, *size, *direction, *last),
+        } => push_sampling_status(text, refresh, size, direction, last),
     }
 }
 
@@ -292,7 +287,7 @@ fn push_channel(
         ChannelKind::Sampling => {
             push_word(text, "sampling ")?;
             push_word(text, channel.name.text())?;
-            push_sample(text, ports.last_sample(c))
+            push_sample(text, ports, c)
         }
     }
 }
@@ -340,16 +335,17 @@ fn push_waiting(text: &mut String, ports: &Ports, c: usize) -> Result<(), AllocE
 
 /// ` empty`, or ` MESSAGE at MOMENT`.
 #[tactic(auto, unfolding(crate::specs::Report::sample_text))]
-fn push_sample(text: &mut String, sample: Option<&Sample>) -> Result<(), AllocError>
-    ensures { OnOk result (string_bytes text.new
-        ≡ string_bytes text.old ++ sample_text (option_copied sample.entry)) }
+fn push_sample(text: &mut String, ports: &Ports, c: usize) -> Result<(), AllocError>
+    requires { c < length ports.now.config.channels }
+    ensures { let sample = last_write_on ports.now.config c ports.now.history in
+        OnOk result (string_bytes text.new ≡ string_bytes text.old ++ sample_text sample) }
 {
-    match sample {
+    match ports.last_sample(c) {
         None => push_word(text, " empty"),
         Some(sample) => {
             let Moment(at) = sample.at;
             push_word(text, " ")?;
-            push_message(text, &sample.message)?;
+            push_bytes(text, sample.message)?;
             push_count(text, " at ", at)
         }
     }

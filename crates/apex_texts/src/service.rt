@@ -1,9 +1,10 @@
 //! The services that a trace can ask for, by their call words.
 ghost use Rattle.std.specs.Prelude.{◌≡◌};
+ghost use Rattle.apex_ports.specs.Noted.{call_by};
 ghost use Rattle.apex_texts.specs.Service.{word_of, service_named, service_of, parameters_of};
 
 use crate::expected::Expected;
-use apex_types::Call;
+use apex_ports::CallRef;
 
 /// A service of the standard, as a trace names it.
 #[derive(Clone, Copy)]
@@ -62,22 +63,22 @@ impl Service {
     }
 
     /// The service of a call.
-    pub fn of(call: &Call) -> Service
-        ensures { result ≡ service_of call.now }
+    pub fn of(call: CallRef<'_>) -> Service
+        ensures { result ≡ service_of (call_by call.entry) }
     {
         match call {
-            Call::CreateSampling { .. } => Service::CreateSampling,
-            Call::WriteSampling { .. } => Service::WriteSampling,
-            Call::ReadSampling { .. } => Service::ReadSampling,
-            Call::SamplingId { .. } => Service::SamplingId,
-            Call::SamplingStatus { .. } => Service::SamplingStatus,
-            Call::CreateQueuing { .. } => Service::CreateQueuing,
-            Call::SendQueuing { .. } => Service::SendQueuing,
-            Call::ReceiveQueuing { .. } => Service::ReceiveQueuing,
-            Call::QueuingId { .. } => Service::QueuingId,
-            Call::QueuingStatus { .. } => Service::QueuingStatus,
-            Call::ClearQueuing { .. } => Service::ClearQueuing,
-            Call::SetMode { .. } => Service::SetMode,
+            CallRef::CreateSampling { .. } => Service::CreateSampling,
+            CallRef::WriteSampling { .. } => Service::WriteSampling,
+            CallRef::ReadSampling { .. } => Service::ReadSampling,
+            CallRef::SamplingId { .. } => Service::SamplingId,
+            CallRef::SamplingStatus { .. } => Service::SamplingStatus,
+            CallRef::CreateQueuing { .. } => Service::CreateQueuing,
+            CallRef::SendQueuing { .. } => Service::SendQueuing,
+            CallRef::ReceiveQueuing { .. } => Service::ReceiveQueuing,
+            CallRef::QueuingId { .. } => Service::QueuingId,
+            CallRef::QueuingStatus { .. } => Service::QueuingStatus,
+            CallRef::ClearQueuing { .. } => Service::ClearQueuing,
+            CallRef::SetMode { .. } => Service::SetMode,
         }
     }
 

@@ -6,6 +6,5 @@ pub mod Order
 pub mod PackedCalls
 pub mod PackedReplies
 pub mod Partition
-pub mod Parts
 pub mod Room
 pub mod Steps

@@ -4,7 +4,6 @@ ghost use Rattle.apex_threads.specs.Collected.{AreComplete};
 
 use crate::packed::PackedReplies;
 use crate::packed_script::PackedScript;
-use apex_types::Reply;
 use std::alloc::Allocator;
 
 /// Whether all calls and all replies of each partition were counted.
@@ -34,11 +33,4 @@ fn is_complete<A: Allocator>(
     ensures { IsTrue result ↔ (count ≡ length script.now) × (count ≡ length replies.now) }
 {
     count == script.len() && count == replies.len()
-}
-
-/// Whether the two replies are equal.
-pub(crate) fn is_same_reply(reply: &Reply, other: &Reply) -> bool
-    ensures { IsTrue result ↔ (reply.now ≡ other.now) }
-{
-    reply == other
 }

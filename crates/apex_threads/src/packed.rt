@@ -1,26 +1,24 @@
 //! The replies that a worker got, packed.
-ghost use Rattle.std.specs.Prelude.{◌≡◌, ◌↔◌, ◌∷◌, ◌++◌, ℕ, List, [], length, slice_get, Some, IsTrue, IfOk, OnOk, OnErr};
+ghost use Rattle.std.specs.Prelude.{◌≡◌, ◌↔◌, ◌<◌, ◌≤◌, ◌∷◌, ◌++◌, ℕ, List, [], length, slice_get, None, Some, IsTrue, MatchOption, IfOk, IfSome, OnOk, OnErr};
+ghost use Rattle.apex_ports.specs.Noted.{reply_by};
 ghost use Rattle.apex_threads.specs.PackedReplies.{reply_in, IsPacked};
+ghost use Rattle.apex_ports.specs.Services.{message_length};
 
-use crate::comparison::is_same_reply;
-use crate::parts::{message_at, push_message};
-use apex_types::{Direction, Reply, ReturnCode, Validity};
+use crate::stored::{message_at, push_message};
+use apex_ports::{ReplyRef, StoredMessages};
+use apex_types::{Direction, MESSAGE_LIMIT, Message, Reply, ReturnCode, Validity};
 use std::alloc::{AllocError, Allocator, Global};
 use std::marker::Model;
 
-/// A reply without the bytes of its message, which are elsewhere, from one index up to another.
+/// A reply whose message is stored elsewhere, at an index.
 #[derive(Clone, Copy, Debug)]
 pub(crate) enum Packed {
     NotMade,
     Code(ReturnCode),
     Id(u32),
-    Received {
-        from: usize,
-        to: usize,
-    },
+    Received(usize),
     Read {
-        from: usize,
-        to: usize,
+        message: usize,
         validity: Validity,
     },
     QueuingStatus {
@@ -42,7 +40,7 @@ pub(crate) enum Packed {
 #[derive(Debug, Drop)]
 pub struct PackedReplies<A: Allocator = Global> {
     replies: Vec<Packed, A>,
-    bytes: Vec<u8, A>,
+    messages: StoredMessages<A>,
 }
 
 impl<A: Allocator> Model for PackedReplies<A> {
@@ -52,9 +50,9 @@ impl<A: Allocator> Model for PackedReplies<A> {
 
     ghost Value = { List Reply };
 
-    ghost view = { λ packed. map (reply_in packed.bytes.items) packed.replies.items };
+    ghost view = { λ packed. map (reply_in packed.messages) packed.replies.items };
 
-    ghost invariant = { λ packed. ArePacked (length packed.bytes.items) packed.replies.items };
+    ghost invariant = { λ packed. ArePacked (length packed.messages) packed.replies.items };
 }
 
 impl<A: Allocator + Copy> PackedReplies<A> {
@@ -64,7 +62,7 @@ impl<A: Allocator + Copy> PackedReplies<A> {
     {
         Ok(PackedReplies {
             replies: Vec::with_capacity(alloc, replies)?,
-            bytes: Vec::new(alloc),
+            messages: StoredMessages::new(alloc),
         })
     }
 }
@@ -83,17 +81,19 @@ impl<A: Allocator> PackedReplies<A> {
         ensures refused { OnErr result (self.new ≡ self.old) }
     {
         self.replies.reserve(1)?;
-        let packed = pack(&mut self.bytes, reply)?;
+        let packed = pack(&mut self.messages, reply)?;
         self.replies.push_reserved(packed);
         Ok(())
     }
 
-    /// The reply at an index; index 0 has the oldest.
-    pub fn get(&self, index: usize) -> Option<Reply>
-        ensures { result ≡ slice_get self.now index }
+    /// The reply at an index; index 0 has the oldest. It lends the reply's message.
+    pub fn get(&self, index: usize) -> Option<ReplyRef<'_>>
+        ensures reply { MatchOption result (slice_get self.now index ≡ None)
+            (λ reply. slice_get self.now index ≡ Some (reply_by reply)) }
+        ensures short { IfSome result (λ reply. message_length (reply_by reply) ≤ MESSAGE_LIMIT) }
     {
         match self.replies.get(index) {
-            Some(packed) => Some(unpack(self.bytes.as_slice(), *packed)),
+            Some(packed) => Some(lend(&self.messages, *packed)),
             None => None,
         }
     }
@@ -102,58 +102,86 @@ impl<A: Allocator> PackedReplies<A> {
     pub fn is_at(&self, index: usize, reply: &Reply) -> bool
         ensures { IsTrue result ↔ (slice_get self.now index ≡ Some reply.now) }
     {
-        match self.replies.get(index) {
-            Some(packed) => is_packed(self.bytes.as_slice(), packed, reply),
+        match self.get(index) {
+            Some(lent) => is_same_reply(lent, reply),
             None => false,
         }
     }
 }
 
-/// Whether the packed reply equals this one. A received message is compared in place.
-fn is_packed(bytes: &[u8], packed: &Packed, reply: &Reply) -> bool
-    requires { IsPacked (length bytes.now) packed.now }
-    ensures { IsTrue result ↔ (reply_in bytes.now packed.now ≡ reply.now) }
+/// Whether the two replies are equal. Messages are compared in place.
+fn is_same_reply(lent: ReplyRef<'_>, reply: &Reply) -> bool
+    ensures { IsTrue result ↔ (reply_by lent.entry ≡ reply.now) }
 {
-    match (packed, reply) {
-        (Packed::Code(code), Reply::Code(other)) => code == other,
-        (Packed::Received { from, to }, Reply::Received(message)) => {
-            &bytes[*from..*to] == message.bytes()
+    match (lent, reply) {
+        (ReplyRef::NotMade, Reply::NotMade) => true,
+        (ReplyRef::Code(code), Reply::Code(other)) => code == *other,
+        (ReplyRef::Id(id), Reply::Id(other)) => id == *other,
+        (ReplyRef::Received(message), Reply::Received(other)) => message == other.bytes(),
+        (
+            ReplyRef::Read { message, validity },
+            Reply::Read {
+                message: other,
+                validity: other_validity,
+            },
+        ) => validity == *other_validity && message == other.bytes(),
+        (
+            ReplyRef::QueuingStatus {
+                waiting,
+                depth,
+                size,
+                direction,
+            },
+            Reply::QueuingStatus {
+                waiting: other_waiting,
+                depth: other_depth,
+                size: other_size,
+                direction: other_direction,
+            },
+        ) => {
+            waiting == *other_waiting
+                && depth == *other_depth
+                && size == *other_size
+                && direction == *other_direction
         }
-        _ => is_unpacked(bytes, *packed, reply),
+        (
+            ReplyRef::SamplingStatus {
+                refresh,
+                size,
+                direction,
+                last,
+            },
+            Reply::SamplingStatus {
+                refresh: other_refresh,
+                size: other_size,
+                direction: other_direction,
+                last: other_last,
+            },
+        ) => {
+            refresh == *other_refresh
+                && size == *other_size
+                && direction == *other_direction
+                && last == *other_last
+        }
+        _ => false,
     }
 }
 
-// Not inlined, since a function clears the stack room of an unpacked reply when it begins.
-#[inline(never)]
-fn is_unpacked(bytes: &[u8], packed: Packed, reply: &Reply) -> bool
-    requires { IsPacked (length bytes.now) packed }
-    ensures { IsTrue result ↔ (reply_in bytes.now packed ≡ reply.now) }
-{
-    is_same_reply(&unpack(bytes, packed), reply)
-}
-
-/// The reply without its message, whose bytes are appended.
-fn pack<A: Allocator>(bytes: &mut Vec<u8, A>, reply: &Reply) -> Result<Packed, AllocError>
-    ensures packed { IfOk result (λ packed. reply_in bytes.new.items packed ≡ reply.now) }
-    ensures within { IfOk result (λ packed. IsPacked (length bytes.new.items) packed) }
-    ensures behind { (more : List ℕ) × (bytes.new.items ≡ bytes.old.items ++ more) }
+/// Packs a reply: its message is added to the messages.
+fn pack<A: Allocator>(messages: &mut StoredMessages<A>, reply: &Reply) -> Result<Packed, AllocError>
+    ensures packed { IfOk result (λ packed. reply_in messages.new packed ≡ reply.now) }
+    ensures within { IfOk result (λ packed. IsPacked (length messages.new) packed) }
+    ensures behind { (more : List (List ℕ)) × (messages.new ≡ messages.old ++ more) }
 {
     Ok(match reply {
         Reply::NotMade => Packed::NotMade,
         Reply::Code(code) => Packed::Code(*code),
         Reply::Id(id) => Packed::Id(*id),
-        Reply::Received(message) => {
-            let (from, to) = push_message(bytes, message)?;
-            Packed::Received { from, to }
-        }
-        Reply::Read { message, validity } => {
-            let (from, to) = push_message(bytes, message)?;
-            Packed::Read {
-                from,
-                to,
-                validity: *validity,
-            }
-        }
+        Reply::Received(message) => Packed::Received(push_message(messages, message)?),
+        Reply::Read { message, validity } => Packed::Read {
+            message: push_message(messages, message)?,
+            validity: *validity,
+        },
         Reply::QueuingStatus {
             waiting,
             depth,
@@ -179,18 +207,19 @@ fn pack<A: Allocator>(bytes: &mut Vec<u8, A>, reply: &Reply) -> Result<Packed, A
     })
 }
 
-/// The reply, with its message taken from the bytes.
-fn unpack(bytes: &[u8], packed: Packed) -> Reply
-    requires { IsPacked (length bytes.now) packed }
-    ensures { result ≡ reply_in bytes.now packed }
+/// The reply, with its message from the messages.
+fn lend<A: Allocator>(messages: &StoredMessages<A>, packed: Packed) -> ReplyRef<'_>
+    requires { IsPacked (length messages.now) packed }
+    ensures reply { reply_by result ≡ reply_in messages.now packed }
+    ensures short { message_length (reply_by result) ≤ MESSAGE_LIMIT }
 {
     match packed {
-        Packed::NotMade => Reply::NotMade,
-        Packed::Code(code) => Reply::Code(code),
-        Packed::Id(id) => Reply::Id(id),
-        Packed::Received { from, to } => Reply::Received(message_at(bytes, from, to)),
-        Packed::Read { from, to, validity } => Reply::Read {
-            message: message_at(bytes, from, to),
+        Packed::NotMade => ReplyRef::NotMade,
+        Packed::Code(code) => ReplyRef::Code(code),
+        Packed::Id(id) => ReplyRef::Id(id),
+        Packed::Received(message) => ReplyRef::Received(message_at(messages, message)),
+        Packed::Read { message, validity } => ReplyRef::Read {
+            message: message_at(messages, message),
             validity,
         },
         Packed::QueuingStatus {
@@ -198,7 +227,7 @@ fn unpack(bytes: &[u8], packed: Packed) -> Reply
             depth,
             size,
             direction,
-        } => Reply::QueuingStatus {
+        } => ReplyRef::QueuingStatus {
             waiting,
             depth,
             size,
@@ -209,7 +238,7 @@ fn unpack(bytes: &[u8], packed: Packed) -> Reply
             size,
             direction,
             last,
-        } => Reply::SamplingStatus {
+        } => ReplyRef::SamplingStatus {
             refresh,
             size,
             direction,

@@ -1,29 +1,64 @@
 //! Scripts, packed.
-ghost use Rattle.std.specs.Prelude.{◌≡◌, ◌+◌, ◌^◌, ◌<◌, ◌∷◌, ◌++◌, ℕ, List, [], length, slice_get, None, Some, MatchOption, IfOk, IfSome, OnOk, OnErr};
-ghost use Rattle.apex_types.specs.declared.call.Call.{Call};
-ghost use Rattle.apex_types.specs.declared.call.Call.TheVariants as calls;
+ghost use Rattle.std.specs.Prelude.{◌≡◌, ◌↔◌, ◌+◌, ◌^◌, ◌<◌, ◌≤◌, ◌∷◌, ◌++◌, ℕ, List, [], length, slice_get, None, Some, MatchOption, IsTrue, IfOk, IfSome, OnOk, OnErr};
+ghost use Rattle.std.specs.Bool.{OnTrue};
+ghost use Rattle.apex_ports.specs.Noted.{call_by};
 ghost use Rattle.apex_threads.specs.PackedCalls.{call_in, IsPackedCall};
-ghost use Rattle.apex_threads.specs.Parts.{between, IsPart};
+ghost use Rattle.apex_ports.specs.Services.{length_sent};
 
-use crate::parts::{push_message, read_message};
-use apex_ports::Script;
-use apex_types::{ANY_CALL, Call, Message, Moment};
+use crate::stored::{message_at, push_message, push_name};
+use apex_ports::{CallRef, Script, StoredMessages};
+use apex_types::{Call, MESSAGE_LIMIT, Message, Moment, Name};
 use std::alloc::{AllocError, Allocator, Global};
 use std::marker::Model;
 
-/// A call without the bytes of its message, which are elsewhere, from one index up to another. A call that names a port
-/// is elsewhere as a whole.
+/// A call whose message or name is stored elsewhere, at an index.
 #[derive(Clone, Copy, Debug)]
 pub(crate) enum PackedCall {
-    WriteSampling { id: u32, from: usize, to: usize },
-    ReadSampling { id: u32 },
-    SamplingStatus { id: u32 },
-    SendQueuing { id: u32, from: usize, to: usize },
-    ReceiveQueuing { id: u32 },
-    QueuingStatus { id: u32 },
-    ClearQueuing { id: u32 },
-    SetMode { mode: u32 },
-    Named { index: usize },
+    CreateSampling {
+        name: usize,
+        size: u32,
+        direction: u32,
+        refresh: u64,
+    },
+    WriteSampling {
+        id: u32,
+        message: usize,
+    },
+    ReadSampling {
+        id: u32,
+    },
+    SamplingId {
+        name: usize,
+    },
+    SamplingStatus {
+        id: u32,
+    },
+    CreateQueuing {
+        name: usize,
+        size: u32,
+        depth: u32,
+        direction: u32,
+        discipline: u32,
+    },
+    SendQueuing {
+        id: u32,
+        message: usize,
+    },
+    ReceiveQueuing {
+        id: u32,
+    },
+    QueuingId {
+        name: usize,
+    },
+    QueuingStatus {
+        id: u32,
+    },
+    ClearQueuing {
+        id: u32,
+    },
+    SetMode {
+        mode: u32,
+    },
 }
 
 /// The calls of one partition, in order, each with its moment. A message takes only as many bytes as it has. A contract
@@ -31,8 +66,8 @@ pub(crate) enum PackedCall {
 #[derive(Debug, Drop)]
 pub struct PackedScript<A: Allocator = Global> {
     calls: Vec<(Moment, PackedCall), A>,
-    named: Vec<Call, A>,
-    bytes: Vec<u8, A>,
+    names: Vec<Name, A>,
+    messages: StoredMessages<A>,
 }
 
 impl<A: Allocator> Model for PackedScript<A> {
@@ -44,10 +79,10 @@ impl<A: Allocator> Model for PackedScript<A> {
     ghost Value = { List (Moment × Call) };
 
     ghost view = { λ packed. map
-        (timed_in packed.bytes.items packed.named.items) packed.calls.items };
+        (timed_in packed.messages packed.names.items) packed.calls.items };
 
     ghost invariant = { λ packed. ArePackedCalls
-        (length packed.bytes.items) (length packed.named.items) packed.calls.items };
+        (length packed.messages) (length packed.names.items) packed.calls.items };
 }
 
 impl<A: Allocator + Copy> PackedScript<A> {
@@ -57,8 +92,8 @@ impl<A: Allocator + Copy> PackedScript<A> {
     {
         PackedScript {
             calls: Vec::new(alloc),
-            named: Vec::new(alloc),
-            bytes: Vec::new(alloc),
+            names: Vec::new(alloc),
+            messages: StoredMessages::new(alloc),
         }
     }
 
@@ -88,32 +123,35 @@ impl<A: Allocator> PackedScript<A> {
         ensures refused { OnErr result (self.new ≡ self.old) }
     {
         self.calls.reserve(1)?;
-        let packed = pack_call(&mut self.bytes, &mut self.named, call)?;
+        let packed = pack_call(&mut self.messages, &mut self.names, call)?;
         self.calls.push_reserved((at, packed));
         Ok(())
     }
 
-    /// The call at an index, with its moment; index 0 has the first.
-    pub fn get(&self, index: usize) -> Option<(Moment, Call)>
-        ensures { result ≡ slice_get self.now index }
-    {
-        let mut call = ANY_CALL;
-        let at = self.read(index, &mut call)?;
-        Some((at, call))
-    }
-
-    /// Reads the call at an index into `call` and returns its moment. If there is none, `call` is unspecified.
-    pub fn read(&self, index: usize, call: &mut Call) -> Option<Moment>
+    /// The call at an index, with its moment; index 0 has the first. It lends the call's message or name.
+    pub fn get(&self, index: usize) -> Option<(Moment, CallRef<'_>)>
         ensures call { MatchOption result (slice_get self.now index ≡ None)
-            (λ at. slice_get self.now index ≡ Some (at, call.new)) }
+            (λ timed. slice_get self.now index ≡ Some (timed.0, call_by timed.1)) }
+        ensures short { IfSome result (λ timed. length_sent (call_by timed.1) ≤ MESSAGE_LIMIT) }
         ensures within { IfSome result (λ _. index + 1 < 2 ^ 64) }
     {
         match self.calls.get(index) {
             Some((at, packed)) => {
-                unpack_call(self.bytes.as_slice(), self.named.as_slice(), *packed, call);
-                Some(*at)
+                let call = lend_call(&self.messages, self.names.as_slice(), *packed);
+                Some((*at, call))
             }
             None => None,
+        }
+    }
+
+    /// Whether the call at an index, with its moment, is this one.
+    pub fn is_at(&self, index: usize, at: Moment, call: &Call) -> bool
+        ensures call { IsTrue result ↔ (slice_get self.now index ≡ Some (at, call.now)) }
+        ensures within { OnTrue result (index + 1 < 2 ^ 64) }
+    {
+        match self.get(index) {
+            Some((made, lent)) => is_same_moment(made, at) && is_same_call(lent, call),
+            None => false,
         }
     }
 
@@ -124,7 +162,7 @@ impl<A: Allocator> PackedScript<A> {
         let mut calls = Vec::with_capacity(alloc, self.len())?;
         for index in 0..self.len() {
             match self.get(index) {
-                Some(timed) => calls.push_reserved(timed),
+                Some((at, call)) => calls.push_reserved((at, call.to_call())),
                 None => unreachable!(),
             }
         }
@@ -162,98 +200,196 @@ pub fn unpack_all<A: Allocator>(
     Ok(all)
 }
 
-/// The call without its message, whose bytes are appended; a call that names a port is appended to the named ones.
+/// Whether the two moments are equal.
+fn is_same_moment(at: Moment, other: Moment) -> bool
+    ensures { IsTrue result ↔ (at ≡ other) }
+{
+    at == other
+}
+
+/// Whether the two calls are equal. Messages and names are compared in place.
+fn is_same_call(lent: CallRef<'_>, call: &Call) -> bool
+    ensures { IsTrue result ↔ (call_by lent.entry ≡ call.now) }
+{
+    match (lent, call) {
+        (
+            CallRef::CreateSampling {
+                name,
+                size,
+                direction,
+                refresh,
+            },
+            Call::CreateSampling {
+                name: other_name,
+                size: other_size,
+                direction: other_direction,
+                refresh: other_refresh,
+            },
+        ) => {
+            name == other_name
+                && size == *other_size
+                && direction == *other_direction
+                && refresh == *other_refresh
+        }
+        (
+            CallRef::WriteSampling { id, message },
+            Call::WriteSampling {
+                id: other,
+                message: other_message,
+            },
+        ) => id == *other && message == other_message.bytes(),
+        (CallRef::ReadSampling { id }, Call::ReadSampling { id: other }) => id == *other,
+        (CallRef::SamplingId { name }, Call::SamplingId { name: other }) => name == other,
+        (CallRef::SamplingStatus { id }, Call::SamplingStatus { id: other }) => id == *other,
+        (
+            CallRef::CreateQueuing {
+                name,
+                size,
+                depth,
+                direction,
+                discipline,
+            },
+            Call::CreateQueuing {
+                name: other_name,
+                size: other_size,
+                depth: other_depth,
+                direction: other_direction,
+                discipline: other_discipline,
+            },
+        ) => {
+            name == other_name
+                && size == *other_size
+                && depth == *other_depth
+                && direction == *other_direction
+                && discipline == *other_discipline
+        }
+        (
+            CallRef::SendQueuing { id, message },
+            Call::SendQueuing {
+                id: other,
+                message: other_message,
+            },
+        ) => id == *other && message == other_message.bytes(),
+        (CallRef::ReceiveQueuing { id }, Call::ReceiveQueuing { id: other }) => id == *other,
+        (CallRef::QueuingId { name }, Call::QueuingId { name: other }) => name == other,
+        (CallRef::QueuingStatus { id }, Call::QueuingStatus { id: other }) => id == *other,
+        (CallRef::ClearQueuing { id }, Call::ClearQueuing { id: other }) => id == *other,
+        (CallRef::SetMode { mode }, Call::SetMode { mode: other }) => mode == *other,
+        _ => false,
+    }
+}
+
+/// Packs a call: its message is added to the messages, and its name to the names.
 fn pack_call<A: Allocator>(
-    bytes: &mut Vec<u8, A>,
-    named: &mut Vec<Call, A>,
+    messages: &mut StoredMessages<A>,
+    names: &mut Vec<Name, A>,
     call: &Call,
 ) -> Result<PackedCall, AllocError>
     ensures packed { IfOk result
-        (λ packed. call_in bytes.new.items named.new.items packed ≡ call.now) }
+        (λ packed. call_in messages.new names.new.items packed ≡ call.now) }
     ensures within { IfOk result (λ packed. IsPackedCall
-        (length bytes.new.items) (length named.new.items) packed) }
-    ensures bytes { (more : List ℕ) × (bytes.new.items ≡ bytes.old.items ++ more) }
-    ensures named { (more : List Call) × (named.new.items ≡ named.old.items ++ more) }
+        (length messages.new) (length names.new.items) packed) }
+    ensures messages { (more : List (List ℕ)) × (messages.new ≡ messages.old ++ more) }
+    ensures names { (more : List (List ℕ)) × (names.new.items ≡ names.old.items ++ more) }
 {
     Ok(match call {
-        Call::WriteSampling { id, message } => {
-            let (from, to) = push_message(bytes, message)?;
-            PackedCall::WriteSampling { id: *id, from, to }
-        }
-        Call::SendQueuing { id, message } => {
-            let (from, to) = push_message(bytes, message)?;
-            PackedCall::SendQueuing { id: *id, from, to }
-        }
+        Call::CreateSampling {
+            name,
+            size,
+            direction,
+            refresh,
+        } => PackedCall::CreateSampling {
+            name: push_name(names, name)?,
+            size: *size,
+            direction: *direction,
+            refresh: *refresh,
+        },
+        Call::WriteSampling { id, message } => PackedCall::WriteSampling {
+            id: *id,
+            message: push_message(messages, message)?,
+        },
         Call::ReadSampling { id } => PackedCall::ReadSampling { id: *id },
+        Call::SamplingId { name } => PackedCall::SamplingId {
+            name: push_name(names, name)?,
+        },
         Call::SamplingStatus { id } => PackedCall::SamplingStatus { id: *id },
+        Call::CreateQueuing {
+            name,
+            size,
+            depth,
+            direction,
+            discipline,
+        } => PackedCall::CreateQueuing {
+            name: push_name(names, name)?,
+            size: *size,
+            depth: *depth,
+            direction: *direction,
+            discipline: *discipline,
+        },
+        Call::SendQueuing { id, message } => PackedCall::SendQueuing {
+            id: *id,
+            message: push_message(messages, message)?,
+        },
         Call::ReceiveQueuing { id } => PackedCall::ReceiveQueuing { id: *id },
+        Call::QueuingId { name } => PackedCall::QueuingId {
+            name: push_name(names, name)?,
+        },
         Call::QueuingStatus { id } => PackedCall::QueuingStatus { id: *id },
         Call::ClearQueuing { id } => PackedCall::ClearQueuing { id: *id },
         Call::SetMode { mode } => PackedCall::SetMode { mode: *mode },
-        Call::CreateSampling { .. }
-        | Call::SamplingId { .. }
-        | Call::CreateQueuing { .. }
-        | Call::QueuingId { .. } => {
-            let index = named.len();
-            named.push(call.copy())?;
-            PackedCall::Named { index }
-        }
     })
 }
 
-/// Reads the call into `call`, with its message from the bytes, or from the named calls.
-// A function clears the stack room of its values when it begins, including those of functions inlined into it. So no
-// function that makes a call with a message is inlined, and a call of the same service keeps its room.
-fn unpack_call(bytes: &[u8], named: &[Call], packed: PackedCall, call: &mut Call)
-    requires { IsPackedCall (length bytes.now) (length named.now) packed }
-    ensures { call.new ≡ call_in bytes.now named.now packed }
+/// The call, with its message from the messages, or its name from the names.
+fn lend_call<'a, A: Allocator>(
+    messages: &'a StoredMessages<A>,
+    names: &'a [Name],
+    packed: PackedCall,
+) -> CallRef<'a>
+    requires { IsPackedCall (length messages.now) (length names.now) packed }
+    ensures call { call_by result ≡ call_in messages.now names.now packed }
+    ensures short { length_sent (call_by result) ≤ MESSAGE_LIMIT }
 {
     match packed {
-        PackedCall::WriteSampling { id, from, to } => unpack_write(id, bytes, from, to, call),
-        PackedCall::SendQueuing { id, from, to } => unpack_send(id, bytes, from, to, call),
-        PackedCall::ReadSampling { id } => *call = Call::ReadSampling { id },
-        PackedCall::SamplingStatus { id } => *call = Call::SamplingStatus { id },
-        PackedCall::ReceiveQueuing { id } => *call = Call::ReceiveQueuing { id },
-        PackedCall::QueuingStatus { id } => *call = Call::QueuingStatus { id },
-        PackedCall::ClearQueuing { id } => *call = Call::ClearQueuing { id },
-        PackedCall::SetMode { mode } => *call = Call::SetMode { mode },
-        PackedCall::Named { index } => copy_call(&named[index], call),
+        PackedCall::CreateSampling {
+            name,
+            size,
+            direction,
+            refresh,
+        } => CallRef::CreateSampling {
+            name: &names[name],
+            size,
+            direction,
+            refresh,
+        },
+        PackedCall::WriteSampling { id, message } => CallRef::WriteSampling {
+            id,
+            message: message_at(messages, message),
+        },
+        PackedCall::ReadSampling { id } => CallRef::ReadSampling { id },
+        PackedCall::SamplingId { name } => CallRef::SamplingId { name: &names[name] },
+        PackedCall::SamplingStatus { id } => CallRef::SamplingStatus { id },
+        PackedCall::CreateQueuing {
+            name,
+            size,
+            depth,
+            direction,
+            discipline,
+        } => CallRef::CreateQueuing {
+            name: &names[name],
+            size,
+            depth,
+            direction,
+            discipline,
+        },
+        PackedCall::SendQueuing { id, message } => CallRef::SendQueuing {
+            id,
+            message: message_at(messages, message),
+        },
+        PackedCall::ReceiveQueuing { id } => CallRef::ReceiveQueuing { id },
+        PackedCall::QueuingId { name } => CallRef::QueuingId { name: &names[name] },
+        PackedCall::QueuingStatus { id } => CallRef::QueuingStatus { id },
+        PackedCall::ClearQueuing { id } => CallRef::ClearQueuing { id },
+        PackedCall::SetMode { mode } => CallRef::SetMode { mode },
     }
-}
-
-#[inline(never)]
-fn unpack_write(port: u32, bytes: &[u8], from: usize, to: usize, call: &mut Call)
-    requires { IsPart (length bytes.now) from to }
-    ensures { call.new ≡ calls.WriteSampling port (between from to bytes.now) }
-{
-    if !matches!(call, Call::WriteSampling { .. }) {
-        let message = Message::empty();
-        *call = Call::WriteSampling { id: 0, message };
-    }
-    if let Call::WriteSampling { id, message } = call {
-        *id = port;
-        read_message(bytes, from, to, message);
-    }
-}
-
-#[inline(never)]
-fn unpack_send(port: u32, bytes: &[u8], from: usize, to: usize, call: &mut Call)
-    requires { IsPart (length bytes.now) from to }
-    ensures { call.new ≡ calls.SendQueuing port (between from to bytes.now) }
-{
-    if !matches!(call, Call::SendQueuing { .. }) {
-        let message = Message::empty();
-        *call = Call::SendQueuing { id: 0, message };
-    }
-    if let Call::SendQueuing { id, message } = call {
-        *id = port;
-        read_message(bytes, from, to, message);
-    }
-}
-
-#[inline(never)]
-fn copy_call(other: &Call, call: &mut Call)
-    ensures { call.new ≡ other.now }
-{
-    *call = other.copy();
 }

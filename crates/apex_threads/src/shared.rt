@@ -1,5 +1,10 @@
 //! What several workers share.
-use apex_types::{Call, Moment, Reply};
+ghost use Rattle.std.specs.Prelude.{◌≤◌};
+ghost use Rattle.apex_ports.specs.Noted.{call_by};
+ghost use Rattle.apex_ports.specs.Services.{length_sent};
+
+use apex_ports::CallRef;
+use apex_types::{Call, MESSAGE_LIMIT, Moment, Reply};
 use std::sync::Wait;
 use thiserror::Error;
 
@@ -25,17 +30,19 @@ pub trait SharedBoard: Sync {
         call: &Call,
     ) -> Result<Reply, AskFault>;
 
-    /// Answers the call as `ask` does, with the reply in `reply`. A board that can do so writes the reply there without
-    /// moving it.
+    /// Answers the call as `ask` does, with the reply in `reply`. A board that can do so neither copies the call nor moves
+    /// the reply.
     fn ask_into<R: Wait>(
         &self,
         rt: &R,
         partition: usize,
         at: Moment,
-        call: &Call,
+        call: CallRef<'_>,
         reply: &mut Reply,
-    ) -> Result<(), AskFault> {
-        *reply = self.ask(rt, partition, at, call)?;
+    ) -> Result<(), AskFault>
+        requires { length_sent (call_by call) ≤ MESSAGE_LIMIT }
+    {
+        *reply = self.ask(rt, partition, at, &call.to_call())?;
         Ok(())
     }
 }

@@ -1,9 +1,12 @@
 //! The steps of a worker for each call: it passes its gate, asks the board, and then reports to the gate.
-ghost use Rattle.std.specs.Prelude.{◌≡◌, ◌+◌, ◌<◌, OnOk, OnErr};
+ghost use Rattle.std.specs.Prelude.{◌≡◌, ◌+◌, ◌<◌, ◌≤◌, OnOk, OnErr};
+ghost use Rattle.apex_ports.specs.Noted.{call_by};
+ghost use Rattle.apex_ports.specs.Services.{length_sent};
 
 use crate::gate::{Gate, Held};
 use crate::shared::{AskFault, SharedBoard};
-use apex_types::{Call, Moment, Reply};
+use apex_ports::CallRef;
+use apex_types::{MESSAGE_LIMIT, Moment, Reply};
 use std::sync::Wait;
 
 /// The only way from a worker to its gate and the board. It counts the calls that the gate let through, those that the
@@ -71,10 +74,11 @@ impl<'a, S: SharedBoard, G: Gate> Steps<'a, S, G> {
         &mut self,
         rt: &R,
         at: Moment,
-        call: &Call,
+        call: CallRef<'_>,
         reply: &mut Reply,
     ) -> Result<(), AskFault>
         requires turn { self.old.passed ≡ self.old.asked + 1 }
+        requires short { length_sent (call_by call) ≤ MESSAGE_LIMIT }
         ensures asked { self.new.asked ≡ self.old.asked + 1 }
         ensures passed { self.new.passed ≡ self.old.passed }
         ensures heard { self.new.heard ≡ self.old.heard }

@@ -10,7 +10,7 @@ use crate::packed_script::PackedScript;
 use crate::shared::SharedBoard;
 use crate::steps::Steps;
 use apex_ports::RunFault;
-use apex_types::{ANY_CALL, Reply};
+use apex_types::Reply;
 use std::alloc::Allocator;
 use std::sync::Wait;
 
@@ -51,10 +51,9 @@ fn make_calls<R: Wait, S: SharedBoard, G: Gate, A: Allocator>(
         (NamesHeldCall (G.may_refuse steps.old.gate.now) scripts.now) }
 {
     let script = &scripts[partition];
-    let mut call = ANY_CALL;
     let mut reply = Reply::NotMade;
     for done in 0..script.len() {
-        let Some(at) = script.read(done, &mut call) else {
+        let Some((at, call)) = script.get(done) else {
             unreachable!();
         };
         if steps.pass().is_err() {
@@ -63,7 +62,7 @@ fn make_calls<R: Wait, S: SharedBoard, G: Gate, A: Allocator>(
                 n: done + 1,
             });
         }
-        let answer = steps.ask(rt, at, &call, &mut reply);
+        let answer = steps.ask(rt, at, call, &mut reply);
         steps.tell();
         answer?;
         replies.push(&reply)?;

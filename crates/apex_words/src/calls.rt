@@ -2,6 +2,7 @@
 ghost use Rattle.std.specs.Prelude.{◌<◌, length};
 
 use apex_module::Config;
+use apex_ports::{CallRef, ReplyRef};
 use apex_texts::{Service, push_reply};
 use apex_types::{Call, HEX_LIMIT, Moment, Reply};
 use std::alloc::AllocError;
@@ -35,7 +36,7 @@ pub fn push_logged(
 {
     push_request(text, config, partition, at, call)?;
     text.push_str(" -> ")?;
-    push_reply(text, reply)?;
+    push_reply(text, ReplyRef::of(reply))?;
     text.push_str("\n")
 }
 
@@ -50,7 +51,7 @@ struct CallWords<'a>(&'a Call);
 
 impl fmt::Display for CallWords<'_> {
     fn fmt<W: fmt::Write>(&self, f: &mut fmt::Formatter<W>) -> fmt::Result {
-        f.write_str(Service::of(self.0).word())?;
+        f.write_str(Service::of(CallRef::of(self.0)).word())?;
         match self.0 {
             Call::CreateSampling {
                 name,

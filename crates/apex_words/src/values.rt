@@ -2,8 +2,9 @@
 ghost use Rattle.std.specs.Prelude.{◌<◌, length, IfSome};
 
 use apex_module::{Channel, Config, Port, PortKind};
+use apex_ports::CallRef;
 use apex_texts::Service;
-use apex_types::{Call, Direction, Name};
+use apex_types::{Direction, Name};
 use std::fmt;
 
 /// A value of a call or of a port. It is `Absent` if the call or the configuration has no such value.
@@ -52,7 +53,7 @@ pub(crate) struct Values<'a> {
 
 impl<'a> Values<'a> {
     /// The values of a call of partition `p`, and of the port that it names, as configured.
-    pub(crate) fn of(config: &'a Config, p: usize, call: &'a Call) -> Values<'a>
+    pub(crate) fn of(config: &'a Config, p: usize, call: CallRef<'a>) -> Values<'a>
         requires { p < length config.now.partitions }
     {
         Values {
@@ -135,42 +136,42 @@ impl<'a> CallValues<'a> {
         mode: Value::Text("MODE"),
     };
 
-    fn of(call: &'a Call) -> CallValues<'a> {
+    fn of(call: CallRef<'a>) -> CallValues<'a> {
         let mut values = CallValues::ABSENT;
         match call {
-            Call::CreateSampling {
+            CallRef::CreateSampling {
                 name,
                 size,
                 direction,
                 refresh,
             } => {
-                values = CallValues::of_creation(name, *size, *direction);
-                values.refresh = Value::Number(*refresh);
+                values = CallValues::of_creation(name, size, direction);
+                values.refresh = Value::Number(refresh);
             }
-            Call::CreateQueuing {
+            CallRef::CreateQueuing {
                 name,
                 size,
                 depth,
                 direction,
                 discipline,
             } => {
-                values = CallValues::of_creation(name, *size, *direction);
-                values.depth = Value::of(*depth);
-                values.discipline = Value::of(*discipline);
+                values = CallValues::of_creation(name, size, direction);
+                values.depth = Value::of(depth);
+                values.discipline = Value::of(discipline);
             }
-            Call::WriteSampling { id, message } | Call::SendQueuing { id, message } => {
-                values.id = Value::of(*id);
-                values.length = Value::Number(message.bytes().len() as u64);
+            CallRef::WriteSampling { id, message } | CallRef::SendQueuing { id, message } => {
+                values.id = Value::of(id);
+                values.length = Value::Number(message.len() as u64);
             }
-            Call::SamplingId { name } | Call::QueuingId { name } => {
+            CallRef::SamplingId { name } | CallRef::QueuingId { name } => {
                 values.name = Value::Text(name.text());
             }
-            Call::ReadSampling { id }
-            | Call::SamplingStatus { id }
-            | Call::ReceiveQueuing { id }
-            | Call::QueuingStatus { id }
-            | Call::ClearQueuing { id } => values.id = Value::of(*id),
-            Call::SetMode { mode } => values.mode = Value::of(*mode),
+            CallRef::ReadSampling { id }
+            | CallRef::SamplingStatus { id }
+            | CallRef::ReceiveQueuing { id }
+            | CallRef::QueuingStatus { id }
+            | CallRef::ClearQueuing { id } => values.id = Value::of(id),
+            CallRef::SetMode { mode } => values.mode = Value::of(mode),
         }
         values
     }
@@ -241,23 +242,23 @@ impl<'a> PortValues<'a> {
 }
 
 /// The port that a call of partition `p` names, created or not.
-fn port_called<'a>(config: &'a Config, p: usize, call: &Call) -> Option<&'a Port>
+fn port_called<'a>(config: &'a Config, p: usize, call: CallRef<'_>) -> Option<&'a Port>
     requires { p < length config.now.partitions }
     ensures { IfSome result (λ port. port.now.channel < length config.now.channels) }
 {
     let id = match call {
-        Call::CreateSampling { name, .. }
-        | Call::CreateQueuing { name, .. }
-        | Call::SamplingId { name }
-        | Call::QueuingId { name } => config.port_named(p, name)?,
-        Call::WriteSampling { id, .. }
-        | Call::ReadSampling { id }
-        | Call::SamplingStatus { id }
-        | Call::SendQueuing { id, .. }
-        | Call::ReceiveQueuing { id }
-        | Call::QueuingStatus { id }
-        | Call::ClearQueuing { id } => *id,
-        Call::SetMode { .. } => return None,
+        CallRef::CreateSampling { name, .. }
+        | CallRef::CreateQueuing { name, .. }
+        | CallRef::SamplingId { name }
+        | CallRef::QueuingId { name } => config.port_named(p, name)?,
+        CallRef::WriteSampling { id, .. }
+        | CallRef::ReadSampling { id }
+        | CallRef::SamplingStatus { id }
+        | CallRef::SendQueuing { id, .. }
+        | CallRef::ReceiveQueuing { id }
+        | CallRef::QueuingStatus { id }
+        | CallRef::ClearQueuing { id } => id,
+        CallRef::SetMode { .. } => return None,
     };
     config.port(p, id)
 }

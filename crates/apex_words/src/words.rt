@@ -3,8 +3,7 @@ ghost use Rattle.std.specs.Prelude.{◌<◌, length};
 
 use crate::values::{Value, Values};
 use apex_module::Config;
-use apex_ports::{Refusal, Row};
-use apex_types::Call;
+use apex_ports::{CallRef, Refusal, Row};
 use std::alloc::AllocError;
 use std::fmt;
 
@@ -14,7 +13,7 @@ pub fn push_words(
     text: &mut String,
     config: &Config,
     partition: usize,
-    call: &Call,
+    call: CallRef<'_>,
     row: Row,
 ) -> Result<(), AllocError>
     requires { partition < length config.now.partitions }
@@ -31,7 +30,7 @@ pub fn push_note(
     text: &mut String,
     config: &Config,
     partition: usize,
-    call: &Call,
+    call: CallRef<'_>,
     row: Row,
 ) -> Result<(), AllocError>
     requires { partition < length config.now.partitions }

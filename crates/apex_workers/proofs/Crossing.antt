@@ -1,12 +1,13 @@
 -- Threads may share a locked board with its observers if they may share its allocator.
 use denote.RattleType.{RattleType}
-use denote.Param.Send.{IsSend, IsSync, view_send}
-use denote.Param.SendFields.{declared_send, declared_sync, as_row_send}
+use denote.Param.Send.{IsSend, IsSync, sendable, view_send}
+use denote.Param.SendFields.{declared_send, declared_sync, variants_send, as_row_send}
 use Rattle.std.specs.declared.alloc.Allocator.{Ghosts}
 use Rattle.std.proofs.Crossing.{crosses}
 use Rattle.std_alloc.proofs.SendSync.{FreesAnywhere, Vec-send}
 use Rattle.apex_ports.proofs.Crossing.{Ports-send}
 use Rattle.apex_board.proofs.records.Records.TheSendSync as records
+use Rattle.apex_types.proofs.sample.Sample.TheSendSync as sample
 use Rattle.apex_observers.proofs.observer.Observer.TheSendSync as observer
 use Rattle.apex_observers.proofs.publishers.Publishers.TheSendSync as publishers
 use Rattle.apex_board.specs.contracts.board.Board as Board
@@ -18,7 +19,7 @@ use Rattle.apex_workers.specs.contracts.observed.ObservedBoard.TheInside as Obse
 
 module _ (A : RattleType) (g : Ghosts A.Denot) (s : IsSend A) (y : IsSync A) (f : FreesAnywhere A.Denot g) where
   Board-send : IsSend (Board.the_row A g)
-  Board-send = view_send _ _ _ _ _ (declared_send (BoardInside.the_type A g) (Ports-send A g s f, (records.the_send A g s f, (publishers.the_send A g s y f, tt))))
+  Board-send = view_send _ _ _ _ _ (declared_send (BoardInside.the_type A g) (Ports-send A g s f, (records.the_send A g s f, (search (sendable, as_row_send, Vec-send, variants_send, sample.the_send) depth 8, (publishers.the_send A g s y f, tt)))))
 
   Observer-send : IsSend (Observer.the_row A g)
   Observer-send = observer.the_send A g s y f

@@ -3,6 +3,7 @@ ghost use Rattle.std.specs.Prelude.{◌≡◌, ◌++◌, string_bytes, IfOk, OnO
 ghost use Rattle.apex_texts.specs.Report.{entry_lines, report_of};
 
 use apex_board::Board;
+use apex_ports::{CallRef, ReplyRef};
 use apex_texts::{push_entry, push_totals};
 use apex_types::OutOfMemory;
 use std::alloc::{AllocError, Global};
@@ -33,7 +34,9 @@ fn push_log(text: &mut String, board: &Board) -> Result<(), AllocError>
     for entry in log {
         number += 1;
         let name = board.config().partition_name(entry.partition).text();
-        push_entry(text, number, name, entry.at, &entry.call, &entry.reply)?;
+        let call = CallRef::of(&entry.call);
+        let reply = ReplyRef::of(&entry.reply);
+        push_entry(text, number, name, entry.at, call, reply)?;
     }
     Ok(())
 }

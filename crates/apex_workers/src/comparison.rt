@@ -6,7 +6,6 @@ ghost use Rattle.apex_threads.specs.Collected.{IsNext, AreCounted, IsCollected, 
 use apex_board::{Board, Entry};
 use apex_module::Config;
 use apex_threads::{PackedReplies, PackedScript, are_complete};
-use apex_types::{ANY_CALL, Call, Moment};
 use std::alloc::Allocator;
 
 /// Whether the board has the configuration, and its log has the calls of each partition's script with the replies to
@@ -54,14 +53,13 @@ fn count_entries<A: Allocator>(
     ensures counted { OnTrue result (AreCounted log.now scripts.now replies.now counts.new) }
     ensures refused { OnFalse result (¬ IsCollected log.now scripts.now replies.now) }
 {
-    let mut call = ANY_CALL;
     for entry in log {
         let p = entry.partition;
         if p >= counts.len() {
             return false;
         }
         let done = counts[p];
-        if !is_next(entry, &scripts[p], &replies[p], done, &mut call) {
+        if !is_next(entry, &scripts[p], &replies[p], done) {
             return false;
         }
         counts[p] = done + 1;
@@ -69,38 +67,15 @@ fn count_entries<A: Allocator>(
     true
 }
 
-/// Whether the two moments are equal.
-fn is_same_moment(at: Moment, other: Moment) -> bool
-    ensures { IsTrue result ↔ (at ≡ other) }
-{
-    at == other
-}
-
-/// Whether the two calls are equal.
-fn is_same_call(call: &Call, other: &Call) -> bool
-    ensures { IsTrue result ↔ (call.now ≡ other.now) }
-{
-    call == other
-}
-
-/// Whether the call at an index of the script, with the reply at the same index, is the entry's. The script's call is
-/// read into `call`.
+/// Whether the call at an index of the script, with the reply at the same index, is the entry's.
 fn is_next<A: Allocator>(
     entry: &Entry,
     script: &PackedScript<A>,
     replies: &PackedReplies<A>,
     index: usize,
-    call: &mut Call,
 ) -> bool
     ensures next { IsTrue result ↔ IsNext entry.now script.now replies.now index }
     ensures within { OnTrue result (index + 1 < 2 ^ 64) }
 {
-    match script.read(index, call) {
-        Some(at) => {
-            is_same_moment(at, entry.at)
-                && is_same_call(call, &entry.call)
-                && replies.is_at(index, &entry.reply)
-        }
-        None => false,
-    }
+    script.is_at(index, entry.at, &entry.call) && replies.is_at(index, &entry.reply)
 }

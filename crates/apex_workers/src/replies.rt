@@ -61,7 +61,7 @@ fn unpack<A: Allocator + Copy>(
     let mut replies = Vec::with_capacity(alloc, packed.len())?;
     for index in 0..packed.len() {
         match packed.get(index) {
-            Some(reply) => replies.push_reserved(reply),
+            Some(reply) => replies.push_reserved(reply.to_reply()),
             None => unreachable!(),
         }
     }

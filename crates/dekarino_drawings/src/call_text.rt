@@ -1,6 +1,6 @@
 //! The text beside a call in a chart.
 use apex_module::Config;
-use apex_ports::Entry;
+use apex_ports::{CallRef, Entry};
 use apex_texts::Service;
 use apex_types::{Call, Message, Reply};
 use std::alloc::{AllocError, Global};
@@ -17,7 +17,7 @@ pub(crate) fn call_text(
     words: &str,
     waits: bool,
 ) -> Result<String, AllocError> {
-    let word = Service::of(&entry.call).word();
+    let word = Service::of(CallRef::of(&entry.call)).word();
     let mut text = format!(in alloc; "{} {word}", partition_name(config, entry.partition))?;
     push_argument(&mut text, &entry.call)?;
     text.push_str(" -> ")?;

@@ -14,7 +14,7 @@ use crate::svg::{
     escaped, offset, push_cross, push_end, push_ring, push_square, push_start, push_text,
 };
 use apex_module::Config;
-use apex_ports::Entry;
+use apex_ports::{CallRef, Entry};
 use apex_types::{Reply, ReturnCode, Validity};
 use apex_words::push_words;
 use std::alloc::{AllocError, Global};
@@ -65,7 +65,8 @@ fn row_words(
         return Ok(words);
     };
     if call.partition < config.partitions() {
-        push_words(&mut words, config, call.partition, &call.call, *row)?;
+        let asked = CallRef::of(&call.call);
+        push_words(&mut words, config, call.partition, asked, *row)?;
     }
     Ok(words)
 }

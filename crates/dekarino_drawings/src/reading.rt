@@ -10,7 +10,7 @@ use crate::arrows::arrows_and_waiting;
 use crate::chart::{CALL_LIMIT, Chart};
 use crate::fault::DrawingFault;
 use apex_module::Config;
-use apex_ports::{Entry, Ports, Request, Row};
+use apex_ports::{CallRef, Entry, Ports, Request, Row};
 use apex_texts::Fault;
 use apex_texts::trace::read_trace;
 use apex_types::OutOfMemory;
@@ -78,7 +78,8 @@ fn serve(
 {
     let mut calls = Vec::with_capacity(alloc, requests.len())?;
     for request in requests {
-        rows.push(ports.row(request.partition, request.at, &request.call))?;
+        let call = CallRef::of(&request.call);
+        rows.push(ports.row(request.partition, request.at, call))?;
         calls.push(served(ports, request))?;
     }
     Ok(calls)

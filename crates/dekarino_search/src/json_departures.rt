@@ -2,7 +2,7 @@
 use crate::json::push_object;
 use apex_judge::Expected;
 use apex_module::Config;
-use apex_ports::Entry;
+use apex_ports::{CallRef, Entry, ReplyRef};
 use apex_texts::{Service, push_reply};
 use apex_types::{Call, Moment, Reply};
 use apex_words::{push_words, row_name};
@@ -67,7 +67,7 @@ impl DepartureWords for DepartureObjects {
                 &mut words,
                 config,
                 p,
-                named_by(place, entry, asked, expected),
+                CallRef::of(named_by(place, entry, asked, expected)),
                 expected.row,
             )?,
         }
@@ -75,7 +75,7 @@ impl DepartureWords for DepartureObjects {
             line: place.line,
             at,
             partition: config.partition_name(p).text(),
-            service: Service::of(&entry.call).word(),
+            service: Service::of(CallRef::of(&entry.call)).word(),
             logged: reply_text(alloc, &entry.reply)?,
             standard: standard_text(alloc, place, expected)?,
             row: row_name(expected.row),
@@ -112,8 +112,8 @@ fn standard_text(
     match StandardReply::of(place, expected) {
         StandardReply::Waits => text.push_str("the call would still wait")?,
         StandardReply::AnyId => text.push_str("NO_ERROR and an identifier")?,
-        StandardReply::Id(id) => push_reply(&mut text, &Reply::Id(id))?,
-        StandardReply::Reply => push_reply(&mut text, &expected.reply)?,
+        StandardReply::Id(id) => push_reply(&mut text, ReplyRef::Id(id))?,
+        StandardReply::Reply => push_reply(&mut text, ReplyRef::of(&expected.reply))?,
     }
     Ok(text)
 }
@@ -121,6 +121,6 @@ fn standard_text(
 /// A reply in the words of a report.
 pub(crate) fn reply_text(alloc: Global, reply: &Reply) -> Result<String, AllocError> {
     let mut text = String::new(alloc);
-    push_reply(&mut text, reply)?;
+    push_reply(&mut text, ReplyRef::of(reply))?;
     Ok(text)
 }

@@ -3,6 +3,7 @@ use crate::json::push_object;
 use crate::json_departures::reply_text;
 use apex_groups::GroupCounts;
 use apex_module::Config;
+use apex_ports::CallRef;
 use apex_texts::Service;
 use apex_types::{Moment, Name, Reply};
 use dekarino_texts::outcomes::ScriptCall;
@@ -74,7 +75,7 @@ impl OutcomeSink for OutcomeObjects {
             partition: call.partition.text(),
             line: call.line,
             at,
-            service: Service::of(call.call).word(),
+            service: Service::of(CallRef::of(call.call)).word(),
             replies: texts,
             witnesses: names_of(alloc, call.files)?,
         };

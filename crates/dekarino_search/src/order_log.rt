@@ -4,9 +4,8 @@ ghost use Rattle.std.specs.Prelude.{◌≡◌, ◌<◌, length};
 use crate::own_logs::{OwnLine, OwnLogs};
 use apex_log_orders::CallPlace;
 use apex_module::Config;
-use apex_ports::Entry;
+use apex_ports::{Entry, ReplyRef};
 use apex_texts::push_reply;
-use apex_types::Reply;
 use apex_words::push_request;
 use dekarino_texts::push_time_out;
 use std::alloc::{AllocError, Global};
@@ -53,8 +52,8 @@ fn push_logged(
     push_time_out(text, line.place.time_out)?;
     text.push_str(" -> ")?;
     match line.code {
-        Some(code) => push_reply(text, &Reply::Code(code))?,
-        None => push_reply(text, &entry.reply)?,
+        Some(code) => push_reply(text, ReplyRef::Code(code))?,
+        None => push_reply(text, ReplyRef::of(&entry.reply))?,
     }
     text.push_str("\n")
 }

@@ -13,7 +13,7 @@ use apex_groups::AskedEnd;
 use apex_logs::read_reply;
 use apex_module::Config;
 use apex_orders::{Admitted, Asked};
-use apex_ports::Script;
+use apex_ports::{CallRef, Script};
 use apex_texts::Service;
 use apex_types::{Call, Reply};
 use apex_words::{can_give, can_give_code};
@@ -87,13 +87,13 @@ fn read_call<'a>(
     if read_reply(said.as_bytes(), &mut reply).is_err() {
         return Err(QuestionFault::NoReply {
             said,
-            service: Service::of(call),
+            service: Service::of(CallRef::of(call)),
         });
     }
     let admitted = Admitted::of(reply);
     if !can_be_given(call, &admitted) {
         return Err(QuestionFault::NotGiven {
-            service: Service::of(call),
+            service: Service::of(CallRef::of(call)),
         });
     }
     Ok(Asked {
@@ -121,7 +121,8 @@ fn can_be_given(call: &Call, admitted: &Admitted) -> bool
     ensures { (config : Configuration) (history : History) (p : ℕ) (now : Moment) →
         Admits admitted.now (reply_to config history p now call.now) → IsTrue result }
 {
-    let service = Service::of(call);
+    let asked = CallRef::of(call);
+    let service = Service::of(asked);
     match admitted {
         Admitted::Reply(reply) => can_give(service, reply),
         Admitted::Code(code) => can_give_code(service, *code),

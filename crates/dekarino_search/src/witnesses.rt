@@ -11,7 +11,7 @@ use crate::unfinished::Unfinished;
 use apex_groups::order_of_reply;
 use apex_module::Config;
 use apex_orders::PossibleReply;
-use apex_ports::Script;
+use apex_ports::{ReplyRef, Script};
 use apex_texts::push_reply;
 use dekarino_texts::{LineNumbers, is_to, line_at, numbers_of, replies_to};
 use std::alloc::{AllocError, Global};
@@ -144,7 +144,7 @@ fn file_name(
     requires { p < length config.now.partitions }
 {
     let mut words = String::new(alloc);
-    push_reply(&mut words, &one.reply)?;
+    push_reply(&mut words, ReplyRef::of(&one.reply))?;
     let mut name = String::new(alloc);
     write!(name, "{}_{line}_", config.partition_name(p).text())?;
     for (place, letter) in words.chars().enumerate() {

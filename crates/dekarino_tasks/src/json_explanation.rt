@@ -3,7 +3,7 @@ ghost use Rattle.std.specs.Prelude.{◌<◌, length};
 
 use crate::json_remarks::push_ending;
 use apex_module::Config;
-use apex_ports::Ports;
+use apex_ports::{CallRef, Ports};
 use apex_texts::{LineFault, Service};
 use apex_types::{HEX_LIMIT, Message, Moment, Reply};
 use apex_words::{push_words, row_name};
@@ -110,7 +110,7 @@ fn push_call(text: &mut String, config: &Config, call: &AnsweredCall<'_>) -> Res
         line: call.number,
         at,
         partition: config.partition_name(request.partition).text(),
-        service: Service::of(&request.call).word(),
+        service: Service::of(CallRef::of(&request.call)).word(),
         text: str::from_utf8(call.line).ok(),
         reply: reply_word(reply),
         row: row_name(call.row),
@@ -146,7 +146,8 @@ fn row_words(
 {
     let mut words = String::new(alloc);
     let AnsweredCall { request, row, .. } = *call;
-    push_words(&mut words, config, request.partition, &request.call, row)?;
+    let asked = CallRef::of(&request.call);
+    push_words(&mut words, config, request.partition, asked, row)?;
     Ok(if words.is_empty() { None } else { Some(words) })
 }
 

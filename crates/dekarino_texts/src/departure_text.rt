@@ -8,7 +8,7 @@ use crate::written_departures::DepartureWords;
 use apex_judge::Expected;
 use apex_logs::{MaxWait, TimeOut};
 use apex_module::Config;
-use apex_ports::{Entry, Refusal, Row};
+use apex_ports::{CallRef, Entry, Refusal, ReplyRef, Row};
 use apex_texts::push_reply;
 use apex_types::Call;
 use apex_words::{push_note, push_request};
@@ -45,13 +45,13 @@ impl DepartureWords for DepartureText {
         push_request(text, config, p, entry.at, &entry.call)?;
         push_time_out(text, place.time_out)?;
         text.push_str(": logged ")?;
-        push_reply(text, &entry.reply)?;
+        push_reply(text, ReplyRef::of(&entry.reply))?;
         push_introduction(text, place, expected.row)?;
         match StandardReply::of(place, expected) {
             StandardReply::Waits => {}
             StandardReply::AnyId => text.push_str("NO_ERROR and an identifier")?,
             StandardReply::Id(id) => write!(text, "NO_ERROR id {id}")?,
-            StandardReply::Reply => push_reply(text, &expected.reply)?,
+            StandardReply::Reply => push_reply(text, ReplyRef::of(&expected.reply))?,
         }
         match conflict_of(place, &entry.reply, expected.row) {
             Some(conflict) => {
@@ -63,7 +63,7 @@ impl DepartureWords for DepartureText {
                 text,
                 config,
                 p,
-                named_by(place, entry, asked, expected),
+                CallRef::of(named_by(place, entry, asked, expected)),
                 expected.row,
             )?,
         }

@@ -18,7 +18,7 @@ use crate::notes::Notes;
 use crate::remark::Remark;
 use crate::remarks::remarks_of;
 use apex_module::Config;
-use apex_ports::{Ports, Request, Row};
+use apex_ports::{CallRef, Ports, Request, Row};
 use apex_texts::trace::{ANY_REQUEST, read_trace_line};
 use apex_texts::{Fault, LineFault, TraceFault, next_line};
 use apex_types::Reply;
@@ -207,7 +207,7 @@ pub(crate) fn explain_call<S: ExplanationSink>(
         AreNoted ports.old.config (log ++ one ∷ []) notes.new) }
 {
     let (p, at, call) = (request.partition, request.at, &request.call);
-    let row = ports.row(p, at, call);
+    let row = ports.row(p, at, CallRef::of(call));
     let reply = ports.call(p, at, call);
     notes.note(ports.config(), number, request, &reply)?;
     let answered = AnsweredCall {

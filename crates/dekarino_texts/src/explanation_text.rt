@@ -4,7 +4,7 @@ use crate::explanation::{AnsweredCall, ExplanationSink};
 use crate::remark::Remark;
 use crate::remark_words::RemarkWords;
 use apex_module::Config;
-use apex_ports::Ports;
+use apex_ports::{CallRef, Ports, ReplyRef};
 use apex_texts::{LineFault, TraceFault, push_reply};
 use apex_words::push_note;
 use std::alloc::{AllocError, Global};
@@ -49,12 +49,12 @@ impl ExplanationSink for ExplanationText {
         let words = &mut self.words;
         words.clear();
         words.push_str(" -> ")?;
-        push_reply(words, call.reply)?;
+        push_reply(words, ReplyRef::of(call.reply))?;
         push_note(
             words,
             config,
             call.request.partition,
-            &call.request.call,
+            CallRef::of(&call.request.call),
             call.row,
         )?;
         self.push_line(call.line)

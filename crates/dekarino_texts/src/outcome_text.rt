@@ -5,6 +5,7 @@ use crate::outcomes::{OutcomeSink, ScriptCall};
 use crate::table_words::partition_name;
 use apex_groups::GroupCounts;
 use apex_module::Config;
+use apex_ports::ReplyRef;
 use apex_texts::push_reply;
 use apex_types::{Moment, Name, Reply};
 use apex_words::push_call;
@@ -59,7 +60,7 @@ impl OutcomeSink for OutcomeText {
         let mut separator = " -> ";
         for (index, reply) in replies.iter().enumerate() {
             text.push_str(separator)?;
-            push_reply(text, reply)?;
+            push_reply(text, ReplyRef::of(reply))?;
             if let Some(file) = files.get(index) {
                 write!(text, " ({file})")?;
             }

@@ -85,10 +85,11 @@ fn read_next(scripts: &[PackedScript], counts: &mut [usize], request: &mut Reque
         return false;
     }
     let index = counts[p];
-    let Some(at) = scripts[p].read(index, &mut request.call) else {
+    let Some((at, call)) = scripts[p].get(index) else {
         return false;
     };
     request.at = at;
+    request.call = call.to_call();
     counts[p] = index + 1;
     true
 }

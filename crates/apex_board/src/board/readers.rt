@@ -106,7 +106,7 @@ impl<A: Allocator> Board<A> {
         ensures sample { option_copied result ≡ last_write_on self.now.config c self.now.log }
         ensures queuing { is_queuing self.now.config c ≡ true → result ≡ None }
     {
-        self.ports.last_sample(c)
+        self.samples[c].as_ref()
     }
 
     /// The mode of partition `p`.

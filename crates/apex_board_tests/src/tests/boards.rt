@@ -6,6 +6,7 @@ use crate::tests::texts::BASE;
 use apex_board::{Board, Entry, Request, Stopped, run_list};
 use apex_config::ReadConfig;
 use apex_module::Config;
+use apex_ports::{CallRef, ReplyRef};
 use apex_texts::{push_entry, read_trace};
 use apex_types::{Message, OutOfMemory, Reply};
 use std::alloc::{AllocError, AllocGlobal, Allocator, Global};
@@ -78,7 +79,8 @@ pub(crate) fn lines_of(
         number = number.saturating_add(1);
         if entry.partition < config.partitions() {
             let name = config.partition_name(entry.partition).text();
-            push_entry(&mut text, number, name, entry.at, &entry.call, &entry.reply)?;
+            let (call, reply) = (CallRef::of(&entry.call), ReplyRef::of(&entry.reply));
+            push_entry(&mut text, number, name, entry.at, call, reply)?;
         }
     }
     Ok(text)

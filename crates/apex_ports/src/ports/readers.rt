@@ -2,12 +2,13 @@
 ghost use Rattle.std.specs.Prelude.{◌≡◌, [], ◌<◌, ◌≤◌, ◌++◌, true, false, length, None, slice_get, IfSome, MatchOption};
 ghost use Rattle.std.specs.Option.{option_copied};
 
+use crate::noted::{CallRef, SampleRef};
 use crate::ports::Ports;
 use crate::rows::Row;
 use crate::table::lookup::{configured_port, sampling_port};
 use crate::table::row;
 use apex_module::Config;
-use apex_types::{Call, MESSAGE_LIMIT, Message, Mode, Moment, Sample, Validity};
+use apex_types::{Call, MESSAGE_LIMIT, Message, Mode, Moment, Validity};
 use std::alloc::Allocator;
 
 impl<A: Allocator> Ports<A> {
@@ -15,6 +16,7 @@ impl<A: Allocator> Ports<A> {
     ghost use Rattle.apex_ports.specs.Counts.{count_of};
     ghost use Rattle.apex_ports.specs.History.{entries_of};
     ghost use Rattle.apex_ports.specs.Modes.{mode_of};
+    ghost use Rattle.apex_ports.specs.Noted.{call_by, IsSampleBy};
     ghost use Rattle.apex_ports.specs.Ports.{is_created, is_queuing};
     ghost use Rattle.apex_ports.specs.ReplyTable.{row_of, size_at};
     ghost use Rattle.apex_ports.specs.Rules.{IsConserved};
@@ -59,10 +61,10 @@ impl<A: Allocator> Ports<A> {
     }
 
     /// The row of the reply table that a call of partition `p` would get at the moment. The call isn't made.
-    pub fn row(&self, p: usize, at: Moment, call: &Call) -> Row
+    pub fn row(&self, p: usize, at: Moment, call: CallRef<'_>) -> Row
         requires { p < length self.now.config.partitions }
         ensures { let here = seen self.now.config self.now.history p in
-            result ≡ row_of self.now.config here p at call.now }
+            result ≡ row_of self.now.config here p at (call_by call.entry) }
     {
         row(&self.state, &self.config, p, at, call)
     }
@@ -153,9 +155,10 @@ impl<A: Allocator> Ports<A> {
 
     /// The message that channel `c` holds, with the moment it was written; none for a queuing channel, or before the first
     /// write.
-    pub fn last_sample(&self, c: usize) -> Option<&Sample>
+    pub fn last_sample(&self, c: usize) -> Option<SampleRef<'_>>
         requires { c < length self.now.config.channels }
-        ensures sample { option_copied result ≡ last_write_on self.now.config c self.now.history }
+        ensures sample { IsSampleBy (last_write_on self.now.config c self.now.history) result }
+        ensures short { IfSome result (λ sample. length sample.message.now ≤ MESSAGE_LIMIT) }
         ensures queuing { is_queuing self.now.config c ≡ true → result ≡ None }
     {
         self.state.channels[c].sample()

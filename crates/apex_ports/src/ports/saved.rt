@@ -8,6 +8,7 @@ use crate::ghost_history::GhostHistory;
 use crate::partition::PartitionState;
 use crate::ports::Ports;
 use crate::saved_channel::SavedChannel;
+use crate::stored_messages::StoredMessages;
 use apex_module::Config;
 use apex_types::OutOfMemory;
 use std::alloc::{AllocError, Allocator, Global};
@@ -21,7 +22,8 @@ pub struct SavedPorts<A: Allocator = Global> {
     config: Snapshot<Config>,
     history: GhostHistory,
     partitions: Vec<PartitionState<A>, A>,
-    channels: Vec<SavedChannel<A>, A>,
+    messages: StoredMessages<A>,
+    channels: Vec<SavedChannel, A>,
     calls: Vec<u64, A>,
 }
 
@@ -35,7 +37,7 @@ impl<A: Allocator> Model for SavedPorts<A> {
     ghost view = { λ saved. record { config = saved.config.value; history = saved.history } };
 
     ghost invariant = { λ saved. IsSavedKept saved.config.value saved.history
-        saved.partitions.items saved.channels.items saved.calls.items };
+        saved.partitions.items saved.messages saved.channels.items saved.calls.items };
 }
 
 impl<A: Allocator + Copy> Ports<A> {
@@ -44,12 +46,14 @@ impl<A: Allocator + Copy> Ports<A> {
         ensures { IfOk result (λ saved. saved ≡ self.now) }
     {
         let partitions = saved_partitions(alloc, self.state.partitions.as_slice())?;
-        let channels = saved_channels(alloc, self.state.channels.as_slice())?;
+        let mut messages = StoredMessages::new(alloc);
+        let channels = saved_channels(alloc, self.state.channels.as_slice(), &mut messages)?;
         let calls = Vec::from_slice(alloc, self.calls.as_slice())?;
         Ok(SavedPorts {
             config: Snapshot::of(&self.config),
             history: self.state.history.copy(),
             partitions,
+            messages,
             channels,
             calls,
         })
@@ -72,6 +76,7 @@ impl<A: Allocator> Ports<A> {
         restore_channels(
             self.state.channels.as_mut_slice(),
             saved.channels.as_slice(),
+            &saved.messages,
         );
         self.calls
             .as_mut_slice()
@@ -98,13 +103,15 @@ fn saved_partitions<A: Allocator + Copy>(
 fn saved_channels<A: Allocator + Copy>(
     alloc: A,
     channels: &[ChannelState<A>],
-) -> Result<Vec<SavedChannel<A>, A>, AllocError>
+    stored: &mut StoredMessages<A>,
+) -> Result<Vec<SavedChannel, A>, AllocError>
     ensures count { IfOk result (λ saved. length saved.items ≡ length channels.now) }
-    ensures same { IfOk result (λ saved. EachPair IsSavedFrom channels.now saved.items) }
+    ensures same { IfOk result
+        (λ saved. EachPair (IsSavedFrom stored.new) channels.now saved.items) }
 {
     let mut saved = Vec::with_capacity(alloc, channels.len())?;
     for channel in channels {
-        let one = channel.save(alloc)?;
+        let one = channel.save(stored)?;
         saved.push(one)?;
     }
     Ok(saved)
@@ -123,12 +130,16 @@ fn restore_partitions<A: Allocator>(
     }
 }
 
-fn restore_channels<A: Allocator>(channels: &mut [ChannelState<A>], saved: &[SavedChannel<A>])
+fn restore_channels<A: Allocator>(
+    channels: &mut [ChannelState<A>],
+    saved: &[SavedChannel],
+    stored: &StoredMessages<A>,
+)
     requires count { length channels.old ≡ length saved.now }
-    requires room { EachPair HasRoomFor channels.old saved.now }
-    ensures { AreRestored channels.old saved.now channels.new }
+    requires room { EachPair (HasRoomFor stored.now) channels.old saved.now }
+    ensures { AreRestored stored.now channels.old saved.now channels.new }
 {
     for c in 0..saved.len() {
-        channels[c].restore(&saved[c]);
+        channels[c].restore(&saved[c], stored);
     }
 }

@@ -1,18 +1,19 @@
 //! The reply of a row, by what its partition sees.
 ghost use Rattle.std.specs.Prelude.{◌≡◌, ◌<◌, ◌≤◌, length, IfSome, MatchOption};
-ghost use Rattle.std.specs.Option.{option_copied};
 ghost use Rattle.apex_types.specs.declared.reply.Reply.TheVariants.{Code, Received};
 ghost use Rattle.apex_types.specs.declared.return_code.ReturnCode.TheVariants.{InvalidParam, NotAvailable};
+ghost use Rattle.apex_ports.specs.Noted.{IsSampleBy};
 ghost use Rattle.apex_ports.specs.ReplyTable.{reply_of, oldest_reply, last_reply, queuing_status_reply, sampling_status_reply};
 ghost use Rattle.apex_ports.specs.Seen.{queuing_port, sampling_port};
 ghost use Rattle.apex_ports.specs.Services.{with_queuing_status, with_sampling_status};
 
+use crate::noted::SampleRef;
 use crate::rows::Row;
 use crate::statuses::{QueuingStatus, SamplingStatus};
 use crate::table::lookup::{configured_port, queuing_port, sampling_port};
 use crate::view::View;
 use apex_module::Config;
-use apex_types::{MESSAGE_LIMIT, Message, Reply, ReturnCode, Sample, Validity};
+use apex_types::{MESSAGE_LIMIT, Message, Reply, ReturnCode, Validity};
 
 /// The reply of a row.
 pub fn reply<V: View>(view: &V, config: &Config, partition: usize, row: Row) -> Reply
@@ -60,9 +61,10 @@ pub fn sample_at<'a, V: View>(
     config: &Config,
     partition: usize,
     id: u32,
-) -> Option<&'a Sample>
+) -> Option<SampleRef<'a>>
     requires kept { V.is_kept config.now view.now }
-    ensures { option_copied result ≡ (V.seen config.now view.now partition).sample id }
+    ensures sample { IsSampleBy ((V.seen config.now view.now partition).sample id) result }
+    ensures short { IfSome result (λ sample. length sample.message.now ≤ MESSAGE_LIMIT) }
 {
     let port = configured_port(config, partition, id)?;
     view.sample(config, partition, id, port)
@@ -93,7 +95,7 @@ fn last_reply<V: View>(
 {
     match sample_at(view, config, partition, id) {
         Some(sample) => Reply::Read {
-            message: sample.message.copy(),
+            message: Message::from_bytes(sample.message).unwrap(),
             validity,
         },
         None => Reply::Code(ReturnCode::NoAction),

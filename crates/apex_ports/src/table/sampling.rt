@@ -2,14 +2,16 @@
 ghost use Rattle.std.specs.Prelude.{◌≡◌, ◌<◌, ◌≤◌, length, Some, IfOk, MatchResult};
 ghost use Rattle.apex_ports.specs.declared.rows.Row.TheVariants as row;
 ghost use Rattle.apex_ports.specs.Decisions.{IsRowOfDecision};
+ghost use Rattle.apex_ports.specs.Noted.{sample_by};
 ghost use Rattle.apex_ports.specs.ReplyTable.{write_row, read_row, status_row};
 ghost use Rattle.apex_ports.specs.Seen.{sampling_port};
 
+use crate::noted::SampleRef;
 use crate::rows::{Refusal, Row};
 use crate::table::lookup::sampling_port;
 use crate::view::View;
 use apex_module::Config;
-use apex_types::{Direction, MESSAGE_LIMIT, Moment, Sample, Validity};
+use apex_types::{Direction, MESSAGE_LIMIT, Moment, Validity};
 
 /// The row of WRITE_SAMPLING_MESSAGE, or why it is refused.
 pub(crate) fn write_row<V: View>(
@@ -25,7 +27,6 @@ pub(crate) fn write_row<V: View>(
         let port = sampling_port config.now here partition id in
         IsRowOfDecision (write_row config.now port message.now) result }
     ensures accepted { IfOk result (λ accepted. accepted ≡ row.Written) }
-    ensures short { IfOk result (λ _. length message.now ≤ MESSAGE_LIMIT) }
 {
     let Some(port) = sampling_port(view, config, partition, id) else {
         return Err(Refusal::NoSuchPort);
@@ -71,7 +72,7 @@ pub(crate) fn read_sample<'a, V: View>(
     partition: usize,
     now: Moment,
     id: u32,
-) -> Result<(&'a Sample, Validity), Refusal>
+) -> Result<(SampleRef<'a>, Validity), Refusal>
     requires partition { partition < length config.now.partitions }
     requires kept { V.is_kept config.now view.now }
     ensures row { let here = V.seen config.now view.now partition in
@@ -79,7 +80,8 @@ pub(crate) fn read_sample<'a, V: View>(
         MatchResult result (λ read. given ≡ row.LastRead id read.1)
         (λ refusal. given ≡ row.Refused refusal) }
     ensures sample { let here = V.seen config.now view.now partition in
-        IfOk result (λ read. here.sample id ≡ Some read.0.now) }
+        IfOk result (λ read. here.sample id ≡ Some (sample_by read.0)) }
+    ensures short { IfOk result (λ read. length read.0.message.now ≤ MESSAGE_LIMIT) }
 {
     let Some(port) = sampling_port(view, config, partition, id) else {
         return Err(Refusal::NoSuchPort);

@@ -1,4 +1,7 @@
 use Rattle.std.proofs.Common.{inl, inr, sym, ap, ◌∙◌}
+use Rattle.apex_types.specs.declared.call.Call.{Call}
+use Rattle.apex_ports.specs.ReplyTable.{row_of}
+use Rattle.apex_ports.specs.Seen.{seen}
 use Rattle.apex_orders.specs.Commuting.{channel_named}
 use Rattle.apex_orders.specs.Enough.{is_early}
 use Rattle.apex_orders.proofs.UseLemmas.{unnamed}
@@ -14,11 +17,15 @@ returns-in_default-channel_named c =
     }
 
 pub returns-then-is_early : goal.returns-then-is_early
-returns-then-is_early c = record {
-  timed = c.in-Some.timed.now;
-  at = c.in-Some.ensures;
-  is = inl (ap is_early (sym c.row-row.ensures) ∙ (sym c.is_early.ensures ∙ c.if-is_early.true));
-}
+returns-then-is_early c =
+    let timed = c.in-Some.timed.now in
+    let config = c.args.ports.now.config in
+    let here = seen config c.args.ports.now.history c.args.p in
+    let row = c.row-row.ensures ∙ ap (λ (it : Call). row_of config here c.args.p timed.0 it) c.of.ensures.call in record {
+      timed = timed;
+      at = c.in-Some.ensures;
+      is = inl (ap is_early (sym row) ∙ (sym c.is_early.ensures ∙ c.if-is_early.true));
+    }
 
 pub returns : goal.returns
 returns c =

@@ -4,6 +4,7 @@ use Rattle.apex_types.specs.declared.call.Call.{Call}
 use Rattle.apex_types.specs.declared.moment.Moment.{Moment}
 use Rattle.apex_ports.specs.Counts.{count_of}
 use Rattle.apex_ports.specs.History.{History, entry_of, entries_of}
+use Rattle.apex_ports.specs.ReplyTable.{reply_to}
 use Rattle.apex_ports.proofs.Lookups.{at_index}
 use Rattle.apex_orders.specs.Orders.{next_entries}
 use Rattle.apex_orders.proofs.StepLemmas.{makes_nothing, whole_count, makes_next}
@@ -24,7 +25,7 @@ returns-then-index-len-clause-history c = sym (ap (λ (es : History). c.args.por
 pub returns-then-index-len-clause-nothing : goal.returns-then-index-len-clause-nothing
 returns-then-index-len-clause-nothing c = λ is. nothing_next c
 
-whole : (c : goal.After-call_into) → c.calls-index.result ≡ length (entries_of c.args.p c.args.ports.now.history)
+whole : (c : goal.After-slice_known-2-1) → c.calls-index.result ≡ length (entries_of c.args.p c.args.ports.now.history)
 whole c =
     let script = c.index-scripts-p.result in
     let within : c.args.p < length c.args.scripts.now = omega arith in
@@ -32,8 +33,8 @@ whole c =
     let few : c.calls-index.result < 2 ^ 64 - 1 = omega (arith, c.if-index-len.false, c.len.type_inv) in
     whole_count c.args.ports.now.config c.args.scripts.now c.args.ports.now.history c.args.p script here c.calls-index.result c.calls-index.ensures few
 
-made_next : (c : goal.After-call_into) → next_entries c.args.ports.now.config c.args.scripts.now c.args.ports.now.history c.args.p
-    ≡ entry_of c.args.p c.index.result.now.0 c.index.result.now.1 c.call_into.new.reply ∷ []
+made_next : (c : goal.After-slice_known-2-1) → next_entries c.args.ports.now.config c.args.scripts.now c.args.ports.now.history c.args.p
+    ≡ entry_of c.args.p c.index.result.now.0 c.index.result.now.1 c.copy_to.new.reply ∷ []
 made_next c =
     let script = c.index-scripts-p.result in
     let timed = c.index.result.now in
@@ -42,11 +43,17 @@ made_next c =
     let inside : c.calls-index.result < length c.script.inside.calls.items = search rules in
     let at : slice_get script c.calls-index.result ≡ Some timed =
     ap (λ (calls : List (Moment × Call)). slice_get calls c.calls-index.result) (sym c.script.view_is) ∙ at_index c.script.inside.calls.items c.calls-index.result timed inside c.index.ensures in
+    let reply = c.copy_to.ensures
+    ∙ (c.answer-reply.ensures.reply ∙ ap (λ (it : Call). reply_to c.args.ports.now.config c.args.ports.now.history c.args.p timed.0 it) c.of.ensures.call) in
     makes_next c.args.ports.now.config c.args.scripts.now c.args.ports.now.history c.args.p script here c.calls-index.result timed (whole c) at
-    ∙ ap (λ r. entry_of c.args.p timed.0 timed.1 r ∷ []) (sym c.call_into.ensures.reply)
+    ∙ ap (λ r. entry_of c.args.p timed.0 timed.1 r ∷ []) (sym reply)
 
 pub returns-clause-history : goal.returns-clause-history
-returns-clause-history c = c.call_into.ensures.entry ∙ ap (λ (es : History). c.args.ports.now.history ++ es) (sym (made_next c))
+returns-clause-history c =
+    let at = c.index.result.now.0 in
+    c.answer-reply.ensures.entry
+    ∙ (λ i. c.args.ports.now.history ++ entry_of c.args.p at (c.of.ensures.call i) (sym c.copy_to.ensures i) ∷ [])
+    ∙ ap (λ (es : History). c.args.ports.now.history ++ es) (sym (made_next c))
 
 pub returns-clause-call : goal.returns-clause-call
 returns-clause-call c = λ is. record {

@@ -1,6 +1,7 @@
-use Rattle.std.proofs.Common.{◌≡◌, take}
+use Rattle.std.proofs.Common.{◌≡◌}
 use Rattle.apex_ports.specs.MessageRing.{messages}
+use Rattle.apex_ports.specs.Saved.{messages_from}
 use Rattle.apex_ports.proofs.saved_channel.put_messages.Given as goal
 
-abbrev pub invariant-loop-message : goal.invariant-loop-message
-invariant-loop-message g l = l.waiting ≡ messages (take l.message-index l.saved) l.initial.waiting.capacity l.initial.waiting.size
+abbrev pub invariant-loop-index : goal.invariant-loop-index
+invariant-loop-index g l = l.waiting ≡ messages (messages_from l.stored l.first l.index) l.initial.waiting.capacity l.initial.waiting.size

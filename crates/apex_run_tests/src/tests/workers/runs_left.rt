@@ -3,6 +3,7 @@ use crate::tests::texts::{LEFT_BY_THREE, THREE};
 use apex_board::{Board, Entry};
 use apex_config::ReadConfig;
 use apex_module::Config;
+use apex_ports::ReplyRef;
 use apex_texts::{push_reply, push_totals, read_script};
 use apex_types::{Call, Message, Moment, OutOfMemory, Reply};
 use apex_workers::{Finished, Gate, Replies, RunFault, Script, run_scripts};
@@ -140,7 +141,7 @@ fn is_left<R: Abort + AllocGlobal + Wait, A: Allocator>(
 pub(crate) fn lines_of(alloc: Global, replies: &[Reply]) -> Result<String, AllocError> {
     let mut text = String::new(alloc);
     for reply in replies {
-        push_reply(&mut text, reply)?;
+        push_reply(&mut text, ReplyRef::of(reply))?;
         text.push_str("\n")?;
     }
     Ok(text)

@@ -3,7 +3,7 @@ use Rattle.std.proofs.Math.Seq.{map-set_same}
 use Rattle.apex_observers.specs.Published.{Published}
 use Rattle.apex_ports.specs.Ports.{is_queuing}
 use Rattle.apex_runs.specs.Observers.{sampling_before}
-use Rattle.apex_runs.proofs.ObserverLemmas.{kind_at, after_queuing, after_sampling, Shown, shown_past_queuing, shown_past_sampling}
+use Rattle.apex_runs.proofs.ObserverLemmas.{kind_at, after_queuing, after_sampling, Shown, shown_past_queuing, shown_past_sampling, same_held}
 use Rattle.apex_runs.proofs.observers.compare.Goals as goal
 use Rattle.apex_runs.proofs.observers.compare.Goals.{then-not-is_queuing+else-index-observers+in_ok-compare_read, else-not-is_queuing}
 
@@ -26,7 +26,7 @@ loop-c-preserved g c =
             index = w.index-is ∙ (ap (λ n. n + 1) c.loop-c.invariant.index ∙ (sym (after_sampling config c.loop-c.c kind) ∙ ap (sampling_before config) (sym next)));
             shown = subst (λ (o : List Published). Shown config history o (c.loop-c.c + 1)) (sym w.observers-is)
                 (shown_past_sampling config history c.loop-c.observers c.loop-c.c c.loop-c.index w.compare_read.new.observer c.loop-c.invariant.shown kind c.loop-c.invariant.index
-                (w.in_ok-compare_read.ensures.shown ∙ w.last_sample.ensures.sample));
+                (same_held _ _ w.last_sample.result w.in_ok-compare_read.ensures.shown w.last_sample.ensures.sample));
           }
       | else-not-is_queuing w ↦
           let kind : is_queuing config c.loop-c.c ≡ true = cc (is, w.if-not-is_queuing.false) in

@@ -4,6 +4,7 @@ use Rattle.std.proofs.lemmas.List.{length-replicate, map-append, take_more, take
 use Rattle.std.proofs.lemmas.Option.{slice_get_read}
 use Rattle.apex_ports.specs.declared.history.Entry.{Entry}
 use Rattle.apex_ports.specs.History.{History, entry_of}
+use Rattle.apex_ports.specs.Noted.{call_by}
 use Rattle.apex_texts.specs.Report.{line_of}
 use Rattle.apex_texts.proofs.ReportLemmas.{entry_pushed, no_entry}
 use Rattle.apex_threads.specs.Collected.{AreCounted, IsNext}
@@ -37,7 +38,7 @@ loop-byte-preserved c =
     let index = get_or counts p 0 in
     let script = c.index-scripts-partition.result in
     let worker = c.index-replies-partition.result in
-    let e = entry_of p c.in-Some.at c.read.new.call c.push_call.new.reply in
+    let e = entry_of p c.in-Some.at (call_by c.in-Some.call) c.push_call.new.reply in
     let all = c.loop-byte.invariant.counted.all in
     let each = c.requires.each in
     let script_at : slice_get scripts p ≡ Some script = slice_get_read scripts (length scripts) p script refl (omega arith) c.index-scripts-partition.is in

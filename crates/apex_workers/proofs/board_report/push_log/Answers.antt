@@ -1,4 +1,4 @@
-use Rattle.std.proofs.Common.{◌≡◌, ◌+◌, ◌++◌, Some, arith, string_bytes}
+use Rattle.std.proofs.Common.{◌≡◌, ◌+◌, ◌++◌, Some, ◌∙◌, arith, string_bytes}
 use Rattle.apex_module.specs.Configuration.{partition_name_of}
 use Rattle.apex_texts.specs.Report.{entry_line}
 use Rattle.apex_texts.proofs.ReportLemmas.{grows, complete}
@@ -13,8 +13,13 @@ pub loop-entry-preserved : goal.loop-entry-preserved
 loop-entry-preserved c =
     let named : partition_name_of c.args.board.now.config c.entry-item.result.partition ≡ Some c.text-name.result.now = rw (← c.config.ensures, c.text-name.ensures) c.partition_name.ensures.name in
     let cut = entry_cut c.args.board.now.config c.log-log.result.now c.loop-entry.entry-index c.entry-item.result c.text-name.result.now c.loop-entry-test.true c.entry-item.is named in
-    let grown : string_bytes c.push_entry.new.text ≡ string_bytes c.loop-entry.text ++ entry_line (c.loop-entry.entry-index + 1) c.text-name.result.now c.entry-item.result.at c.entry-item.result.call c.entry-item.result.reply =
-    rw (← c.loop-entry.invariant.number) c.in_ok-push_entry.ensures in
+    let text = string_bytes c.loop-entry.text in
+    let name = c.text-name.result.now in
+    let at = c.entry-item.result.at in
+    let served : string_bytes c.push_entry.new.text ≡ text ++ entry_line (c.loop-entry.number + 1) name at c.entry-item.result.call c.entry-item.result.reply =
+    c.in_ok-push_entry.ensures ∙ (λ i. text ++ entry_line (c.loop-entry.number + 1) name at (c.of-call.ensures.call i) (c.of-reply.ensures.reply i)) in
+    let grown : string_bytes c.push_entry.new.text ≡ text ++ entry_line (c.loop-entry.entry-index + 1) name at c.entry-item.result.call c.entry-item.result.reply =
+    rw (← c.loop-entry.invariant.number) served in
     record {
       number = omega arith;
       written = grows (string_bytes c.loop-entry.text) (string_bytes c.push_entry.new.text) _ _ _ _ grown cut c.loop-entry.invariant.written;

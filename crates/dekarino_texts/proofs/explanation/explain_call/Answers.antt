@@ -1,8 +1,11 @@
-use Rattle.std.proofs.Common.{◌≡◌, ℕ, ◌++◌, ◌∷◌, [], List, Result, Ok, Err, OnOk, ◌∙◌, subst}
+use Rattle.std.proofs.Common.{◌≡◌, ℕ, ◌++◌, ◌∷◌, [], List, Result, Ok, Err, OnOk, ap, ◌∙◌, subst}
+use Rattle.apex_types.specs.declared.call.Call.{Call}
 use Rattle.apex_types.specs.declared.reply.Reply.{Reply}
 use Rattle.apex_module.specs.Configuration.{Configuration}
 use Rattle.apex_ports.specs.declared.history.Request.{Request}
 use Rattle.apex_ports.specs.History.{entry_of}
+use Rattle.apex_ports.specs.ReplyTable.{row_of}
+use Rattle.apex_ports.specs.Seen.{seen}
 use Rattle.dekarino_texts.specs.declared.notes.Notes.{Notes}
 use Rattle.dekarino_texts.specs.Explanation.{ExplainedLine, line_with, answered_after}
 use Rattle.dekarino_texts.specs.Notes.{AreNoted}
@@ -22,8 +25,11 @@ Grew old new number request config reply =
 pub returns-clause-handed : goal.returns-clause-handed
 returns-clause-handed g c =
     let request = c.args.request.now in
+    let config = c.args.ports.now.config in
+    let here = seen config c.args.ports.now.history request.partition in
+    let row = c.row-row.ensures ∙ ap (λ (it : Call). row_of config here request.partition request.at it) c.of.ensures.call in
     let same : line_with c.args.number c.args.line.now request c.row-row.result c.call-reply.result ≡ answered_after c.args.ports.now.config c.args.ports.now.history c.args.number c.args.line.now request =
-    (λ i. line_with c.args.number c.args.line.now request (c.row-row.ensures i) (c.call-reply.ensures.reply i)) in
+    (λ i. line_with c.args.number c.args.line.now request (row i) (c.call-reply.ensures.reply i)) in
     subst (λ (line : ExplainedLine). OnOk c.call.result (g.S.ExplanationSink.takes c.args.sink.now line c.call.new.self)) same c.call.ensures
 
 pub returns-clause-noted : goal.returns-clause-noted

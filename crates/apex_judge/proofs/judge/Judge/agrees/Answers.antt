@@ -1,6 +1,7 @@
 use Rattle.std.proofs.Common.{◌≡◌, ◌↔◌, IsTrue, sym, ap, subst, ◌∙◌}
+use Rattle.apex_types.specs.declared.call.Call.{Call}
 use Rattle.apex_ports.specs.declared.rows.Row.{Row}
-use Rattle.apex_ports.specs.ReplyTable.{reply_of}
+use Rattle.apex_ports.specs.ReplyTable.{reply_of, row_of}
 use Rattle.apex_judge.specs.JudgeView.{JudgeView}
 use Rattle.apex_judge.specs.Replies.{agrees}
 use Rattle.apex_judge.specs.Shown.{shown, reply_shown}
@@ -14,7 +15,9 @@ returns-clause-exact g c =
     let p = c.args.partition in
     let logged = c.args.reply.now in
     let standard = reply_shown config log p c.args.at c.args.call.now in
+    let row_is : c.row-row.result ≡ row_of config (shown config log p) p c.args.at c.args.call.now =
+    c.row-row.ensures ∙ ap (λ (it : Call). row_of config (shown config log p) p c.args.at it) c.of.ensures.call in
     let test : c.agrees.result ≡ agrees standard logged =
-    c.agrees.ensures ∙ ap (λ (row : Row). agrees (reply_of config (shown config log p) p row) logged) c.row-row.ensures in
+    c.agrees.ensures ∙ ap (λ (row : Row). agrees (reply_of config (shown config log p) p row) logged) row_is in
     subst (λ (v : JudgeView). IsTrue c.agrees.result ↔ (logged ≡ reply_shown v.config v.log p c.args.at c.args.call.now)) c.self.view_is
     ((λ yes. agrees_is standard logged (sym test ∙ yes)), (λ same. test ∙ agrees_from standard logged same))

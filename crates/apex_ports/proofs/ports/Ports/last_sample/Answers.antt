@@ -1,17 +1,19 @@
-use Rattle.std.proofs.Common.{◌≡◌, ◌<◌, true, length, sym, subst, ◌∙◌}
-use Rattle.std.specs.Option.{option_copied}
+use Rattle.std.proofs.Common.{◌≡◌, ◌<◌, true, length, Option, sym, subst, ◌∙◌}
+use Rattle.apex_types.specs.declared.sample.Sample.{Sample}
 use Rattle.apex_ports.specs.Channels.{last_write_on}
+use Rattle.apex_ports.specs.Noted.{IsSampleBy}
 use Rattle.apex_ports.specs.Ports.{is_queuing}
 use Rattle.apex_ports.specs.PortsView.{PortsView}
 use Rattle.apex_ports.proofs.Conserved.{always_conserved}
-use Rattle.apex_ports.proofs.Lookups.{channel_at, nothing_lent}
+use Rattle.apex_ports.proofs.Lookups.{channel_at, no_sample}
 use Rattle.apex_ports.proofs.ports.Ports.last_sample.Goals as goal
 
 pub returns-clause-sample : goal.returns-clause-sample
 returns-clause-sample g c =
     let within = subst (λ (v : PortsView). c.args.c < length v.config.channels) (sym c.self.view_is) c.requires in
     let state = channel_at _ _ _ _ c.self.invariant.kept c.args.c c.index.result.now within c.index.ensures in
-    subst (λ (v : PortsView). option_copied c.sample.result ≡ last_write_on v.config c.args.c v.history) c.self.view_is (c.sample.ensures ∙ state.sample)
+    subst (λ (v : PortsView). IsSampleBy (last_write_on v.config c.args.c v.history) c.sample.result) c.self.view_is
+    (subst (λ (held : Option Sample). IsSampleBy held c.sample.result) state.sample c.sample.ensures.sample)
 
 pub returns-clause-queuing : goal.returns-clause-queuing
 returns-clause-queuing g c queuing =
@@ -19,4 +21,4 @@ returns-clause-queuing g c queuing =
     let within = subst (λ (v : PortsView). c.args.c < length v.config.channels) (sym c.self.view_is) c.requires in
     let state = channel_at _ _ _ _ c.self.invariant.kept c.args.c c.index.result.now within c.index.ensures in
     let none = (always_conserved _ _ c.args.c c.self.invariant.sound).queuing here in
-    nothing_lent c.sample.result (c.sample.ensures ∙ (state.sample ∙ none))
+    no_sample _ c.sample.result c.sample.ensures.sample (state.sample ∙ none)

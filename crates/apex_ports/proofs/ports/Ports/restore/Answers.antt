@@ -18,11 +18,11 @@ pub restore_partitions-requires-clause-ports : goal.restore_partitions-requires-
 restore_partitions-requires-clause-ports g c =
     let same : c.saved.inside.config.value ≡ c.self.inside.config = ap config_of c.saved.view_is ∙ (c.requires ∙ sym (ap config_of c.self.view_is)) in
     let h = c.saved.inside.history in
-    let saved = subst (λ (x : Configuration). AreSaved x h c.saved.inside.partitions.items c.saved.inside.channels.items) same c.saved.invariant.saved in
+    let saved = subst (λ (x : Configuration). AreSaved x h c.saved.inside.partitions.items c.saved.inside.messages c.saved.inside.channels.items) same c.saved.invariant.saved in
     subst (λ (x : List (PartitionState g.row.A.Denot) × List (PartitionState g.row.A.Denot)). EachPair HasAsManyPorts x.0 x.1)
     (λ i. (sym c.as_mut_slice.ensures.value i, sym c.as_slice.ensures.value i))
     (as_many_ports c.self.inside.config h c.self.inside.state.history c.self.inside.state.partitions.items c.saved.inside.partitions.items
-    c.self.inside.state.channels.items c.saved.inside.channels.items c.self.invariant.kept saved)
+    c.self.inside.state.channels.items c.saved.inside.messages c.saved.inside.channels.items c.self.invariant.kept saved)
 
 pub restore_channels-requires-clause-count : goal.restore_channels-requires-clause-count
 restore_channels-requires-clause-count g c =
@@ -34,12 +34,12 @@ pub restore_channels-requires-clause-room : goal.restore_channels-requires-claus
 restore_channels-requires-clause-room g c =
     let same : c.saved.inside.config.value ≡ c.self.inside.config = ap config_of c.saved.view_is ∙ (c.requires ∙ sym (ap config_of c.self.view_is)) in
     let h = c.saved.inside.history in
-    let saved = subst (λ (x : Configuration). AreSaved x h c.saved.inside.partitions.items c.saved.inside.channels.items) same c.saved.invariant.saved in
+    let saved = subst (λ (x : Configuration). AreSaved x h c.saved.inside.partitions.items c.saved.inside.messages c.saved.inside.channels.items) same c.saved.invariant.saved in
     let sound = subst (λ (x : Configuration). IsSound x h) same c.saved.invariant.sound in
-    subst (λ (x : List (ChannelState g.row.A.Denot) × List (SavedChannel g.row.A.Denot)). EachPair HasRoomFor x.0 x.1)
+    subst (λ (x : List (ChannelState g.row.A.Denot) × List SavedChannel). EachPair (HasRoomFor c.saved.inside.messages) x.0 x.1)
     (λ i. (sym c.as_mut_slice-2.ensures.value i, sym c.as_slice-2.ensures.value i))
     (have_room c.self.inside.config h c.self.inside.state.history c.self.inside.state.partitions.items c.saved.inside.partitions.items
-    c.self.inside.state.channels.items c.saved.inside.channels.items c.self.invariant.kept saved sound)
+    c.self.inside.state.channels.items c.saved.inside.messages c.saved.inside.channels.items c.self.invariant.kept saved sound)
 
 pub copy_from_slice-requires : goal.copy_from_slice-requires
 copy_from_slice-requires g c =
@@ -52,11 +52,11 @@ invariant_of-self g c =
     let same : c.saved.inside.config.value ≡ c.self.inside.config = ap config_of c.saved.view_is ∙ (c.requires ∙ sym (ap config_of c.self.view_is)) in
     let config = c.self.inside.config in
     let h = c.saved.inside.history in
-    let saved = subst (λ (x : Configuration). AreSaved x h c.saved.inside.partitions.items c.saved.inside.channels.items) same c.saved.invariant.saved in
+    let saved = subst (λ (x : Configuration). AreSaved x h c.saved.inside.partitions.items c.saved.inside.messages c.saved.inside.channels.items) same c.saved.invariant.saved in
     let count = c.restore_partitions.auto.partitions ∙ ap length c.as_mut_slice.ensures.value in
     let count_too = c.restore_channels.auto.channels ∙ ap length c.as_mut_slice-2.ensures.value in
     let tables = subst (λ (x : List (PartitionState g.row.A.Denot)). EachPair IsSameTable x c.restore_partitions.new.partitions) c.as_slice.ensures.value c.restore_partitions.ensures in
-    let channels = subst (λ (x : List (ChannelState g.row.A.Denot) × List (SavedChannel g.row.A.Denot)). AreRestored x.0 x.1 c.restore_channels.new.channels)
+    let channels = subst (λ (x : List (ChannelState g.row.A.Denot) × List SavedChannel). AreRestored c.saved.inside.messages x.0 x.1 c.restore_channels.new.channels)
     (λ i. (c.as_mut_slice-2.ensures.value i, c.as_slice-2.ensures.value i)) c.restore_channels.ensures in
     let calls = c.copy_from_slice.ensures.after ∙ c.as_slice-3.ensures.value in
     let count_calls = c.copy_from_slice.ensures.len ∙ ap length c.as_mut_slice-3.ensures.value in
@@ -68,7 +68,7 @@ invariant_of-self g c =
       kept = subst (λ (x : History × List (PartitionState g.row.A.Denot) × List (ChannelState g.row.A.Denot)). AreKept config x.0 x.1 x.2)
           (λ i. (sym c.copy-self-inside.ensures i, sym tables_are i, sym channels_are i))
           (are_restored config h c.self.inside.state.history c.self.inside.state.partitions.items c.saved.inside.partitions.items
-          c.self.inside.state.channels.items c.saved.inside.channels.items c.self.invariant.kept saved
+          c.self.inside.state.channels.items c.saved.inside.messages c.saved.inside.channels.items c.self.invariant.kept saved
           c.restore_partitions.new.partitions c.restore_channels.new.channels count tables count_too channels);
       counted = subst (λ (x : Configuration × History × List ℕ). AreCounted x.0 x.1 x.2) (λ i. (same i, sym c.copy-self-inside.ensures i, sym calls_are i)) c.saved.invariant.counted;
     }

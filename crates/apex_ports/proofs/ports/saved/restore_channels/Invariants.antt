@@ -1,8 +1,8 @@
 use Rattle.std.proofs.Common.{◌≡◌}
-use Rattle.apex_ports.specs.ChannelStates.{ring_depth}
+use Rattle.apex_ports.specs.ChannelStates.{message_size, ring_depth}
 use Rattle.apex_ports.specs.Saved.{restored}
 use Rattle.apex_ports.proofs.InPlace.{IsDone}
 use Rattle.apex_ports.proofs.ports.saved.restore_channels.Given as goal
 
 abbrev pub invariant-loop-c : goal.invariant-loop-c
-invariant-loop-c g l = IsDone (λ was saved now. now ≡ restored (ring_depth was) saved) l.c l.initial.channels l.saved l.channels
+invariant-loop-c g l = IsDone (λ was saved now. now ≡ restored l.stored (ring_depth was) (message_size was) saved) l.c l.initial.channels l.saved l.channels

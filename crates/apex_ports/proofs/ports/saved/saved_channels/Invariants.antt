@@ -5,5 +5,5 @@ use Rattle.apex_ports.proofs.ports.saved.saved_channels.Given as goal
 abbrev pub invariant-loop-channel : goal.invariant-loop-channel
 invariant-loop-channel g l = record {
   count : length l.saved.items ≡ l.channel-index;
-  same : EachPair IsSavedFrom l.channels l.saved.items;
+  same : EachPair (IsSavedFrom l.stored) l.channels l.saved.items;
 }

@@ -1,6 +1,7 @@
-use Rattle.std.proofs.Common.{◌≡◌, false, sym, ap, length, ◌∙◌, arith}
+use Rattle.std.proofs.Common.{◌≡◌, false, sym, ap, ◌∙◌, arith}
 use Rattle.apex_module.specs.Configuration.{port_of}
 use Rattle.apex_ports.specs.Modes.{is_idle}
+use Rattle.apex_ports.specs.Noted.{sample_by}
 use Rattle.apex_ports.specs.Seen.{seen}
 use Rattle.apex_ports.proofs.Sizes.{sample_short}
 use Rattle.apex_ports.proofs.Stays.{quiet_keeps, not_made_is_quiet, refused_is_quiet}
@@ -22,7 +23,6 @@ returns-in-Err-clause-kept g c =
 pub put_bytes-length-requires : goal.put_bytes-length-requires
 put_bytes-length-requires g c =
     let config = c.args.config.now in
-    let short = sample_short config c.args.self.now.history c.requires.current.sound.lawful (port_of config c.args.partition c.args.id) c.in-Ok.sample.now c.in-Ok.ensures.sample in
-    let same = ap length c.bytes.ensures.bytes in
+    let short = sample_short config c.args.self.now.history c.requires.current.sound.lawful (port_of config c.args.partition c.args.id) (sample_by c.in-Ok.sample) c.in-Ok.ensures.sample in
     let room = c.requires.room in
-    omega (arith, short, same, room)
+    omega (arith, short, room)

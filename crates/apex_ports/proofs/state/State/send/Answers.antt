@@ -2,7 +2,6 @@ use Rattle.std.proofs.Common.{◌≡◌, ◌<◌, ◌≤◌, Some, length, refl,
 use Rattle.std.specs.Option.{option_copied}
 use Rattle.apex_types.specs.declared.reply.Reply.TheVariants.{Code}
 use Rattle.apex_types.specs.declared.return_code.ReturnCode.TheVariants.{NoError}
-use Rattle.apex_module.specs.Configuration.{channel_of}
 use Rattle.apex_module.specs.declared.port.Port.{Port}
 use Rattle.apex_ports.specs.ChannelStates.{message_size}
 use Rattle.apex_ports.specs.ReplyTable.{size_of, depth_of, reply_of}
@@ -11,7 +10,7 @@ use Rattle.std.proofs.lemmas.Bool.Decides.{nat_tests}
 use Rattle.apex_ports.specs.Channels.{waiting_on}
 use Rattle.apex_ports.proofs.ChannelSteps.{sent_keeps}
 use Rattle.apex_ports.proofs.Conserved.{always_conserved, send_free}
-use Rattle.apex_ports.proofs.Lookups.{channel_at, waiting_count_is, queue_size_is}
+use Rattle.apex_ports.proofs.Lookups.{channel_at, waiting_count_is}
 use Rattle.apex_ports.proofs.RowFacts.{sent_at, source_of}
 use Rattle.apex_ports.proofs.state.State.send.Goals as goal
 
@@ -56,7 +55,7 @@ send-requires-clause-short g c =
     let free = send_free config h p c.args.at c.args.id c.args.message.now (Code NoError) q.channel (ap (reply_of config s p) (sym c.requires.row)) refl end in
     let within = conserved.depth in
     let less : length (waiting_on config q.channel h) < depth_of config q.channel = grind (arith, nat_tests) in
-    let size : message_size c.index_mut.result.now ≡ size_of config q = was.size ∙ queue_size_is (channel_of config q.channel) (omega (arith, less)) in
+    let size : message_size c.index_mut.result.now ≡ size_of config q = was.size in
     let short : length c.args.message.now ≤ size_of config q = subst (λ (x : Port). length c.args.message.now ≤ size_of config x) same at.2 in
     omega (arith, size, short)
 

@@ -1,8 +1,9 @@
-use Rattle.std.proofs.Common.{refl, sym, ap, ◌∙◌}
+use Rattle.std.proofs.Common.{◌≡◌, ◌≤◌, Some, length, refl, sym, ap, ◌∙◌, subst, arith}
 use Rattle.std.specs.Option.{option_copied}
 use Rattle.apex_types.specs.declared.reply.Reply.TheVariants.{Code}
 use Rattle.apex_types.specs.declared.return_code.ReturnCode.TheVariants.{NoError}
-use Rattle.apex_ports.specs.ReplyTable.{reply_of}
+use Rattle.apex_module.specs.declared.port.Port.{Port}
+use Rattle.apex_ports.specs.ReplyTable.{reply_of, size_of}
 use Rattle.apex_ports.specs.Seen.{seen}
 use Rattle.apex_ports.proofs.ChannelSteps.{written_keeps}
 use Rattle.apex_ports.proofs.Conserved.{write_sampling}
@@ -31,6 +32,19 @@ write-requires-clause-kind g c =
     let end = source_of config p c.args.id at.0 q at.1 c.in-Some.ensures.found in
     let was = channel_at _ _ _ _ c.requires.current.kept q.channel c.index_mut.result.now c.in-Some.ensures.linked c.index_mut.ensures.value in
     was.kind ∙ write_sampling config h p c.args.at c.args.id c.args.message.now (Code NoError) q.channel c.requires.current.sound.valid (ap (reply_of config s p) (sym c.requires.row)) refl end
+
+pub write-requires-clause-short : goal.write-requires-clause-short
+write-requires-clause-short g c =
+    let config = c.args.config.now in
+    let h = c.args.self.now.history in
+    let p = c.args.partition in
+    let q = c.in-Some.port.now in
+    let at = written_at config (seen config h p) p c.args.at c.args.id c.args.message.now c.requires.row in
+    let same : at.0 ≡ q = let both : Some at.0 ≡ Some q = sym at.1.found ∙ sym c.in-Some.ensures.found in cc in
+    let was = channel_at _ _ _ _ c.requires.current.kept q.channel c.index_mut.result.now c.in-Some.ensures.linked c.index_mut.ensures.value in
+    let size = was.size in
+    let short : length c.args.message.now ≤ size_of config q = subst (λ (x : Port). length c.args.message.now ≤ size_of config x) same at.2 in
+    omega (arith, size, short)
 
 pub returns-clause-kept : goal.returns-clause-kept
 returns-clause-kept g c =

@@ -1,8 +1,10 @@
-use Rattle.std.proofs.Common.{◌∙◌}
+use Rattle.std.proofs.Common.{Option, subst}
+use Rattle.apex_types.specs.declared.sample.Sample.{Sample}
+use Rattle.apex_ports.specs.Noted.{IsSampleBy}
 use Rattle.apex_ports.proofs.Lookups.{channel_at}
 use Rattle.apex_ports.proofs.view.StateView.sample.Goals as goal
 
-pub returns : goal.returns
-returns g c =
+pub returns-clause-sample : goal.returns-clause-sample
+returns-clause-sample g c =
     let state = channel_at _ _ _ _ c.requires.kept.kept _ _ c.requires.linked c.index.ensures in
-    rw c.requires.port (c.sample.ensures ∙ state.sample)
+    rw c.requires.port (subst (λ (held : Option Sample). IsSampleBy held c.sample.result) state.sample c.sample.ensures.sample)

@@ -1,15 +1,18 @@
-use Rattle.std.proofs.Common.{◌≡◌, ◌++◌, ◌∷◌, [], List, ℕ, Some, take, sym, ap, ◌∙◌}
+use Rattle.std.proofs.Common.{◌≡◌, ◌++◌, ◌∷◌, [], List, ℕ, Some, take, sym, ap, ◌∙◌, append_assoc}
 use Rattle.std.specs.List.{slice_get}
 use Rattle.std.specs.Option.{option_copied}
 use Rattle.std.proofs.lemmas.List.{take_more}
 use Rattle.std.proofs.lemmas.Option.{slice_get_within, get_or_from_slice_get}
-use Rattle.apex_ports.proofs.saved_channel.saved_messages.Goals as goal
+use Rattle.apex_ports.proofs.saved_channel.save_waiting.Goals as goal
 
 pub loop-index-preserved : goal.loop-index-preserved
 loop-index-preserved g c =
     let i = c.loop-index.index in
     let all = c.args.waiting.now.items in
+    let before = c.args.stored.now in
     let m = c.unwrap.result.now in
     let at : slice_get all i ≡ Some m = sym c.get.ensures.message ∙ ap option_copied c.unwrap.ensures in
     let more = take_more all i m (slice_get_within all i m at) ∙ ap (λ (x : List ℕ). take i all ++ x ∷ []) (get_or_from_slice_get all i m m at) in
-    c.in_ok-push.ensures.items ∙ ((λ j. c.loop-index.invariant j ++ c.in_ok-one.ensures j ∷ []) ∙ sym more)
+    c.in_ok-push.ensures.pushed
+    ∙ (ap (λ (x : List (List ℕ)). x ++ m ∷ []) c.loop-index.invariant
+    ∙ (append_assoc before (take i all) (m ∷ []) ∙ sym (ap (λ (x : List (List ℕ)). before ++ x) more)))
