@@ -12,7 +12,7 @@ import sys
 # The status of a command that found a library beneath its crate changed since it was proved.
 CHANGED = 124
 # The line of `rt version` of the oldest toolchain with which the sources are proved.
-WANTED = "rattle-kit-13f logic dac8208d650f15bf"
+WANTED = "rattle-kit-13b logic dac8208d650f15bf"
 
 
 def version(folder):

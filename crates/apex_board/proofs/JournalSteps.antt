@@ -1,29 +1,18 @@
 -- The journals with one of them set.
-use Rattle.std.proofs.Common.{◌≡◌, ◌≢◌, ℕ, zero, suc, ◌<◌, ◌≤◌, ◌==◌, Bool, true, false, if◌then◌else◌, List, [], ◌∷◌, ◌++◌, length, map, drop, set, get_or, Option, Some, None, refl, sym, ap, ◌∙◌, subst, arith, length-set, length-append}
+use Rattle.apex_board.proofs.Common.{◌≡◌, ◌≢◌, ℕ, zero, suc, ◌<◌, ◌≤◌, ◌==◌, Bool, true, false, if◌then◌else◌, List, [], ◌∷◌, ◌++◌, length, map, drop, set, get_or, Option, Some, None, refl, sym, ap, ◌∙◌, subst, arith, length-set, length-append, vec_capacity, nat_tests, Call, Configuration, History, EachAt, is_queuing, is_queue, accepted_on, taken_on, waiting_on, message_sent, message_accepted, message_received}
+use Rattle.apex_board.proofs.Common.{clears, is_clear, as_received, as_cleared, messages_of, at_index, accepted_stays, taken_stays, receives_no_clear, and_true, none_or_none, Journal, if_there, journal_at, has_journal, accepted_in, taken_in, AreJournals, IsFresh}
 use Rattle.std.specs.List.{slice_get}
 use Rattle.std.specs.Option.{option_to_list}
-use Rattle.std.specs.Vec.{vec_capacity}
-use Rattle.std.proofs.lemmas.Bool.Decides.{nat_tests}
 use Rattle.std.proofs.lemmas.Option.{slice_get_past}
 use Rattle.std.proofs.lemmas.List.{length-map}
-use Rattle.apex_types.specs.declared.call.Call.{Call}
 use Rattle.apex_types.specs.declared.call.Call.TheVariants.{SendQueuing}
 use Rattle.apex_types.specs.declared.taken.Taken.{Taken}
-use Rattle.apex_module.specs.Configuration.{Configuration}
 use Rattle.apex_ports.specs.declared.history.Entry.{Entry}
-use Rattle.apex_ports.specs.History.{History}
 use Rattle.apex_ports.specs.Modes.{is_code_no_error}
-use Rattle.apex_ports.specs.Kept.{EachAt}
-use Rattle.apex_ports.specs.Ports.{is_queuing, is_queue}
-use Rattle.apex_ports.specs.Channels.{accepted_on, taken_on, waiting_on, message_sent, message_accepted, message_received, clears, is_clear, as_received, as_cleared, messages_of}
 use Rattle.apex_ports.specs.Sound.{IsSound}
 use Rattle.apex_ports.proofs.Appends.{accepted_on-append}
 use Rattle.apex_ports.proofs.Conserved.{always_conserved}
 use Rattle.apex_ports.proofs.Histories.{taken-received, taken-cleared}
-use Rattle.apex_ports.proofs.Lookups.{at_index}
-use Rattle.apex_ports.proofs.Stays.{accepted_stays, taken_stays, receives_no_clear, and_true, none_or_none}
-use Rattle.apex_board.specs.declared.journal.Journal.{Journal}
-use Rattle.apex_board.specs.Journals.{if_there, journal_at, has_journal, accepted_in, taken_in, AreJournals, IsFresh}
 
 pub set_here : {A : Type 0} (journals : List (Option (Journal A))) (c : ℕ) (x : Option (Journal A)) → c < length journals → journal_at (set journals c x) c ≡ x
 set_here [] c x within = absurd (omega arith)

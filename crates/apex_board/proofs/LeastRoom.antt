@@ -1,10 +1,6 @@
 -- The room is the greatest number of calls for which the log and each journal have room.
-use Rattle.std.proofs.Common.{◌≡◌, ℕ, zero, suc, ◌+◌, ◌-◌, ◌<◌, ◌≤◌, ◌==◌, Bool, true, false, List, [], ◌∷◌, Option, Some, None, refl, subst, arith}
-use Rattle.std.specs.Vec.{vec_len, vec_capacity}
-use Rattle.std.proofs.lemmas.Bool.Decides.{nat_tests}
-use Rattle.apex_board.specs.declared.journal.Journal.{Journal}
+use Rattle.apex_board.proofs.Common.{◌≡◌, ℕ, zero, suc, ◌+◌, ◌-◌, ◌<◌, ◌≤◌, ◌==◌, Bool, true, false, List, [], ◌∷◌, Option, Some, None, refl, subst, arith, vec_len, vec_capacity, nat_tests, Journal, HasRoom, KeepsRoom, KeepsAllButOne, spare, room_beside, least_room, room_of}
 use Rattle.apex_board.specs.declared.records.Records.{Records}
-use Rattle.apex_board.specs.Room.{HasRoom, KeepsRoom, KeepsAllButOne, spare, room_beside, least_room, room_of}
 
 -- the journal has this room
 abbrev Fits : {A : Type 0} → ℕ → Option (Journal A) → Type 0

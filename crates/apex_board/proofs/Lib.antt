@@ -1,3 +1,4 @@
+pub mod Common
 pub mod JournalSteps
 pub mod LeastRoom
 pub mod RoomSteps

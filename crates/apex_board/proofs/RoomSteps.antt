@@ -1,10 +1,5 @@
 -- The room of the journals with one of them set.
-use Rattle.std.proofs.Common.{◌≡◌, ℕ, ◌+◌, ◌<◌, ◌≤◌, ◌==◌, Bool, true, false, if◌then◌else◌, List, length, set, Option, Some, refl, sym, ◌∙◌, subst, arith}
-use Rattle.std.specs.Vec.{vec_len, vec_capacity}
-use Rattle.std.proofs.lemmas.Bool.Decides.{nat_tests}
-use Rattle.apex_board.specs.declared.journal.Journal.{Journal}
-use Rattle.apex_board.specs.Journals.{journal_at}
-use Rattle.apex_board.specs.Room.{HasRoomAt, KeepsRoom, KeepsAllButOne}
+use Rattle.apex_board.proofs.Common.{◌≡◌, ℕ, ◌+◌, ◌<◌, ◌≤◌, ◌==◌, Bool, true, false, if◌then◌else◌, List, length, set, Option, Some, refl, sym, ◌∙◌, subst, arith, vec_len, vec_capacity, nat_tests, Journal, journal_at, HasRoomAt, KeepsRoom, KeepsAllButOne}
 use Rattle.apex_board.proofs.JournalSteps.{journal_at-set}
 
 module _ {A : Type 0} (journals : List (Option (Journal A))) (c : ℕ) (old new : Journal A) where
@@ -39,10 +34,6 @@ module _ {A : Type 0} (journals : List (Option (Journal A))) (c : ℕ) (old new 
       by_index : (b : Bool) → (c == c) ≡ b → (if b then Some new else journal_at journals c) ≡ Some journal → vec_len journal.accepted + n ≤ vec_capacity journal.accepted
       by_index true is found = let same : new ≡ journal = cc in subst (λ (j : Journal A). vec_len j.accepted + n ≤ vec_capacity j.accepted) same room
       by_index false is found = absurd (grind (arith, nat_tests))
-
--- room for more is room for less
-pub room_weaker : {A : Type 0} (old new : List (Option (Journal A))) → KeepsRoom old new → KeepsAllButOne old new
-room_weaker old new keeps n k room = keeps n k (λ journal at. let enough = room journal at in omega arith)
 
 pub same_room : {A : Type 0} (journals : List (Option (Journal A))) → KeepsRoom journals journals
 same_room journals n k room = room

@@ -1,14 +1,9 @@
 -- The samples of a history after one more call.
-use Rattle.std.proofs.Common.{◌≡◌, ℕ, [], ◌∷◌, ◌++◌, List, set, Option, Some, sym, ◌∙◌, length-set}
-use Rattle.apex_types.specs.declared.call.Call.{Call}
+use Rattle.apex_board.proofs.Common.{◌≡◌, ℕ, [], ◌∷◌, ◌++◌, List, set, Option, Some, sym, ◌∙◌, length-set, Call, Configuration, last_write_on, History, entry_of, each_at_set, sample_stays, sample_changes}
 use Rattle.apex_types.specs.declared.moment.Moment.{Moment}
 use Rattle.apex_types.specs.declared.sample.Sample.{Sample}
-use Rattle.apex_module.specs.Configuration.{Configuration}
-use Rattle.apex_ports.specs.Channels.{last_write_on}
-use Rattle.apex_ports.specs.History.{History, entry_of}
 use Rattle.apex_ports.specs.ReplyTable.{reply_to}
 use Rattle.apex_ports.specs.Writes.{Writes, WritesNothing}
-use Rattle.apex_ports.proofs.Stays.{each_at_set, sample_stays, sample_changes}
 use Rattle.apex_board.specs.Samples.{AreSamples}
 
 module _ (config : Configuration) (h : History) (p : ℕ) (at : Moment) (call : Call) (samples : List (Option Sample)) (are : AreSamples config h samples) where

@@ -1,8 +1,5 @@
 -- A board as plain data.
-use Rattle.std.specs.Prelude.{ℕ}
-use Rattle.apex_module.specs.Configuration.{Configuration}
-use Rattle.apex_observers.specs.Channels.{Channels}
-use Rattle.apex_ports.specs.History.{History}
+use Rattle.apex_board.specs.Prelude.{ℕ, Configuration, Channels, History}
 
 -- the configuration, the log, what is published on each channel, the number of calls that can be served without
 -- allocating, and the number of them that the log alone has room for

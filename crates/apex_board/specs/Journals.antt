@@ -1,12 +1,7 @@
 -- The journals of queuing channels.
-use Rattle.std.specs.Prelude.{ℕ, Bool, true, false, ◌≡◌, ◌==◌, ◌≤◌, if◌then◌else◌, List, [], length, slice_get, Option, Some, None}
+use Rattle.apex_board.specs.Prelude.{ℕ, Bool, true, false, ◌≡◌, ◌==◌, ◌≤◌, if◌then◌else◌, List, [], length, slice_get, Option, Some, None, vec_capacity, Configuration, History, is_queuing, accepted_on, taken_on}
 use Rattle.std.specs.Borrow.{Bor}
-use Rattle.std.specs.Vec.{vec_capacity}
 use Rattle.apex_types.specs.declared.taken.Taken.{Taken}
-use Rattle.apex_module.specs.Configuration.{Configuration}
-use Rattle.apex_ports.specs.History.{History}
-use Rattle.apex_ports.specs.Ports.{is_queuing}
-use Rattle.apex_ports.specs.Channels.{accepted_on, taken_on}
 use Rattle.apex_board.specs.declared.journal.Journal.{Journal}
 
 -- the journal of a channel; a sampling channel has none

@@ -1,10 +1,5 @@
 -- Requests that write samples.
-use Rattle.std.specs.Prelude.{ℕ, ◌≡◌, Bool, true, false, List, slice_get, Some}
-use Rattle.apex_types.specs.declared.call.Call.{Call}
-use Rattle.apex_types.specs.declared.call.Call.TheVariants.{WriteSampling}
-use Rattle.apex_module.specs.Configuration.{Configuration}
-use Rattle.apex_ports.specs.History.{History}
-use Rattle.apex_ports.specs.Writes.{WritesNothing}
+use Rattle.apex_board.specs.Prelude.{ℕ, ◌≡◌, Bool, true, false, List, slice_get, Some, Call, WriteSampling, Configuration, History, WritesNothing}
 use Rattle.apex_ports.specs.declared.history.Request.{Request}
 
 abbrev pub is_write : Call → Bool

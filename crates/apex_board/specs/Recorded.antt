@@ -1,14 +1,9 @@
 -- What a board's records say about the history.
-use Rattle.std.specs.Prelude.{◌≡◌, List, Option}
-use Rattle.apex_types.specs.declared.sample.Sample.{Sample}
-use Rattle.apex_module.specs.Configuration.{Configuration}
+use Rattle.apex_board.specs.Prelude.{◌≡◌, List, Option, Sample, Configuration, IsSound, ArePublished, Channels}
 use Rattle.apex_ports.specs.PortsView.{PortsView}
-use Rattle.apex_ports.specs.Sound.{IsSound}
 use Rattle.apex_board.specs.declared.records.Records.{Records}
 use Rattle.apex_board.specs.Journals.{AreJournals}
 use Rattle.apex_board.specs.Samples.{AreSamples}
-use Rattle.apex_threads.specs.OnChannels.{ArePublished}
-use Rattle.apex_observers.specs.Channels.{Channels}
 
 -- the journals are those of the log
 abbrev pub AreRecords : {A : Type 0} → Configuration → Records A → Type 0

@@ -49,8 +49,7 @@ impl<A: Allocator> Model for Board<A> {
 }
 
 impl<A: Allocator + Copy> Board<A> {
-    ghost use Rattle.apex_threads.specs.OnChannels.{ArePublished};
-    ghost use Rattle.apex_observers.specs.Channels.{AreObservers, sampling_of};
+    ghost use Rattle.apex_board.specs.Prelude.{ArePublished, AreObservers, sampling_of};
 
     /// A board with the empty log and every partition in COLD_START. If memory runs out, the configuration is dropped.
     pub fn new<R: Wait>(rt: &R, alloc: A, config: Config) -> Result<Board<A>, OutOfMemory>
@@ -96,18 +95,8 @@ impl<A: Allocator + Copy> Board<A> {
 }
 
 impl<A: Allocator> Board<A> {
-    ghost use Rattle.apex_threads.specs.OnChannels.{ArePublished};
-    ghost use Rattle.apex_observers.specs.Channels.{AreObservers, KnowAll, books_of, sampling_of};
-    ghost use Rattle.apex_ports.specs.Channels.{writes_on};
-    ghost use Rattle.apex_ports.specs.History.{entry_of};
-    ghost use Rattle.apex_ports.specs.Idle.{StaysIdle};
+    ghost use Rattle.apex_board.specs.Prelude.{ArePublished, AreObservers, KnowAll, books_of, sampling_of, writes_on, entry_of, StaysIdle, SameChannels, is_send, is_code_no_error, IsLawful, is_queuing, reply_to, WritesNothing};
     ghost use Rattle.apex_ports.specs.OneChannel.{ChangesOneChannel};
-    ghost use Rattle.apex_ports.specs.Refused.{SameChannels, is_send};
-    ghost use Rattle.apex_ports.specs.Modes.{is_code_no_error};
-    ghost use Rattle.apex_ports.specs.Lawful.{IsLawful};
-    ghost use Rattle.apex_ports.specs.Ports.{is_queuing};
-    ghost use Rattle.apex_ports.specs.ReplyTable.{reply_to};
-    ghost use Rattle.apex_ports.specs.Writes.{WritesNothing};
 
     /// Makes room for this many more calls. Whether it succeeds or not, nothing else that a reader shows changes.
     pub fn reserve(&mut self, calls: usize) -> Result<(), OutOfMemory>

@@ -1,8 +1,5 @@
 //! The journal of a queuing channel, and what an entry puts into it.
-ghost use Rattle.std.specs.Prelude.{◌≡◌, ℕ, ◌+◌, ◌≤◌, [], ◌++◌, IsOk, OnOk, IfSome, ◌<◌, drop, length, map};
-ghost use Rattle.std.specs.Vec.{vec_len, vec_capacity};
-ghost use Rattle.apex_ports.specs.Channels.{as_cleared, clears, message_accepted, message_received};
-ghost use Rattle.apex_module.specs.Configuration.{Configuration};
+ghost use Rattle.apex_board.specs.Prelude.{◌≡◌, ℕ, ◌+◌, ◌≤◌, [], ◌++◌, IsOk, OnOk, IfSome, ◌<◌, drop, length, map, vec_len, vec_capacity, as_cleared, clears, message_accepted, message_received, Configuration};
 ghost use Rattle.apex_board.specs.Asked.{IsAskedBy, IsBelow};
 ghost use Rattle.apex_board.specs.Journals.{IsFresh, is_for, message_for};
 

@@ -1,10 +1,6 @@
 //! Lists of requests.
-ghost use Rattle.std.specs.Prelude.{◌≡◌, ◌+◌, ◌<◌, ◌≤◌, ◌++◌, false, length, take, All, IfErr, OnOk, IsOk};
+ghost use Rattle.apex_board.specs.Prelude.{◌≡◌, ◌+◌, ◌<◌, ◌≤◌, ◌++◌, false, length, take, All, IfErr, OnOk, IsOk, books_of, requests_of, StaysIdle, Answers};
 ghost use Rattle.apex_board.specs.OnRequests.{WritesNothingAt, is_write};
-ghost use Rattle.apex_observers.specs.Channels.{books_of};
-ghost use Rattle.apex_ports.specs.History.{requests_of};
-ghost use Rattle.apex_ports.specs.Idle.{StaysIdle};
-ghost use Rattle.apex_ports.specs.Lawful.{Answers};
 
 use crate::board::Board;
 use apex_ports::Request;

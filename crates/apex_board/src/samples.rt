@@ -1,8 +1,6 @@
 //! The samples that a board's sampling channels hold.
-ghost use Rattle.std.specs.Prelude.{◌≡◌, ◌<◌, ◌∷◌, ◌++◌, [], length, IfOk};
+ghost use Rattle.apex_board.specs.Prelude.{◌≡◌, ◌<◌, ◌∷◌, ◌++◌, [], length, IfOk, entry_of, reply_to};
 ghost use Rattle.apex_board.specs.Samples.{AreSamples};
-ghost use Rattle.apex_ports.specs.History.{entry_of};
-ghost use Rattle.apex_ports.specs.ReplyTable.{reply_to};
 
 use apex_module::Config;
 use apex_ports::Ports;

@@ -11,5 +11,6 @@ mod refused_lists;
 mod refused_memory;
 mod rounds;
 mod same;
+mod services;
 mod texts;
 mod versions;

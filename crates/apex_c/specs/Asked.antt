@@ -1,5 +1,5 @@
 -- What C asks for: a call, or the number that says why it isn't one. If it isn't one, nothing changes.
-use Rattle.std.specs.Prelude.{ℕ, nat_lt, if◌then◌else◌, List, length, Option, None, Some, Result, Ok, Err}
+use Rattle.std.specs.Prelude.{ℕ, ◌≡◌, nat_lt, if◌then◌else◌, List, length, Option, None, Some, Result, Ok, Err}
 use Rattle.apex_types.specs.Name.{name_of}
 use Rattle.apex_types.specs.declared.call.Call.{Call}
 use Rattle.apex_types.specs.declared.call.Call.TheVariants as call
@@ -11,6 +11,8 @@ use Rattle.apex_ports.specs.ReplyTable.{size_at}
 use Rattle.apex_c.specs.Calls.{answer_in, ports_after, reply_in}
 use Rattle.apex_c.specs.Held.{PortsHeld}
 use Rattle.apex_c.specs.declared.answer.TheConstants.{NO_NAME, SHORT_BUFFER, TOO_LONG}
+use Rattle.apex_c.specs.declared.lending.Lending.{Lending}
+use Rattle.apex_c.specs.declared.lending.Lending.TheVariants.{Receive, Read}
 
 abbrev pub Asked : Type 0
 Asked = Result Call ℕ
@@ -24,6 +26,10 @@ asked_answer ports p at (Err number) = number
 abbrev pub asked_ports : PortsHeld → ℕ → Moment → Asked → PortsHeld
 asked_ports ports p at (Ok call) = ports_after ports p at call
 asked_ports ports p at (Err number) = ports
+
+-- what was asked is answered, and has changed what it changes
+abbrev pub IsCalled : PortsHeld → PortsHeld → ℕ → Moment → Asked → ℕ → Type 0
+IsCalled old new p at asked answer = (answer ≡ asked_answer old p at asked) × (new ≡ asked_ports old p at asked)
 
 -- the reply, if a call is asked for and a partition of the ports makes it
 abbrev pub asked_reply : PortsHeld → ℕ → Moment → Asked → Option Reply
@@ -82,8 +88,10 @@ room_at (Some ports) p id = size_at ports.config p id
 abbrev pub with_buffer : ℕ → ℕ → Call → Asked
 with_buffer bytes room call = if nat_lt bytes room then Err SHORT_BUFFER else Ok call
 
-abbrev pub receive : PortsHeld → ℕ → ℕ → ℕ → Asked
-receive ports p bytes id = with_buffer bytes (room_at ports p id) (call.ReceiveQueuing id)
+-- the call of a service that lends a message
+abbrev pub lending_call : Lending → ℕ → Call
+lending_call Receive id = call.ReceiveQueuing id
+lending_call Read id = call.ReadSampling id
 
-abbrev pub read : PortsHeld → ℕ → ℕ → ℕ → Asked
-read ports p bytes id = with_buffer bytes (room_at ports p id) (call.ReadSampling id)
+abbrev pub lending : Lending → PortsHeld → ℕ → ℕ → ℕ → Asked
+lending service ports p bytes id = with_buffer bytes (room_at ports p id) (lending_call service id)

@@ -1,5 +1,6 @@
 -- What a reader finds, or the number that says why it finds nothing.
-use Rattle.std.specs.Prelude.{ℕ, nat_lt, if◌then◌else◌, length, None, Some, Result, Ok, Err}
+use Rattle.std.specs.Prelude.{ℕ, ◌≡◌, nat_lt, if◌then◌else◌, length, None, Some, Result, Ok, Err}
+use Rattle.std.specs.Result.{result_unwrap_or}
 use Rattle.apex_ports.specs.PortsView.{PortsView}
 use Rattle.apex_c.specs.Held.{PortsHeld}
 use Rattle.apex_c.specs.declared.answer.TheConstants.{NO_CHANNEL, NO_PARTITION, NOT_OPEN, READ, SHORT_BUFFER}
@@ -11,6 +12,10 @@ Found X = Result X ℕ
 abbrev pub answer_of : {X : Type 0} → Found X → ℕ
 answer_of (Ok value) = READ
 answer_of (Err number) = number
+
+-- what was found is put into its place, and the answer says whether it was
+abbrev pub IsPut : {X : Type 0} → Found X → ℕ → X → X → Type 0
+IsPut found answer old new = (answer ≡ answer_of found) × (new ≡ result_unwrap_or found old)
 
 -- found in the ports of a handle that is open
 abbrev pub in_ports : {X : Type 0} → PortsHeld → (PortsView → Found X) → Found X

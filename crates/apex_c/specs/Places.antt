@@ -1,9 +1,11 @@
 -- What C gets from a reply, each in its place. A place is unchanged if the reply has nothing for it.
-use Rattle.std.specs.Prelude.{ℕ, List, length, drop, ◌++◌, Option, Some, None}
+use Rattle.std.specs.Prelude.{ℕ, ◌≡◌, List, length, drop, ◌++◌, Option, Some, None}
+use Rattle.std.specs.Result.{result_ok}
 use Rattle.apex_types.specs.Direction.{number_of}
 use Rattle.apex_types.specs.Validity.{number_of as validity_number}
 use Rattle.apex_types.specs.declared.reply.Reply.{Reply}
 use Rattle.apex_types.specs.declared.reply.Reply.TheVariants.{Id, Received, Read, QueuingStatus, SamplingStatus}
+use Rattle.apex_c.specs.Found.{Found, answer_of}
 use Rattle.apex_c.specs.declared.queuing.QueuingPortStatus.{QueuingPortStatus}
 use Rattle.apex_c.specs.declared.sampling.SamplingPortStatus.{SamplingPortStatus}
 
@@ -25,6 +27,15 @@ buffer_after (Some message) given = message ++ drop (length message) given
 abbrev pub length_after : Option (List ℕ) → ℕ → ℕ
 length_after None given = given
 length_after (Some message) given = length message
+
+-- a message, if there is one, is in the buffer, and its length in its place
+abbrev pub IsMessagePut : Option (List ℕ) → List ℕ → List ℕ → ℕ → ℕ → Type 0
+IsMessagePut message old new old_length new_length = (new ≡ buffer_after message old) × (new_length ≡ length_after message old_length)
+
+-- the same of bytes that a reader finds, with what it answers
+abbrev pub AreBytesPut : Found (List ℕ) → ℕ → List ℕ → List ℕ → ℕ → ℕ → Type 0
+AreBytesPut found answer old new old_length new_length =
+    (answer ≡ answer_of found) × IsMessagePut (result_ok found) old new old_length new_length
 
 abbrev pub validity_after : Option Reply → ℕ → ℕ
 validity_after (Some (Read message validity)) given = validity_number validity

@@ -1,10 +1,9 @@
 //! Calls that C asks about, without making them: the row of the reply table that a call gets, and its words.
 ghost use Rattle.std.specs.Prelude.{◌≡◌, ◌≢◌, ◌<◌, length, Some, Ok, Err, IfOk, IfErr};
-ghost use Rattle.std.specs.Result.{result_unwrap_or};
 ghost use Rattle.apex_ports.specs.Noted.{call_by};
 ghost use Rattle.apex_c.specs.AskedRow.{call_asked, call_judged, call_of, call_of_found, row_in, service_numbered};
 ghost use Rattle.apex_c.specs.Calls.{moment_of};
-ghost use Rattle.apex_c.specs.Found.{answer_of};
+ghost use Rattle.apex_c.specs.Found.{IsPut};
 ghost use Rattle.apex_c.specs.Texts.{IsTextFor};
 
 use crate::answer::{NO_MEMORY, NO_PARTITION, NO_SERVICE, NOT_OPEN};
@@ -85,10 +84,6 @@ impl AskedCall {
                 direction: self.direction,
                 refresh: self.refresh,
             },
-            Service::WriteSampling => CallRef::WriteSampling { id, message: bytes },
-            Service::ReadSampling => CallRef::ReadSampling { id },
-            Service::SamplingId => CallRef::SamplingId { name: named(name)? },
-            Service::SamplingStatus => CallRef::SamplingStatus { id },
             Service::CreateQueuing => CallRef::CreateQueuing {
                 name: named(name)?,
                 size: self.size,
@@ -96,10 +91,14 @@ impl AskedCall {
                 direction: self.direction,
                 discipline: self.discipline,
             },
-            Service::SendQueuing => CallRef::SendQueuing { id, message: bytes },
-            Service::ReceiveQueuing => CallRef::ReceiveQueuing { id },
+            Service::SamplingId => CallRef::SamplingId { name: named(name)? },
             Service::QueuingId => CallRef::QueuingId { name: named(name)? },
+            Service::SamplingStatus => CallRef::SamplingStatus { id },
             Service::QueuingStatus => CallRef::QueuingStatus { id },
+            Service::WriteSampling => CallRef::WriteSampling { id, message: bytes },
+            Service::SendQueuing => CallRef::SendQueuing { id, message: bytes },
+            Service::ReadSampling => CallRef::ReadSampling { id },
+            Service::ReceiveQueuing => CallRef::ReceiveQueuing { id },
             Service::ClearQueuing => CallRef::ClearQueuing { id },
             Service::SetMode => CallRef::SetMode { mode: self.mode },
         })
@@ -150,11 +149,9 @@ pub extern "C" fn apex_call_row(
     bytes: &[u8],
     row: &mut u32,
 ) -> u32
-    ensures answer { let asked = call_asked call.now bytes.now in
-        result ≡ answer_of (row_in handle.old.held.ports partition (moment_of at) asked) }
     ensures row { let asked = call_asked call.now bytes.now in
         let found = row_in handle.old.held.ports partition (moment_of at) asked in
-        row.new ≡ result_unwrap_or found row.old }
+        IsPut found result row.old row.new }
     ensures ports { handle.new.held.ports ≡ handle.old.held.ports }
 {
     let name = name_in(bytes);

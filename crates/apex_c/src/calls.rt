@@ -6,7 +6,7 @@ ghost use Rattle.apex_c.specs.Asked.{entry_call, message_asked, name_asked};
 
 use crate::answer::{NO_NAME, TOO_LONG};
 use apex_ports::CallRef;
-use apex_types::{Call, Message, Name};
+use apex_types::{Call, MESSAGE_LIMIT, Message, Name};
 
 /// The name that the bytes are, or `NO_NAME`.
 pub(crate) fn name_in(bytes: &[u8]) -> Result<Name, u32>
@@ -32,46 +32,9 @@ pub(crate) fn message_in(bytes: &[u8]) -> Result<Message, u32>
 pub(crate) fn entry_call(call: CallRef<'_>) -> Result<Call, u32>
     ensures { result ≡ entry_call (call_by call.entry) }
 {
-    Ok(match call {
-        CallRef::CreateSampling {
-            name,
-            size,
-            direction,
-            refresh,
-        } => Call::CreateSampling {
-            name: name.copy(),
-            size,
-            direction,
-            refresh,
-        },
-        CallRef::WriteSampling { id, message } => Call::WriteSampling {
-            id,
-            message: message_in(message)?,
-        },
-        CallRef::ReadSampling { id } => Call::ReadSampling { id },
-        CallRef::SamplingId { name } => Call::SamplingId { name: name.copy() },
-        CallRef::SamplingStatus { id } => Call::SamplingStatus { id },
-        CallRef::CreateQueuing {
-            name,
-            size,
-            depth,
-            direction,
-            discipline,
-        } => Call::CreateQueuing {
-            name: name.copy(),
-            size,
-            depth,
-            direction,
-            discipline,
-        },
-        CallRef::SendQueuing { id, message } => Call::SendQueuing {
-            id,
-            message: message_in(message)?,
-        },
-        CallRef::ReceiveQueuing { id } => Call::ReceiveQueuing { id },
-        CallRef::QueuingId { name } => Call::QueuingId { name: name.copy() },
-        CallRef::QueuingStatus { id } => Call::QueuingStatus { id },
-        CallRef::ClearQueuing { id } => Call::ClearQueuing { id },
-        CallRef::SetMode { mode } => Call::SetMode { mode },
-    })
+    match call {
+        CallRef::WriteSampling { message, .. } | CallRef::SendQueuing { message, .. }
+            if message.len() > MESSAGE_LIMIT => { Err(TOO_LONG) }
+        _ => Ok(call.to_call()),
+    }
 }

@@ -3,7 +3,7 @@ ghost use Rattle.std.specs.Prelude.{◌≡◌};
 ghost use Rattle.std.specs.Result.{result_unwrap_or};
 ghost use Rattle.apex_c.specs.Configured.{channel_in, channels_in, partitions_in, port_in, ports_in};
 ghost use Rattle.apex_c.specs.Configured.{shown_channel, shown_port};
-ghost use Rattle.apex_c.specs.Found.{answer_of};
+ghost use Rattle.apex_c.specs.Found.{IsPut, answer_of};
 
 use crate::answer::NO_PORT;
 use crate::found::{channel_of, partition_of, put};
@@ -13,8 +13,7 @@ use std::alloc::Global;
 /// How many partitions the module has, in its place if the answer is `READ`. Answers `READ` or `NOT_OPEN`.
 #[unsafe(no_mangle)]
 pub extern "C" fn apex_partition_count(alloc: Global, handle: &mut Handle, count: &mut u32) -> u32
-    ensures answer { result ≡ answer_of (partitions_in handle.old.held.ports) }
-    ensures count { count.new ≡ result_unwrap_or (partitions_in handle.old.held.ports) count.old }
+    ensures count { IsPut (partitions_in handle.old.held.ports) result count.old count.new }
     ensures ports { handle.new.held.ports ≡ handle.old.held.ports }
 {
     let found = handle.read(alloc, |ports| Ok(ports.config().partitions() as u32));
@@ -24,8 +23,7 @@ pub extern "C" fn apex_partition_count(alloc: Global, handle: &mut Handle, count
 /// How many channels the module has, in its place if the answer is `READ`. Answers `READ` or `NOT_OPEN`.
 #[unsafe(no_mangle)]
 pub extern "C" fn apex_channel_count(alloc: Global, handle: &mut Handle, count: &mut u32) -> u32
-    ensures answer { result ≡ answer_of (channels_in handle.old.held.ports) }
-    ensures count { count.new ≡ result_unwrap_or (channels_in handle.old.held.ports) count.old }
+    ensures count { IsPut (channels_in handle.old.held.ports) result count.old count.new }
     ensures ports { handle.new.held.ports ≡ handle.old.held.ports }
 {
     let found = handle.read(alloc, |ports| Ok(ports.config().channels() as u32));
@@ -41,9 +39,7 @@ pub extern "C" fn apex_port_count(
     partition: u32,
     count: &mut u32,
 ) -> u32
-    ensures answer { result ≡ answer_of (ports_in handle.old.held.ports partition) }
-    ensures count { count.new
-        ≡ result_unwrap_or (ports_in handle.old.held.ports partition) count.old }
+    ensures count { IsPut (ports_in handle.old.held.ports partition) result count.old count.new }
     ensures ports { handle.new.held.ports ≡ handle.old.held.ports }
 {
     let found = handle.read(alloc, |ports| {
@@ -111,9 +107,8 @@ pub extern "C" fn apex_channel_configuration(
     channel: u32,
     shown: &mut ConfiguredChannel,
 ) -> u32
-    ensures answer { result ≡ answer_of (channel_in shown_channel handle.old.held.ports channel) }
-    ensures shown { shown.new
-        ≡ result_unwrap_or (channel_in shown_channel handle.old.held.ports channel) shown.old }
+    ensures shown { let found = channel_in shown_channel handle.old.held.ports channel in
+        IsPut found result shown.old shown.new }
     ensures ports { handle.new.held.ports ≡ handle.old.held.ports }
 {
     let found = handle.read(alloc, |ports| {

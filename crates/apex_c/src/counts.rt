@@ -1,7 +1,6 @@
 //! The counts of channels.
 ghost use Rattle.std.specs.Prelude.{◌≡◌, ◌<◌, length};
-ghost use Rattle.std.specs.Result.{result_unwrap_or};
-ghost use Rattle.apex_c.specs.Found.{answer_of};
+ghost use Rattle.apex_c.specs.Found.{IsPut};
 ghost use Rattle.apex_c.specs.Readers.{count_in, count_on};
 ghost use Rattle.apex_c.specs.declared.counts.ChannelCount.TheVariants as which;
 
@@ -28,9 +27,8 @@ pub extern "C" fn apex_accepted_count(
     channel: u32,
     count: &mut u64,
 ) -> u32
-    ensures answer { result ≡ answer_of (count_in which.Accepted handle.old.held.ports channel) }
-    ensures count { count.new
-        ≡ result_unwrap_or (count_in which.Accepted handle.old.held.ports channel) count.old }
+    ensures count { let found = count_in which.Accepted handle.old.held.ports channel in
+        IsPut found result count.old count.new }
     ensures ports { handle.new.held.ports ≡ handle.old.held.ports }
 {
     read_count(alloc, handle, channel, ChannelCount::Accepted, count)
@@ -45,9 +43,8 @@ pub extern "C" fn apex_received_count(
     channel: u32,
     count: &mut u64,
 ) -> u32
-    ensures answer { result ≡ answer_of (count_in which.Received handle.old.held.ports channel) }
-    ensures count { count.new
-        ≡ result_unwrap_or (count_in which.Received handle.old.held.ports channel) count.old }
+    ensures count { let found = count_in which.Received handle.old.held.ports channel in
+        IsPut found result count.old count.new }
     ensures ports { handle.new.held.ports ≡ handle.old.held.ports }
 {
     read_count(alloc, handle, channel, ChannelCount::Received, count)
@@ -62,9 +59,8 @@ pub extern "C" fn apex_cleared_count(
     channel: u32,
     count: &mut u64,
 ) -> u32
-    ensures answer { result ≡ answer_of (count_in which.Cleared handle.old.held.ports channel) }
-    ensures count { count.new
-        ≡ result_unwrap_or (count_in which.Cleared handle.old.held.ports channel) count.old }
+    ensures count { let found = count_in which.Cleared handle.old.held.ports channel in
+        IsPut found result count.old count.new }
     ensures ports { handle.new.held.ports ≡ handle.old.held.ports }
 {
     read_count(alloc, handle, channel, ChannelCount::Cleared, count)
@@ -79,9 +75,8 @@ pub extern "C" fn apex_waiting_count(
     channel: u32,
     count: &mut u64,
 ) -> u32
-    ensures answer { result ≡ answer_of (count_in which.Waiting handle.old.held.ports channel) }
-    ensures count { count.new
-        ≡ result_unwrap_or (count_in which.Waiting handle.old.held.ports channel) count.old }
+    ensures count { let found = count_in which.Waiting handle.old.held.ports channel in
+        IsPut found result count.old count.new }
     ensures ports { handle.new.held.ports ≡ handle.old.held.ports }
 {
     read_count(alloc, handle, channel, ChannelCount::Waiting, count)
@@ -94,9 +89,8 @@ fn read_count(
     which: ChannelCount,
     count: &mut u64,
 ) -> u32
-    ensures answer { result ≡ answer_of (count_in which handle.old.held.ports channel) }
-    ensures count { count.new ≡
-        result_unwrap_or (count_in which handle.old.held.ports channel) count.old }
+    ensures count { let found = count_in which handle.old.held.ports channel in
+        IsPut found result count.old count.new }
     ensures ports { handle.new.held.ports ≡ handle.old.held.ports }
 {
     let found = handle.read(alloc, |ports| {

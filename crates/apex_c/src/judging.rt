@@ -6,7 +6,7 @@ ghost use Rattle.apex_judge.specs.Departures.{instead_of};
 ghost use Rattle.apex_c.specs.AskedRow.{call_judged};
 ghost use Rattle.apex_c.specs.Calls.{moment_of};
 ghost use Rattle.apex_c.specs.Judging.{IsShown, IsShownFor, judge_after, judge_at_start, judged_answer, judged_in, noted_in, reply_given};
-ghost use Rattle.apex_c.specs.Opening.{opening_number};
+ghost use Rattle.apex_c.specs.Opening.{IsOpening, opening_number};
 ghost use Rattle.apex_c.specs.Places.{buffer_after, length_after, message_in};
 
 use crate::answer::{DEPARTS, NO_MEMORY, NO_PARTITION, NO_SERVICE, NOT_OPEN, SHORT_BUFFER};
@@ -42,12 +42,8 @@ pub struct Departure {
 /// (1 to 10), `OUT_OF_MEMORY` or `ALREADY_OPEN`.
 #[unsafe(no_mangle)]
 pub extern "C" fn apex_judge_open(alloc: Global, judge: &mut JudgeHandle, text: &[u8]) -> u32
-    ensures already { judge.old.held.judge ≢ None → result ≡ ALREADY_OPEN }
-    ensures refused { result ≢ OPENED → judge.new.held.judge ≡ judge.old.held.judge }
-    ensures opened { result ≡ OPENED →
-        judge.new.held.judge ≡ judge_at_start (config_of text.now) }
-    ensures number { judge.old.held.judge ≡ None → result ≢ OUT_OF_MEMORY →
-        result ≡ opening_number (config_of text.now) }
+    ensures { let config = config_of text.now in IsOpening
+        judge.old.held.judge judge.new.held.judge (judge_at_start config) (opening_number config) result }
 {
     if judge.is_open() {
         return ALREADY_OPEN;

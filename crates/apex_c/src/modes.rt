@@ -1,9 +1,11 @@
 //! The mode of a partition.
-ghost use Rattle.std.specs.Prelude.{◌≡◌};
+ghost use Rattle.std.specs.Prelude.{Ok};
 ghost use Rattle.apex_types.specs.declared.call.Call.TheVariants as call;
-ghost use Rattle.apex_c.specs.Calls.{answer_in, ports_after, moment_of};
+ghost use Rattle.apex_c.specs.Asked.{IsCalled};
+ghost use Rattle.apex_c.specs.Calls.{moment_of};
 
 use crate::handle::Handle;
+use apex_ports::CallRef;
 use std::alloc::Global;
 
 /// SET_PARTITION_MODE. Answers the return code, or a number of `answer`.
@@ -15,10 +17,8 @@ pub extern "C" fn apex_set_partition_mode(
     at: u64,
     mode: u32,
 ) -> u32
-    ensures answer { result
-        ≡ answer_in handle.old.held.ports partition (moment_of at) (call.SetMode mode) }
-    ensures ports { handle.new.held.ports
-        ≡ ports_after handle.old.held.ports partition (moment_of at) (call.SetMode mode) }
+    ensures { IsCalled handle.old.held.ports handle.new.held.ports
+        partition (moment_of at) (Ok (call.SetMode mode)) result }
 {
-    handle.set_mode(alloc, partition, at, mode)
+    handle.answer(alloc, partition, at, CallRef::SetMode { mode })
 }

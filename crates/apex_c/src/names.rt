@@ -1,11 +1,10 @@
 //! The names of partitions, ports and channels by number, and their numbers by name.
 ghost use Rattle.std.specs.Prelude.{◌≡◌, length};
-ghost use Rattle.std.specs.Result.{result_ok, result_unwrap_or};
 ghost use Rattle.apex_c.specs.Configured.{channel_by, id_by, partition_by};
 ghost use Rattle.apex_c.specs.Configured.{channel_name, partition_name, port_name};
 ghost use Rattle.apex_c.specs.Configured.{channel_name_in, partition_name_in, port_name_in};
-ghost use Rattle.apex_c.specs.Found.{answer_of, for_buffer};
-ghost use Rattle.apex_c.specs.Places.{buffer_after, length_after};
+ghost use Rattle.apex_c.specs.Found.{IsPut, for_buffer};
+ghost use Rattle.apex_c.specs.Places.{AreBytesPut};
 
 use crate::answer::{NO_NAME, NO_PORT, READ, SHORT_BUFFER, UNKNOWN_NAME};
 use crate::buffer::copy_bytes;
@@ -24,14 +23,8 @@ pub extern "C" fn apex_partition_name(
     buffer: &mut [u8],
     name_length: &mut u32,
 ) -> u32
-    ensures answer { let bytes = length buffer.old in
-        result ≡ answer_of (partition_name_in bytes handle.old.held.ports partition) }
-    ensures buffer { let bytes = length buffer.old in
-        let name = partition_name_in bytes handle.old.held.ports partition in
-        buffer.new ≡ buffer_after (result_ok name) buffer.old }
-    ensures name_length { let bytes = length buffer.old in
-        let name = partition_name_in bytes handle.old.held.ports partition in
-        name_length.new ≡ length_after (result_ok name) name_length.old }
+    ensures name { let name = partition_name_in (length buffer.old) handle.old.held.ports partition in
+        AreBytesPut name result buffer.old buffer.new name_length.old name_length.new }
     ensures ports { handle.new.held.ports ≡ handle.old.held.ports }
 {
     let name = partition_name(alloc, handle, partition);
@@ -49,14 +42,8 @@ pub extern "C" fn apex_port_name(
     buffer: &mut [u8],
     name_length: &mut u32,
 ) -> u32
-    ensures answer { let bytes = length buffer.old in
-        result ≡ answer_of (port_name_in bytes handle.old.held.ports partition id) }
-    ensures buffer { let bytes = length buffer.old in
-        let name = port_name_in bytes handle.old.held.ports partition id in
-        buffer.new ≡ buffer_after (result_ok name) buffer.old }
-    ensures name_length { let bytes = length buffer.old in
-        let name = port_name_in bytes handle.old.held.ports partition id in
-        name_length.new ≡ length_after (result_ok name) name_length.old }
+    ensures name { let name = port_name_in (length buffer.old) handle.old.held.ports partition id in
+        AreBytesPut name result buffer.old buffer.new name_length.old name_length.new }
     ensures ports { handle.new.held.ports ≡ handle.old.held.ports }
 {
     let name = port_name(alloc, handle, partition, id);
@@ -73,14 +60,8 @@ pub extern "C" fn apex_channel_name(
     buffer: &mut [u8],
     name_length: &mut u32,
 ) -> u32
-    ensures answer { let bytes = length buffer.old in
-        result ≡ answer_of (channel_name_in bytes handle.old.held.ports channel) }
-    ensures buffer { let bytes = length buffer.old in
-        let name = channel_name_in bytes handle.old.held.ports channel in
-        buffer.new ≡ buffer_after (result_ok name) buffer.old }
-    ensures name_length { let bytes = length buffer.old in
-        let name = channel_name_in bytes handle.old.held.ports channel in
-        name_length.new ≡ length_after (result_ok name) name_length.old }
+    ensures name { let name = channel_name_in (length buffer.old) handle.old.held.ports channel in
+        AreBytesPut name result buffer.old buffer.new name_length.old name_length.new }
     ensures ports { handle.new.held.ports ≡ handle.old.held.ports }
 {
     let name = channel_name(alloc, handle, channel);
@@ -96,9 +77,8 @@ pub extern "C" fn apex_find_partition(
     name: &[u8],
     partition: &mut u32,
 ) -> u32
-    ensures answer { result ≡ answer_of (partition_by handle.old.held.ports name.now) }
-    ensures partition { partition.new
-        ≡ result_unwrap_or (partition_by handle.old.held.ports name.now) partition.old }
+    ensures partition { let found = partition_by handle.old.held.ports name.now in
+        IsPut found result partition.old partition.new }
     ensures ports { handle.new.held.ports ≡ handle.old.held.ports }
 {
     let Ok(name) = Name::from_bytes(name) else {
@@ -121,9 +101,7 @@ pub extern "C" fn apex_find_port(
     name: &[u8],
     id: &mut u32,
 ) -> u32
-    ensures answer { result ≡ answer_of (id_by handle.old.held.ports partition name.now) }
-    ensures id { id.new
-        ≡ result_unwrap_or (id_by handle.old.held.ports partition name.now) id.old }
+    ensures id { IsPut (id_by handle.old.held.ports partition name.now) result id.old id.new }
     ensures ports { handle.new.held.ports ≡ handle.old.held.ports }
 {
     let Ok(name) = Name::from_bytes(name) else {
@@ -148,9 +126,8 @@ pub extern "C" fn apex_find_channel(
     name: &[u8],
     channel: &mut u32,
 ) -> u32
-    ensures answer { result ≡ answer_of (channel_by handle.old.held.ports name.now) }
-    ensures channel { channel.new
-        ≡ result_unwrap_or (channel_by handle.old.held.ports name.now) channel.old }
+    ensures channel { let found = channel_by handle.old.held.ports name.now in
+        IsPut found result channel.old channel.new }
     ensures ports { handle.new.held.ports ≡ handle.old.held.ports }
 {
     let Ok(name) = Name::from_bytes(name) else {
@@ -196,12 +173,8 @@ fn channel_name(alloc: Global, handle: &mut Handle, channel: u32) -> Result<Name
 
 // Puts a name into the buffer's first bytes, and its length into its place, if the buffer has room for any name.
 fn put_name(name: Result<Name, u32>, buffer: &mut [u8], name_length: &mut u32) -> u32
-    ensures answer { let name = for_buffer NAME_LIMIT (length buffer.old) name in
-        result ≡ answer_of name }
-    ensures buffer { let name = for_buffer NAME_LIMIT (length buffer.old) name in
-        buffer.new ≡ buffer_after (result_ok name) buffer.old }
-    ensures length { let name = for_buffer NAME_LIMIT (length buffer.old) name in
-        name_length.new ≡ length_after (result_ok name) name_length.old }
+    ensures { let name = for_buffer NAME_LIMIT (length buffer.old) name in
+        AreBytesPut name result buffer.old buffer.new name_length.old name_length.new }
 {
     if buffer.len() < NAME_LIMIT {
         return SHORT_BUFFER;

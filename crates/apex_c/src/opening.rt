@@ -2,7 +2,7 @@
 ghost use Rattle.std.specs.Prelude.{◌≡◌, ◌≢◌, ◌⊎◌, [], Ok, None, is_some, if◌then◌else◌, IfOk};
 ghost use Rattle.apex_config.specs.Meaning.{config_of, read_of};
 ghost use Rattle.apex_c.specs.Fault.{AreLinesOf, path_in};
-ghost use Rattle.apex_c.specs.Opening.{fault_number, opening_number, ports_at_start};
+ghost use Rattle.apex_c.specs.Opening.{IsOpening, fault_number, opening_number, ports_at_start};
 ghost use Rattle.apex_c.specs.Texts.{text_after, text_length_after};
 
 use crate::answer::NOT_OPEN;
@@ -31,12 +31,8 @@ pub const CLOSED: u32 = 0;
 /// the configuration's fault (1 to 10), `OUT_OF_MEMORY` or `ALREADY_OPEN`.
 #[unsafe(no_mangle)]
 pub extern "C" fn apex_open(alloc: Global, handle: &mut Handle, text: &[u8]) -> u32
-    ensures already { handle.old.held.ports ≢ None → result ≡ ALREADY_OPEN }
-    ensures refused { result ≢ OPENED → handle.new.held.ports ≡ handle.old.held.ports }
-    ensures opened { result ≡ OPENED →
-        handle.new.held.ports ≡ ports_at_start (config_of text.now) }
-    ensures number { handle.old.held.ports ≡ None → result ≢ OUT_OF_MEMORY →
-        result ≡ opening_number (config_of text.now) }
+    ensures { let config = config_of text.now in IsOpening
+        handle.old.held.ports handle.new.held.ports (ports_at_start config) (opening_number config) result }
 {
     if handle.is_open() {
         return ALREADY_OPEN;
@@ -60,12 +56,8 @@ pub extern "C" fn apex_open_explained(
     lines: &mut [u8],
     lines_length: &mut u64,
 ) -> u32
-    ensures already { handle.old.held.ports ≢ None → result ≡ ALREADY_OPEN }
-    ensures refused { result ≢ OPENED → handle.new.held.ports ≡ handle.old.held.ports }
-    ensures opened { result ≡ OPENED →
-        handle.new.held.ports ≡ ports_at_start (config_of text.now) }
-    ensures number { handle.old.held.ports ≡ None → result ≢ OUT_OF_MEMORY →
-        result ≡ opening_number (config_of text.now) }
+    ensures opening { let config = config_of text.now in IsOpening
+        handle.old.held.ports handle.new.held.ports (ports_at_start config) (opening_number config) result }
     ensures path { handle.old.held.ports ≡ None → result ≢ OUT_OF_MEMORY →
         path.new ≡ text_after (path_in (read_of text.now)) path.old }
     ensures path_length { handle.old.held.ports ≡ None → result ≢ OUT_OF_MEMORY →

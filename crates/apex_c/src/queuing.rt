@@ -1,12 +1,17 @@
 //! The services of queuing ports.
-ghost use Rattle.std.specs.Prelude.{◌≡◌, length};
+ghost use Rattle.std.specs.Prelude.{◌≡◌, length, Ok, Some};
 ghost use Rattle.apex_types.specs.declared.call.Call.TheVariants as call;
-ghost use Rattle.apex_c.specs.Asked.{asked_answer, asked_ports, asked_reply, create_queuing, queuing_id, receive};
-ghost use Rattle.apex_c.specs.Calls.{answer_in, ports_after, moment_of, reply_in};
-ghost use Rattle.apex_c.specs.Places.{buffer_after, id_after, length_after, message_in, queuing_status_after};
+ghost use Rattle.apex_ports.specs.Noted.{reply_by};
+ghost use Rattle.apex_c.specs.Asked.{IsCalled, asked_reply, create_queuing, lending, queuing_id};
+ghost use Rattle.apex_c.specs.declared.lending.Lending.TheVariants as lent;
+ghost use Rattle.apex_c.specs.Calls.{moment_of, reply_in};
+ghost use Rattle.apex_c.specs.Places.{IsMessagePut, id_after, message_in, queuing_status_after};
 
 use crate::calls::name_in;
 use crate::handle::Handle;
+use crate::lending::Lending;
+use crate::services::number_of;
+use apex_ports::{CallRef, ReplyRef};
 use std::alloc::Global;
 
 /// CREATE_QUEUING_PORT, with the identifier in its place if the answer is NO_ERROR. The size is in bytes, the depth
@@ -24,18 +29,23 @@ pub extern "C" fn apex_create_queuing_port(
     discipline: u32,
     id: &mut u32,
 ) -> u32
-    ensures answer { let asked = create_queuing name.now size depth direction discipline in
-        result ≡ asked_answer handle.old.held.ports partition (moment_of at) asked }
-    ensures ports { let asked = create_queuing name.now size depth direction discipline in
-        handle.new.held.ports ≡ asked_ports handle.old.held.ports partition (moment_of at) asked }
+    ensures called { let asked = create_queuing name.now size depth direction discipline in
+        IsCalled handle.old.held.ports handle.new.held.ports partition (moment_of at) asked result }
     ensures id { let asked = create_queuing name.now size depth direction discipline in
         let reply = asked_reply handle.old.held.ports partition (moment_of at) asked in
         id.new ≡ id_after reply id.old }
 {
     match name_in(name) {
-        Ok(name) => handle.create_queuing(
-            alloc, partition, at, &name, size, depth, direction, discipline, id,
-        ),
+        Ok(name) => {
+            let call = CallRef::CreateQueuing {
+                name: &name,
+                size,
+                depth,
+                direction,
+                discipline,
+            };
+            handle.identify(alloc, partition, at, call, id)
+        }
         Err(number) => number,
     }
 }
@@ -50,12 +60,10 @@ pub extern "C" fn apex_send_queuing_message(
     id: u32,
     message: &[u8],
 ) -> u32
-    ensures answer { let asked = call.SendQueuing id message.now in
-        result ≡ answer_in handle.old.held.ports partition (moment_of at) asked }
-    ensures ports { let asked = call.SendQueuing id message.now in handle.new.held.ports
-        ≡ ports_after handle.old.held.ports partition (moment_of at) asked }
+    ensures called { let asked = Ok (call.SendQueuing id message.now) in
+        IsCalled handle.old.held.ports handle.new.held.ports partition (moment_of at) asked result }
 {
-    handle.send(alloc, partition, at, id, message)
+    handle.answer(alloc, partition, at, CallRef::SendQueuing { id, message })
 }
 
 /// RECEIVE_QUEUING_MESSAGE with a time-out of zero. If the answer is NO_ERROR, the message is in the buffer's first
@@ -70,18 +78,23 @@ pub extern "C" fn apex_receive_queuing_message(
     buffer: &mut [u8],
     message_length: &mut u32,
 ) -> u32
-    ensures answer { let asked = receive handle.old.held.ports partition (length buffer.old) id in
-        result ≡ asked_answer handle.old.held.ports partition (moment_of at) asked }
-    ensures ports { let asked = receive handle.old.held.ports partition (length buffer.old) id in
-        handle.new.held.ports ≡ asked_ports handle.old.held.ports partition (moment_of at) asked }
-    ensures buffer { let asked = receive handle.old.held.ports partition (length buffer.old) id in
+    ensures called { let asked = lending lent.Receive handle.old.held.ports partition (length buffer.old) id in
+        IsCalled handle.old.held.ports handle.new.held.ports partition (moment_of at) asked result }
+    ensures message { let asked = lending lent.Receive handle.old.held.ports partition (length buffer.old) id in
         let reply = asked_reply handle.old.held.ports partition (moment_of at) asked in
-        buffer.new ≡ buffer_after (message_in reply) buffer.old }
-    ensures message_length { let asked = receive handle.old.held.ports partition (length buffer.old) id in
-        let reply = asked_reply handle.old.held.ports partition (moment_of at) asked in
-        message_length.new ≡ length_after (message_in reply) message_length.old }
+        IsMessagePut (message_in reply) buffer.old buffer.new message_length.old message_length.new }
 {
-    handle.receive(alloc, partition, at, id, buffer, message_length)
+    let service = Lending::Receive;
+    handle.lend(
+        alloc,
+        partition,
+        at,
+        service,
+        id,
+        buffer,
+        message_length,
+        &mut 0,
+    )
 }
 
 /// GET_QUEUING_PORT_ID, with the identifier in its place if the answer is NO_ERROR. Answers the return code, or a
@@ -95,16 +108,14 @@ pub extern "C" fn apex_get_queuing_port_id(
     name: &[u8],
     id: &mut u32,
 ) -> u32
-    ensures answer { let asked = queuing_id name.now in
-        result ≡ asked_answer handle.old.held.ports partition (moment_of at) asked }
-    ensures ports { let asked = queuing_id name.now in
-        handle.new.held.ports ≡ asked_ports handle.old.held.ports partition (moment_of at) asked }
+    ensures called { let asked = queuing_id name.now in
+        IsCalled handle.old.held.ports handle.new.held.ports partition (moment_of at) asked result }
     ensures id { let asked = queuing_id name.now in
         let reply = asked_reply handle.old.held.ports partition (moment_of at) asked in
         id.new ≡ id_after reply id.old }
 {
     match name_in(name) {
-        Ok(name) => handle.queuing_id(alloc, partition, at, &name, id),
+        Ok(name) => handle.identify(alloc, partition, at, CallRef::QueuingId { name: &name }, id),
         Err(number) => number,
     }
 }
@@ -118,12 +129,10 @@ pub extern "C" fn apex_clear_queuing_port(
     at: u64,
     id: u32,
 ) -> u32
-    ensures answer { result
-        ≡ answer_in handle.old.held.ports partition (moment_of at) (call.ClearQueuing id) }
-    ensures ports { handle.new.held.ports
-        ≡ ports_after handle.old.held.ports partition (moment_of at) (call.ClearQueuing id) }
+    ensures called { let asked = Ok (call.ClearQueuing id) in
+        IsCalled handle.old.held.ports handle.new.held.ports partition (moment_of at) asked result }
 {
-    handle.clear(alloc, partition, at, id)
+    handle.answer(alloc, partition, at, CallRef::ClearQueuing { id })
 }
 
 /// What GET_QUEUING_PORT_STATUS shows: the messages that wait, the depth, the greatest length of a message in bytes and
@@ -148,13 +157,36 @@ pub extern "C" fn apex_get_queuing_port_status(
     id: u32,
     status: &mut QueuingPortStatus,
 ) -> u32
-    ensures answer { result
-        ≡ answer_in handle.old.held.ports partition (moment_of at) (call.QueuingStatus id) }
-    ensures ports { handle.new.held.ports
-        ≡ ports_after handle.old.held.ports partition (moment_of at) (call.QueuingStatus id) }
+    ensures called { let asked = Ok (call.QueuingStatus id) in
+        IsCalled handle.old.held.ports handle.new.held.ports partition (moment_of at) asked result }
     ensures status { let asked = call.QueuingStatus id in
         let reply = reply_in handle.old.held.ports partition (moment_of at) asked in
         status.new ≡ queuing_status_after reply status.old }
 {
-    handle.queuing_status(alloc, partition, at, id, status)
+    match handle.reply(alloc, partition, at, CallRef::QueuingStatus { id }) {
+        Ok(reply) => {
+            put_status(reply, status);
+            number_of(reply)
+        }
+        Err(number) => number,
+    }
+}
+
+fn put_status(reply: ReplyRef<'_>, status: &mut QueuingPortStatus)
+    ensures { status.new ≡ queuing_status_after (Some (reply_by reply.entry)) status.old }
+{
+    if let ReplyRef::QueuingStatus {
+        waiting,
+        depth,
+        size,
+        direction,
+    } = reply
+    {
+        *status = QueuingPortStatus {
+            waiting,
+            depth,
+            size,
+            direction: direction.number(),
+        };
+    }
 }

@@ -1,8 +1,7 @@
 //! What the ports show to C of partitions and of messages. A reader adds nothing to the history.
 ghost use Rattle.std.specs.Prelude.{◌≡◌, length};
-ghost use Rattle.std.specs.Result.{result_ok, result_unwrap_or};
-ghost use Rattle.apex_c.specs.Found.{answer_of};
-ghost use Rattle.apex_c.specs.Places.{buffer_after, length_after};
+ghost use Rattle.apex_c.specs.Found.{IsPut, answer_of};
+ghost use Rattle.apex_c.specs.Places.{AreBytesPut, IsMessagePut};
 ghost use Rattle.apex_c.specs.Readers.{calls_in, mode_in};
 ghost use Rattle.apex_c.specs.Readers.{message_of, moment_after, sample_in, waiting_in};
 
@@ -22,9 +21,7 @@ pub extern "C" fn apex_partition_mode(
     partition: u32,
     mode: &mut u32,
 ) -> u32
-    ensures answer { result ≡ answer_of (mode_in handle.old.held.ports partition) }
-    ensures mode { mode.new
-        ≡ result_unwrap_or (mode_in handle.old.held.ports partition) mode.old }
+    ensures mode { IsPut (mode_in handle.old.held.ports partition) result mode.old mode.new }
     ensures ports { handle.new.held.ports ≡ handle.old.held.ports }
 {
     let found = handle.read(alloc, |ports| {
@@ -43,9 +40,7 @@ pub extern "C" fn apex_call_count(
     partition: u32,
     count: &mut u64,
 ) -> u32
-    ensures answer { result ≡ answer_of (calls_in handle.old.held.ports partition) }
-    ensures count { count.new
-        ≡ result_unwrap_or (calls_in handle.old.held.ports partition) count.old }
+    ensures count { IsPut (calls_in handle.old.held.ports partition) result count.old count.new }
     ensures ports { handle.new.held.ports ≡ handle.old.held.ports }
 {
     let found = handle.read(alloc, |ports| {
@@ -69,11 +64,8 @@ pub extern "C" fn apex_last_sample(
 ) -> u32
     ensures answer { let bytes = length buffer.old in
         result ≡ answer_of (sample_in bytes handle.old.held.ports channel) }
-    ensures buffer { let sample = sample_in (length buffer.old) handle.old.held.ports channel in
-        buffer.new ≡ buffer_after (message_of sample) buffer.old }
-    ensures message_length { let bytes = length buffer.old in
-        let sample = sample_in bytes handle.old.held.ports channel in
-        message_length.new ≡ length_after (message_of sample) message_length.old }
+    ensures message { let sample = sample_in (length buffer.old) handle.old.held.ports channel in
+        IsMessagePut (message_of sample) buffer.old buffer.new message_length.old message_length.new }
     ensures at { let sample = sample_in (length buffer.old) handle.old.held.ports channel in
         at.new ≡ moment_after sample at.old }
     ensures ports { handle.new.held.ports ≡ handle.old.held.ports }
@@ -109,14 +101,8 @@ pub extern "C" fn apex_waiting_message(
     buffer: &mut [u8],
     message_length: &mut u32,
 ) -> u32
-    ensures answer { let bytes = length buffer.old in
-        result ≡ answer_of (waiting_in bytes handle.old.held.ports channel index) }
-    ensures buffer { let bytes = length buffer.old in
-        let message = waiting_in bytes handle.old.held.ports channel index in
-        buffer.new ≡ buffer_after (result_ok message) buffer.old }
-    ensures message_length { let bytes = length buffer.old in
-        let message = waiting_in bytes handle.old.held.ports channel index in
-        message_length.new ≡ length_after (result_ok message) message_length.old }
+    ensures message { let message = waiting_in (length buffer.old) handle.old.held.ports channel index in
+        AreBytesPut message result buffer.old buffer.new message_length.old message_length.new }
     ensures ports { handle.new.held.ports ≡ handle.old.held.ports }
 {
     if buffer.len() < MESSAGE_LIMIT {

@@ -1,13 +1,18 @@
 //! The services of sampling ports.
-ghost use Rattle.std.specs.Prelude.{◌≡◌, length};
+ghost use Rattle.std.specs.Prelude.{◌≡◌, length, Ok, Some};
 ghost use Rattle.apex_types.specs.declared.call.Call.TheVariants as call;
-ghost use Rattle.apex_c.specs.Asked.{asked_answer, asked_ports, asked_reply, create_sampling, read, sampling_id};
-ghost use Rattle.apex_c.specs.Calls.{answer_in, ports_after, moment_of, reply_in};
-ghost use Rattle.apex_c.specs.Places.{buffer_after, id_after, length_after, message_in};
+ghost use Rattle.apex_ports.specs.Noted.{reply_by};
+ghost use Rattle.apex_c.specs.Asked.{IsCalled, asked_reply, create_sampling, lending, sampling_id};
+ghost use Rattle.apex_c.specs.declared.lending.Lending.TheVariants as lent;
+ghost use Rattle.apex_c.specs.Calls.{moment_of, reply_in};
+ghost use Rattle.apex_c.specs.Places.{IsMessagePut, id_after, message_in};
 ghost use Rattle.apex_c.specs.Places.{sampling_status_after, validity_after};
 
 use crate::calls::name_in;
 use crate::handle::Handle;
+use crate::lending::Lending;
+use crate::services::number_of;
+use apex_ports::{CallRef, ReplyRef};
 use std::alloc::Global;
 
 /// CREATE_SAMPLING_PORT, with the identifier in its place if the answer is NO_ERROR. The size is in bytes, the
@@ -24,18 +29,22 @@ pub extern "C" fn apex_create_sampling_port(
     refresh: u64,
     id: &mut u32,
 ) -> u32
-    ensures answer { let asked = create_sampling name.now size direction refresh in
-        result ≡ asked_answer handle.old.held.ports partition (moment_of at) asked }
-    ensures ports { let asked = create_sampling name.now size direction refresh in
-        handle.new.held.ports ≡ asked_ports handle.old.held.ports partition (moment_of at) asked }
+    ensures called { let asked = create_sampling name.now size direction refresh in
+        IsCalled handle.old.held.ports handle.new.held.ports partition (moment_of at) asked result }
     ensures id { let asked = create_sampling name.now size direction refresh in
         let reply = asked_reply handle.old.held.ports partition (moment_of at) asked in
         id.new ≡ id_after reply id.old }
 {
     match name_in(name) {
-        Ok(name) => handle.create_sampling(
-            alloc, partition, at, &name, size, direction, refresh, id,
-        ),
+        Ok(name) => {
+            let call = CallRef::CreateSampling {
+                name: &name,
+                size,
+                direction,
+                refresh,
+            };
+            handle.identify(alloc, partition, at, call, id)
+        }
         Err(number) => number,
     }
 }
@@ -50,12 +59,10 @@ pub extern "C" fn apex_write_sampling_message(
     id: u32,
     message: &[u8],
 ) -> u32
-    ensures answer { let asked = call.WriteSampling id message.now in
-        result ≡ answer_in handle.old.held.ports partition (moment_of at) asked }
-    ensures ports { let asked = call.WriteSampling id message.now in handle.new.held.ports
-        ≡ ports_after handle.old.held.ports partition (moment_of at) asked }
+    ensures called { let asked = Ok (call.WriteSampling id message.now) in
+        IsCalled handle.old.held.ports handle.new.held.ports partition (moment_of at) asked result }
 {
-    handle.write(alloc, partition, at, id, message)
+    handle.answer(alloc, partition, at, CallRef::WriteSampling { id, message })
 }
 
 /// READ_SAMPLING_MESSAGE. If the answer is NO_ERROR, the message is in the buffer's first bytes, and its length and
@@ -71,21 +78,26 @@ pub extern "C" fn apex_read_sampling_message(
     message_length: &mut u32,
     validity: &mut u32,
 ) -> u32
-    ensures answer { let asked = read handle.old.held.ports partition (length buffer.old) id in
-        result ≡ asked_answer handle.old.held.ports partition (moment_of at) asked }
-    ensures ports { let asked = read handle.old.held.ports partition (length buffer.old) id in
-        handle.new.held.ports ≡ asked_ports handle.old.held.ports partition (moment_of at) asked }
-    ensures buffer { let asked = read handle.old.held.ports partition (length buffer.old) id in
+    ensures called { let asked = lending lent.Read handle.old.held.ports partition (length buffer.old) id in
+        IsCalled handle.old.held.ports handle.new.held.ports partition (moment_of at) asked result }
+    ensures message { let asked = lending lent.Read handle.old.held.ports partition (length buffer.old) id in
         let reply = asked_reply handle.old.held.ports partition (moment_of at) asked in
-        buffer.new ≡ buffer_after (message_in reply) buffer.old }
-    ensures message_length { let asked = read handle.old.held.ports partition (length buffer.old) id in
-        let reply = asked_reply handle.old.held.ports partition (moment_of at) asked in
-        message_length.new ≡ length_after (message_in reply) message_length.old }
-    ensures validity { let asked = read handle.old.held.ports partition (length buffer.old) id in
+        IsMessagePut (message_in reply) buffer.old buffer.new message_length.old message_length.new }
+    ensures validity { let asked = lending lent.Read handle.old.held.ports partition (length buffer.old) id in
         let reply = asked_reply handle.old.held.ports partition (moment_of at) asked in
         validity.new ≡ validity_after reply validity.old }
 {
-    handle.read_sample(alloc, partition, at, id, buffer, message_length, validity)
+    let service = Lending::Read;
+    handle.lend(
+        alloc,
+        partition,
+        at,
+        service,
+        id,
+        buffer,
+        message_length,
+        validity,
+    )
 }
 
 /// GET_SAMPLING_PORT_ID, with the identifier in its place if the answer is NO_ERROR. Answers the return code, or a
@@ -99,16 +111,20 @@ pub extern "C" fn apex_get_sampling_port_id(
     name: &[u8],
     id: &mut u32,
 ) -> u32
-    ensures answer { let asked = sampling_id name.now in
-        result ≡ asked_answer handle.old.held.ports partition (moment_of at) asked }
-    ensures ports { let asked = sampling_id name.now in
-        handle.new.held.ports ≡ asked_ports handle.old.held.ports partition (moment_of at) asked }
+    ensures called { let asked = sampling_id name.now in
+        IsCalled handle.old.held.ports handle.new.held.ports partition (moment_of at) asked result }
     ensures id { let asked = sampling_id name.now in
         let reply = asked_reply handle.old.held.ports partition (moment_of at) asked in
         id.new ≡ id_after reply id.old }
 {
     match name_in(name) {
-        Ok(name) => handle.sampling_id(alloc, partition, at, &name, id),
+        Ok(name) => handle.identify(
+            alloc,
+            partition,
+            at,
+            CallRef::SamplingId { name: &name },
+            id,
+        ),
         Err(number) => number,
     }
 }
@@ -135,13 +151,36 @@ pub extern "C" fn apex_get_sampling_port_status(
     id: u32,
     status: &mut SamplingPortStatus,
 ) -> u32
-    ensures answer { result
-        ≡ answer_in handle.old.held.ports partition (moment_of at) (call.SamplingStatus id) }
-    ensures ports { handle.new.held.ports
-        ≡ ports_after handle.old.held.ports partition (moment_of at) (call.SamplingStatus id) }
+    ensures called { let asked = Ok (call.SamplingStatus id) in
+        IsCalled handle.old.held.ports handle.new.held.ports partition (moment_of at) asked result }
     ensures status { let asked = call.SamplingStatus id in
         let reply = reply_in handle.old.held.ports partition (moment_of at) asked in
         status.new ≡ sampling_status_after reply status.old }
 {
-    handle.sampling_status(alloc, partition, at, id, status)
+    match handle.reply(alloc, partition, at, CallRef::SamplingStatus { id }) {
+        Ok(reply) => {
+            put_status(reply, status);
+            number_of(reply)
+        }
+        Err(number) => number,
+    }
+}
+
+fn put_status(reply: ReplyRef<'_>, status: &mut SamplingPortStatus)
+    ensures { status.new ≡ sampling_status_after (Some (reply_by reply.entry)) status.old }
+{
+    if let ReplyRef::SamplingStatus {
+        refresh,
+        size,
+        direction,
+        last,
+    } = reply
+    {
+        *status = SamplingPortStatus {
+            refresh,
+            size,
+            direction: direction.number(),
+            last_validity: last.number(),
+        };
+    }
 }

@@ -1,17 +1,10 @@
 -- What reading returns, step by step.
-use Rattle.std.proofs.Common.{◌≡◌, ◌≢◌, ℕ, Bool, true, false, cond, List, [], ◌∷◌, Option, Some, None, option_map, Result, Ok, Err, IfErr, IfSome, refl, sym, ap, subst}
-use Rattle.std.specs.Str.{is_utf8, IsUtf8}
+use Rattle.apex_config.proofs.Common.{◌≡◌, ◌≢◌, ℕ, Bool, true, false, cond, List, [], ◌∷◌, Option, Some, None, option_map, Result, Ok, Err, IfErr, IfSome, refl, sym, ap, subst, is_utf8, IsUtf8, Data, Members, table, Place, Configuration, wrong_form, ConfigText, config_text_of, found_by, passes, RefusalData, refused_by, first_refusal, refusal_of, configuration_of, unless_refused, document_of, read_of_document}
+use Rattle.apex_config.proofs.Common.{read_of}
 use Rattle.std.proofs.lemmas.Str.{IsUtf8-from_is_utf8, is_utf8-from_IsUtf8}
-use Rattle.toml.specs.Data.{Data, Members, table}
 use Rattle.toml.specs.Parse.{parse_document}
 use Rattle.apex_module.specs.declared.fault.ConfigFault.{ConfigFault}
 use Rattle.apex_module.specs.declared.fault.ConfigFault.TheVariants.{Shape, OutOfMemory}
-use Rattle.apex_config.specs.declared.place.Place.{Place}
-use Rattle.apex_module.specs.Configuration.{Configuration}
-use Rattle.apex_config.specs.Form.{wrong_form}
-use Rattle.apex_config.specs.Text.{ConfigText, config_text_of}
-use Rattle.apex_config.specs.Passes.{found_by, passes}
-use Rattle.apex_config.specs.Meaning.{RefusalData, refused_by, first_refusal, refusal_of, configuration_of, unless_refused, document_of, read_of_document, read_of}
 
 -- ---- bytes and their document
 

@@ -1,8 +1,5 @@
 -- What is found in one more entry of a list.
-use Rattle.std.proofs.Common.{◌≡◌, ℕ, suc, ◌+◌, ◌<◌, List, [], ◌∷◌, ◌++◌, length, take, get_or, refl, sym, ap, ◌∙◌, arith}
-use Rattle.std.proofs.lemmas.List.{append_assoc, append-nil, take_more, length-take-le}
-use Rattle.apex_config.specs.declared.place.Place.{Place}
-use Rattle.apex_config.specs.Places.{Adds, at_each}
+use Rattle.apex_config.proofs.Common.{◌≡◌, ℕ, suc, ◌+◌, ◌<◌, List, [], ◌∷◌, ◌++◌, length, take, get_or, refl, sym, ap, ◌∙◌, arith, append_assoc, append-nil, take_more, length-take-le, Place, Adds, at_each}
 
 found_append : {X : Type 0} (find : ℕ → X → List Place) (n : ℕ) (xs : List X) (y : X) → at_each find n (xs ++ y ∷ []) ≡ at_each find n xs ++ find (n + length xs) y
 found_append find n [] y = append-nil (find n y) ∙ ap (λ k. find k y) (grind arith)

@@ -1,18 +1,10 @@
 -- The tests of ends, by the counts of all channels.
-use Rattle.std.proofs.Common.{◌≡◌, ℕ, ◌+◌, ◌-◌, ◌^◌, Bool, nat_le, min, List, ap, ◌∙◌, arith}
-use Rattle.apex_types.specs.declared.direction.Direction.{Direction}
+use Rattle.apex_config.proofs.Common.{◌≡◌, ℕ, ◌+◌, ◌-◌, ◌^◌, Bool, nat_le, min, List, ap, ◌∙◌, arith, Direction, ConfigText, whole, unless, at_each, end_count, without_end, CountEnds}
 use Rattle.apex_config.specs.declared.place.Part.TheVariants as part
-use Rattle.apex_config.specs.Text.{ConfigText}
-use Rattle.apex_config.specs.Places.{whole, unless, at_each}
-use Rattle.apex_config.specs.Passes.{end_count, without_end}
-use Rattle.apex_config.specs.Ends.{CountEnds}
 use Rattle.apex_config.proofs.EachEntry.{same_found}
 
 pub some_of_most : (count : ℕ) → nat_le 1 (min count (2 ^ 64 - 1)) ≡ nat_le 1 count
 some_of_most count = grind arith
-
-pub few_of_most : (count : ℕ) → nat_le (min count (2 ^ 64 - 1)) 1 ≡ nat_le count 1
-few_of_most count = grind arith
 
 -- the channels without an end are those with the count 0
 pub ends_counted : (direction : Direction) (config : ConfigText) (counts : List ℕ) → CountEnds direction config.channels config.partitions counts

@@ -1,9 +1,6 @@
 -- Elements at their indexes, compared with tests and counts of the whole list.
-use Rattle.std.proofs.Common.{◌≡◌, ℕ, zero, suc, ◌≤◌, Bool, true, List, [], ◌∷◌, Some, refl, sym, ap, ◌∙◌, arith}
-use Rattle.std.specs.List.{slice_get, list_any, sum_by}
-use Rattle.std.proofs.lemmas.Bool.{or_left, or_right}
+use Rattle.apex_config.proofs.Common.{◌≡◌, ℕ, zero, suc, ◌≤◌, Bool, true, List, [], ◌∷◌, Some, refl, sym, ap, ◌∙◌, arith, slice_get, list_any, sum_by, or_left, or_right, same_Some}
 use Rattle.std.proofs.lemmas.List.Sums.{sum_by-cons}
-use Rattle.std.proofs.lemmas.Option.{same_Some}
 
 pub no_index : {X : Type 0} {A : Type 0} (i : ℕ) (x : X) → slice_get [] i ≡ Some x → A
 no_index i x found = absurd cc

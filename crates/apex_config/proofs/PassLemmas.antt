@@ -1,29 +1,19 @@
 -- What holds for one entry if a pass finds no place in a text.
-use Rattle.std.proofs.Common.{◌≡◌, ℕ, zero, suc, ◌+◌, ◌<◌, ◌≤◌, ℤ, pos, negsuc, Bool, true, false, cond, ◌||◌, not, eqb, ltb, leb, List, [], ◌∷◌, ◌++◌, map, length, take, Option, Some, None, option_map, Result, Ok, Err, is_ok, refl, sym, ap, subst, ◌∙◌, arith}
+use Rattle.apex_config.proofs.Common.{◌≡◌, ℕ, zero, suc, ◌+◌, ◌<◌, ◌≤◌, ℤ, pos, negsuc, Bool, true, false, cond, ◌||◌, not, eqb, ltb, leb, List, [], ◌∷◌, ◌++◌, map, length, take, Option, Some, None, option_map, Result, Ok, Err, is_ok, refl, sym, ap, subst, ◌∙◌, arith, slice_get, list_all, list_any, count_by, and_parts, false≢true, not-true, leb-true, eqb-true, ltb-false, length-map, same_Some, slice_get-map}
+use Rattle.apex_config.proofs.Common.{bytes_eq, Direction, Place, PartitionData, ports_of_partition, port_at, port_of, is_queuing_port, is_queuing_channel, IsRefresh, IsDepth, unless, at_each, PortText, PartitionText, ChannelText, ConfigText, at_ports, is_name, occurred_before, repeated, is_within, is_from_one_to, is_from_one_to_if_any, index_of_channel, channel_of_port, is_of_kind, is_end, end_count}
+use Rattle.apex_config.proofs.Common.{may_have_several, is_alone, too_many_ports, passes, natural, channel_kind_of, port_kind_of, port_of_text, partition_of_text, configuration_of}
 use Rattle.std.specs.Prelude.{is_some, is_none}
-use Rattle.std.specs.List.{slice_get, list_all, list_any, count_by}
-use Rattle.std.proofs.lemmas.Bool.{and_parts, false≢true, not-true, leb-true, eqb-true, ltb-false}
 use Rattle.std.proofs.lemmas.Bool.Decides.{nat_tests}
-use Rattle.std.proofs.lemmas.List.{length-map}
-use Rattle.std.proofs.lemmas.Option.{same_Some, slice_get-map}
-use Rattle.std.specs.Str.{bytes_eq}
 use Rattle.std.proofs.lemmas.Slice.Eq.{bytes_eq-Decides}
 use Rattle.apex_types.specs.Name.{IsName, is_name_byte}
-use Rattle.apex_types.specs.declared.direction.Direction.{Direction}
 use Rattle.apex_types.specs.declared.name.NameFault.{NameFault}
 use Rattle.apex_types.specs.declared.name.NameFault.TheVariants.{Empty, TooLong, BadCharacter}
 use Rattle.apex_module.specs.declared.port.Port.{Port}
 use Rattle.apex_module.specs.declared.limits.TheConstants.{PORT_LIMIT, DEPTH_LIMIT, REFRESH_LIMIT}
 use Rattle.apex_config.specs.declared.place.Part.{Part}
-use Rattle.apex_config.specs.declared.place.Place.{Place}
-use Rattle.apex_module.specs.Configuration.{PartitionData, ports_of_partition, port_at, port_of, is_queuing_port, is_queuing_channel, IsRefresh, IsDepth}
 use Rattle.apex_module.specs.Equality.{same_direction}
 use Rattle.apex_module.specs.EqualityLaws.{direction_decides}
 use Rattle.apex_module.proofs.PortLemmas.{port_at_suc}
-use Rattle.apex_config.specs.Places.{unless, at_each}
-use Rattle.apex_config.specs.Text.{PortText, PartitionText, ChannelText, ConfigText}
-use Rattle.apex_config.specs.Passes.{at_ports, is_name, occurred_before, repeated, is_within, is_from_one_to, is_from_one_to_if_any, index_of_channel, channel_of_port, is_of_kind, is_end, end_count, may_have_several, is_alone, too_many_ports, passes}
-use Rattle.apex_config.specs.Meaning.{natural, channel_kind_of, port_kind_of, port_of_text, partition_of_text, configuration_of}
 use Rattle.apex_config.proofs.Indexes.{no_index, same_index, any_at, part-le-sum_by, one_part, some_part}
 
 -- ---- lists in which nothing is found

@@ -1,7 +1,5 @@
 -- Names that are met one after the other.
-use Rattle.std.proofs.Common.{◌≡◌, ℕ, ◌+◌, ◌<◌, Bool, true, false, cond, ◌||◌, List, length, take, get_or, refl, sym, ap, ◌∙◌}
-use Rattle.std.specs.List.{list_any}
-use Rattle.std.specs.Str.{bytes_eq}
+use Rattle.apex_config.proofs.Common.{◌≡◌, ℕ, ◌+◌, ◌<◌, Bool, true, false, cond, ◌||◌, List, length, take, get_or, refl, sym, ap, ◌∙◌, list_any, bytes_eq}
 use Rattle.std.proofs.lemmas.List.Folds.{list_any_more}
 
 pub seen_at : (names : List (List ℕ)) (i : ℕ) (name other : List ℕ) → i < length names → get_or names i name ≡ name

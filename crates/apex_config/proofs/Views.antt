@@ -1,12 +1,6 @@
 -- The values of an array, and the keys of a table, as their data.
-use Rattle.std.proofs.Common.{◌≡◌, ℕ, suc, List, [], ◌∷◌, ◌++◌, map, string_bytes, String, Global, refl, ap}
-use Rattle.std.specs.Map.{keys_of}
-use Rattle.toml.specs.Data.{Data}
+use Rattle.apex_config.proofs.Common.{◌≡◌, ℕ, suc, List, [], ◌∷◌, ◌++◌, map, string_bytes, String, Global, refl, ap, keys_of, Data, view, items_view, members_view, Place, at_each, list_of, keys_of_table}
 use Rattle.toml.specs.declared.value.Value.{Value}
-use Rattle.toml.specs.View.{view, items_view, members_view}
-use Rattle.apex_config.specs.declared.place.Place.{Place}
-use Rattle.apex_config.specs.Places.{at_each}
-use Rattle.apex_config.specs.Values.{list_of, keys_of_table}
 
 pub at_views : (find : ℕ → Data → List Place) (n : ℕ) (values : List Value) → at_each (λ i value. find i (view value)) n values ≡ at_each find n (list_of (items_view values))
 at_views find n [] = refl

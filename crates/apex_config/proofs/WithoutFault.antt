@@ -1,12 +1,9 @@
 -- The configuration of a text in which no pass finds a place is accepted.
-use Rattle.std.proofs.Common.{◌≡◌, ℕ, suc, ◌≤◌, ℤ, Bool, true, false, ◌&&◌, leb, List, [], ◌∷◌, ◌++◌, map, length, Option, Some, None, option_map, refl, sym, ap, subst, ◌∙◌}
+use Rattle.apex_config.proofs.Common.{◌≡◌, ℕ, suc, ◌≤◌, ℤ, Bool, true, false, ◌&&◌, leb, List, [], ◌∷◌, ◌++◌, map, length, Option, Some, None, option_map, refl, sym, ap, subst, ◌∙◌, slice_get, list_all, and_parts, false≢true, leb-true, length-map, slice_get-map, Direction, Place, PartitionData, IsConfiguration, ports_of_partition, channel_of, partition_name_of, is_queuing_port, is_queuing_channel, KindsAgree}
+use Rattle.apex_config.proofs.Common.{IsRefresh, IsDepth, IsSize, unless, at_each, PortText, PartitionText, ChannelText, ConfigText, at_ports, is_name, bad_port_name, bad_partition_names, bad_channel_name, bad_names, part_in, repeated, repeated_port_names, repeated_names, is_within, is_from_one_to, is_from_one_to_if_any, bad_refresh, bad_channel_numbers, bad_numbers, index_of_channel, channel_of_port}
+use Rattle.apex_config.proofs.Common.{unknown_channel, unknown_channels, is_of_kind, other_kind, other_kinds, end_count, may_have_several, without_end, is_alone, one_of_several, wrong_ends, too_many_ports, bad_counts, passes, channel_kind_of, port_kind_of, channel_of_text, partition_of_text, configuration_of, RefusalData, refused_by, first_refusal}
 use Rattle.std.specs.Prelude.{is_some, is_none}
-use Rattle.std.specs.List.{slice_get, list_all}
-use Rattle.std.proofs.lemmas.Bool.{and_parts, false≢true, leb-true}
-use Rattle.std.proofs.lemmas.List.{length-map}
-use Rattle.std.proofs.lemmas.Option.{slice_get-map}
 use Rattle.apex_types.specs.Name.{IsName}
-use Rattle.apex_types.specs.declared.direction.Direction.{Direction}
 use Rattle.apex_types.specs.declared.direction.Direction.TheVariants.{Source, Destination}
 use Rattle.apex_module.specs.declared.port.Port.{Port}
 use Rattle.apex_module.specs.declared.channel.Channel.{Channel}
@@ -14,13 +11,7 @@ use Rattle.apex_module.specs.declared.fault.ConfigFault.{ConfigFault}
 use Rattle.apex_module.specs.declared.fault.ConfigFault.TheVariants.{BadName, NameTwice, OutOfRange, UnknownChannel, KindDiffers, Sources, Destinations, Counts}
 use Rattle.apex_module.specs.declared.limits.TheConstants.{PARTITION_LIMIT, PORT_LIMIT, CHANNEL_LIMIT, SIZE_LIMIT, DEPTH_LIMIT, REFRESH_LIMIT}
 use Rattle.apex_config.specs.declared.names.Entries.TheVariants as entries
-use Rattle.apex_config.specs.declared.place.Place.{Place}
-use Rattle.apex_module.specs.Configuration.{PartitionData, IsConfiguration, ports_of_partition, channel_of, partition_name_of, is_queuing_port, is_queuing_channel, KindsAgree, IsRefresh, IsDepth, IsSize}
-use Rattle.apex_config.specs.Places.{unless, at_each}
 use Rattle.apex_config.specs.Accepted.{has_names, is_acceptable}
-use Rattle.apex_config.specs.Text.{PortText, PartitionText, ChannelText, ConfigText}
-use Rattle.apex_config.specs.Passes.{at_ports, is_name, bad_port_name, bad_partition_names, bad_channel_name, bad_names, part_in, repeated, repeated_port_names, repeated_names, is_within, is_from_one_to, is_from_one_to_if_any, bad_refresh, bad_channel_numbers, bad_numbers, index_of_channel, channel_of_port, unknown_channel, unknown_channels, is_of_kind, other_kind, other_kinds, end_count, may_have_several, without_end, is_alone, one_of_several, wrong_ends, too_many_ports, bad_counts, passes}
-use Rattle.apex_config.specs.Meaning.{channel_kind_of, port_kind_of, channel_of_text, partition_of_text, configuration_of, RefusalData, refused_by, first_refusal}
 use Rattle.apex_config.proofs.Indexes.{same_index}
 use Rattle.apex_config.proofs.PassLemmas.{append_empty, unless_empty, found_at, from_map, to_map, IsPortAt, is_port_at, port_found, IsName-from, within, within_natural, refresh_from, depth_from, few_in, distinct_at, linked_in, is_end_from, one_end, some_end, alone}
 

@@ -1,7 +1,5 @@
 -- What an entry of a text has if no pass finds a place in it.
-use Rattle.std.specs.Prelude.{Bool, ◌&&◌}
-use Rattle.std.specs.List.{list_all}
-use Rattle.apex_module.specs.declared.limits.TheConstants.{SIZE_LIMIT, DEPTH_LIMIT}
+use Rattle.apex_config.specs.Prelude.{Bool, ◌&&◌, list_all, SIZE_LIMIT, DEPTH_LIMIT}
 use Rattle.apex_config.specs.Text.{PartitionText, ChannelText}
 use Rattle.apex_config.specs.Passes.{is_name, is_from_one_to, is_from_one_to_if_any}
 

@@ -1,3 +1,4 @@
+pub mod Prelude
 pub mod Accepted
 pub mod Ends
 pub mod Form

@@ -1,20 +1,14 @@
 -- What the bytes of a configuration mean: the configuration that they give, or the refusal by the first pass that finds
 -- places.
-use Rattle.std.specs.Prelude.{ℕ, ℤ, pos, negsuc, if◌then◌else◌, List, [], ◌∷◌, map, Option, Some, None, option_map, Result, Ok, Err, ◌≡◌, ◌≢◌}
-use Rattle.std.specs.Str.{is_utf8}
-use Rattle.apex_module.specs.declared.port.Port.{Port}
+use Rattle.apex_config.specs.Prelude.{ℕ, ℤ, pos, negsuc, if◌then◌else◌, List, [], ◌∷◌, map, Option, Some, None, option_map, Result, Ok, Err, ◌≡◌, ◌≢◌, is_utf8, Port, ConfigFault, NotToml, Shape, OutOfMemory, Data, table, PartitionData, Configuration}
 use Rattle.apex_module.specs.declared.port.PortKind.{PortKind}
 use Rattle.apex_module.specs.declared.port.PortKind.TheVariants as port_kind
 use Rattle.apex_module.specs.declared.channel.Channel.{Channel}
 use Rattle.apex_module.specs.declared.channel.ChannelKind.{ChannelKind}
 use Rattle.apex_module.specs.declared.channel.ChannelKind.TheVariants as channel_kind
-use Rattle.apex_module.specs.declared.fault.ConfigFault.{ConfigFault}
-use Rattle.apex_module.specs.declared.fault.ConfigFault.TheVariants.{NotToml, Shape, OutOfMemory}
 use Rattle.apex_config.specs.declared.place.Part.TheVariants.{Document}
 use Rattle.apex_config.specs.declared.place.Place.{Place}
-use Rattle.toml.specs.Data.{Data, table}
 use Rattle.toml.specs.Parse.{parse_document}
-use Rattle.apex_module.specs.Configuration.{PartitionData, Configuration}
 use Rattle.apex_config.specs.Form.{wrong_form}
 use Rattle.apex_config.specs.Text.{PortText, PartitionText, ChannelText, ConfigText, config_text_of}
 use Rattle.apex_config.specs.Passes.{index_of_channel, found_by, passes}

@@ -1,10 +1,9 @@
 -- The numbers of channels by their names.
-use Rattle.std.specs.Prelude.{ℕ, ◌≡◌, List, position}
+use Rattle.apex_config.specs.Prelude.{ℕ, ◌≡◌, List, position, bytes_eq}
 use Rattle.std.specs.Borrow.{Bor}
 use Rattle.std.specs.BTreeMap.{BTreeMap, get}
 use Rattle.std.specs.Cmp.Lexicographic.{slice_cmp}
 use Rattle.std.specs.Ordering.{nat_cmp}
-use Rattle.std.specs.Str.{bytes_eq}
 use Rattle.apex_config.specs.Text.{ChannelText}
 
 -- a map from each name to the number of the first channel with that name, without other names

@@ -1,11 +1,8 @@
 -- What a document says about a configuration if its form is right. Names, numbers and links may be wrong.
-use Rattle.std.specs.Prelude.{ℕ, ℤ, pos, Bool, if◌then◌else◌, List, [], map, codes, unwrap_or, Option, Some, None}
-use Rattle.std.specs.Str.{bytes_eq}
+use Rattle.apex_config.specs.Prelude.{ℕ, ℤ, pos, Bool, if◌then◌else◌, List, [], map, codes, unwrap_or, Option, Some, None, bytes_eq, Source, Destination, Data}
 use Rattle.apex_types.specs.declared.direction.Direction as direction
-use Rattle.apex_types.specs.declared.direction.Direction.TheVariants.{Source, Destination}
 use Rattle.apex_config.specs.declared.key.Key.{Key}
 use Rattle.apex_config.specs.declared.key.Key.TheVariants as key
-use Rattle.toml.specs.Data.{Data}
 use Rattle.apex_config.specs.Values.{text_at, number_at, items_at}
 
 -- a port: a sampling port has a refresh period, and the channel is given by name

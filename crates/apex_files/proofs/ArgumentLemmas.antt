@@ -74,9 +74,6 @@ has_none (x ∷ xs) none = absurd (false≢true (sym none))
 pub flag_read : (named : List Bool) (p : ℕ) (flag is : Bool) → p < length named → flag ≡ get_or named p flag → flag ≡ is → get_or named p false ≡ is
 flag_read named p flag is within read test = get_or_from_slice_get named p flag false (slice_get_read named (length named) p flag refl within read) ∙ test
 
-pub flags_none : (config : Configuration) (n : ℕ) → AreFlags config [] (replicate n false)
-flags_none config n p within = get_or-replicate n p false false (omega (arith, length-replicate n false))
-
 pub flags_more : (config : Configuration) (done : Arguments) (argument : Bor (List ℕ)) (p : ℕ) (named : List Bool) → partition_in config argument.now ≡ Some p → p < length named → AreFlags config done named
     → AreFlags config (done ++ argument ∷ []) (set named p true)
 flags_more config done argument p named names within flags q inside = by_test (p == q) refl

@@ -12,10 +12,6 @@ Owes None new whole left = Unit {0}
 Owes (Some xs) None whole left = ⊥
 Owes (Some xs) (Some ys) whole left = xs ++ whole ≡ ys ++ left
 
-pub owes_all : (output : Option (List ℕ)) (whole : List ℕ) → Owes output output whole whole
-owes_all None whole = tt
-owes_all (Some xs) whole = refl
-
 pub owes_less : (old before after : Option (List ℕ)) (whole given left : List ℕ) → Owes old before whole (given ++ left) → Appends before after given → Owes old after whole left
 owes_less None before after whole given left owes gives = tt
 owes_less (Some xs) None after whole given left owes gives = absurd owes

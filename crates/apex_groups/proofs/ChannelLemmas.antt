@@ -1,17 +1,10 @@
 -- A channel's counts depend only on the entries of the partitions that have its ports.
-use Rattle.std.proofs.Common.{◌≡◌, ℕ, ◌<◌, Bool, true, false, List, [], length, drop, filter, Some, refl, sym, ap, ◌∙◌}
+use Rattle.apex_groups.proofs.Common.{◌≡◌, ℕ, ◌<◌, Bool, true, false, List, [], length, drop, filter, Some, refl, sym, ap, ◌∙◌, Configuration, port_of, Port, Entry, History, IsClosed, entries_inside, filter_map-inside, leaves_channel_inside, taken-inside, HasSameTotals}
 use Rattle.apex_types.specs.declared.taken.Taken.{Taken}
-use Rattle.apex_module.specs.Configuration.{Configuration, port_of}
-use Rattle.apex_module.specs.declared.port.Port.{Port}
-use Rattle.apex_ports.specs.declared.history.Entry.{Entry}
 use Rattle.apex_ports.specs.Channels.{accepted_on, message_accepted, message_received, received_on, taken_on}
 use Rattle.apex_ports.specs.Counts.{count_of}
-use Rattle.apex_ports.specs.History.{History}
-use Rattle.apex_ports.specs.Interference.{IsClosed, entries_inside}
-use Rattle.apex_ports.proofs.Interference.{filter_map-inside, leaves_channel_inside, taken-inside}
 use Rattle.apex_ports.proofs.Stays.{LeavesChannel}
 use Rattle.apex_orders.specs.Points.{IsSamePoint}
-use Rattle.apex_groups.specs.Counts.{HasSameTotals}
 
 module _ (config : Configuration) (inside : ℕ → Bool) (closed : IsClosed config inside) (p id : ℕ) (port : Port) (here : inside p ≡ true) (mine : port_of config p id ≡ Some port) where
   abbrev c : ℕ

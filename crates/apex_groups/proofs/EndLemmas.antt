@@ -1,12 +1,5 @@
 -- Ends that are asked for.
-use Rattle.std.proofs.Common.{◌≡◌, ℕ, Bool, List, slice_index_or, Option, Some, None, subst, sym, ◌∙◌}
-use Rattle.std.specs.List.{slice_get}
-use Rattle.std.proofs.lemmas.Option.{get_or_from_slice_get}
-use Rattle.apex_module.specs.Configuration.{Configuration}
-use Rattle.apex_ports.specs.History.{History}
-use Rattle.apex_orders.specs.Lists.{Has}
-use Rattle.apex_orders.specs.Orders.{Scripts, history_of}
-use Rattle.apex_groups.specs.Counts.{HasSameTotals, ShowAllCounts}
+use Rattle.apex_groups.proofs.Common.{◌≡◌, ℕ, Bool, List, slice_index_or, Option, Some, None, subst, sym, ◌∙◌, slice_get, get_or_from_slice_get, Configuration, History, Has, Scripts, history_of, HasSameTotals, ShowAllCounts}
 use Rattle.apex_groups.specs.Ends.{Compares, FindsEnd, HasSuchEnd, IsSuchEnd, LeadsToEnd, count_after}
 use Rattle.apex_groups.specs.declared.asked_end.AskedEnd.{AskedEnd}
 use Rattle.apex_groups.specs.declared.asked_end.Count.{Count}

@@ -1,14 +1,6 @@
 -- Swapped items.
-use Rattle.std.proofs.Common.{◌≡◌, ◌≢◌, ⊎_elim, ℕ, zero, suc, ◌+◌, ◌<◌, ◌≤◌, ◌&&◌, ltb, Bool, true, false, cond, List, [], ◌∷◌, length, set, Option, Some, None, refl, sym, ap, ◌∙◌, subst, arith}
-use Rattle.std.specs.Prelude.{replicate, IfOk, Result, Ok, Err}
-use Rattle.std.specs.List.{slice_get}
-use Rattle.std.specs.Option.{unwrap_or}
-use Rattle.std.proofs.lemmas.Bool.{cases_eq, cases_lt}
-use Rattle.std.proofs.lemmas.Bool.Decides.{nat_tests}
-use Rattle.std.proofs.lemmas.List.{length-set}
-use Rattle.std.proofs.lemmas.Option.{slice_get_past}
+use Rattle.apex_groups.proofs.Common.{◌≡◌, ◌≢◌, ⊎_elim, ℕ, zero, suc, ◌+◌, ◌<◌, ◌≤◌, ◌&&◌, ltb, Bool, true, false, cond, List, [], ◌∷◌, length, set, Option, Some, None, refl, sym, ap, ◌∙◌, subst, arith, replicate, IfOk, Result, Ok, Err, slice_get, unwrap_or, cases_eq, cases_lt, nat_tests, length-set, slice_get_past, AreExchanged, IsPart, list_of}
 use Rattle.apex_log_orders.proofs.Counts.{set_here, set_elsewhere}
-use Rattle.apex_groups.specs.Groups.{AreExchanged, IsPart, list_of}
 
 -- those inside below a number
 abbrev pub below : ℕ → (ℕ → Bool) → ℕ → Bool
@@ -41,17 +33,11 @@ not_yet i inside = ap (λ (b : Bool). b && inside i) (let none : ltb i i ≡ fal
 below_all : (count : ℕ) (inside : ℕ → Bool) (p : ℕ) → p < count → below count inside p ≡ inside p
 below_all count inside p within = ap (λ (b : Bool). b && inside p) (let is : ltb p count ≡ true = grind (arith, nat_tests) in is)
 
-below_none : (inside : ℕ → Bool) (p : ℕ) → below 0 inside p ≡ false
-below_none inside p = ap (λ (b : Bool). b && inside p) (let none : ltb p 0 ≡ false = grind (arith, nat_tests) in none)
-
 -- ---- lists, index by index
 
 module _ {X : Type 0} (inside : ℕ → Bool) (xs other : List X) where
   abbrev pub one_of : (p : ℕ) → Bool → Option X
   one_of p b = cond b (slice_get other p) (slice_get xs p)
-
-  pub exchanged_none : AreExchanged (below 0 inside) xs other xs
-  exchanged_none = record { count = refl; each = λ p. sym (ap (one_of p) (below_none inside p)) }
 
   module _ (i : ℕ) (now : List X) (is : AreExchanged (below i inside) xs other now) where
     pub exchanged_pass : inside i ≡ false → AreExchanged (below (i + 1) inside) xs other now

@@ -1,10 +1,5 @@
 -- Groups that share no channel.
-use Rattle.std.proofs.Common.{◌≡◌, ℕ, ◌<◌, ◌==◌, Bool, true, false, if◌then◌else◌, List, length, Option, Some, None, refl, sym, ap, ◌∙◌}
-use Rattle.std.specs.List.{slice_get}
-use Rattle.std.proofs.lemmas.Option.{slice_get_within}
-use Rattle.apex_module.specs.Configuration.{Configuration, PartitionData, port_of, port_at, ports_of_partition}
-use Rattle.apex_module.specs.declared.port.Port.{Port}
-use Rattle.apex_groups.specs.Groups.{AreApart, HasItsChannels, group_of}
+use Rattle.apex_groups.proofs.Common.{◌≡◌, ℕ, ◌<◌, ◌==◌, Bool, true, false, if◌then◌else◌, List, length, Option, Some, None, refl, sym, ap, ◌∙◌, slice_get, slice_get_within, Configuration, PartitionData, port_of, port_at, ports_of_partition, Port, AreApart, HasItsChannels, group_of}
 
 pub owner_within : (config : Configuration) (p id : ℕ) (port : Port) → port_of config p id ≡ Some port → p < length config.partitions
 owner_within config p id port found = of_partition (slice_get config.partitions p) refl found

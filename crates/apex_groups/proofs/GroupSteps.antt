@@ -1,23 +1,11 @@
 -- Groups searched one after the other.
-use Rattle.std.proofs.Common.{◌≡◌, ◌≢◌, ⊎_elim, ℕ, ◌+◌, ◌<◌, Bool, true, false, List, [], ◌++◌, length, map, refl, sym, ap, subst, arith}
-use Rattle.std.proofs.lemmas.Bool.{cases_eq}
-use Rattle.std.proofs.lemmas.Bool.Decides.{nat_tests}
-use Rattle.apex_module.specs.Configuration.{Configuration, IsConfiguration}
-use Rattle.apex_ports.specs.History.{History}
-use Rattle.apex_ports.specs.Interference.{entries_inside}
-use Rattle.apex_groups.specs.Groups.{AreApart, HasNone, IsPart, group_of, in_group}
+use Rattle.apex_groups.proofs.Common.{◌≡◌, ◌≢◌, ⊎_elim, ℕ, ◌+◌, ◌<◌, Bool, true, false, List, [], ◌++◌, length, map, refl, sym, ap, subst, arith, cases_eq, nat_tests, Configuration, IsConfiguration, History, entries_inside, AreApart, HasNone, IsPart, group_of, in_group, PossibleReply, Scripts, IsWay, history_of, AreEnds, AreEndsWith, AreReplies, CanOccur, Has, HasSameTotals, ShowAllCounts, ShowsCounts}
+use Rattle.apex_groups.proofs.Common.{AreRepliesBelow, ShowGroups, ShowsPoint, made_whole, unclocked}
 use Rattle.apex_groups.proofs.GroupLemmas.{owner_within}
-use Rattle.apex_orders.specs.declared.replies.PossibleReply.{PossibleReply}
-use Rattle.apex_orders.specs.Orders.{Scripts, IsWay, history_of}
-use Rattle.apex_orders.specs.Outcomes.{AreEnds, AreEndsWith, AreReplies, CanOccur}
 use Rattle.apex_orders.specs.Points.{IsSamePoint}
-use Rattle.apex_orders.specs.Lists.{Has}
-use Rattle.apex_groups.specs.Counts.{HasSameTotals, ShowAllCounts, ShowsCounts}
-use Rattle.apex_groups.specs.ScriptParts.{AreRepliesBelow, ShowGroups, ShowsPoint, made_whole}
 use Rattle.apex_groups.proofs.ChannelLemmas.{same_totals}
 use Rattle.apex_groups.proofs.Lists.{has_before, has_behind, has_either, has_mapped, has_none, item_at, of_mapped}
 use Rattle.apex_groups.proofs.PartLemmas.{occurs_in_all, occurs_in_part, occurs_inside, occurs_within, way_inside}
-use Rattle.apex_orders.proofs.ClockLemmas.{unclocked}
 use Rattle.apex_groups.proofs.WholeLemmas.{whole_inside, whole_way}
 
 pub is_in : (groups : List ℕ) (group p : ℕ) → group_of groups p ≡ group → in_group groups group p ≡ true
@@ -45,15 +33,6 @@ together clock config scripts ends are = record {
 
 module _ (config : Configuration) (scripts : Scripts) (groups : List ℕ) where
   -- ---- before the first group
-
-  pub no_replies : AreRepliesBelow config scripts groups 0 []
-  no_replies one = (λ has. absurd (has_none one has), λ both. absurd (let few = both.1 in omega (arith, few)))
-
-  pub no_groups : ShowGroups config scripts groups 0 []
-  no_groups = record {
-    ways = λ order has. absurd (has_none order has);
-    points = λ p within few. absurd (omega (arith, few));
-  }
 
   module _ (valid : IsConfiguration config) (count : length scripts ≡ length config.partitions) (group : ℕ) where
     -- ---- a number that no group has

@@ -1,15 +1,9 @@
 -- Histories of partitions that share no channel with the others.
-use Rattle.std.proofs.Common.{◌≡◌, ◌≢◌, ℕ, ◌==◌, Bool, true, false, cond, [], ◌∷◌, ◌++◌, refl, sym, ap, ◌∙◌, subst, arith, append_assoc, append-nil}
-use Rattle.std.proofs.lemmas.Bool.Decides.{nat_tests}
+use Rattle.apex_groups.proofs.Common.{◌≡◌, ◌≢◌, ℕ, ◌==◌, Bool, true, false, cond, [], ◌∷◌, ◌++◌, refl, sym, ap, ◌∙◌, subst, arith, append_assoc, append-nil, nat_tests, Configuration, Entry, History, entries_of, IsClosed, entries_inside, independent}
 use Rattle.std.proofs.lemmas.List.Elements.{filter-append}
-use Rattle.apex_module.specs.Configuration.{Configuration}
-use Rattle.apex_ports.specs.declared.history.Entry.{Entry}
-use Rattle.apex_ports.specs.History.{History, entries_of}
-use Rattle.apex_ports.specs.Interference.{IsClosed, entries_inside}
 use Rattle.apex_ports.specs.Lawful.{IsLawful, IsLawfulEntry}
 use Rattle.apex_ports.specs.LawfulLaws.{along_lawful}
 use Rattle.apex_ports.specs.ReplyTable.{reply_to}
-use Rattle.apex_ports.proofs.Interference.{independent}
 use Rattle.apex_ports.proofs.LawfulSteps.{lawful_push}
 
 -- ---- entries inside

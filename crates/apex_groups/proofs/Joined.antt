@@ -1,11 +1,5 @@
 -- Orders of the logs of partitions that share no channel with the others.
-use Rattle.std.proofs.Common.{◌≡◌, ℕ, Bool, true, false, refl, sym, ◌∙◌}
-use Rattle.apex_module.specs.Configuration.{Configuration}
-use Rattle.apex_ports.specs.History.{entries_of}
-use Rattle.apex_ports.specs.Interference.{IsClosed, entries_inside}
-use Rattle.apex_ports.proofs.Interference.{independent}
-use Rattle.apex_log_orders.specs.LogOrders.{Logs, log_in, HasNoOrder}
-use Rattle.apex_groups.specs.Groups.{IsPart}
+use Rattle.apex_groups.proofs.Common.{◌≡◌, ℕ, Bool, true, false, refl, sym, ◌∙◌, Configuration, entries_of, IsClosed, entries_inside, independent, Logs, log_in, HasNoOrder, IsPart}
 use Rattle.apex_groups.proofs.Exchanged.{here_inside, none_outside}
 use Rattle.apex_groups.proofs.Inside.{entries_stay, entries_go}
 

@@ -1,3 +1,4 @@
+pub mod Common
 pub mod ChannelLemmas
 pub mod EndLemmas
 pub mod Exchanged

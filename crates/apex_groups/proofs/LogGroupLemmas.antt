@@ -1,21 +1,11 @@
 -- Groups searched one after the other.
-use Rattle.std.proofs.Common.{◌≡◌, ◌≢◌, ⊎_elim, ℕ, ◌+◌, ◌<◌, ◌≤◌, Bool, true, false, cond, List, [], ◌∷◌, ◌++◌, length, take, refl, sym, ap, ◌∙◌, subst, arith, append-nil}
-use Rattle.std.specs.List.{slice_get, filter}
-use Rattle.std.specs.Option.{option_to_list}
-use Rattle.std.proofs.lemmas.Bool.{cases_lt}
-use Rattle.std.proofs.lemmas.Bool.Decides.{nat_tests}
-use Rattle.std.proofs.lemmas.List.{take_all}
-use Rattle.apex_module.specs.Configuration.{Configuration}
-use Rattle.apex_ports.specs.History.{History, entries_of}
-use Rattle.apex_orders.proofs.Walks.{entries_of-append}
+use Rattle.apex_groups.proofs.Common.{◌≡◌, ◌≢◌, ⊎_elim, ℕ, ◌+◌, ◌<◌, ◌≤◌, Bool, true, false, cond, List, [], ◌∷◌, ◌++◌, length, take, refl, sym, ap, ◌∙◌, subst, arith, append-nil, slice_get, filter, option_to_list, cases_lt, nat_tests, take_all, Configuration, History, entries_of, entries_of-append, Logs, log_in, entries_at, AreApart, HasNone, IsPart, group_of, in_group, AreWhole, IsOfGroups}
 use Rattle.apex_log_orders.specs.declared.answer.CallPlace.{CallPlace}
-use Rattle.apex_log_orders.specs.LogOrders.{Logs, log_in, IsOrder, IsBeginning, entries_at}
+use Rattle.apex_log_orders.specs.LogOrders.{IsOrder, IsBeginning}
 use Rattle.apex_log_orders.proofs.Beginnings.{begins_nil, entries_at-append}
 use Rattle.apex_log_orders.proofs.Fronts.{order_begins}
-use Rattle.apex_groups.specs.Groups.{AreApart, HasNone, IsPart, group_of, in_group}
 use Rattle.apex_groups.proofs.Exchanged.{here_inside, no_list, none_outside}
 use Rattle.apex_groups.proofs.Inside.{all_inside, joined_lawful, none_inside}
-use Rattle.apex_groups.specs.LogParts.{AreWhole, IsOfGroups}
 
 -- ---- histories
 
@@ -40,12 +30,6 @@ module _ (config : Configuration) (logs : Logs) (groups : List ℕ) where
   module _ (group : ℕ) (h : History) (joined : IsOfGroups config logs groups group h) where
     abbrev pub inside : ℕ → Bool
     inside = in_group groups group
-
-    pub of_one_more : IsOfGroups config logs groups (group + 1) h
-    of_one_more = record { begins = joined.begins; others = λ p past. joined.others p (omega (arith, past)) }
-
-    pub whole_more : HasNone config groups group → AreWhole config logs groups group h → AreWhole config logs groups (group + 1) h
-    whole_more none whole p within few = whole p within (let apart : group_of groups p ≢ group = none p within in grind (arith, few, apart))
 
     module _ (apart : AreApart config groups) (part : Logs) (is : IsPart inside logs part) (more : History) (begins : IsBeginning config part more) where
       none_here : (p : ℕ) → inside p ≡ true → entries_of p h ≡ []

@@ -1,9 +1,5 @@
 -- The calls of an order.
-use Rattle.std.proofs.Common.{◌≡◌, ℕ, zero, suc, ◌≤◌, List, [], ◌∷◌, length, None, refl, arith}
-use Rattle.std.specs.Prelude.{slice_get}
-use Rattle.apex_module.specs.Configuration.{Configuration}
-use Rattle.apex_ports.specs.History.{History}
-use Rattle.apex_orders.specs.Orders.{Scripts, next_entries}
+use Rattle.apex_groups.proofs.Common.{◌≡◌, ℕ, zero, suc, ◌≤◌, List, [], ◌∷◌, length, None, refl, arith, slice_get, Configuration, History, Scripts, next_entries}
 
 none_past : {X : Type 0} (xs : List X) (p : ℕ) → length xs ≤ p → slice_get xs p ≡ None
 none_past [] p past = refl

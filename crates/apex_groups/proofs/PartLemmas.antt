@@ -1,30 +1,14 @@
 -- The scripts of the partitions inside lead to what all scripts lead to inside.
-use Rattle.std.proofs.Common.{◌≡◌, ⊎_elim, ℕ, ◌<◌, ◌≤◌, Bool, true, false, List, [], length, map, take, Ok, Err, Result, Option, refl, sym, ap, ◌∙◌, subst, arith}
-use Rattle.std.specs.Prelude.{IfOk, IfSome, IfNone}
-use Rattle.std.specs.List.{slice_get}
-use Rattle.std.proofs.lemmas.Bool.{cases_lt}
-use Rattle.std.proofs.lemmas.List.{take_all}
+use Rattle.apex_groups.proofs.Common.{◌≡◌, ⊎_elim, ℕ, ◌<◌, ◌≤◌, Bool, true, false, List, [], length, map, take, Ok, Err, Result, Option, refl, sym, ap, ◌∙◌, subst, arith, IfOk, IfSome, IfNone, slice_get, cases_lt, take_all, Configuration, IsConfiguration, Entry, History, entries_of, IsClosed, entries_inside, independent, IsPart, Asked, PossibleReply, Scripts, script_of, calls_of, IsBeginning, IsWay, AreEnds}
+use Rattle.apex_groups.proofs.Common.{AreReplies, CanBeAnswered, CanOccur, HasMorePointsWith, IsAnsweredBy, IsUndecided, unclocked, IsGood, IsAnswerOf, IsFoundOf}
 use Rattle.apex_types.specs.declared.call.Call.{Call}
 use Rattle.apex_types.specs.declared.moment.Moment.{Moment}
-use Rattle.apex_module.specs.Configuration.{Configuration, IsConfiguration}
-use Rattle.apex_ports.specs.declared.history.Entry.{Entry}
-use Rattle.apex_ports.specs.History.{History, entries_of}
-use Rattle.apex_ports.specs.Interference.{IsClosed, entries_inside}
-use Rattle.apex_ports.proofs.Interference.{independent}
-use Rattle.apex_groups.specs.Groups.{IsPart}
 use Rattle.apex_groups.proofs.Exchanged.{here_inside, no_list, none_outside}
 use Rattle.apex_groups.proofs.Inside.{all_inside, entries_go, entries_stay}
-use Rattle.apex_orders.specs.declared.asked.Asked.{Asked}
 use Rattle.apex_orders.specs.declared.orders_fault.OrdersFault.{OrdersFault}
 use Rattle.apex_orders.specs.declared.orders_fault.OrdersFault.TheVariants.{TooManyStates, OutOfMemory, Stopped}
-use Rattle.apex_orders.specs.declared.replies.PossibleReply.{PossibleReply}
-use Rattle.apex_orders.specs.Orders.{Scripts, script_of, calls_of, IsBeginning, IsWay}
-use Rattle.apex_orders.specs.Outcomes.{AreEnds, AreReplies, CanBeAnswered, CanOccur, HasMorePointsWith, IsAnsweredBy, IsUndecided}
 use Rattle.apex_orders.specs.declared.outcomes.Outcomes.{Outcomes}
-use Rattle.apex_orders.proofs.ClockLemmas.{unclocked}
 use Rattle.apex_orders.proofs.Completing.{answered_on, begins_of, finish}
-use Rattle.apex_orders.proofs.Walks.{IsGood}
-use Rattle.apex_groups.specs.ScriptParts.{IsAnswerOf, IsFoundOf}
 use Rattle.apex_groups.proofs.Lists.{nothing_mapped}
 
 abbrev timed_of : Entry → Moment × Call

@@ -1,14 +1,9 @@
 -- The question about one reply.
-use Rattle.std.proofs.Common.{◌≡◌, ℕ, Bool, List, Err, refl, sym, ◌∙◌, subst}
+use Rattle.apex_groups.proofs.Common.{◌≡◌, ℕ, Bool, List, Err, refl, sym, ◌∙◌, subst, Configuration, Asked, PossibleReply, Scripts, CanBeAnsweredWith, CanOccurWith, IsAnsweredByWith, IsGivenByWith, IsUndecidedWith}
 use Rattle.apex_types.specs.declared.reply.Reply.{Reply}
-use Rattle.apex_module.specs.Configuration.{Configuration}
 use Rattle.apex_orders.specs.declared.asked.Admitted.TheVariants as admitted
-use Rattle.apex_orders.specs.declared.asked.Asked.{Asked}
 use Rattle.apex_orders.specs.declared.orders_fault.OrdersFault.{OrdersFault}
 use Rattle.apex_orders.specs.declared.orders_fault.OrdersFault.TheVariants.{TooManyStates, OutOfMemory, Stopped}
-use Rattle.apex_orders.specs.declared.replies.PossibleReply.{PossibleReply}
-use Rattle.apex_orders.specs.Orders.{Scripts}
-use Rattle.apex_orders.specs.Outcomes.{CanBeAnsweredWith, CanOccurWith, IsAnsweredByWith, IsGivenByWith, IsUndecidedWith}
 
 -- whether the call gets this reply
 abbrev pub asked_for : PossibleReply → Reply → Asked

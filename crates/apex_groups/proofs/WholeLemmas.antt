@@ -1,27 +1,12 @@
 -- Orders of the calls inside, extended to orders of all calls.
-use Rattle.std.proofs.Common.{◌≡◌, ◌⊎◌, inl, inr, ⊎_elim, ℕ, zero, suc, ◌+◌, ◌<◌, ◌≤◌, Bool, true, false, cond, List, [], ◌∷◌, ◌++◌, length, refl, sym, ap, ◌∙◌, subst, arith, append-nil, length-append}
-use Rattle.std.specs.Prelude.{replicate}
-use Rattle.std.specs.List.{slice_get, filter}
-use Rattle.std.proofs.lemmas.Bool.{cases_eq}
+use Rattle.apex_groups.proofs.Common.{◌≡◌, ◌⊎◌, inl, inr, ⊎_elim, ℕ, zero, suc, ◌+◌, ◌<◌, ◌≤◌, Bool, true, false, cond, List, [], ◌∷◌, ◌++◌, length, refl, sym, ap, ◌∙◌, subst, arith, append-nil, length-append, replicate, slice_get, filter, cases_eq, Configuration, IsConfiguration, Entry, History, entries_of, entries_inside, IsPart, Asked, PossibleReply, Scripts, script_of, calls_of, IsBeginning, IsOrder, IsWay}
+use Rattle.apex_groups.proofs.Common.{entries_for, next_entries, continued, history_of, times, EndsWith, IsAnsweredBy, IsGivenBy, Has, unclocked, IsDone, IsNext, answered, calls_count, calls_of-append, continued-append, good_walk, next_cases, one_longer, own_entry, calls_outside, made_whole}
 use Rattle.std.proofs.lemmas.List.Elements.{filter-append}
 use Rattle.apex_types.specs.declared.call.Call.{Call}
 use Rattle.apex_types.specs.declared.moment.Moment.{Moment}
-use Rattle.apex_module.specs.Configuration.{Configuration, IsConfiguration}
-use Rattle.apex_ports.specs.declared.history.Entry.{Entry}
-use Rattle.apex_ports.specs.History.{History, entries_of}
-use Rattle.apex_ports.specs.Interference.{entries_inside}
-use Rattle.apex_groups.specs.Groups.{IsPart}
 use Rattle.apex_groups.proofs.Exchanged.{here_inside, none_outside}
-use Rattle.apex_orders.specs.declared.asked.Asked.{Asked}
-use Rattle.apex_orders.specs.declared.replies.PossibleReply.{PossibleReply}
-use Rattle.apex_orders.specs.Orders.{Scripts, script_of, calls_of, IsBeginning, IsOrder, IsWay, entries_for, next_entries, continued, history_of, times}
-use Rattle.apex_orders.specs.Outcomes.{EndsWith, IsAnsweredBy, IsGivenBy}
-use Rattle.apex_orders.specs.Lists.{Has}
-use Rattle.apex_orders.proofs.ClockLemmas.{unclocked}
 use Rattle.apex_orders.proofs.Completing.{IsAnswered, grows, way_of}
 use Rattle.apex_orders.proofs.Lists.{none_past}
-use Rattle.apex_orders.proofs.Walks.{IsDone, IsNext, answered, calls_count, calls_of-append, continued-append, good_walk, next_cases, one_longer, own_entry}
-use Rattle.apex_groups.specs.ScriptParts.{calls_outside, made_whole}
 use Rattle.apex_groups.proofs.Lists.{has_either, has_filtered, has_none, has_repeated, times_append, times_more, times_other, times_repeated}
 use Rattle.apex_groups.proofs.PartLemmas.{good_part, part_begins, part_inside}
 

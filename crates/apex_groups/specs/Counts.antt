@@ -1,12 +1,6 @@
 -- Orders of all calls that show each channel's counts.
-use Rattle.std.specs.Prelude.{ℕ, Bool, ◌≡◌, ◌<◌, List, length}
-use Rattle.apex_module.specs.Configuration.{Configuration}
-use Rattle.apex_ports.specs.Channels.{waiting_on}
-use Rattle.apex_ports.specs.History.{History}
+use Rattle.apex_groups.specs.Prelude.{ℕ, Bool, ◌≡◌, ◌<◌, List, length, Configuration, waiting_on, History, Scripts, IsWay, history_of, HasSameCounts, Has}
 use Rattle.apex_orders.specs.Clock.{IsClocked}
-use Rattle.apex_orders.specs.Orders.{Scripts, IsWay, history_of}
-use Rattle.apex_orders.specs.Points.{HasSameCounts}
-use Rattle.apex_orders.specs.Lists.{Has}
 
 -- the channel has the same counts of messages after both, and the same number wait
 pub record HasSameTotals (config : Configuration) (history other : History) (c : ℕ) : Type 0 where

@@ -1,12 +1,7 @@
 -- Questions about what a channel counts after all calls.
-use Rattle.std.specs.Prelude.{ℕ, Bool, ◌≡◌, ◌<◌, ◌≤◌, List, length, slice_get, Option, Some, None}
-use Rattle.apex_module.specs.Configuration.{Configuration}
-use Rattle.apex_ports.specs.Channels.{accepted_on, received_on, cleared_on, waiting_on}
+use Rattle.apex_groups.specs.Prelude.{ℕ, Bool, ◌≡◌, ◌<◌, ◌≤◌, List, length, slice_get, Option, Some, None, Configuration, accepted_on, received_on, cleared_on, waiting_on, History, Has, Scripts, IsWay, history_of}
 use Rattle.apex_ports.specs.Counts.{count_of}
-use Rattle.apex_ports.specs.History.{History}
 use Rattle.apex_orders.specs.Clock.{IsClocked}
-use Rattle.apex_orders.specs.Lists.{Has}
-use Rattle.apex_orders.specs.Orders.{Scripts, IsWay, history_of}
 use Rattle.apex_groups.specs.declared.asked_end.AskedEnd.{AskedEnd}
 use Rattle.apex_groups.specs.declared.asked_end.Comparison.{Comparison}
 use Rattle.apex_groups.specs.declared.asked_end.Comparison.TheVariants as comparison

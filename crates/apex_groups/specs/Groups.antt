@@ -1,8 +1,5 @@
 -- Groups of partitions that share no channel with the others, and lists with an item for each partition.
-use Rattle.std.specs.Prelude.{ℕ, ◌≡◌, ◌≢◌, ◌<◌, ◌==◌, if◌then◌else◌, Bool, List, [], length, slice_get, unwrap_or, Some}
-use Rattle.apex_module.specs.Configuration.{Configuration, port_of}
-use Rattle.apex_module.specs.declared.port.Port.{Port}
-use Rattle.apex_ports.specs.Interference.{IsClosed}
+use Rattle.apex_groups.specs.Prelude.{ℕ, ◌≡◌, ◌≢◌, ◌<◌, ◌==◌, if◌then◌else◌, Bool, List, [], length, slice_get, unwrap_or, Some, Configuration, port_of, Port, IsClosed}
 
 -- ---- groups
 

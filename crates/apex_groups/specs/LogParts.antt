@@ -1,9 +1,7 @@
 -- What is found for the logs of each group of partitions.
-use Rattle.std.specs.Prelude.{ℕ, ◌≡◌, ◌≤◌, ◌<◌, Bool, List, [], length}
-use Rattle.apex_module.specs.Configuration.{Configuration}
-use Rattle.apex_ports.specs.History.{History, entries_of}
+use Rattle.apex_groups.specs.Prelude.{ℕ, ◌≡◌, ◌≤◌, ◌<◌, Bool, List, [], length, Configuration, History, entries_of, Logs, log_in, IsAnswer}
 use Rattle.apex_log_orders.specs.declared.answer.Answer.{Answer}
-use Rattle.apex_log_orders.specs.LogOrders.{Logs, log_in, IsBeginning, IsAnswer}
+use Rattle.apex_log_orders.specs.LogOrders.{IsBeginning}
 use Rattle.apex_groups.specs.Groups.{IsPart, group_of}
 
 -- ---- the logs of one group

@@ -1,16 +1,7 @@
 -- What is found for the scripts of each group of partitions.
-use Rattle.std.specs.Prelude.{ℕ, ◌<◌, ◌↔◌, ◌+◌, if◌then◌else◌, Bool, List, [], ◌∷◌, ◌++◌, length, filter, replicate, Option, IfSome, IfNone}
-use Rattle.apex_module.specs.Configuration.{Configuration}
-use Rattle.apex_ports.specs.History.{History}
-use Rattle.apex_ports.specs.Interference.{entries_inside}
+use Rattle.apex_groups.specs.Prelude.{ℕ, ◌<◌, ◌↔◌, ◌+◌, if◌then◌else◌, Bool, List, [], ◌∷◌, ◌++◌, length, filter, replicate, Option, IfSome, IfNone, Configuration, History, entries_inside, Scripts, IsWay, history_of, AreEnds, AreReplies, CanBeAnswered, CanOccur, IsAnsweredBy, IsSamePoint, Has, Asked, PossibleReply}
 use Rattle.apex_groups.specs.Groups.{IsPart, group_of, in_group}
-use Rattle.apex_orders.specs.Orders.{Scripts, IsWay, history_of}
-use Rattle.apex_orders.specs.Outcomes.{AreEnds, AreReplies, CanBeAnswered, CanOccur, IsAnsweredBy}
-use Rattle.apex_orders.specs.Points.{IsSamePoint}
-use Rattle.apex_orders.specs.Lists.{Has}
-use Rattle.apex_orders.specs.declared.asked.Asked.{Asked}
 use Rattle.apex_orders.specs.declared.outcomes.Outcomes.{Outcomes}
-use Rattle.apex_orders.specs.declared.replies.PossibleReply.{PossibleReply}
 
 -- ---- orders
 

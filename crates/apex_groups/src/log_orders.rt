@@ -1,6 +1,5 @@
 //! The search for an order, group by group.
-ghost use Rattle.std.specs.Prelude.{◌≡◌, length, IfOk};
-ghost use Rattle.apex_log_orders.specs.LogOrders.{IsAnswer};
+ghost use Rattle.apex_groups.specs.Prelude.{◌≡◌, length, IfOk, IsAnswer};
 ghost use Rattle.apex_groups.specs.Groups.{AreApart};
 
 use crate::groups::Groups;

@@ -1,7 +1,6 @@
 //! All that can happen to scripts, group by group.
-ghost use Rattle.std.specs.Prelude.{◌≡◌, ◌++◌, false, length, map, IfOk, OnOk};
+ghost use Rattle.apex_groups.specs.Prelude.{◌≡◌, ◌++◌, false, length, map, IfOk, OnOk, AreReplies, AreRepliesWith, IsUndecided, IsUndecidedWith};
 ghost use Rattle.apex_groups.specs.Groups.{AreApart, in_group};
-ghost use Rattle.apex_orders.specs.Outcomes.{AreReplies, AreRepliesWith, IsUndecided, IsUndecidedWith};
 ghost use Rattle.apex_groups.specs.Counts.{ShowAllCounts};
 ghost use Rattle.apex_groups.specs.ScriptParts.{made_whole};
 
@@ -93,6 +92,7 @@ fn have_calls(scripts: &[Script]) -> bool {
 }
 
 /// Searches all partitions together.
+#[tactic(auto, using(crate::proofs::GroupSteps::together))]
 fn outcomes_together<P: Progress>(
     alloc: Global,
     config: &Config,

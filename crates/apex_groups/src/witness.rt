@@ -1,7 +1,6 @@
 //! An order in which a call gets a reply, searched for in the group of its partition.
-ghost use Rattle.std.specs.Prelude.{◌≡◌, length, IfOk, IfSome, IfNone};
+ghost use Rattle.apex_groups.specs.Prelude.{◌≡◌, length, IfOk, IfSome, IfNone, CanBeAnswered, CanBeAnsweredWith, CanOccurWith, IsAnsweredBy, IsAnsweredByWith, IsGivenByWith, IsUndecided, IsUndecidedWith};
 ghost use Rattle.apex_groups.specs.Groups.{AreApart};
-ghost use Rattle.apex_orders.specs.Outcomes.{CanBeAnswered, CanBeAnsweredWith, CanOccurWith, IsAnsweredBy, IsAnsweredByWith, IsGivenByWith, IsUndecided, IsUndecidedWith};
 
 use crate::ends::calls_inside;
 use crate::groups::Groups;

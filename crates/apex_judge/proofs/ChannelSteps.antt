@@ -1,31 +1,7 @@
 -- What an entry of a log does to the channels.
-use Rattle.std.proofs.Common.{◌≡◌, ◌≢◌, ℕ, ◌==◌, ◌≤◌, ◌^◌, ◌-◌, ◌+◌, Bool, true, false, ◌&&◌, ◌||◌, if◌then◌else◌, List, [], ◌∷◌, ◌++◌, length, set, position, Option, Some, None, refl, sym, ap, ◌∙◌, arith, append-nil}
-use Rattle.std.specs.Option.{option_to_list}
-use Rattle.std.specs.List.{slice_get}
-use Rattle.std.specs.Str.{bytes_eq}
-use Rattle.std.proofs.lemmas.Bool.Decides.{nat_tests}
-use Rattle.std.proofs.lemmas.List.{length-drop}
-use Rattle.apex_types.specs.declared.call.Call.{Call}
-use Rattle.apex_types.specs.declared.call.Call.TheVariants.{SendQueuing, ReceiveQueuing, ClearQueuing, WriteSampling}
-use Rattle.apex_types.specs.declared.moment.Moment.{Moment}
-use Rattle.apex_types.specs.declared.reply.Reply.{Reply}
-use Rattle.apex_types.specs.declared.reply.Reply.TheVariants.{Code}
+use Rattle.apex_judge.proofs.Common.{◌≡◌, ◌≢◌, ℕ, ◌==◌, ◌≤◌, ◌^◌, ◌-◌, ◌+◌, Bool, true, false, ◌&&◌, ◌||◌, if◌then◌else◌, List, [], ◌∷◌, ◌++◌, length, set, position, Option, Some, None, refl, sym, ap, ◌∙◌, arith, append-nil, option_to_list, slice_get, bytes_eq, nat_tests, length-drop, Call, SendQueuing, ReceiveQueuing, ClearQueuing, WriteSampling, Moment, Reply, Code, Configuration, port_of, Entry, entry_of}
+use Rattle.apex_judge.proofs.Common.{EachAt, is_code_no_error, is_source_of, is_destination_of, message_sent, message_accepted, message_in, message_received, message_written, sample_at, sample_written, none_or_none, and_false, each_at_set, ChannelState, Subject, IsChannelShown, ChannelsStay, Picture, sample_after, with_effects, with_doubt, is_code_not_available, empties, behind, left_after, waiting_after}
 use Rattle.apex_types.specs.declared.sample.Sample.{Sample}
-use Rattle.apex_module.specs.Configuration.{Configuration, port_of}
-use Rattle.apex_ports.specs.declared.history.Entry.{Entry}
-use Rattle.apex_ports.specs.History.{entry_of}
-use Rattle.apex_ports.specs.Kept.{EachAt}
-use Rattle.apex_ports.specs.Modes.{is_code_no_error}
-use Rattle.apex_ports.specs.Ports.{is_source_of, is_destination_of}
-use Rattle.apex_ports.specs.Channels.{message_sent, message_accepted, message_in, message_received, message_written, sample_at, sample_written}
-use Rattle.apex_ports.proofs.Stays.{none_or_none, and_false, each_at_set}
-use Rattle.apex_judge.specs.declared.channel.ChannelState.{ChannelState}
-use Rattle.apex_judge.specs.declared.subject.Subject.{Subject}
-use Rattle.apex_judge.specs.Kept.{IsChannelShown, ChannelsStay}
-use Rattle.apex_judge.specs.Picture.{Picture}
-use Rattle.apex_judge.specs.Steps.{sample_after, with_effects}
-use Rattle.apex_judge.specs.Subjects.{with_doubt}
-use Rattle.apex_judge.specs.Waiting.{is_code_not_available, empties, behind, left_after, waiting_after}
 
 -- ---- entries that leave a channel alone
 

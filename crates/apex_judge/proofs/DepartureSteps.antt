@@ -1,12 +1,6 @@
 -- The departures of a log, entry by entry.
-use Rattle.std.proofs.Common.{◌≡◌, ℕ, zero, suc, List, [], ◌∷◌, ◌++◌, length, take, drop, Option, Some, refl, sym, ap, ◌∙◌, append_assoc}
-use Rattle.std.specs.List.{slice_get}
-use Rattle.apex_module.specs.Configuration.{Configuration}
-use Rattle.apex_ports.specs.declared.history.Entry.{Entry}
-use Rattle.apex_ports.specs.History.{History}
+use Rattle.apex_judge.proofs.Common.{◌≡◌, ℕ, zero, suc, List, [], ◌∷◌, ◌++◌, length, take, drop, Option, Some, refl, sym, ap, ◌∙◌, append_assoc, slice_get, Configuration, Entry, History, Expected, instead_of, departure_at, departures_after, departures_of}
 use Rattle.apex_judge.specs.declared.departure.Departure.{Departure}
-use Rattle.apex_judge.specs.declared.departure.Expected.{Expected}
-use Rattle.apex_judge.specs.Departures.{instead_of, departure_at, departures_after, departures_of}
 
 -- a log is the entries before an index, the entry there, and the rest
 pub parts_at : (log : History) (k : ℕ) (e : Entry) → slice_get log k ≡ Some e → (drop k log ≡ e ∷ drop (suc k) log) × (take (suc k) log ≡ take k log ++ e ∷ []) × (length (take k log) ≡ k)

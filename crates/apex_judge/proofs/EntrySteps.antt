@@ -1,24 +1,8 @@
 -- What one entry more changes in the picture that a log gives, as a judge finds it.
-use Rattle.std.proofs.Common.{◌≡◌, ℕ, Bool, true, false, ◌||◌, if◌then◌else◌, List, [], ◌∷◌, ◌++◌, position, is_some, option_map, Option, Some, None, refl, sym, ap, ◌∙◌, subst}
-use Rattle.std.specs.Str.{bytes_eq}
-use Rattle.apex_types.specs.declared.call.Call.{Call}
+use Rattle.apex_judge.proofs.Common.{◌≡◌, ℕ, Bool, true, false, ◌||◌, if◌then◌else◌, List, [], ◌∷◌, ◌++◌, position, is_some, option_map, Option, Some, None, refl, sym, ap, ◌∙◌, subst, bytes_eq, Call, Moment, Reply, Received, Configuration, port_of, ports_of, id_named, is_queuing_port, Port as ConfiguredPort, Entry, History, entry_of, IsIdentifier, with_id, queuing_only, sampling_only, queuing_of_id, sampling_of_id}
+use Rattle.apex_judge.proofs.Common.{is_identifier, PartitionState, IsPartitionShown, doubted_of, Picture, waiting_at, reply_in, agrees, with_effects, is_among, is_believed, when_departing, judged, picture_of, id_in, port_about, is_of_mode, subject_at, subject_of, is_doubted, with_doubt}
 use Rattle.apex_types.specs.declared.call.Call.TheVariants as calls
-use Rattle.apex_types.specs.declared.moment.Moment.{Moment}
-use Rattle.apex_types.specs.declared.reply.Reply.{Reply}
-use Rattle.apex_types.specs.declared.reply.Reply.TheVariants.{Received}
-use Rattle.apex_module.specs.Configuration.{Configuration, port_of, ports_of, id_named, is_queuing_port}
-use Rattle.apex_module.specs.declared.port.Port.{Port as ConfiguredPort}
-use Rattle.apex_ports.specs.declared.history.Entry.{Entry}
-use Rattle.apex_ports.specs.History.{History, entry_of}
-use Rattle.apex_ports.specs.Ports.{IsIdentifier, with_id, queuing_only, sampling_only, queuing_of_id, sampling_of_id}
-use Rattle.apex_ports.proofs.Lookups.{is_identifier}
-use Rattle.apex_judge.specs.declared.partition.PartitionState.{PartitionState}
 use Rattle.apex_judge.specs.declared.subject.Subject.TheVariants.{Mode}
-use Rattle.apex_judge.specs.Kept.{IsPartitionShown, doubted_of}
-use Rattle.apex_judge.specs.Picture.{Picture, waiting_at, reply_in}
-use Rattle.apex_judge.specs.Replies.{agrees}
-use Rattle.apex_judge.specs.Steps.{with_effects, is_among, is_believed, when_departing, judged, picture_of}
-use Rattle.apex_judge.specs.Subjects.{id_in, port_about, is_of_mode, subject_at, subject_of, is_doubted, with_doubt}
 use Rattle.apex_judge.proofs.PictureLaws.{picture_of-append}
 use Rattle.apex_judge.proofs.ReplyTests.{agrees_is}
 

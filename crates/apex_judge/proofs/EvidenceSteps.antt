@@ -1,19 +1,5 @@
 -- What the reply of an entry that is believed shows of the channels.
-use Rattle.std.proofs.Common.{◌≡◌, ◌≢◌, ℕ, ◌==◌, false, if◌then◌else◌, List, length, set, Some, refl, sym, ap, ◌∙◌, arith}
-use Rattle.std.specs.List.{slice_get}
-use Rattle.apex_types.specs.declared.call.Call.{Call}
-use Rattle.apex_types.specs.declared.call.Call.TheVariants.{ReadSampling}
-use Rattle.apex_types.specs.declared.moment.Moment.{Moment}
-use Rattle.apex_types.specs.declared.reply.Reply.{Reply}
-use Rattle.apex_module.specs.Configuration.{Configuration, port_of}
-use Rattle.apex_ports.specs.History.{entry_of}
-use Rattle.apex_ports.specs.Kept.{EachAt}
-use Rattle.apex_ports.specs.Ports.{is_destination_of}
-use Rattle.apex_ports.proofs.Stays.{each_at_set}
-use Rattle.apex_judge.specs.declared.channel.ChannelState.{ChannelState}
-use Rattle.apex_judge.specs.Evidence.{sample_shown, reads_from, with_evidence}
-use Rattle.apex_judge.specs.Kept.{IsChannelShown}
-use Rattle.apex_judge.specs.Picture.{Picture}
+use Rattle.apex_judge.proofs.Common.{◌≡◌, ◌≢◌, ℕ, ◌==◌, false, if◌then◌else◌, List, length, set, Some, refl, sym, ap, ◌∙◌, arith, slice_get, Call, ReadSampling, Moment, Reply, Configuration, port_of, entry_of, EachAt, is_destination_of, each_at_set, ChannelState, sample_shown, reads_from, with_evidence, IsChannelShown, Picture}
 use Rattle.apex_judge.proofs.ChannelSteps.{same_number, other_number}
 
 -- a call that reads from no channel

@@ -1,24 +1,11 @@
 -- A log without departures is lawful, and the first departure is the first reply that isn't the table's.
-use Rattle.std.proofs.Common.{◌≡◌, ◌≢◌, ℕ, suc, ◌+◌, ◌<◌, Bool, true, false, if◌then◌else◌, List, [], ◌∷◌, ◌++◌, length, take, Some, None, refl, sym, ap, ◌∙◌, subst, arith, append_assoc, append-nil, length-append}
-use Rattle.std.specs.List.{slice_get}
-use Rattle.apex_types.specs.declared.call.Call.{Call}
-use Rattle.apex_types.specs.declared.moment.Moment.{Moment}
-use Rattle.apex_module.specs.Configuration.{Configuration}
-use Rattle.apex_ports.specs.declared.history.Entry.{Entry}
-use Rattle.apex_ports.specs.History.{History}
+use Rattle.apex_judge.proofs.Common.{◌≡◌, ◌≢◌, ℕ, suc, ◌+◌, ◌<◌, Bool, true, false, if◌then◌else◌, List, [], ◌∷◌, ◌++◌, length, take, Some, None, refl, sym, ap, ◌∙◌, subst, arith, append_assoc, append-nil, length-append, slice_get, Call, Moment, Configuration, Entry, History, row_of, reply_of, reply_to, Seen, IsSound, Expected, expected_of, instead_of, departure_at, departures_after, agrees, reply_shown}
+use Rattle.apex_judge.proofs.Common.{picture_of}
 use Rattle.apex_ports.specs.Lawful.{IsLawful, IsLawfulEntry}
 use Rattle.apex_ports.specs.LawfulLaws.{AreLawfulAfter}
-use Rattle.apex_ports.specs.ReplyTable.{row_of, reply_of, reply_to}
-use Rattle.apex_ports.specs.Seen.{Seen}
-use Rattle.apex_ports.specs.Sound.{IsSound}
 use Rattle.apex_ports.proofs.LawfulSteps.{sound-push, sound-nil}
 use Rattle.apex_judge.specs.declared.departure.Departure.{Departure}
-use Rattle.apex_judge.specs.declared.departure.Expected.{Expected}
 use Rattle.apex_judge.specs.DepartureLaws.{ShowsWhatIsSeen, HasPartitions, NoDepartureIsLawful, FirstDeparture}
-use Rattle.apex_judge.specs.Departures.{expected_of, instead_of, departure_at, departures_after}
-use Rattle.apex_judge.specs.Replies.{agrees}
-use Rattle.apex_judge.specs.Shown.{reply_shown}
-use Rattle.apex_judge.specs.Steps.{picture_of}
 use Rattle.apex_judge.proofs.ReplyTests.{agrees_is, agrees_from}
 use Rattle.apex_judge.proofs.PictureLaws.{picture_seen, lawful_is_true}
 

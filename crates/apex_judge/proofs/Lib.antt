@@ -1,3 +1,4 @@
+pub mod Common
 pub mod ChannelSteps
 pub mod Lookups
 pub mod Results

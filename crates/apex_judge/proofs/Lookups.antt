@@ -1,17 +1,7 @@
 -- What a state that is shown says at one index.
-use Rattle.std.proofs.Common.{◌≡◌, ◌≢◌, ℕ, ◌<◌, ◌≤◌, ◌-◌, ◌==◌, Bool, true, false, if◌then◌else◌, List, ◌++◌, take, set, length, length-set, get_or, Option, Some, None, refl, sym, ap, ◌∙◌, arith}
-use Rattle.std.specs.List.{slice_get}
+use Rattle.apex_judge.proofs.Common.{◌≡◌, ◌≢◌, ℕ, ◌<◌, ◌≤◌, ◌-◌, ◌==◌, Bool, true, false, if◌then◌else◌, List, ◌++◌, take, set, length, length-set, get_or, Option, Some, None, refl, sym, ap, ◌∙◌, arith, slice_get, nat_tests, get_or-set_same, get_or-set_other, slice_get-get_or, Configuration, at_index, PartitionState, ChannelState, Picture, AreShown, IsPartitionShown, IsChannelShown, state_at}
 use Rattle.std.proofs.Math.Seq.{take-append_seam}
-use Rattle.std.proofs.lemmas.Bool.Decides.{nat_tests}
-use Rattle.std.proofs.lemmas.List.{get_or-set_same, get_or-set_other}
-use Rattle.std.proofs.lemmas.Option.{slice_get-get_or}
-use Rattle.apex_module.specs.Configuration.{Configuration}
-use Rattle.apex_ports.proofs.Lookups.{at_index}
 use Rattle.apex_judge.specs.declared.partition.PortState.{PortState}
-use Rattle.apex_judge.specs.declared.partition.PartitionState.{PartitionState}
-use Rattle.apex_judge.specs.declared.channel.ChannelState.{ChannelState}
-use Rattle.apex_judge.specs.Picture.{Picture}
-use Rattle.apex_judge.specs.Kept.{AreShown, IsPartitionShown, IsChannelShown, state_at}
 
 -- a list, of which a longer one takes as many
 pub whole : {X : Type 0} (new rest : List X) (n : ℕ) → length new ≡ n → take n (new ++ rest) ≡ new

@@ -1,12 +1,8 @@
 -- What was replaced in an entry, put back, is the entry.
-use Rattle.std.proofs.Common.{◌≡◌, ℕ, Bool, true, false, Some, None, refl}
+use Rattle.apex_judge.proofs.Common.{◌≡◌, ℕ, Bool, true, false, Some, None, refl, Call, Reply, Configuration, Entry}
 use Rattle.std.specs.Prelude.{if◌then◌else◌}
-use Rattle.apex_types.specs.declared.call.Call.{Call}
 use Rattle.apex_types.specs.declared.call.Call.TheVariants as calls
-use Rattle.apex_types.specs.declared.reply.Reply.{Reply}
 use Rattle.apex_types.specs.declared.reply.Reply.TheVariants as replies
-use Rattle.apex_module.specs.Configuration.{Configuration}
-use Rattle.apex_ports.specs.declared.history.Entry.{Entry}
 use Rattle.apex_judge.specs.declared.own_ids.Replaced.{Replaced}
 use Rattle.apex_judge.specs.OwnIds.{Own, id_asked, asked_of, id_replied, replied_of, ours_of, given_of, port_asked, in_ours, entry_in_ours, replaced_by, replaced_in, restored, known_in}
 

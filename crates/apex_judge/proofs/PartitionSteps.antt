@@ -1,26 +1,7 @@
 -- What an entry of a log does to a partition.
-use Rattle.std.proofs.Common.{◌≡◌, ◌≢◌, ℕ, ◌==◌, Bool, false, ◌&&◌, ◌||◌, not, if◌then◌else◌, List, set, refl, sym, ap, ◌∙◌, arith}
-use Rattle.std.specs.Option.{unwrap_or}
-use Rattle.std.proofs.lemmas.Bool.Decides.{nat_tests}
-use Rattle.apex_types.specs.declared.call.Call.{Call}
-use Rattle.apex_types.specs.declared.call.Call.TheVariants.{CreateSampling, CreateQueuing, ReadSampling, SetMode}
-use Rattle.apex_types.specs.declared.moment.Moment.{Moment}
-use Rattle.apex_types.specs.declared.reply.Reply.{Reply}
-use Rattle.apex_types.specs.declared.validity.Validity.TheVariants.{Invalid}
-use Rattle.apex_module.specs.Configuration.{Configuration}
-use Rattle.apex_ports.specs.declared.history.Entry.{Entry}
-use Rattle.apex_ports.specs.History.{entry_of}
-use Rattle.apex_ports.specs.Kept.{EachAt}
-use Rattle.apex_ports.specs.Modes.{is_restart}
+use Rattle.apex_judge.proofs.Common.{◌≡◌, ◌≢◌, ℕ, ◌==◌, Bool, false, ◌&&◌, ◌||◌, not, if◌then◌else◌, List, set, refl, sym, ap, ◌∙◌, arith, unwrap_or, nat_tests, Call, CreateSampling, CreateQueuing, ReadSampling, SetMode, Moment, Reply, Invalid, Configuration, Entry, entry_of, EachAt, is_restart, LeavesPartition, leaves_partition, or_not, and_false, each_at_set, PartitionState, Subject, mode_shown, created_shown}
+use Rattle.apex_judge.proofs.Common.{last_shown, with_evidence, IsPartitionShown, Picture, with_effects, is_at, port_about, is_mode, is_port, with_doubt}
 use Rattle.apex_ports.proofs.PartitionSteps.{leaves_others}
-use Rattle.apex_ports.proofs.Stays.{LeavesPartition, leaves_partition, or_not, and_false, each_at_set}
-use Rattle.apex_judge.specs.declared.partition.PartitionState.{PartitionState}
-use Rattle.apex_judge.specs.declared.subject.Subject.{Subject}
-use Rattle.apex_judge.specs.Evidence.{mode_shown, created_shown, last_shown, with_evidence}
-use Rattle.apex_judge.specs.Kept.{IsPartitionShown}
-use Rattle.apex_judge.specs.Picture.{Picture}
-use Rattle.apex_judge.specs.Steps.{with_effects}
-use Rattle.apex_judge.specs.Subjects.{is_at, port_about, is_mode, is_port, with_doubt}
 
 pub partition_stays : {A : Type 0} (config : Configuration) (picture : Picture) (e : Entry) (p : ℕ) (state : PartitionState A) → IsPartitionShown config picture p state → LeavesPartition p e → IsPartitionShown config (with_effects config e picture) p state
 partition_stays config picture e p state was left = record {

@@ -1,34 +1,14 @@
 -- Over a lawful log the picture is what the definitions filter out of the log.
-use Rattle.std.proofs.Common.{◌≡◌, ℕ, ◌||◌, ◌&&◌, Bool, true, false, not, if◌then◌else◌, List, [], ◌∷◌, ◌++◌, Option, Some, None, refl, sym, ap, ◌∙◌, subst}
-use Rattle.std.specs.Option.{unwrap_or}
+use Rattle.apex_judge.proofs.Common.{◌≡◌, ℕ, ◌||◌, ◌&&◌, Bool, true, false, not, if◌then◌else◌, List, [], ◌∷◌, ◌++◌, Option, Some, None, refl, sym, ap, ◌∙◌, subst, unwrap_or, Call, Moment, Invalid, Configuration, port_of, Port, Entry, History, mode_of, mode_set, restarts, is_created, creates, waiting_on, last_write_on, last_validity_of, validity_read, sample_written, row_of, reply_of, reply_to, Seen, seen}
+use Rattle.apex_judge.proofs.Common.{waiting_of, sample_of, IsSound, sample_stays, sample_changes, Subject, Picture, opening, waiting_at, seen_in, reply_in, agrees, waiting_shown, sample_after, with_effects, judged, picture_after, picture_of, subject_of, with_doubt, waiting_after}
 use Rattle.std.proofs.lemmas.List.Sums.{fold-append}
-use Rattle.apex_types.specs.declared.call.Call.{Call}
 use Rattle.apex_types.specs.declared.mode.Mode.{Mode}
-use Rattle.apex_types.specs.declared.moment.Moment.{Moment}
 use Rattle.apex_types.specs.declared.sample.Sample.{Sample}
 use Rattle.apex_types.specs.declared.validity.Validity.{Validity}
-use Rattle.apex_types.specs.declared.validity.Validity.TheVariants.{Invalid}
-use Rattle.apex_module.specs.Configuration.{Configuration, port_of}
-use Rattle.apex_module.specs.declared.port.Port.{Port}
-use Rattle.apex_ports.specs.declared.history.Entry.{Entry}
-use Rattle.apex_ports.specs.History.{History}
 use Rattle.apex_ports.specs.LawfulLaws.{along_lawful}
-use Rattle.apex_ports.specs.Modes.{mode_of, mode_set, restarts}
-use Rattle.apex_ports.specs.Ports.{is_created, creates}
-use Rattle.apex_ports.specs.Channels.{waiting_on, last_write_on, last_validity_of, validity_read, sample_written}
-use Rattle.apex_ports.specs.ReplyTable.{row_of, reply_of, reply_to}
-use Rattle.apex_ports.specs.Seen.{Seen, seen, waiting_of, sample_of}
-use Rattle.apex_ports.specs.Sound.{IsSound}
 use Rattle.apex_ports.proofs.Appends.{mode_of-append, is_created-append, last_validity_of-append}
 use Rattle.apex_ports.proofs.LawfulSteps.{sound-push, sound-nil}
-use Rattle.apex_ports.proofs.Stays.{sample_stays, sample_changes}
-use Rattle.apex_judge.specs.declared.subject.Subject.{Subject}
-use Rattle.apex_judge.specs.Picture.{Picture, opening, waiting_at, sample_at, seen_in, reply_in}
-use Rattle.apex_judge.specs.Replies.{agrees}
-use Rattle.apex_judge.specs.Shown.{waiting_shown}
-use Rattle.apex_judge.specs.Steps.{sample_after, with_effects, judged, picture_after, picture_of}
-use Rattle.apex_judge.specs.Subjects.{subject_of, with_doubt}
-use Rattle.apex_judge.specs.Waiting.{waiting_after}
+use Rattle.apex_judge.specs.Picture.{sample_at}
 use Rattle.apex_judge.proofs.ReplyTests.{agrees_from}
 use Rattle.apex_judge.proofs.WaitingLaws.{one_more}
 

@@ -1,11 +1,7 @@
 -- What a tally says about the messages that wait.
-use Rattle.std.proofs.Common.{◌≡◌, ◌≤◌, ℕ, ◌+◌, Bool, cond, List, [], ◌∷◌, take, length, take_all, position, BTreeMap, Vec, Some, None, refl, ap, subst, ◌∙◌, ⊎_elim, arith}
-use Rattle.std.specs.List.{count_by, position_from}
-use Rattle.std.specs.Str.{bytes_eq}
-use Rattle.std.proofs.lemmas.Bool.{cases_Bool}
+use Rattle.apex_judge.proofs.Common.{◌≡◌, ◌≤◌, ℕ, ◌+◌, Bool, cond, List, [], ◌∷◌, take, length, take_all, position, BTreeMap, Vec, Some, None, refl, ap, subst, ◌∙◌, ⊎_elim, arith, count_by, position_from, bytes_eq, cases_Bool, times, IsCounted}
 use Rattle.std.proofs.lemmas.Iterator.Adapters.{position_from-zero}
 use Rattle.std.proofs.lemmas.List.Sums.{sum_by-cons}
-use Rattle.apex_judge.specs.Tally.{times, IsCounted}
 
 none_from : {X : Type 0} (test : X → Bool) (xs : List X) (i : ℕ) → count_by test xs ≤ 0 → position_from test i xs ≡ None
 none_from test [] i none = refl

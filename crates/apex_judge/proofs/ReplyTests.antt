@@ -1,22 +1,13 @@
 -- The test of a logged reply says exactly whether it is the standard's.
-use Rattle.std.proofs.Common.{◌≡◌, ℕ, ◌==◌, true, ◌&&◌, if◌then◌else◌, List, refl, sym, ap, ◌∙◌, arith}
-use Rattle.std.specs.Str.{bytes_eq}
-use Rattle.std.proofs.lemmas.Bool.{and_parts, and_from, eqb-true}
-use Rattle.std.proofs.lemmas.Bool.Decides.{nat_tests}
-use Rattle.std.proofs.lemmas.Slice.Eq.{bytes_eq-Decides}
+use Rattle.apex_judge.proofs.Common.{◌≡◌, ℕ, ◌==◌, true, ◌&&◌, if◌then◌else◌, List, refl, sym, ap, ◌∙◌, arith, bytes_eq, and_parts, and_from, eqb-true, nat_tests, bytes_eq-Decides, Reply, NotMade, Code, Id, Received, Read, QueuingStatus, SamplingStatus, Invalid, Valid, is_id, is_not_made, is_code, is_received, is_read_as, is_queuing_status, is_sampling_status, agrees}
 use Rattle.apex_types.specs.Direction.{number_of as number_of_direction}
 use Rattle.apex_types.specs.ReturnCode.{number_of as number_of_code}
 use Rattle.apex_types.specs.Validity.{number_of as number_of_validity}
 use Rattle.apex_types.specs.declared.direction.Direction.{Direction}
 use Rattle.apex_types.specs.declared.direction.Direction.TheVariants.{Source, Destination}
-use Rattle.apex_types.specs.declared.reply.Reply.{Reply}
-use Rattle.apex_types.specs.declared.reply.Reply.TheVariants.{NotMade, Code, Id, Received, Read, QueuingStatus, SamplingStatus}
 use Rattle.apex_types.specs.declared.return_code.ReturnCode.{ReturnCode}
 use Rattle.apex_types.specs.declared.return_code.ReturnCode.TheVariants.{NoError, NoAction, NotAvailable, InvalidParam, InvalidConfig, InvalidMode, TimedOut}
 use Rattle.apex_types.specs.declared.validity.Validity.{Validity}
-use Rattle.apex_types.specs.declared.validity.Validity.TheVariants.{Invalid, Valid}
-use Rattle.apex_ports.specs.Ports.{is_id}
-use Rattle.apex_judge.specs.Replies.{is_not_made, is_code, is_received, is_read_as, is_queuing_status, is_sampling_status, agrees}
 
 same_number : (n : ℕ) → (n == n) ≡ true
 same_number n = grind (arith, nat_tests)

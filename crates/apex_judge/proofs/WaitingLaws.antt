@@ -1,33 +1,15 @@
 -- What waits after a lawful entry.
-use Rattle.std.proofs.Common.{◌≡◌, ℕ, suc, ◌==◌, Bool, true, false, ◌&&◌, ◌||◌, if◌then◌else◌, List, [], ◌∷◌, ◌++◌, length, Option, Some, None, refl, sym, ap, ◌∙◌, subst, arith, append_assoc}
+use Rattle.apex_judge.proofs.Common.{◌≡◌, ℕ, suc, ◌==◌, Bool, true, false, ◌&&◌, ◌||◌, if◌then◌else◌, List, [], ◌∷◌, ◌++◌, length, Option, Some, None, refl, sym, ap, ◌∙◌, subst, arith, append_assoc, bytes_eq, nat_tests, map-append, bytes_eq-Decides, Call, SendQueuing, ReceiveQueuing, ClearQueuing, Moment, Reply, Configuration, port_of, Port, Entry, History, entry_of, mode_of, is_idle, is_code_no_error, is_created}
+use Rattle.apex_judge.proofs.Common.{is_source, is_source_of, is_destination_of, accepted_on, taken_on, waiting_on, messages_of, as_received, message_in, message_accepted, message_received, clears, oldest_row, receive_row, oldest_reply, reply_of, reply_to, Seen, seen, waiting_of, queuing_port, IsSound, none_or_none, and_true, and_false, accepted_stays, waiting_stays, is_code_not_available, empties, behind}
+use Rattle.apex_judge.proofs.Common.{left_after, waiting_after}
 use Rattle.std.specs.Prelude.{nat_lt}
-use Rattle.std.specs.Str.{bytes_eq}
-use Rattle.std.proofs.lemmas.Bool.Decides.{nat_tests}
-use Rattle.std.proofs.lemmas.List.{map-append}
-use Rattle.std.proofs.lemmas.Slice.Eq.{bytes_eq-Decides}
-use Rattle.apex_types.specs.declared.call.Call.{Call}
-use Rattle.apex_types.specs.declared.call.Call.TheVariants.{SendQueuing, ReceiveQueuing, ClearQueuing}
-use Rattle.apex_types.specs.declared.moment.Moment.{Moment}
-use Rattle.apex_types.specs.declared.reply.Reply.{Reply}
 use Rattle.apex_types.specs.declared.taken.Taken.{Taken}
-use Rattle.apex_module.specs.Configuration.{Configuration, port_of}
-use Rattle.apex_module.specs.declared.port.Port.{Port}
-use Rattle.apex_ports.specs.declared.history.Entry.{Entry}
 use Rattle.apex_ports.specs.declared.rows.Refusal.TheVariants.{NotDestination}
 use Rattle.apex_ports.specs.declared.rows.Row.{Row}
 use Rattle.apex_ports.specs.declared.rows.Row.TheVariants as row
 use Rattle.apex_ports.specs.declared.rows.Row.TheVariants.{Refused}
-use Rattle.apex_ports.specs.History.{History, entry_of}
-use Rattle.apex_ports.specs.Modes.{mode_of, is_idle, is_code_no_error}
-use Rattle.apex_ports.specs.Ports.{is_created, is_source, is_source_of, is_destination_of}
-use Rattle.apex_ports.specs.Channels.{accepted_on, taken_on, waiting_on, messages_of, as_received, message_in, message_accepted, message_received, clears}
-use Rattle.apex_ports.specs.ReplyTable.{oldest_row, receive_row, oldest_reply, reply_of, reply_to}
-use Rattle.apex_ports.specs.Seen.{Seen, seen, waiting_of, queuing_port}
-use Rattle.apex_ports.specs.Sound.{IsSound}
 use Rattle.apex_ports.proofs.Conserved.{always_conserved, queuing_configured}
 use Rattle.apex_ports.proofs.Histories.{taken-received, waiting-sent, waiting-cleared}
-use Rattle.apex_ports.proofs.Stays.{none_or_none, and_true, and_false, accepted_stays, waiting_stays}
-use Rattle.apex_judge.specs.Waiting.{is_code_not_available, empties, behind, left_after, waiting_after}
 use Rattle.apex_judge.proofs.ChannelSteps.{LeavesShown, same_after, both_off, send_elsewhere, send_refused, sent_after, receive_elsewhere, receive_without, received_after, none_after, clear_elsewhere, clear_refused, cleared_after}
 
 first_taken : (m : List ℕ) (rest : List (List ℕ)) → left_after (Some m) (m ∷ rest) ≡ rest

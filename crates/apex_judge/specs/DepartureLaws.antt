@@ -1,12 +1,6 @@
 -- What departures say of a log.
-use Rattle.std.specs.Prelude.{ℕ, ◌≡◌, ◌≢◌, ◌<◌, List, [], ◌∷◌, length, take, slice_get, Some}
-use Rattle.apex_module.specs.Configuration.{Configuration, IsConfiguration}
-use Rattle.apex_ports.specs.declared.history.Entry.{Entry}
-use Rattle.apex_ports.specs.History.{History}
+use Rattle.apex_judge.specs.Prelude.{ℕ, ◌≡◌, ◌≢◌, ◌<◌, List, [], ◌∷◌, length, take, slice_get, Some, Configuration, IsConfiguration, Entry, History, reply_to, seen, IsSound}
 use Rattle.apex_ports.specs.Lawful.{IsLawful}
-use Rattle.apex_ports.specs.ReplyTable.{reply_to}
-use Rattle.apex_ports.specs.Seen.{seen}
-use Rattle.apex_ports.specs.Sound.{IsSound}
 use Rattle.apex_judge.specs.declared.departure.Departure.{Departure}
 use Rattle.apex_judge.specs.Departures.{departures_of}
 use Rattle.apex_judge.specs.Shown.{shown}

@@ -1,8 +1,5 @@
 -- Where a log departs from the standard: every entry is judged after what the entries before it show.
-use Rattle.std.specs.Prelude.{ℕ, if◌then◌else◌, List, [], ◌∷◌, ◌++◌, length, Option, Some, None}
-use Rattle.apex_module.specs.Configuration.{Configuration}
-use Rattle.apex_ports.specs.declared.history.Entry.{Entry}
-use Rattle.apex_ports.specs.History.{History}
+use Rattle.apex_judge.specs.Prelude.{ℕ, if◌then◌else◌, List, [], ◌∷◌, ◌++◌, length, Option, Some, None, Configuration, Entry, History}
 use Rattle.apex_judge.specs.declared.departure.Departure.{Departure}
 use Rattle.apex_judge.specs.declared.departure.Expected.{Expected}
 use Rattle.apex_judge.specs.Replies.{agrees}

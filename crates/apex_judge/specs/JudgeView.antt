@@ -1,6 +1,5 @@
 -- A judge as plain data.
-use Rattle.apex_module.specs.Configuration.{Configuration}
-use Rattle.apex_ports.specs.History.{History}
+use Rattle.apex_judge.specs.Prelude.{Configuration, History}
 
 -- the configuration, and the log so far
 pub record JudgeView : Type 0 where

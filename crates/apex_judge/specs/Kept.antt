@@ -1,15 +1,5 @@
 -- What the state of a judge says about the log: the picture that the log gives.
-use Rattle.std.specs.Prelude.{ℕ, ◌≡◌, ◌≤◌, ◌-◌, ◌^◌, ◌==◌, Bool, false, if◌then◌else◌, List, length, slice_get, Option, Some, None}
-use Rattle.apex_types.specs.declared.call.Call.{Call}
-use Rattle.apex_types.specs.declared.moment.Moment.{Moment}
-use Rattle.apex_types.specs.declared.reply.Reply.{Reply}
-use Rattle.apex_types.specs.declared.validity.Validity.{Validity}
-use Rattle.apex_types.specs.declared.validity.Validity.TheVariants.{Invalid}
-use Rattle.apex_module.specs.Configuration.{Configuration, ports_of}
-use Rattle.apex_ports.specs.declared.history.Entry.{Entry}
-use Rattle.apex_ports.specs.History.{History, entry_of}
-use Rattle.apex_ports.specs.Kept.{EachAt}
-use Rattle.apex_ports.specs.Ports.{IsIdentifier}
+use Rattle.apex_judge.specs.Prelude.{ℕ, ◌≡◌, ◌≤◌, ◌-◌, ◌^◌, ◌==◌, Bool, false, if◌then◌else◌, List, length, slice_get, Option, Some, None, Call, Moment, Reply, Validity, Invalid, Configuration, ports_of, Entry, History, entry_of, EachAt, IsIdentifier}
 use Rattle.apex_judge.specs.declared.partition.PortState.{PortState}
 use Rattle.apex_judge.specs.declared.partition.PartitionState.{PartitionState}
 use Rattle.apex_judge.specs.declared.channel.ChannelState.{ChannelState}

@@ -1,3 +1,4 @@
+pub mod Prelude
 pub mod Departures
 pub mod DepartureLaws
 pub mod Evidence

@@ -1,13 +1,8 @@
 -- A system's own identifiers. The reply to a call that creates a port, or that asks for its identifier, shows which
 -- identifier the system gave it, until the partition restarts. The log is judged with our identifiers instead.
-use Rattle.std.specs.Prelude.{ℕ, Bool, true, ◌&&◌, ◌||◌, ◌==◌, if◌then◌else◌, List, [], ◌∷◌, ◌++◌, find, get_or, set, replicate, length, Option, Some, None, is_none, option_map, unwrap_or}
-use Rattle.apex_types.specs.declared.call.Call.{Call}
+use Rattle.apex_judge.specs.Prelude.{ℕ, Bool, true, ◌&&◌, ◌||◌, ◌==◌, if◌then◌else◌, List, [], ◌∷◌, ◌++◌, find, get_or, set, replicate, length, Option, Some, None, is_none, option_map, unwrap_or, Call, Reply, Configuration, id_named, Entry, is_code_no_error, is_restart, mode_asked}
 use Rattle.apex_types.specs.declared.call.Call.TheVariants as calls
-use Rattle.apex_types.specs.declared.reply.Reply.{Reply}
 use Rattle.apex_types.specs.declared.reply.Reply.TheVariants as replies
-use Rattle.apex_module.specs.Configuration.{Configuration, id_named}
-use Rattle.apex_ports.specs.declared.history.Entry.{Entry}
-use Rattle.apex_ports.specs.Modes.{is_code_no_error, is_restart, mode_asked}
 use Rattle.apex_judge.specs.declared.port_ids.KnownIds.{KnownIds}
 use Rattle.apex_judge.specs.declared.port_ids.PortId.{PortId}
 use Rattle.apex_judge.specs.declared.own_ids.Replaced.{Replaced}

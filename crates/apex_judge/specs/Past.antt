@@ -1,8 +1,7 @@
 -- The log that a contract sees of a `Past`.
-use Rattle.std.specs.Prelude.{[], ◌∷◌, ◌++◌}
+use Rattle.apex_judge.specs.Prelude.{[], ◌∷◌, ◌++◌, History, entry_of}
 use Rattle.apex_judge.specs.declared.past.Latest.{Latest}
 use Rattle.apex_judge.specs.declared.past.Latest.TheVariants.{Nothing, Entry}
-use Rattle.apex_ports.specs.History.{History, entry_of}
 
 abbrev pub log_of : Latest → History
 log_of Nothing = []

@@ -1,18 +1,6 @@
 -- The picture that a log gives of a system, and what a partition sees in it.
-use Rattle.std.specs.Prelude.{ℕ, Bool, false, List, [], Option, Some, None}
-use Rattle.apex_types.specs.declared.mode.Mode.{Mode}
+use Rattle.apex_judge.specs.Prelude.{ℕ, Bool, false, List, [], Option, Some, None, Mode, Moment, Call, Reply, Sample, Validity, Invalid, Configuration, port_of, Port, Row, row_of, reply_of, Seen}
 use Rattle.apex_types.specs.declared.mode.Mode.TheVariants.{ColdStart}
-use Rattle.apex_types.specs.declared.moment.Moment.{Moment}
-use Rattle.apex_types.specs.declared.call.Call.{Call}
-use Rattle.apex_types.specs.declared.reply.Reply.{Reply}
-use Rattle.apex_types.specs.declared.sample.Sample.{Sample}
-use Rattle.apex_types.specs.declared.validity.Validity.{Validity}
-use Rattle.apex_types.specs.declared.validity.Validity.TheVariants.{Invalid}
-use Rattle.apex_module.specs.Configuration.{Configuration, port_of}
-use Rattle.apex_module.specs.declared.port.Port.{Port}
-use Rattle.apex_ports.specs.declared.rows.Row.{Row}
-use Rattle.apex_ports.specs.ReplyTable.{row_of, reply_of}
-use Rattle.apex_ports.specs.Seen.{Seen}
 
 -- of each partition its mode; of each of its ports, by identifier, whether it is created and what its last read showed;
 -- of each channel what waits and the sample; and which modes and which ports are doubted

@@ -1,15 +1,9 @@
 -- Whether a logged reply is the standard's.
-use Rattle.std.specs.Prelude.{ℕ, Bool, true, false, ◌&&◌, ◌==◌, List}
-use Rattle.std.specs.Str.{bytes_eq}
+use Rattle.apex_judge.specs.Prelude.{ℕ, Bool, true, false, ◌&&◌, ◌==◌, List, bytes_eq, Reply, NotMade, Code, Id, Received, Read, QueuingStatus, SamplingStatus, ReturnCode, Validity, is_id}
 use Rattle.apex_types.specs.Direction.{number_of as number_of_direction}
 use Rattle.apex_types.specs.ReturnCode.{number_of as number_of_code}
 use Rattle.apex_types.specs.Validity.{number_of as number_of_validity}
 use Rattle.apex_types.specs.declared.direction.Direction.{Direction}
-use Rattle.apex_types.specs.declared.reply.Reply.{Reply}
-use Rattle.apex_types.specs.declared.reply.Reply.TheVariants.{NotMade, Code, Id, Received, Read, QueuingStatus, SamplingStatus}
-use Rattle.apex_types.specs.declared.return_code.ReturnCode.{ReturnCode}
-use Rattle.apex_types.specs.declared.validity.Validity.{Validity}
-use Rattle.apex_ports.specs.Ports.{is_id}
 
 abbrev pub is_not_made : Reply → Bool
 is_not_made NotMade = true

@@ -1,12 +1,5 @@
 -- What a log shows to each partition, lawful or not, and what the standard then has for a call.
-use Rattle.std.specs.Prelude.{ℕ, List}
-use Rattle.apex_types.specs.declared.call.Call.{Call}
-use Rattle.apex_types.specs.declared.moment.Moment.{Moment}
-use Rattle.apex_types.specs.declared.reply.Reply.{Reply}
-use Rattle.apex_module.specs.Configuration.{Configuration}
-use Rattle.apex_ports.specs.declared.rows.Row.{Row}
-use Rattle.apex_ports.specs.History.{History}
-use Rattle.apex_ports.specs.Seen.{Seen}
+use Rattle.apex_judge.specs.Prelude.{ℕ, List, Call, Moment, Reply, Configuration, Row, History, Seen}
 use Rattle.apex_judge.specs.Picture.{seen_in, row_in, reply_in}
 use Rattle.apex_judge.specs.Steps.{picture_of}
 

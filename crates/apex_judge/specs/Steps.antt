@@ -1,20 +1,7 @@
 -- What one entry more changes in the picture that a log gives. A single reply that isn't the standard's is taken for a mistake
 -- of the log; where what it is about departs again, the log is believed. A message that is received and waits is believed at
 -- once.
-use Rattle.std.specs.Prelude.{ℕ, Bool, true, false, ◌&&◌, ◌||◌, not, if◌then◌else◌, List, position, Option, None, is_some, unwrap_or, fold}
-use Rattle.std.specs.Str.{bytes_eq}
-use Rattle.apex_types.specs.declared.call.Call.{Call}
-use Rattle.apex_types.specs.declared.call.Call.TheVariants.{ReceiveQueuing}
-use Rattle.apex_types.specs.declared.reply.Reply.{Reply}
-use Rattle.apex_types.specs.declared.reply.Reply.TheVariants.{Id, Received}
-use Rattle.apex_types.specs.declared.sample.Sample.{Sample}
-use Rattle.apex_types.specs.declared.validity.Validity.TheVariants.{Invalid}
-use Rattle.apex_module.specs.Configuration.{Configuration, port_of}
-use Rattle.apex_ports.specs.declared.history.Entry.{Entry}
-use Rattle.apex_ports.specs.Channels.{sample_written, validity_read}
-use Rattle.apex_ports.specs.History.{History}
-use Rattle.apex_ports.specs.Modes.{mode_set, restarts}
-use Rattle.apex_ports.specs.Ports.{creates}
+use Rattle.apex_judge.specs.Prelude.{ℕ, Bool, true, false, ◌&&◌, ◌||◌, not, if◌then◌else◌, List, position, Option, None, is_some, unwrap_or, fold, bytes_eq, Call, ReceiveQueuing, Reply, Id, Received, Sample, Invalid, Configuration, port_of, Entry, sample_written, validity_read, History, mode_set, restarts, creates}
 use Rattle.apex_judge.specs.declared.subject.Subject.{Subject}
 use Rattle.apex_judge.specs.Evidence.{with_evidence}
 use Rattle.apex_judge.specs.Picture.{Picture, opening, waiting_at, reply_in}

@@ -1,11 +1,9 @@
 -- What a tally of messages says about the messages that wait.
-use Rattle.std.specs.Prelude.{ℕ, ◌≤◌, List, Vec, length, take}
+use Rattle.apex_judge.specs.Prelude.{ℕ, ◌≤◌, List, Vec, length, take, unwrap_or, bytes_eq}
 use Rattle.std.specs.BTreeMap.{BTreeMap, get_by}
 use Rattle.std.specs.Cmp.Lexicographic.{slice_cmp}
 use Rattle.std.specs.List.{count_by}
-use Rattle.std.specs.Option.{unwrap_or}
 use Rattle.std.specs.Ordering.{nat_cmp}
-use Rattle.std.specs.Str.{bytes_eq}
 
 -- how often the bytes are counted
 abbrev pub times : {A : Type 0} → BTreeMap (Vec ℕ A) ℕ → List ℕ → ℕ

@@ -1,14 +1,5 @@
 -- What waits on a queuing channel after an entry, lawful or not.
-use Rattle.std.specs.Prelude.{ℕ, Bool, true, false, ◌&&◌, ◌||◌, ◌+◌, if◌then◌else◌, List, [], ◌++◌, drop, position, Option, Some, None}
-use Rattle.std.specs.Option.{option_to_list}
-use Rattle.std.specs.Str.{bytes_eq}
-use Rattle.apex_types.specs.declared.reply.Reply.{Reply}
-use Rattle.apex_types.specs.declared.reply.Reply.TheVariants.{Code}
-use Rattle.apex_types.specs.declared.return_code.ReturnCode.{ReturnCode}
-use Rattle.apex_types.specs.declared.return_code.ReturnCode.TheVariants.{NotAvailable}
-use Rattle.apex_module.specs.Configuration.{Configuration}
-use Rattle.apex_ports.specs.declared.history.Entry.{Entry}
-use Rattle.apex_ports.specs.Channels.{message_accepted, message_received, is_receive, clears}
+use Rattle.apex_judge.specs.Prelude.{ℕ, Bool, true, false, ◌&&◌, ◌||◌, ◌+◌, if◌then◌else◌, List, [], ◌++◌, drop, position, Option, Some, None, option_to_list, bytes_eq, Reply, Code, ReturnCode, NotAvailable, Configuration, Entry, message_accepted, message_received, is_receive, clears}
 
 abbrev pub is_not_available : ReturnCode → Bool
 is_not_available NotAvailable = true

@@ -1,7 +1,5 @@
 //! The state before the first entry.
-ghost use Rattle.std.specs.Prelude.{◌≡◌, ℕ, [], false, length, IfOk};
-ghost use Rattle.apex_types.specs.declared.validity.Validity.TheVariants.{Invalid};
-ghost use Rattle.apex_ports.specs.Kept.{EachAt};
+ghost use Rattle.apex_judge.specs.Prelude.{◌≡◌, ℕ, [], false, length, IfOk, Invalid, EachAt};
 ghost use Rattle.apex_judge.specs.Kept.{IsPartitionShown, IsChannelShown, IsShown, created_in, last_in, doubted_in, state_at};
 ghost use Rattle.apex_judge.specs.Picture.{opening};
 

@@ -45,9 +45,7 @@ impl<A: Allocator + Copy> Judge<A> {
 }
 
 impl<A: Allocator> Judge<A> {
-    ghost use Rattle.apex_ports.specs.History.{entry_of};
-    ghost use Rattle.apex_ports.specs.ReplyTable.{reply_of};
-    ghost use Rattle.apex_types.specs.declared.reply.Reply.{Reply};
+    ghost use Rattle.apex_judge.specs.Prelude.{entry_of, reply_of, Reply};
     ghost use Rattle.apex_judge.specs.Departures.{expected_of, instead_of};
     ghost use Rattle.apex_judge.specs.Replies.{agrees};
     ghost use Rattle.apex_judge.specs.Shown.{shown, row_shown, reply_shown, waiting_shown};
@@ -60,6 +58,7 @@ impl<A: Allocator> Judge<A> {
     }
 
     /// The number of messages that wait on a channel, as the log shows it.
+    #[tactic(auto, using(crate::proofs::Lookups::channel_at))]
     pub fn waiting_count(&self, channel: usize) -> usize
         requires { channel < length self.now.config.channels }
         ensures { result ≡ length (waiting_shown self.now.config channel self.now.log) }

@@ -1,8 +1,6 @@
 //! The state of a partition: its mode, its table of ports, and which of these are doubted.
-ghost use Rattle.std.specs.Prelude.{◌≡◌, ℕ, ◌-◌, ◌<◌, ◌≤◌, ◌==◌, if◌then◌else◌, true, false, length, Some};
-ghost use Rattle.apex_types.specs.declared.validity.Validity.TheVariants.{Invalid};
+ghost use Rattle.apex_judge.specs.Prelude.{◌≡◌, ℕ, ◌-◌, ◌<◌, ◌≤◌, ◌==◌, if◌then◌else◌, true, false, length, Some, Invalid, is_start};
 ghost use Rattle.apex_judge.specs.Kept.{state_at, created_in, last_in, doubted_in};
-ghost use Rattle.apex_ports.specs.Modes.{is_start};
 
 use apex_types::{Mode, Validity};
 use std::alloc::Allocator;
@@ -66,6 +64,7 @@ impl<A: Allocator> PartitionState<A> {
     }
 
     /// Replaces the state of a port, if the partition has one with the identifier.
+    #[tactic(auto, using(crate::proofs::Lookups::state_set))]
     pub(crate) fn set_port(&mut self, id: u32, port: PortState)
         ensures ports { (other : ℕ) → 0 < other → other ≤ length self.old.ports.items →
             state_at self.new.ports.items other

@@ -27,8 +27,7 @@ enum Latest {
 }
 
 impl Model for Past {
-    ghost use Rattle.std.specs.Prelude.{List, length};
-    ghost use Rattle.apex_ports.specs.declared.history.Entry.{Entry};
+    ghost use Rattle.apex_judge.specs.Prelude.{List, length, Entry};
 
     ghost Value = { List Entry };
 

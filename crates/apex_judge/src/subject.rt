@@ -1,8 +1,5 @@
 //! What an entry of a log is about, which is doubted after it departs.
-ghost use Rattle.std.specs.Prelude.{◌≡◌, ◌<◌, length};
-ghost use Rattle.apex_types.specs.declared.moment.Moment.{Moment};
-ghost use Rattle.apex_ports.specs.History.{entry_of};
-ghost use Rattle.apex_ports.specs.Ports.{queuing_of_id, sampling_of_id};
+ghost use Rattle.apex_judge.specs.Prelude.{◌≡◌, ◌<◌, length, Moment, entry_of, queuing_of_id, sampling_of_id};
 ghost use Rattle.apex_judge.specs.Subjects.{id_in, port_about, is_of_mode, subject_of};
 
 use apex_module::{Config, PortKind};

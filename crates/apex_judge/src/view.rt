@@ -23,6 +23,7 @@ impl<A: Allocator> View for State<A> {
     ghost nothing_written = { λ config state p id none.
         ap (sample_at (picture_of config state.log)) none };
 
+    #[tactic(auto, using(crate::proofs::Lookups::partition_at))]
     fn mode(&self, config: &Config, partition: usize) -> Mode {
         self.partitions[partition].mode
     }
@@ -39,6 +40,7 @@ impl<A: Allocator> View for State<A> {
         self.channels[port.channel].waiting_count()
     }
 
+    #[tactic(auto, using(crate::proofs::Lookups::channel_at))]
     fn oldest(&self, config: &Config, partition: usize, id: u32, port: &Port) -> Option<&[u8]> {
         self.channels[port.channel].oldest()
     }

@@ -1,34 +1,17 @@
 -- A history without what isn't about a channel is lawful too.
-use Rattle.std.proofs.Common.{◌≡◌, ◌⊎◌, inl, inr, ⊎_elim, ℕ, zero, suc, ◌+◌, ◌-◌, ◌==◌, ◌&&◌, ◌||◌, not, Bool, true, false, cond, if◌then◌else◌, List, [], ◌∷◌, ◌++◌, length, take, drop, fold, Option, Some, None, refl, sym, ap, ◌∙◌, subst, arith, append-nil}
-use Rattle.std.specs.List.{slice_get, filter, filter_map, cons_option, list_any}
-use Rattle.std.specs.Option.{unwrap_or, option_to_list}
-use Rattle.std.proofs.lemmas.Bool.Decides.{nat_tests}
+use Rattle.apex_log_orders.proofs.Common.{◌≡◌, ◌⊎◌, inl, inr, ⊎_elim, ℕ, zero, suc, ◌+◌, ◌-◌, ◌==◌, ◌&&◌, ◌||◌, not, Bool, true, false, cond, if◌then◌else◌, List, [], ◌∷◌, ◌++◌, length, take, drop, fold, Option, Some, None, refl, sym, ap, ◌∙◌, subst, arith, append-nil, slice_get, filter, filter_map, cons_option, list_any, unwrap_or, option_to_list, nat_tests, Call, ColdStart, Sample, Configuration, port_of, ports_of}
+use Rattle.apex_log_orders.proofs.Common.{Port, Entry, History, entries_of, mode_of, mode_set, mode_asked, restarts, is_restart, is_code_no_error, is_created, creates, is_create, is_id, accepted_on, taken_after, taken_by, taken_on, last_validity_of, validity_read, validity_in, is_read, message_accepted, sample_written, reply_to, reply_of, row_of, Seen, seen, waiting_of, sample_of, accepted_on-append, LeavesChannel}
+use Rattle.apex_log_orders.proofs.Common.{accepted_stays, takes_nothing, and_false, none_or_none, or_not, has_end, id_used, is_elsewhere, is_about, about, logs_about, Logs, log_in, IsOrder, HasNoOrder}
 use Rattle.std.proofs.lemmas.List.Elements.{filter-append}
-use Rattle.apex_types.specs.declared.call.Call.{Call}
 use Rattle.apex_types.specs.declared.call.Call.TheVariants as call
-use Rattle.apex_types.specs.declared.mode.Mode.TheVariants.{ColdStart}
-use Rattle.apex_types.specs.declared.sample.Sample.{Sample}
 use Rattle.apex_types.specs.declared.taken.Taken.{Taken}
 use Rattle.apex_types.specs.declared.validity.Validity.TheVariants.{Invalid}
-use Rattle.apex_module.specs.Configuration.{Configuration, port_of, ports_of}
-use Rattle.apex_module.specs.declared.port.Port.{Port}
-use Rattle.apex_ports.specs.declared.history.Entry.{Entry}
-use Rattle.apex_ports.specs.History.{History, entries_of}
-use Rattle.apex_ports.specs.Modes.{mode_of, mode_set, mode_asked, restarts, is_restart, is_code_no_error}
-use Rattle.apex_ports.specs.Ports.{is_created, creates, is_create, is_id}
-use Rattle.apex_ports.specs.Channels.{accepted_on, taken_after, taken_by, taken_on, last_validity_of, validity_read, validity_in, is_read, message_accepted, sample_written}
 use Rattle.apex_ports.specs.Lawful.{IsLawful, IsLawfulEntry}
 use Rattle.apex_ports.specs.LawfulLaws.{along_lawful}
-use Rattle.apex_ports.specs.ReplyTable.{reply_to, reply_of, row_of}
-use Rattle.apex_ports.specs.Seen.{Seen, seen, waiting_of, sample_of}
-use Rattle.apex_ports.proofs.Appends.{accepted_on-append}
 use Rattle.apex_ports.proofs.LawfulSteps.{lawful_push}
 use Rattle.apex_ports.proofs.PartitionSteps.{leaves_others}
-use Rattle.apex_ports.proofs.Stays.{LeavesChannel, accepted_stays, takes_nothing, and_false, none_or_none, or_not}
 use Rattle.apex_orders.specs.Commuting.{id_in, port_in, is_on, names, is_change}
 use Rattle.apex_orders.proofs.Leaving.{leaves_unchanged, status_in, at_id, narrowed, replies_narrowed}
-use Rattle.apex_log_orders.specs.ByChannel.{has_end, id_used, is_elsewhere, is_about, about, logs_about}
-use Rattle.apex_log_orders.specs.LogOrders.{Logs, log_in, IsOrder, HasNoOrder}
 
 -- ---- what is filtered out of a history, without entries that show nothing of it
 

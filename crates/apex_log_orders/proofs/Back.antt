@@ -1,15 +1,6 @@
 -- A search that goes back before its last call.
-use Rattle.std.proofs.Common.{◌≡◌, ℕ, suc, List, [], ◌∷◌, ◌++◌, length, set, Option, Some, sym, ap, ◌∙◌, subst}
-use Rattle.std.specs.List.{slice_get}
-use Rattle.std.specs.Option.{option_to_list}
-use Rattle.apex_module.specs.Configuration.{Configuration}
-use Rattle.apex_ports.specs.declared.history.Entry.{Entry}
-use Rattle.apex_ports.specs.History.{History, entries_of}
-use Rattle.apex_orders.proofs.Lists.{at_seam, stays_before}
-use Rattle.apex_log_orders.specs.declared.answer.CallPlace.{CallPlace}
+use Rattle.apex_log_orders.proofs.Common.{◌≡◌, ℕ, suc, List, [], ◌∷◌, ◌++◌, length, set, Option, Some, sym, ap, ◌∙◌, subst, slice_get, option_to_list, Configuration, Entry, History, entries_of, at_seam, stays_before, CallPlace, Logs, IsBeginning, entries_at, GoesOn, Ends, HasNoWay, IsMade, IsOwn, AreOwn, IsWalk}
 use Rattle.apex_log_orders.specs.declared.walk.Walk.{Walk}
-use Rattle.apex_log_orders.specs.LogOrders.{Logs, IsBeginning, entries_at}
-use Rattle.apex_log_orders.specs.Walking.{GoesOn, Ends, HasNoWay, IsMade, IsOwn, AreOwn, IsWalk}
 use Rattle.apex_log_orders.proofs.Beginnings.{begins_front, goes_last, same_next, entries_at-push, made_mine}
 use Rattle.apex_log_orders.proofs.Counts.{made_back}
 

@@ -1,20 +1,9 @@
 -- Histories in which each partition made the first calls of its log, with one entry more or less.
-use Rattle.std.proofs.Common.{◌≡◌, ◌⊎◌, inl, inr, ⊎_elim, ℕ, zero, suc, ◌<◌, ◌≤◌, List, [], ◌∷◌, ◌++◌, length, take, Option, Some, refl, sym, ap, ◌∙◌, subst, arith, append_assoc, append-nil, length-append}
-use Rattle.std.specs.List.{slice_get}
-use Rattle.std.specs.Option.{option_to_list, unwrap_or}
-use Rattle.std.proofs.lemmas.Bool.{cases_eq, cases_lt}
-use Rattle.std.proofs.lemmas.List.{take-append-le, take_all}
-use Rattle.std.proofs.lemmas.Option.{slice_get_within, slice_get_past}
-use Rattle.apex_module.specs.Configuration.{Configuration, IsConfiguration}
-use Rattle.apex_ports.specs.declared.history.Entry.{Entry}
-use Rattle.apex_ports.specs.History.{History, entries_of}
+use Rattle.apex_log_orders.proofs.Common.{◌≡◌, ◌⊎◌, inl, inr, ⊎_elim, ℕ, zero, suc, ◌<◌, ◌≤◌, List, [], ◌∷◌, ◌++◌, length, take, Option, Some, refl, sym, ap, ◌∙◌, subst, arith, append_assoc, append-nil, length-append, slice_get, option_to_list, unwrap_or, cases_eq, cases_lt, take-append-le, take_all, slice_get_within, slice_get_past, Configuration, IsConfiguration, Entry, History, entries_of, at_seam, stays_before}
+use Rattle.apex_log_orders.proofs.Common.{take_one_more, CallPlace, Logs, log_in, IsOrder, IsBeginning, entry_at, entries_at, GoesOn, Ends}
 use Rattle.apex_ports.specs.Lawful.{IsLawful, IsLawfulEntry}
 use Rattle.apex_orders.proofs.GoingOn.{lawful_here, push_entry}
-use Rattle.apex_orders.proofs.Lists.{at_seam, stays_before, take_one_more}
 use Rattle.apex_orders.proofs.Walks.{own_entry, other_entry, entries_of-append}
-use Rattle.apex_log_orders.specs.declared.answer.CallPlace.{CallPlace}
-use Rattle.apex_log_orders.specs.LogOrders.{Logs, log_in, IsOrder, IsBeginning, entry_at, entries_at}
-use Rattle.apex_log_orders.specs.Walking.{GoesOn, Ends}
 
 -- ---- lists
 
@@ -114,9 +103,6 @@ module _ (config : Configuration) (logs : Logs) where
           let next : slice_get (log_in logs p) (length (entries_of p h)) ≡ Some e =
           ap (λ (es : History). slice_get es (length (entries_of p h))) (sym (order.entries p) ∙ split) ∙ at_seam (entries_of p h) e (entries_of p rest) in
           inr (p, e, here.0, record { next = next; own = refl; lawful = here }, record { rest = rest; order = subst (IsOrder config logs) (sym (append_assoc h (e ∷ []) rest)) order })
-
-  pub order_ends : (h : History) → IsOrder config logs h → Ends config logs h
-  order_ends h order = record { rest = []; order = subst (IsOrder config logs) (sym (append-nil h)) order }
 
   -- two next entries of one partition are equal
   pub same_next : (h : History) (p : ℕ) (e other : Entry) → GoesOn config logs h p e → GoesOn config logs h p other → e ≡ other

@@ -1,13 +1,5 @@
 -- The number of calls that each partition made.
-use Rattle.std.proofs.Common.{◌≡◌, ◌≢◌, ⊎_elim, ℕ, zero, suc, ◌<◌, List, [], ◌∷◌, ◌++◌, length, set, Some, refl, sym, ap, ◌∙◌, subst, arith, length-set, replicate}
-use Rattle.std.proofs.lemmas.List.{length-replicate}
-use Rattle.std.specs.List.{slice_get}
-use Rattle.std.proofs.lemmas.Bool.{cases_eq}
-use Rattle.apex_module.specs.Configuration.{Configuration}
-use Rattle.apex_ports.specs.declared.history.Entry.{Entry}
-use Rattle.apex_ports.specs.History.{History, entries_of}
-use Rattle.apex_log_orders.specs.LogOrders.{Logs, IsBeginning}
-use Rattle.apex_log_orders.specs.Walking.{GoesOn, IsMade}
+use Rattle.apex_log_orders.proofs.Common.{◌≡◌, ◌≢◌, ⊎_elim, ℕ, zero, suc, ◌<◌, List, [], ◌∷◌, ◌++◌, length, set, Some, refl, sym, ap, ◌∙◌, subst, arith, length-set, replicate, length-replicate, slice_get, cases_eq, Configuration, Entry, History, entries_of, Logs, IsBeginning, GoesOn, IsMade}
 use Rattle.apex_log_orders.proofs.Beginnings.{made_mine, made_others}
 
 pub set_here : {X : Type 0} (xs : List X) (i : ℕ) (y : X) → i < length xs → slice_get (set xs i y) i ≡ Some y

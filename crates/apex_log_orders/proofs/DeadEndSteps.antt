@@ -1,22 +1,15 @@
 -- What one more dead end does to the set of them.
-use Rattle.std.proofs.Common.{◌≡◌, ◌⊎◌, inl, inr, ⊎_elim, ℕ, Bool, true, false, List, Vec, length, Result, Ok, Err, OnOk, OnErr, sym, ap, ◌∙◌, subst}
+use Rattle.apex_log_orders.proofs.Common.{◌≡◌, ◌⊎◌, inl, inr, ⊎_elim, ℕ, Bool, true, false, List, Vec, length, Result, Ok, Err, OnOk, OnErr, sym, ap, ◌∙◌, subst, list_any, cases_Bool, Configuration, IsConfiguration, History, Logs, IsBeginning, Ends, HasKey, has_key, AreDead}
 use Rattle.std.specs.BTreeMap.{is_at}
 use Rattle.std.specs.BTreeSet.{BTreeSet, UpdatesBy}
 use Rattle.std.specs.Cmp.{eq_by_cmp_equiv}
 use Rattle.std.specs.Cmp.Lexicographic.{slice_cmp, nat_list_cmp_total, nat_list_eq_equiv}
-use Rattle.std.specs.List.{list_any}
 use Rattle.std.specs.Map.{IsKeyTest, AreApart}
 use Rattle.std.specs.Set.{KeepsOthers}
 use Rattle.std.specs.Ordering.{is_eq, nat_cmp}
 use Rattle.std.specs.Str.{bytes_eq}
-use Rattle.std.proofs.lemmas.Bool.{cases_Bool}
 use Rattle.std.proofs.lemmas.Map.Text.{is_eq-slice_cmp}
 use Rattle.std.proofs.lemmas.Slice.Eq.{bytes_eq-Decides}
-use Rattle.apex_module.specs.Configuration.{Configuration, IsConfiguration}
-use Rattle.apex_ports.specs.History.{History}
-use Rattle.apex_log_orders.specs.LogOrders.{Logs, IsBeginning}
-use Rattle.apex_log_orders.specs.Walking.{Ends}
-use Rattle.apex_log_orders.specs.DeadEnds.{HasKey, has_key, AreDead}
 use Rattle.apex_log_orders.proofs.Keys.{ends_alike}
 
 apart : (ns ms ks : List ℕ) → bytes_eq ns ms ≡ false → is_eq (slice_cmp nat_cmp ns ks) ≡ true → is_eq (slice_cmp nat_cmp ms ks) ≡ false

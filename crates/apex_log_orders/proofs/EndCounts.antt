@@ -1,17 +1,6 @@
 -- How far the first entries of a log advance the ends of a channel.
-use Rattle.std.proofs.Common.{◌≡◌, ℕ, suc, ◌+◌, true, if◌then◌else◌, length, take, Some, None, List, ap, ◌∙◌, arith, length-append}
-use Rattle.std.specs.List.{slice_get}
-use Rattle.std.specs.Option.{option_to_list}
-use Rattle.apex_types.specs.declared.call.Call.TheVariants.{SendQueuing, ReceiveQueuing}
-use Rattle.apex_types.specs.declared.reply.Reply.TheVariants.{Received}
-use Rattle.apex_module.specs.Configuration.{Configuration, port_of}
-use Rattle.apex_ports.specs.declared.history.Entry.{Entry}
-use Rattle.apex_ports.specs.History.{History}
-use Rattle.apex_ports.specs.Channels.{accepted_on, received_on, message_accepted, message_received, message_sent, message_in, is_receive}
-use Rattle.apex_ports.specs.Modes.{is_code_no_error}
-use Rattle.apex_ports.specs.Ports.{is_source_of, is_destination_of}
-use Rattle.apex_ports.proofs.Appends.{accepted_on-append, received_on-append}
-use Rattle.apex_orders.proofs.Lists.{take_one_more}
+use Rattle.apex_log_orders.proofs.Common.{◌≡◌, ℕ, suc, ◌+◌, true, if◌then◌else◌, length, take, Some, None, List, ap, ◌∙◌, arith, length-append, slice_get, option_to_list, SendQueuing, ReceiveQueuing, Received, Configuration, port_of, Entry, History, accepted_on, received_on, message_accepted, message_received, message_sent, message_in, is_receive, is_code_no_error, is_source_of, is_destination_of, accepted_on-append}
+use Rattle.apex_log_orders.proofs.Common.{received_on-append, take_one_more}
 
 module _ (config : Configuration) (c : ℕ) (log : History) (i : ℕ) (e : Entry) (here : slice_get log i ≡ Some e) where
   longer : take (i + 1) log ≡ take (suc i) log

@@ -1,15 +1,5 @@
 -- If none of the next calls can be made before the others, there is no order.
-use Rattle.std.proofs.Common.{◌≡◌, ⊎_elim, ℕ, zero, suc, ◌<◌, ◌≤◌, List, [], ◌∷◌, ◌++◌, length, take, drop, Some, refl, sym, ap, ◌∙◌, subst, arith, append_assoc, append-nil}
-use Rattle.std.specs.List.{slice_get}
-use Rattle.std.proofs.lemmas.Bool.{cases_eq, cases_lt}
-use Rattle.std.proofs.lemmas.Option.{slice_get_within}
-use Rattle.std.proofs.lemmas.List.{take_all}
-use Rattle.apex_module.specs.Configuration.{Configuration, IsConfiguration}
-use Rattle.apex_ports.specs.declared.history.Entry.{Entry}
-use Rattle.apex_ports.specs.History.{History, entries_of}
-use Rattle.apex_log_orders.specs.LogOrders.{Logs, log_in, IsOrder, IsBeginning, HasNoOrder}
-use Rattle.apex_log_orders.specs.Walking.{GoesOn, Ends}
-use Rattle.apex_log_orders.specs.Stuck.{IsWithin, NeverNext}
+use Rattle.apex_log_orders.proofs.Common.{◌≡◌, ⊎_elim, ℕ, zero, suc, ◌<◌, ◌≤◌, List, [], ◌∷◌, ◌++◌, length, take, drop, Some, refl, sym, ap, ◌∙◌, subst, arith, append_assoc, append-nil, slice_get, cases_eq, cases_lt, slice_get_within, take_all, Configuration, IsConfiguration, Entry, History, entries_of, Logs, log_in, IsOrder, IsBeginning, HasNoOrder, GoesOn, Ends, IsWithin, NeverNext}
 use Rattle.apex_log_orders.proofs.Beginnings.{begins_nil, begins_front, begins_push, goes_last, made_mine, made_others}
 
 -- the shorter of two prefixes of a list is a prefix of the longer one

@@ -1,25 +1,9 @@
 -- One key, one state: what follows one beginning of an order follows each other with its key.
-use Rattle.std.proofs.Common.{◌≡◌, ⊎_elim, ℕ, zero, suc, ◌+◌, ◌-◌, ◌<◌, ◌≤◌, ◌==◌, Bool, true, false, if◌then◌else◌, List, [], ◌∷◌, ◌++◌, length, take, drop, Option, Some, None, refl, sym, ap, ◌∙◌, subst, arith, length-append, length-drop}
-use Rattle.std.specs.List.{slice_get}
-use Rattle.std.specs.Option.{unwrap_or}
-use Rattle.std.proofs.lemmas.Bool.{cases_eq, cases_lt}
-use Rattle.std.proofs.lemmas.Option.{slice_get_past}
-use Rattle.apex_types.specs.declared.direction.Direction.TheVariants.{Source}
-use Rattle.apex_types.specs.declared.sample.Sample.{Sample}
-use Rattle.apex_module.specs.Configuration.{Configuration, IsConfiguration, PartitionData, ports_of_partition, port_at, port_of}
-use Rattle.apex_module.specs.declared.port.Port.{Port}
-use Rattle.apex_ports.specs.Channels.{accepted_on, taken_on, waiting_on, writes_on, last_validity_of}
-use Rattle.apex_ports.specs.History.{History, entries_of}
-use Rattle.apex_ports.specs.Modes.{mode_of}
-use Rattle.apex_ports.specs.Ports.{is_created, sampling_only}
-use Rattle.apex_ports.specs.Seen.{seen, sampling_port, validity_shown}
+use Rattle.apex_log_orders.proofs.Common.{◌≡◌, ⊎_elim, ℕ, zero, suc, ◌+◌, ◌-◌, ◌<◌, ◌≤◌, ◌==◌, Bool, true, false, if◌then◌else◌, List, [], ◌∷◌, ◌++◌, length, take, drop, Option, Some, None, refl, sym, ap, ◌∙◌, subst, arith, length-append, length-drop, slice_get, unwrap_or, cases_eq, cases_lt, slice_get_past, Source, Sample, Configuration, IsConfiguration, PartitionData, ports_of_partition, port_at, port_of, Port}
+use Rattle.apex_log_orders.proofs.Common.{accepted_on, taken_on, waiting_on, writes_on, last_validity_of, History, entries_of, mode_of, is_created, sampling_only, seen, sampling_port, validity_shown, at_seam, stays_before, Logs, log_in, IsBeginning, Ends, HasKey}
 use Rattle.apex_orders.specs.States.{IsSameState, IsSamePartition, IsSameChannel, last_shown}
 use Rattle.apex_orders.proofs.GoingOn.{always_goes_on_alike}
-use Rattle.apex_orders.proofs.Lists.{at_seam, stays_before}
 use Rattle.apex_orders.proofs.Walks.{entries_of-append}
-use Rattle.apex_log_orders.specs.LogOrders.{Logs, log_in, IsBeginning}
-use Rattle.apex_log_orders.specs.Walking.{Ends}
-use Rattle.apex_log_orders.specs.DeadEnds.{HasKey}
 use Rattle.apex_log_orders.proofs.Fronts.{own_same}
 use Rattle.apex_log_orders.proofs.OwnEntries.{own_mode, own_created, own_last, own_accepted, own_written}
 

@@ -1,40 +1,14 @@
 -- Next calls that can't be made before others, or would come too soon for others.
-use Rattle.std.proofs.Common.{◌≡◌, ◌⊎◌, inl, ⊎_elim, ℕ, suc, ◌+◌, ◌<◌, ◌≤◌, ◌==◌, Bool, true, false, not, ◌&&◌, if◌then◌else◌, List, [], ◌∷◌, ◌++◌, length, take, drop, Option, Some, None, refl, sym, ap, ◌∙◌, subst, arith, length-append, length-drop}
-use Rattle.std.specs.List.{slice_get}
-use Rattle.std.specs.Option.{option_to_list}
-use Rattle.std.proofs.lemmas.Bool.{cases_eq, cases_lt}
-use Rattle.std.proofs.lemmas.Bool.Decides.{nat_tests}
-use Rattle.std.proofs.lemmas.List.{length-map, drop-append-le}
+use Rattle.apex_log_orders.proofs.Common.{◌≡◌, ◌⊎◌, inl, ⊎_elim, ℕ, suc, ◌+◌, ◌<◌, ◌≤◌, ◌==◌, Bool, true, false, not, ◌&&◌, if◌then◌else◌, List, [], ◌∷◌, ◌++◌, length, take, drop, Option, Some, None, refl, sym, ap, ◌∙◌, subst, arith, length-append, length-drop, slice_get, option_to_list, cases_eq, cases_lt, nat_tests, length-map, drop-append-le, Call, SendQueuing, ReceiveQueuing, Source, Destination, Moment, Sample}
+use Rattle.apex_log_orders.proofs.Common.{Configuration, IsConfiguration, port_of, channel_of, is_queuing_port, is_queuing_channel, Port, Entry, Row, History, entries_of, last_validity_of, accepted_on, received_on, taken_on, waiting_on, messages_of, as_received, message_accepted, message_received, mode_of, is_idle, is_created, is_source, is_source_of, is_destination_of, queuing_only, depth_of, send_row, receive_row}
+use Rattle.apex_log_orders.proofs.Common.{row_of, reply_of, reply_to, Seen, seen, waiting_of, sample_of, queuing_port, IsSound, HasNoClear, is_code_not_available, accepted_on-append, received_on-append, always_conserved, Logs, log_in, IsBeginning, GoesOn, Ends, next_of, IsWithin, NeverNext, HaveNoClear, is_transfer, is_own, IsEnd, HasEnd}
 use Rattle.std.proofs.lemmas.List.Elements.{filter_map-append}
-use Rattle.apex_types.specs.declared.call.Call.{Call}
-use Rattle.apex_types.specs.declared.call.Call.TheVariants.{SendQueuing, ReceiveQueuing}
 use Rattle.apex_types.specs.declared.direction.Direction.{Direction}
-use Rattle.apex_types.specs.declared.direction.Direction.TheVariants.{Source, Destination}
-use Rattle.apex_types.specs.declared.moment.Moment.{Moment}
-use Rattle.apex_types.specs.declared.sample.Sample.{Sample}
 use Rattle.apex_types.specs.declared.taken.Taken.{Taken}
-use Rattle.apex_module.specs.Configuration.{Configuration, IsConfiguration, port_of, channel_of, is_queuing_port, is_queuing_channel}
 use Rattle.apex_module.specs.declared.channel.Channel.{Channel}
-use Rattle.apex_module.specs.declared.port.Port.{Port}
-use Rattle.apex_ports.specs.declared.history.Entry.{Entry}
-use Rattle.apex_ports.specs.declared.rows.Row.{Row}
 use Rattle.apex_ports.specs.declared.rows.Row.TheVariants as row
-use Rattle.apex_ports.specs.History.{History, entries_of}
-use Rattle.apex_ports.specs.Channels.{last_validity_of, accepted_on, received_on, taken_on, waiting_on, messages_of, as_received, message_accepted, message_received}
-use Rattle.apex_ports.specs.Modes.{mode_of, is_idle}
-use Rattle.apex_ports.specs.Ports.{is_created, is_source, is_source_of, is_destination_of, queuing_only}
-use Rattle.apex_ports.specs.ReplyTable.{depth_of, send_row, receive_row, row_of, reply_of, reply_to}
-use Rattle.apex_ports.specs.Seen.{Seen, seen, waiting_of, sample_of, queuing_port}
-use Rattle.apex_ports.specs.Sound.{IsSound}
-use Rattle.apex_ports.specs.WithoutClears.{HasNoClear}
-use Rattle.apex_judge.specs.Waiting.{is_code_not_available}
 use Rattle.apex_judge.proofs.WaitingLaws.{none_waits}
-use Rattle.apex_ports.proofs.Appends.{accepted_on-append, received_on-append}
-use Rattle.apex_ports.proofs.Conserved.{always_conserved}
 use Rattle.apex_ports.proofs.WithoutClears.{without_clears}
-use Rattle.apex_log_orders.specs.LogOrders.{Logs, log_in, IsBeginning}
-use Rattle.apex_log_orders.specs.Walking.{GoesOn, Ends, next_of}
-use Rattle.apex_log_orders.specs.Stuck.{IsWithin, NeverNext, HaveNoClear, is_transfer, is_own, IsEnd, HasEnd}
 use Rattle.apex_log_orders.proofs.Beginnings.{begins_push, made_mine, made_others}
 use Rattle.apex_log_orders.proofs.Fronts.{own_grows, own_same, never_passed}
 use Rattle.apex_log_orders.proofs.OwnEntries.{own_mode, own_created, own_last, own_accepted, own_received, no_clears, no_clear_front}

@@ -1,26 +1,10 @@
 -- The replies that a call can get while others made fewer calls.
-use Rattle.std.proofs.Common.{◌≡◌, ◌⊎◌, inl, inr, ℕ, ◌≤◌, ◌==◌, nat_lt, not, Bool, true, false, if◌then◌else◌, List, [], ◌∷◌, ◌++◌, length, Option, Some, None, refl, sym, ap, ◌∙◌, subst, arith}
-use Rattle.std.proofs.lemmas.Bool.Decides.{nat_tests}
-use Rattle.apex_types.specs.declared.call.Call.TheVariants.{SendQueuing}
-use Rattle.apex_types.specs.declared.moment.Moment.{Moment}
+use Rattle.apex_log_orders.proofs.Common.{◌≡◌, ◌⊎◌, inl, inr, ℕ, ◌≤◌, ◌==◌, nat_lt, not, Bool, true, false, if◌then◌else◌, List, [], ◌∷◌, ◌++◌, length, Option, Some, None, refl, sym, ap, ◌∙◌, subst, arith, nat_tests, SendQueuing, Moment, Code, Received, Configuration, port_of, Port, EmptyMessage, MessageTooLong, NotSource, NotDestination, QueueFull, Row, waiting_on, History, mode_of, is_idle, is_created, is_source}
+use Rattle.apex_log_orders.proofs.Common.{is_source_of, size_of, depth_of, send_row, receive_row, oldest_row, oldest_reply, reply_of, reply_to, Seen, seen, waiting_of, queuing_port, queuing_configured, and_true, is_code_not_available}
 use Rattle.apex_types.specs.declared.reply.Reply.{Reply}
-use Rattle.apex_types.specs.declared.reply.Reply.TheVariants.{Code, Received}
 use Rattle.apex_types.specs.declared.return_code.ReturnCode.TheVariants.{NotAvailable}
-use Rattle.apex_module.specs.Configuration.{Configuration, port_of}
-use Rattle.apex_module.specs.declared.port.Port.{Port}
-use Rattle.apex_ports.specs.declared.rows.Refusal.TheVariants.{EmptyMessage, MessageTooLong, NotSource, NotDestination, QueueFull}
-use Rattle.apex_ports.specs.declared.rows.Row.{Row}
 use Rattle.apex_ports.specs.declared.rows.Row.TheVariants as row
 use Rattle.apex_ports.specs.declared.rows.Row.TheVariants.{Refused, Sent}
-use Rattle.apex_ports.specs.Channels.{waiting_on}
-use Rattle.apex_ports.specs.History.{History}
-use Rattle.apex_ports.specs.Modes.{mode_of, is_idle}
-use Rattle.apex_ports.specs.Ports.{is_created, is_source, is_source_of}
-use Rattle.apex_ports.specs.ReplyTable.{size_of, depth_of, send_row, receive_row, oldest_row, oldest_reply, reply_of, reply_to}
-use Rattle.apex_ports.specs.Seen.{Seen, seen, waiting_of, queuing_port}
-use Rattle.apex_ports.proofs.Conserved.{queuing_configured}
-use Rattle.apex_ports.proofs.Stays.{and_true}
-use Rattle.apex_judge.specs.Waiting.{is_code_not_available}
 
 abbrev pub not_available : Reply
 not_available = Code NotAvailable

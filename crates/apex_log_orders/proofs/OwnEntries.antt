@@ -1,25 +1,10 @@
 -- What a partition does to its ends of channels depends only on its own entries.
-use Rattle.std.proofs.Common.{◌≡◌, ◌≢◌, ℕ, zero, suc, take, ◌==◌, ◌&&◌, ◌||◌, not, Bool, true, false, if◌then◌else◌, [], ◌∷◌, Option, Some, None, cond, refl, sym, ap, ◌∙◌, subst, arith}
-use Rattle.std.specs.Option.{unwrap_or}
-use Rattle.std.specs.List.{slice_get, list_any}
-use Rattle.std.proofs.lemmas.Bool.Decides.{nat_tests}
-use Rattle.apex_types.specs.declared.call.Call.{Call}
-use Rattle.apex_types.specs.declared.call.Call.TheVariants.{SendQueuing, ReceiveQueuing, WriteSampling}
+use Rattle.apex_log_orders.proofs.Common.{◌≡◌, ◌≢◌, ℕ, zero, suc, take, ◌==◌, ◌&&◌, ◌||◌, not, Bool, true, false, if◌then◌else◌, [], ◌∷◌, Option, Some, None, cond, refl, sym, ap, ◌∙◌, subst, arith, unwrap_or, slice_get, list_any, nat_tests, Call, SendQueuing, ReceiveQueuing, WriteSampling, Source, Destination, ColdStart, Configuration, IsConfiguration, port_of, is_queuing_port, Port, Entry, History, entries_of, mode_of}
+use Rattle.apex_log_orders.proofs.Common.{mode_set, restarts, is_restart, is_code_no_error, is_created, creates, is_source_of, is_destination_of, last_validity_of, validity_read, accepted_on, received_on, writes_on, message_sent, message_accepted, message_in, message_received, message_written, sample_at, sample_written, is_receive, HasNoClear, asks_clear, LeavesPartition, none_or_none, or_not}
 use Rattle.apex_types.specs.declared.direction.Direction.{Direction}
-use Rattle.apex_types.specs.declared.direction.Direction.TheVariants.{Source, Destination}
-use Rattle.apex_types.specs.declared.mode.Mode.TheVariants.{ColdStart}
 use Rattle.apex_types.specs.declared.validity.Validity.TheVariants.{Invalid}
-use Rattle.apex_module.specs.Configuration.{Configuration, IsConfiguration, port_of, is_queuing_port}
-use Rattle.apex_module.specs.declared.port.Port.{Port}
-use Rattle.apex_ports.specs.declared.history.Entry.{Entry}
-use Rattle.apex_ports.specs.History.{History, entries_of}
-use Rattle.apex_ports.specs.Modes.{mode_of, mode_set, restarts, is_restart, is_code_no_error}
-use Rattle.apex_ports.specs.Ports.{is_created, creates, is_source_of, is_destination_of}
-use Rattle.apex_ports.specs.Channels.{last_validity_of, validity_read, accepted_on, received_on, writes_on, message_sent, message_accepted, message_in, message_received, message_written, sample_at, sample_written, is_receive}
-use Rattle.apex_ports.specs.WithoutClears.{HasNoClear, asks_clear}
 use Rattle.apex_ports.proofs.Interference.{filter_map-inside, fold-inside}
 use Rattle.apex_ports.proofs.PartitionSteps.{leaves_others}
-use Rattle.apex_ports.proofs.Stays.{LeavesPartition, none_or_none, or_not}
 
 module _ (p : ℕ) (h : History) where
   elsewhere : (e : Entry) → (e.partition == p) ≡ false → LeavesPartition p e

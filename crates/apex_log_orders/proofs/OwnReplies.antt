@@ -1,24 +1,12 @@
 -- Calls whose replies the other partitions don't affect.
-use Rattle.std.proofs.Common.{◌≡◌, ℕ, ◌==◌, nat_lt, not, Bool, true, false, if◌then◌else◌, List, length, Option, Some, None, refl, ap, ◌∙◌}
+use Rattle.apex_log_orders.proofs.Common.{◌≡◌, ℕ, ◌==◌, nat_lt, not, Bool, true, false, if◌then◌else◌, List, length, Option, Some, None, refl, ap, ◌∙◌, Call, Idle, ColdStart, WarmStart, Normal, Moment, Sample, Configuration, refresh_of_kind, Port, Row, AlreadyCreated, SizeDiffers, DepthDiffers, DirectionDiffers, RefreshDiffers, UnknownDiscipline, InNormal, NotCreated, EmptyMessage, MessageTooLong, NotSource}
+use Rattle.apex_log_orders.proofs.Common.{NotDestination, AlreadyNormal, WarmStartInColdStart, is_idle, is_normal, is_cold_start, is_source, NamedPort, queuing_named, sampling_named, size_of, depth_of, create_queuing_row, create_sampling_row, id_row, write_row, clear_row, status_row, set_mode_row, service_row, row_of, reply_of, Seen, sampling_port, queuing_port, is_own}
 use Rattle.apex_types.specs.Direction.{number_of}
 use Rattle.apex_types.specs.Mode.{mode_numbered}
-use Rattle.apex_types.specs.declared.call.Call.{Call}
 use Rattle.apex_types.specs.declared.call.Call.TheVariants as call
 use Rattle.apex_types.specs.declared.mode.Mode.{Mode}
-use Rattle.apex_types.specs.declared.mode.Mode.TheVariants.{Idle, ColdStart, WarmStart, Normal}
-use Rattle.apex_types.specs.declared.moment.Moment.{Moment}
-use Rattle.apex_types.specs.declared.sample.Sample.{Sample}
 use Rattle.apex_types.specs.declared.validity.Validity.{Validity}
-use Rattle.apex_module.specs.Configuration.{Configuration, refresh_of_kind}
-use Rattle.apex_module.specs.declared.port.Port.{Port}
-use Rattle.apex_ports.specs.declared.rows.Row.{Row}
 use Rattle.apex_ports.specs.declared.rows.Row.TheVariants as row
-use Rattle.apex_ports.specs.declared.rows.Refusal.TheVariants.{AlreadyCreated, SizeDiffers, DepthDiffers, DirectionDiffers, RefreshDiffers, UnknownDiscipline, InNormal, NotCreated, EmptyMessage, MessageTooLong, NotSource, NotDestination, AlreadyNormal, WarmStartInColdStart}
-use Rattle.apex_ports.specs.Modes.{is_idle, is_normal, is_cold_start}
-use Rattle.apex_ports.specs.Ports.{is_source, NamedPort, queuing_named, sampling_named}
-use Rattle.apex_ports.specs.ReplyTable.{size_of, depth_of, create_queuing_row, create_sampling_row, id_row, write_row, clear_row, status_row, set_mode_row, service_row, row_of, reply_of}
-use Rattle.apex_ports.specs.Seen.{Seen, sampling_port, queuing_port}
-use Rattle.apex_log_orders.specs.Stuck.{is_own}
 
 -- the row's reply depends on no channel
 abbrev is_plain : Row → Bool

@@ -1,14 +1,5 @@
 -- Places of entries.
-use Rattle.std.proofs.Common.{◌≡◌, ⊎_elim, List, [], ◌∷◌, ◌++◌, length, Option, Some, None, refl, subst}
-use Rattle.std.specs.List.{slice_get}
-use Rattle.std.specs.Option.{unwrap_or}
-use Rattle.apex_ports.specs.declared.history.Entry.{Entry}
-use Rattle.apex_ports.specs.History.{History}
-use Rattle.apex_log_orders.specs.declared.answer.CallPlace.{CallPlace}
-use Rattle.apex_log_orders.specs.LogOrders.{Logs, entry_at}
-use Rattle.apex_log_orders.specs.Walking.{IsOwn, AreOwn}
-use Rattle.apex_module.specs.Configuration.{Configuration}
-use Rattle.apex_orders.proofs.Lists.{before_or_last}
+use Rattle.apex_log_orders.proofs.Common.{◌≡◌, ⊎_elim, List, [], ◌∷◌, ◌++◌, length, Option, Some, None, refl, subst, slice_get, unwrap_or, Entry, History, CallPlace, Logs, entry_at, IsOwn, AreOwn, Configuration, before_or_last}
 
 -- the log that has the place
 pub log_of : (logs : Logs) (place : CallPlace) (e : Entry) → entry_at logs place ≡ Some e

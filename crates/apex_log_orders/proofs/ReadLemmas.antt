@@ -1,33 +1,11 @@
 -- Reads of messages that can't have been written yet, and writes that come too soon for a read.
-use Rattle.std.proofs.Common.{◌≡◌, ℕ, zero, suc, ◌<◌, ◌==◌, Bool, true, false, cond, if◌then◌else◌, List, [], ◌∷◌, length, Option, Some, None, refl, sym, ap, ◌∙◌, subst, arith}
-use Rattle.std.specs.List.{slice_get}
-use Rattle.std.proofs.lemmas.Bool.Decides.{nat_tests}
-use Rattle.std.proofs.lemmas.Option.{slice_get_within}
-use Rattle.apex_types.specs.declared.call.Call.TheVariants.{ReadSampling}
-use Rattle.apex_types.specs.declared.moment.Moment.{Moment}
-use Rattle.apex_types.specs.declared.reply.Reply.TheVariants.{Read}
-use Rattle.apex_types.specs.declared.sample.Sample.{Sample}
+use Rattle.apex_log_orders.proofs.Common.{◌≡◌, ℕ, zero, suc, ◌<◌, ◌==◌, Bool, true, false, cond, if◌then◌else◌, List, [], ◌∷◌, length, Option, Some, None, refl, sym, ap, ◌∙◌, subst, arith, slice_get, nat_tests, slice_get_within, ReadSampling, Moment, Read, Sample, Configuration, IsConfiguration, port_of, refresh_of_kind, Port, Entry, NotDestination, Row, History, entries_of, sample_at, sample_written, message_written}
+use Rattle.apex_log_orders.proofs.Common.{last_write_on, mode_of, is_idle, is_code_no_error, is_created, is_source, read_row, last_row, last_reply, reply_of, reply_to, Seen, seen, sample_of, sampling_port, sampling_configured, taken_from, Logs, log_in, IsBeginning, GoesOn, next_of, NeverNext, HaveNoClear, Writes, NoneWrites}
 use Rattle.apex_types.specs.declared.validity.Validity.{Validity}
 use Rattle.apex_types.specs.Sample.{validity_at}
-use Rattle.apex_module.specs.Configuration.{Configuration, IsConfiguration, port_of, refresh_of_kind}
-use Rattle.apex_module.specs.declared.port.Port.{Port}
-use Rattle.apex_ports.specs.declared.history.Entry.{Entry}
-use Rattle.apex_ports.specs.declared.rows.Refusal.TheVariants.{NotDestination}
-use Rattle.apex_ports.specs.declared.rows.Row.{Row}
 use Rattle.apex_ports.specs.declared.rows.Row.TheVariants as row
 use Rattle.apex_ports.specs.declared.rows.Row.TheVariants.{Refused}
-use Rattle.apex_ports.specs.History.{History, entries_of}
-use Rattle.apex_ports.specs.Channels.{sample_at, sample_written, message_written, last_write_on}
-use Rattle.apex_ports.specs.Modes.{mode_of, is_idle, is_code_no_error}
-use Rattle.apex_ports.specs.Ports.{is_created, is_source}
-use Rattle.apex_ports.specs.ReplyTable.{read_row, last_row, last_reply, reply_of, reply_to}
-use Rattle.apex_ports.specs.Seen.{Seen, seen, sample_of, sampling_port}
-use Rattle.apex_ports.proofs.Conserved.{sampling_configured}
 use Rattle.apex_ports.proofs.Sizes.{member}
-use Rattle.apex_orders.proofs.Lists.{taken_from}
-use Rattle.apex_log_orders.specs.LogOrders.{Logs, log_in, IsBeginning}
-use Rattle.apex_log_orders.specs.Walking.{GoesOn, next_of}
-use Rattle.apex_log_orders.specs.Stuck.{NeverNext, HaveNoClear, Writes, NoneWrites}
 use Rattle.apex_log_orders.proofs.NeverNexts.{same_entry, table}
 
 -- ---- lists

@@ -1,18 +1,6 @@
 -- The partitions tried before each call, and what follows if all were.
-use Rattle.std.proofs.Common.{◌≡◌, ◌⊎◌, inl, inr, ⊎_elim, ℕ, zero, suc, ◌+◌, ◌-◌, ◌<◌, ◌≤◌, true, false, ltb, if◌then◌else◌, List, [], ◌∷◌, ◌++◌, length, take, Some, None, refl, sym, ap, ◌∙◌, subst, arith, length-append}
-use Rattle.std.specs.List.{slice_get}
-use Rattle.std.proofs.lemmas.Bool.{cases_eq, cases_lt}
-use Rattle.std.proofs.lemmas.Bool.Decides.{nat_tests}
-use Rattle.std.proofs.lemmas.List.{take-append-le, take_all}
-use Rattle.std.proofs.lemmas.Option.{slice_get_within}
-use Rattle.apex_module.specs.Configuration.{Configuration}
-use Rattle.apex_ports.specs.declared.history.Entry.{Entry}
-use Rattle.apex_ports.specs.History.{History}
-use Rattle.apex_orders.proofs.Lists.{at_seam, stays_before, before_or_last}
-use Rattle.apex_log_orders.specs.declared.answer.CallPlace.{CallPlace}
-use Rattle.apex_log_orders.specs.declared.choice.Choice.{Choice}
-use Rattle.apex_log_orders.specs.LogOrders.{Logs, IsOrder, entries_at}
-use Rattle.apex_log_orders.specs.Walking.{candidate, candidate_by, candidate_of, GoesOn, Ends, HasNoWay, HaveNoWay, AreTried}
+use Rattle.apex_log_orders.proofs.Common.{◌≡◌, ◌⊎◌, inl, inr, ⊎_elim, ℕ, zero, suc, ◌+◌, ◌-◌, ◌<◌, ◌≤◌, true, false, ltb, if◌then◌else◌, List, [], ◌∷◌, ◌++◌, length, take, Some, None, refl, sym, ap, ◌∙◌, subst, arith, length-append, slice_get, cases_eq, cases_lt, nat_tests, take-append-le, take_all, slice_get_within, Configuration, Entry, History, at_seam, stays_before, before_or_last, CallPlace, Choice, Logs, IsOrder}
+use Rattle.apex_log_orders.proofs.Common.{entries_at, candidate, candidate_by, candidate_of, GoesOn, Ends, HasNoWay, HaveNoWay, AreTried}
 use Rattle.apex_log_orders.proofs.Beginnings.{ends_cases}
 
 -- ---- candidates

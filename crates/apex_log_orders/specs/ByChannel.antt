@@ -1,12 +1,6 @@
 -- What histories and logs have about one channel.
-use Rattle.std.specs.Prelude.{ℕ, Bool, false, not, ◌==◌, ◌&&◌, map, filter, Option, Some, None}
+use Rattle.apex_log_orders.specs.Prelude.{ℕ, Bool, false, not, ◌==◌, ◌&&◌, map, filter, Option, Some, None, Call, SamplingStatus, Configuration, ports_of, Port, Entry, History}
 use Rattle.std.specs.List.{list_any}
-use Rattle.apex_types.specs.declared.call.Call.{Call}
-use Rattle.apex_types.specs.declared.call.Call.TheVariants.{SamplingStatus}
-use Rattle.apex_module.specs.Configuration.{Configuration, ports_of}
-use Rattle.apex_module.specs.declared.port.Port.{Port}
-use Rattle.apex_ports.specs.declared.history.Entry.{Entry}
-use Rattle.apex_ports.specs.History.{History}
 use Rattle.apex_orders.specs.Commuting.{id_in, port_in}
 use Rattle.apex_log_orders.specs.LogOrders.{Logs}
 

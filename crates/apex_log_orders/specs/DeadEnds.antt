@@ -1,11 +1,8 @@
 -- Dead ends of a search: what is kept of a history that no order begins with, so that none with its state is searched.
-use Rattle.std.specs.Prelude.{ℕ, ◌≡◌, ◌<◌, ◌+◌, Bool, true, List, Vec, length, slice_get, Some}
+use Rattle.apex_log_orders.specs.Prelude.{ℕ, ◌≡◌, ◌<◌, ◌+◌, Bool, true, List, Vec, length, slice_get, Some, Configuration, waiting_on, History, entries_of}
 use Rattle.std.specs.BTreeSet.{BTreeSet, contains_by}
 use Rattle.std.specs.Cmp.Lexicographic.{slice_cmp}
 use Rattle.std.specs.Ordering.{nat_cmp}
-use Rattle.apex_module.specs.Configuration.{Configuration}
-use Rattle.apex_ports.specs.Channels.{waiting_on}
-use Rattle.apex_ports.specs.History.{History, entries_of}
 use Rattle.apex_log_orders.specs.LogOrders.{Logs, IsBeginning}
 use Rattle.apex_log_orders.specs.Walking.{Ends}
 

@@ -1,3 +1,4 @@
+pub mod Prelude
 pub mod LogOrders
 pub mod Walking
 pub mod Stuck

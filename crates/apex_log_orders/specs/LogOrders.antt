@@ -1,10 +1,5 @@
 -- Logs that partitions kept separately, and the orders of all their entries.
-use Rattle.std.specs.Prelude.{ℕ, ◌≡◌, List, [], ◌∷◌, ◌++◌, length, take, slice_get, unwrap_or, Option}
-use Rattle.std.specs.Option.{option_to_list}
-use Rattle.apex_module.specs.Configuration.{Configuration}
-use Rattle.apex_ports.specs.declared.history.Entry.{Entry}
-use Rattle.apex_ports.specs.History.{History, entries_of}
-use Rattle.apex_ports.specs.Lawful.{IsLawful}
+use Rattle.apex_log_orders.specs.Prelude.{ℕ, ◌≡◌, List, [], ◌∷◌, ◌++◌, length, take, slice_get, unwrap_or, Option, option_to_list, Configuration, Entry, History, entries_of, IsLawful}
 use Rattle.apex_log_orders.specs.declared.answer.Answer.{Answer}
 use Rattle.apex_log_orders.specs.declared.answer.Answer.TheVariants.{Order, NoOrder, Undecided}
 use Rattle.apex_log_orders.specs.declared.answer.CallPlace.{CallPlace}

@@ -1,16 +1,6 @@
 -- Beginnings that no order continues or leads past: whatever was called before, none of the calls that are next in
 -- their logs can be made without one of the others.
-use Rattle.std.specs.Prelude.{ℕ, ◌≡◌, ◌≤◌, ◌<◌, Bool, true, false, List, length, slice_get, Some}
-use Rattle.apex_types.specs.declared.call.Call.{Call}
-use Rattle.apex_types.specs.declared.call.Call.TheVariants.{SendQueuing, ReceiveQueuing, QueuingStatus, ReadSampling}
-use Rattle.apex_types.specs.declared.direction.Direction.{Direction}
-use Rattle.apex_module.specs.Configuration.{Configuration, port_of, is_queuing_port}
-use Rattle.apex_module.specs.declared.port.Port.{Port}
-use Rattle.apex_ports.specs.declared.history.Entry.{Entry}
-use Rattle.apex_ports.specs.Channels.{message_written}
-use Rattle.apex_ports.specs.History.{History, entries_of}
-use Rattle.apex_ports.specs.WithoutClears.{HasNoClear}
-use Rattle.apex_judge.specs.Waiting.{is_code_not_available}
+use Rattle.apex_log_orders.specs.Prelude.{ℕ, ◌≡◌, ◌≤◌, ◌<◌, Bool, true, false, List, length, slice_get, Some, Call, SendQueuing, ReceiveQueuing, QueuingStatus, ReadSampling, Direction, Configuration, port_of, is_queuing_port, Port, Entry, message_written, History, entries_of, HasNoClear, is_code_not_available}
 use Rattle.apex_log_orders.specs.declared.answer.CallPlace.{CallPlace}
 use Rattle.apex_log_orders.specs.LogOrders.{Logs, log_in, IsBeginning, entry_at}
 use Rattle.apex_log_orders.specs.Walking.{HasNoWay, next_of}

@@ -9,8 +9,7 @@ pub struct OwnLog {
 }
 
 impl Model for OwnLog {
-    ghost use Rattle.std.specs.Prelude.{List};
-    ghost use Rattle.apex_ports.specs.declared.history.Entry.{Entry};
+    ghost use Rattle.apex_log_orders.specs.Prelude.{List, Entry};
 
     ghost Value = { List Entry };
 

@@ -11,6 +11,7 @@ use apex_ports::Entry;
 use apex_types::{Call, Message, Reply};
 
 /// Whether the partition's next call is a read that showed a message that no call made so far has written.
+#[tactic(auto, using(crate::proofs::ReadLemmas::read_held))]
 pub(crate) fn is_read_held(
     config: &Config,
     logs: &[OwnLog],

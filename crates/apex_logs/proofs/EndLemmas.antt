@@ -1,11 +1,7 @@
 -- A line whose first byte that isn't blank is no `a` doesn't end the calls.
-use Rattle.std.proofs.Common.{◌≡◌, ℕ, zero, suc, ◌<◌, false, not, eqb, List, [], ◌∷◌, length, take, drop, get_or, Option, Some, None, refl, sym, ap, ◌∙◌, arith, add-zero, codes}
-use Rattle.std.specs.Prelude.{position}
+use Rattle.apex_logs.proofs.Common.{◌≡◌, ℕ, zero, suc, ◌<◌, false, not, eqb, List, [], ◌∷◌, length, take, drop, get_or, Option, Some, None, refl, sym, ap, ◌∙◌, arith, add-zero, codes, position, is_blank, words_of, from_word, word_some, words_at, words_last, begin_with_after, ends_calls}
 use Rattle.std.specs.Str.{bytes_eq}
 use Rattle.std.proofs.lemmas.List.{get_or-drop}
-use Rattle.apex_texts.specs.Text.{is_blank, words_of}
-use Rattle.apex_texts.proofs.TextLemmas.{from_word, word_some, words_at, words_last}
-use Rattle.apex_logs.specs.LogLine.{begin_with_after, ends_calls}
 
 other_word : (byte : ℕ) (rest : List ℕ) → eqb byte 97 ≡ false → bytes_eq (byte ∷ rest) (codes "after") ≡ false
 other_word byte rest other = rw other refl

@@ -1,16 +1,11 @@
 -- Lines of a text that is read piece by piece.
-use Rattle.std.proofs.Common.{◌≡◌, ℕ, ◌+◌, ◌<◌, ◌≤◌, Bool, true, false, not, eqb, eqb-true, List, [], ◌∷◌, ◌++◌, length, take, drop, get_or, Option, Some, None, Result, Ok, Err, IfOk, refl, sym, ap, ◌∙◌, subst, arith, append_assoc, append-nil, drop_of_length-le}
-use Rattle.std.specs.Prelude.{position, option_map}
+use Rattle.apex_logs.proofs.Common.{◌≡◌, ℕ, ◌+◌, ◌<◌, ◌≤◌, Bool, true, false, not, eqb, eqb-true, List, [], ◌∷◌, ◌++◌, length, take, drop, get_or, Option, Some, None, Result, Ok, Err, IfOk, refl, sym, ap, ◌∙◌, subst, arith, append_assoc, append-nil, drop_of_length-le, position, option_map, Keeps, Consumes, IsAtEnd, prepend_known, lines, lines_of_parts, strip_carriage_return, is_line_feed, position_found}
+use Rattle.apex_logs.proofs.Common.{position_missed, HasNoLineFeed, IsNextLine, IsPart}
 use Rattle.std.specs.List.{slice_split, position_or_len, before_first, after_first}
-use Rattle.std.specs.Io.KnownBytes.{Keeps, Consumes, IsAtEnd, prepend_known}
-use Rattle.std.specs.Str.Lines.{lines, lines_of_parts, strip_carriage_return}
 use Rattle.std.proofs.lemmas.List.Elements.{All-append}
 use Rattle.std.proofs.lemmas.List.Sums.{fails_before_first, passes_at_first, split_at_first}
 use Rattle.std.proofs.lemmas.List.Splits.{slice_split_at, slice_split_none, length-slice_split}
 use Rattle.std.proofs.lemmas.Grind.{common_steps}
-use Rattle.apex_texts.specs.Text.{is_line_feed}
-use Rattle.apex_texts.proofs.TextLemmas.{position_found, position_missed}
-use Rattle.apex_logs.specs.LineSource.{HasNoLineFeed, IsNextLine, IsPart}
 
 -- ---- a part of a text
 

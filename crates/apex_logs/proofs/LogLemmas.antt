@@ -1,5 +1,5 @@
 -- Lines of a log one after the other, as a loop reads them.
-use Rattle.std.proofs.Common.{◌≡◌, ℕ, ◌+◌, true, false, List, [], ◌∷◌, ◌++◌, Option, Result, Ok, refl}
+use Rattle.apex_logs.proofs.Common.{◌≡◌, ℕ, ◌+◌, true, false, List, [], ◌∷◌, ◌++◌, Option, Result, Ok, refl, entry_of_line, ends_calls, before, entries_from}
 use Rattle.apex_ports.specs.declared.history.Entry.{Entry}
 use Rattle.apex_ports.specs.declared.history.Request.{Request}
 use Rattle.apex_texts.specs.declared.line_fault.LineFault.{LineFault}
@@ -8,8 +8,6 @@ use Rattle.apex_logs.specs.declared.log.FaultyLine.{FaultyLine}
 use Rattle.apex_logs.specs.declared.log.LoggedEntry.{LoggedEntry}
 use Rattle.apex_logs.specs.declared.log_fault.LogFault.{LogFault}
 use Rattle.apex_logs.specs.declared.time_out.TimeOut.{TimeOut}
-use Rattle.apex_logs.specs.LogLine.{entry_of_line, ends_calls}
-use Rattle.apex_logs.specs.Log.{before, entries_from}
 
 module _ (asked_by : List ℕ → List (List ℕ) → Result (Request × TimeOut) LineFault) (number : ℕ) where
   -- at a line with what it is read as

@@ -1,6 +1,5 @@
 -- The words of a report for a reply are read as the reply.
-use Rattle.std.proofs.Common.{◌≡◌, ℕ, ◌+◌, ◌-◌, ◌*◌, ◌/◌, ◌%◌, ◌^◌, ◌<◌, ◌≤◌, Bool, true, false, not, eqb, cond, List, [], ◌∷◌, ◌++◌, length, get_or, Some, None, Result, Ok, Err, refl, sym, ap, subst, ◌∙◌, append_assoc, length-append, leb, arith, codes, decimal}
-use Rattle.std.specs.Prelude.{filter, All}
+use Rattle.apex_logs.proofs.Common.{◌≡◌, ℕ, ◌+◌, ◌-◌, ◌*◌, ◌/◌, ◌%◌, ◌^◌, ◌<◌, ◌≤◌, Bool, true, false, not, eqb, cond, List, [], ◌∷◌, ◌++◌, length, get_or, Some, None, Result, Ok, Err, refl, sym, ap, subst, ◌∙◌, append_assoc, length-append, leb, arith, codes, decimal, filter, All, is_blank, is_digit, words_of, digits_after, number_up_to}
 use Rattle.std.specs.List.{slice_split}
 use Rattle.std.specs.Str.{bytes_eq}
 use Rattle.std.proofs.lemmas.Bool.Decides.{nat_tests}
@@ -24,7 +23,6 @@ use Rattle.apex_types.specs.declared.validity.Validity.{Validity}
 use Rattle.apex_types.specs.declared.validity.Validity.TheVariants.{Invalid, Valid}
 use Rattle.apex_texts.specs.declared.arguments.TheConstants.{NUMBER_LIMIT}
 use Rattle.apex_texts.specs.Report.{reply_text, queuing_status_text, sampling_status_text}
-use Rattle.apex_texts.specs.Text.{is_blank, is_digit, words_of, digits_after, number_up_to}
 use Rattle.apex_logs.specs.declared.reply_words.TheConstants.{REFRESH_LIMIT}
 use Rattle.apex_logs.specs.ReplyWords.{not_made_at, id_at, message_reply_at, queuing_status_at, sampling_status_at, data_at, behind_code, reply_by, reply_of}
 

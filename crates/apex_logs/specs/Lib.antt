@@ -1,3 +1,4 @@
+pub mod Prelude
 pub mod LineSource
 pub mod Log
 pub mod LogFault

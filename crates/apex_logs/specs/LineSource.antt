@@ -1,11 +1,6 @@
 -- Lines of a log that come one after another: what is left of them, and what the next one is.
-use Rattle.std.specs.Prelude.{◌≡◌, ℕ, Bool, true, false, List, [], ◌∷◌, ◌++◌, drop, Option, Some, None, option_map, Result, Ok, Err, IfSome, All, length}
+use Rattle.apex_logs.specs.Prelude.{◌≡◌, ℕ, Bool, true, false, List, [], ◌∷◌, ◌++◌, drop, Option, Some, None, option_map, Result, Ok, Err, IfSome, All, length, lines, Entry, Request, LineFault, is_line_feed}
 use Rattle.std.specs.Io.KnownBytes.{prepend_known}
-use Rattle.std.specs.Str.Lines.{lines}
-use Rattle.apex_ports.specs.declared.history.Entry.{Entry}
-use Rattle.apex_ports.specs.declared.history.Request.{Request}
-use Rattle.apex_texts.specs.declared.line_fault.LineFault.{LineFault}
-use Rattle.apex_texts.specs.Text.{is_line_feed}
 use Rattle.apex_logs.specs.declared.line_reader.LineReader.{LineReader}
 use Rattle.apex_logs.specs.declared.line_source.LogStep.{LogStep}
 use Rattle.apex_logs.specs.declared.line_source.LogStep.TheVariants as steps

@@ -1,13 +1,7 @@
 -- What a log means: the entries of its lines in order, or its first faulty line. A parameter says whose log it is, and so
 -- how its lines are read.
-use Rattle.std.specs.Prelude.{◌≡◌, ℕ, ◌+◌, if◌then◌else◌, List, [], ◌∷◌, ◌++◌, codes, decimal, Option, Some, None, Result, Ok, Err}
+use Rattle.apex_logs.specs.Prelude.{◌≡◌, ℕ, ◌+◌, if◌then◌else◌, List, [], ◌∷◌, ◌++◌, codes, decimal, Option, Some, None, Result, Ok, Err, lines, Configuration, Entry, Request, LineFault, ◌>>=◌}
 use Rattle.std.specs.Global.{Vec}
-use Rattle.std.specs.Str.Lines.{lines}
-use Rattle.apex_module.specs.Configuration.{Configuration}
-use Rattle.apex_ports.specs.declared.history.Entry.{Entry}
-use Rattle.apex_ports.specs.declared.history.Request.{Request}
-use Rattle.apex_texts.specs.declared.line_fault.LineFault.{LineFault}
-use Rattle.apex_texts.specs.Arguments.{◌>>=◌}
 use Rattle.apex_logs.specs.declared.log.FaultyLine.{FaultyLine}
 use Rattle.apex_logs.specs.declared.log.LogError.{LogError}
 use Rattle.apex_logs.specs.declared.log.LogError.TheVariants as errors

@@ -1,16 +1,9 @@
 -- What a line of a log means: the entry of its call and its logged reply.
 --     MOMENT PARTITION CALL ARGUMENTS timeout TIME -> REPLY (NOTE)
 -- A log of one partition has no PARTITION. A time-out and a note may be left out, and a note is passed over.
-use Rattle.std.specs.Prelude.{ℕ, Bool, false, ◌+◌, ◌==◌, if◌then◌else◌, List, [], ◌∷◌, take, drop, codes, bytes_eq, position, Option, Some, None, Result, Ok, Err}
+use Rattle.apex_logs.specs.Prelude.{ℕ, Bool, false, ◌+◌, ◌==◌, if◌then◌else◌, List, [], ◌∷◌, take, drop, codes, bytes_eq, position, Option, Some, None, Result, Ok, Err, Configuration, Reply, Entry, Request, LineFault, ◌>>=◌, is_blank, words_of}
 use Rattle.memchr.specs.Find.{matches, first_of}
-use Rattle.apex_module.specs.Configuration.{Configuration}
-use Rattle.apex_types.specs.declared.reply.Reply.{Reply}
-use Rattle.apex_ports.specs.declared.history.Entry.{Entry}
-use Rattle.apex_ports.specs.declared.history.Request.{Request}
-use Rattle.apex_texts.specs.declared.line_fault.LineFault.{LineFault}
-use Rattle.apex_texts.specs.Arguments.{◌>>=◌}
 use Rattle.apex_texts.specs.Lines.{line_words}
-use Rattle.apex_texts.specs.Text.{is_blank, words_of}
 use Rattle.apex_logs.specs.declared.log_fault.LogFault.{LogFault}
 use Rattle.apex_logs.specs.declared.log_fault.LogFault.TheVariants.{NoReply, OpenNote}
 use Rattle.apex_logs.specs.declared.time_out.TimeOut.{TimeOut}

@@ -1,21 +1,14 @@
 -- The reply that words say, in the words of a report: they are read from left to right, and the first fault counts.
-use Rattle.std.specs.Prelude.{◌≡◌, ℕ, if◌then◌else◌, List, [], ◌∷◌, find, codes, bytes_eq, Option, Some, None, Result, Ok, Err}
+use Rattle.apex_logs.specs.Prelude.{◌≡◌, ℕ, if◌then◌else◌, List, [], ◌∷◌, find, codes, bytes_eq, Option, Some, None, Result, Ok, Err, Reply, ReturnCode, NoError, NoAction, NotAvailable, InvalidParam, InvalidConfig, InvalidMode, TimedOut, NUMBER_LIMIT, LineFault, ◌>>=◌, or_fault, word_at, argument_at, message_in, exactly, number_up_to}
 use Rattle.apex_types.specs.Direction.{word_of as direction_word}
 use Rattle.apex_types.specs.ReturnCode.{word_of as code_word}
 use Rattle.apex_types.specs.Validity.{word_of as validity_word}
 use Rattle.apex_types.specs.declared.direction.Direction.{Direction}
 use Rattle.apex_types.specs.declared.direction.Direction.TheVariants.{Source, Destination}
-use Rattle.apex_types.specs.declared.reply.Reply.{Reply}
 use Rattle.apex_types.specs.declared.reply.Reply.TheVariants as replies
-use Rattle.apex_types.specs.declared.return_code.ReturnCode.{ReturnCode}
-use Rattle.apex_types.specs.declared.return_code.ReturnCode.TheVariants.{NoError, NoAction, NotAvailable, InvalidParam, InvalidConfig, InvalidMode, TimedOut}
 use Rattle.apex_types.specs.declared.validity.Validity.{Validity}
 use Rattle.apex_types.specs.declared.validity.Validity.TheVariants.{Invalid, Valid}
-use Rattle.apex_texts.specs.declared.arguments.TheConstants.{NUMBER_LIMIT}
-use Rattle.apex_texts.specs.declared.line_fault.LineFault.{LineFault}
 use Rattle.apex_texts.specs.declared.line_fault.LineFault.TheVariants as line_faults
-use Rattle.apex_texts.specs.Arguments.{◌>>=◌, or_fault, word_at, argument_at, message_in, exactly}
-use Rattle.apex_texts.specs.Text.{number_up_to}
 use Rattle.apex_logs.specs.declared.log_fault.LogFault.{LogFault}
 use Rattle.apex_logs.specs.declared.log_fault.LogFault.TheVariants.{Line, UnknownReply}
 use Rattle.apex_logs.specs.declared.reply_words.TheConstants.{REFRESH_LIMIT}

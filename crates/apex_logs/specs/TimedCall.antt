@@ -1,18 +1,12 @@
 -- The call of a log's line: that of a trace's line, and after the arguments of a send or a receive its time-out.
 --     SERVICE ARGUMENTS timeout NANOSECONDS
 --     SERVICE ARGUMENTS timeout infinite
-use Rattle.std.specs.Prelude.{ℕ, if◌then◌else◌, List, [], ◌∷◌, codes, bytes_eq, Option, Some, None, option_map, Result, Ok, Err}
-use Rattle.apex_module.specs.Configuration.{Configuration}
+use Rattle.apex_logs.specs.Prelude.{ℕ, if◌then◌else◌, List, [], ◌∷◌, codes, bytes_eq, Option, Some, None, option_map, Result, Ok, Err, Configuration, Request, MOMENT_LIMIT, LineFault, ◌>>=◌, or_fault, word_at, exactly, call_at, call_with, moment_of, number_up_to}
 use Rattle.apex_types.specs.declared.call.Call.{Call}
-use Rattle.apex_ports.specs.declared.history.Request.{Request}
-use Rattle.apex_texts.specs.declared.arguments.TheConstants.{MOMENT_LIMIT}
-use Rattle.apex_texts.specs.declared.line_fault.LineFault.{LineFault}
 use Rattle.apex_texts.specs.declared.line_fault.LineFault.TheVariants.{TooManyWords, UnknownCall, Number}
 use Rattle.apex_texts.specs.declared.service.Service.{Service}
 use Rattle.apex_texts.specs.declared.service.Service.TheVariants.{SendQueuing, ReceiveQueuing}
-use Rattle.apex_texts.specs.Arguments.{◌>>=◌, or_fault, word_at, exactly, call_at, call_with, moment_of}
 use Rattle.apex_texts.specs.Service.{service_named}
-use Rattle.apex_texts.specs.Text.{number_up_to}
 use Rattle.apex_texts.specs.Trace.{partition_of}
 use Rattle.apex_logs.specs.declared.time_out.TimeOut.{TimeOut}
 use Rattle.apex_logs.specs.declared.time_out.TimeOut.TheVariants as said

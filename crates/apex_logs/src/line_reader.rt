@@ -1,8 +1,6 @@
 //! The lines of what a reader gives piece by piece, in constant memory.
-ghost use Rattle.std.specs.Prelude.{◌≡◌, ◌<◌, ◌≤◌, true, false, length, option_map, position, IfOk, OnOk};
+ghost use Rattle.apex_logs.specs.Prelude.{◌≡◌, ◌<◌, ◌≤◌, true, false, length, option_map, position, IfOk, OnOk, lines, strip_carriage_return, is_line_feed};
 ghost use Rattle.std.specs.Io.KnownBytes.{Consumes, IsAtEnd, Keeps};
-ghost use Rattle.std.specs.Str.Lines.{lines, strip_carriage_return};
-ghost use Rattle.apex_texts.specs.Text.{is_line_feed};
 ghost use Rattle.apex_logs.specs.LineSource.{IsNextLine, text_left, lines_left, IsPart};
 
 use crate::line_source::{LineSource, ReadError};
@@ -105,6 +103,7 @@ fn read_piece<R: Read>(reader: &mut R, piece: &mut Vec<u8>) -> Result<(), ReadEr
 
 /// Appends the bytes of a text to a line up to the first line feed, or all. Answers how many bytes that takes, and whether
 /// a line feed is the last of them.
+#[tactic(auto, using(crate::proofs::LineSourceLemmas::is_part, crate::proofs::LineSourceLemmas::has_none))]
 fn push_part(line: &mut Vec<u8>, text: &[u8]) -> Result<(usize, bool), AllocError>
     ensures part { IfOk result
         (λ x. IsPart line.old.items line.new.items text.now x.0 x.1) }

@@ -1,6 +1,5 @@
 //! Reading a log line by line: the entries of its lines, each with the number of its line, or its first faulty line.
-ghost use Rattle.std.specs.Prelude.{◌≡◌, ◌+◌, ◌<◌, ◌≤◌, ◌^◌, length, option_map, Some, Ok, Err, IfOk, IfErr, IfSome};
-ghost use Rattle.std.specs.Str.Lines.{lines};
+ghost use Rattle.apex_logs.specs.Prelude.{◌≡◌, ◌+◌, ◌<◌, ◌≤◌, ◌^◌, length, option_map, Some, Ok, Err, IfOk, IfErr, IfSome, lines};
 ghost use Rattle.apex_logs.specs.ReplyWords.{Gives};
 ghost use Rattle.apex_logs.specs.LogLine.{entry_of_line};
 ghost use Rattle.apex_logs.specs.TimedCall.{logged_request_at, own_request_at};
@@ -83,9 +82,7 @@ impl<T: Drop> From<AllocFailed<T>> for LogError {
 
 /// Whose log it is, which says how what its lines ask is read.
 pub trait LogForm {
-    ghost use Rattle.std.specs.Prelude.{ℕ, List, Result};
-    ghost use Rattle.apex_ports.specs.declared.history.Request.{Request};
-    ghost use Rattle.apex_texts.specs.declared.line_fault.LineFault.{LineFault};
+    ghost use Rattle.apex_logs.specs.Prelude.{ℕ, List, Result, Request, LineFault};
     ghost use Rattle.apex_logs.specs.declared.time_out.TimeOut.{TimeOut};
 
     // What a first word and the words after it ask, and the time-out that they say.

@@ -1,13 +1,6 @@
 -- Faulty lines one after the other, as a loop finds them.
-use Rattle.std.proofs.Common.{◌≡◌, ℕ, suc, ◌+◌, ◌-◌, ◌<◌, ◌≤◌, List, [], ◌∷◌, ◌++◌, take, Option, Some, None, Result, Ok, Err, refl, sym, ap, ◌∙◌, arith, append_assoc}
-use Rattle.std.specs.Prelude.{slice_get, option_map, option_to_list}
+use Rattle.apex_mistakes.proofs.Common.{◌≡◌, ℕ, suc, ◌+◌, ◌-◌, ◌<◌, ◌≤◌, List, [], ◌∷◌, ◌++◌, take, Option, Some, None, Result, Ok, Err, refl, sym, ap, ◌∙◌, arith, append_assoc, slice_get, option_map, option_to_list, Expected, LineFault, LinePlace, FaultyLine, item_of_line, before, items_from, place_in, places_from, faulty_line}
 use Rattle.std.specs.Result.{result_err}
-use Rattle.apex_texts.specs.declared.expected.Expected.{Expected}
-use Rattle.apex_texts.specs.declared.line_fault.LineFault.{LineFault}
-use Rattle.apex_mistakes.specs.declared.line_place.LinePlace.{LinePlace}
-use Rattle.apex_texts.specs.Lines.{FaultyLine, item_of_line, before, items_from}
-use Rattle.apex_mistakes.specs.LinePlace.{place_in}
-use Rattle.apex_mistakes.specs.FaultyLines.{places_from, faulty_line}
 use Rattle.apex_mistakes.proofs.PlaceLemmas.{place-faulty}
 
 module _ {A : Type 0} (item_at : List ℕ → List (List ℕ) → Result A LineFault) (front : List Expected) (number : ℕ) where

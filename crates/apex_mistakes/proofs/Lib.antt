@@ -1,3 +1,4 @@
+pub mod Common
 pub mod PlaceLemmas
 pub mod FaultyLinesLemmas
 pub mod LogPlaceLemmas

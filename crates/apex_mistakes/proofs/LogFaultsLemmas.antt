@@ -1,12 +1,8 @@
 -- Faulty lines of a log one after the other, as a loop finds them.
-use Rattle.std.proofs.Common.{◌≡◌, ℕ, ◌+◌, Bool, true, false, List, [], ◌∷◌, ◌++◌, Option, Some, None, Result, Ok, Err, refl, sym, ap, ◌∙◌, take, append-nil}
-use Rattle.std.proofs.Math.Seq.{take-nil}
-use Rattle.std.specs.Prelude.{if◌then◌else◌, slice_get, option_map, option_to_list}
+use Rattle.apex_mistakes.proofs.Common.{◌≡◌, ℕ, ◌+◌, Bool, true, false, List, [], ◌∷◌, ◌++◌, Option, Some, None, Result, Ok, Err, refl, sym, ap, ◌∙◌, take, append-nil, take-nil, if◌then◌else◌, slice_get, option_map, option_to_list, Expected, LineFault, place_in, call_side, is_in_call, of_line_place, place_in_reply, log_place_in, log_places_from, faulty_log_line}
 use Rattle.std.specs.Result.{result_err}
 use Rattle.apex_ports.specs.declared.history.Entry.{Entry}
 use Rattle.apex_ports.specs.declared.history.Request.{Request}
-use Rattle.apex_texts.specs.declared.expected.Expected.{Expected}
-use Rattle.apex_texts.specs.declared.line_fault.LineFault.{LineFault}
 use Rattle.apex_texts.specs.declared.line_fault.LineFault.TheVariants as faults
 use Rattle.apex_logs.specs.declared.log.FaultyLine.{FaultyLine}
 use Rattle.apex_logs.specs.declared.log.LoggedEntry.{LoggedEntry}
@@ -17,9 +13,6 @@ use Rattle.apex_logs.specs.LogLine.{entry_of_line, ends_calls}
 use Rattle.apex_logs.specs.Log.{before, entries_from}
 use Rattle.apex_mistakes.specs.declared.log_place.LogPart.TheVariants as parts
 use Rattle.apex_mistakes.specs.declared.log_place.LogPlace.{LogPlace}
-use Rattle.apex_mistakes.specs.LinePlace.{place_in}
-use Rattle.apex_mistakes.specs.LogPlace.{call_side, is_in_call, of_line_place, place_in_reply, log_place_in}
-use Rattle.apex_mistakes.specs.LogFaults.{log_places_from, faulty_log_line}
 use Rattle.apex_mistakes.proofs.PlaceLemmas.{place-line}
 
 module _ (asked_by : List ℕ → List (List ℕ) → Result (Request × TimeOut) LineFault) (front : List Expected) (number : ℕ) where

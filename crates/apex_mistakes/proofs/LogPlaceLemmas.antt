@@ -1,17 +1,11 @@
 -- The words before a text that is cut after one of its words, and the first word that no reply has there.
-use Rattle.std.proofs.Common.{◌≡◌, ℕ, zero, suc, ◌+◌, ◌-◌, ◌<◌, ◌≤◌, Bool, true, false, not, eqb, List, [], ◌∷◌, ◌++◌, length, take, drop, get_or, refl, sym, ap, ◌∙◌, arith, subst, inl, inr, length-append, append-nil, zero-add, eq-or-lt_of_le}
-use Rattle.std.proofs.Math.Seq.{take-append-add, take-nil}
+use Rattle.apex_mistakes.proofs.Common.{◌≡◌, ℕ, zero, suc, ◌+◌, ◌-◌, ◌<◌, ◌≤◌, Bool, true, false, not, eqb, List, [], ◌∷◌, ◌++◌, length, take, drop, get_or, refl, sym, ap, ◌∙◌, arith, subst, inl, inr, length-append, append-nil, zero-add, eq-or-lt_of_le, take-append-add, take-nil, ◌==◌, filter, position, Expected, is_blank, words_of, from_first_word, behind_first_word, before_arrow_of, begins_reply, fitting}
 use Rattle.std.proofs.lemmas.List.{take-append-drop, length-drop, drop-drop}
 use Rattle.std.proofs.lemmas.List.Elements.{filter-append}
 use Rattle.std.proofs.lemmas.List.FromFn.{length-range_with_len, get_or-range_with_len}
 use Rattle.std.proofs.lemmas.List.Splits.{slice_split-cons_yes, length-slice_split}
 use Rattle.std.proofs.lemmas.List.Sums.{position_or_len_is, prefix_len-le-length}
-use Rattle.std.specs.Prelude.{◌==◌, filter, position}
 use Rattle.std.specs.List.{slice_split, onto_first, position_or_len, range_with_len}
-use Rattle.apex_texts.specs.declared.expected.Expected.{Expected}
-use Rattle.apex_texts.specs.Text.{is_blank, words_of}
-use Rattle.apex_mistakes.specs.LinePlace.{from_first_word, behind_first_word}
-use Rattle.apex_mistakes.specs.LogPlace.{before_arrow_of, begins_reply, fitting}
 use Rattle.apex_mistakes.proofs.PlaceLemmas.{behind_first}
 
 -- ---- a text that is cut before a blank

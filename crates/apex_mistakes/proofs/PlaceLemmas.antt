@@ -1,17 +1,9 @@
 -- The words of a line starting at a word, and the place of a fault in it.
-use Rattle.std.proofs.Common.{◌≡◌, ◌≢◌, ℕ, zero, suc, ◌+◌, ◌-◌, ◌<◌, not, List, [], ◌∷◌, ◌++◌, length, take, drop, get_or, Option, Some, None, refl, sym, ap, ◌∙◌, arith, length-append}
-use Rattle.std.proofs.Math.Seq.{drop-nil, get_or-append_right}
+use Rattle.apex_mistakes.proofs.Common.{◌≡◌, ◌≢◌, ℕ, zero, suc, ◌+◌, ◌-◌, ◌<◌, not, List, [], ◌∷◌, ◌++◌, length, take, drop, get_or, Option, Some, None, refl, sym, ap, ◌∙◌, arith, length-append, drop-nil, get_or-append_right, position, is_blank, words_of, Expected, LineFault, from_first_word, behind_first_word, from_word_at, parameters_at, misfit, words_before, place_in, FaultyLine, faulty_line}
 use Rattle.std.proofs.Math.ListN.{drop_of_length-le}
-use Rattle.std.specs.Prelude.{position}
 use Rattle.std.specs.List.{position_or_len}
-use Rattle.apex_texts.specs.Text.{is_blank, words_of}
-use Rattle.apex_texts.specs.declared.expected.Expected.{Expected}
-use Rattle.apex_texts.specs.declared.line_fault.LineFault.{LineFault}
 use Rattle.apex_texts.specs.declared.line_fault.LineFault.TheVariants as faults
 use Rattle.apex_texts.specs.LineFault.{number_of}
-use Rattle.apex_mistakes.specs.LinePlace.{from_first_word, behind_first_word, from_word_at, parameters_at, misfit, words_before, place_in}
-use Rattle.apex_texts.specs.Lines.{FaultyLine}
-use Rattle.apex_mistakes.specs.FaultyLines.{faulty_line}
 use Rattle.apex_texts.proofs.TextLemmas.{position_found, position_missed, FromWord, from_word, words_skip, words_none, words_at, words_last}
 
 -- what a word leaves of the line that it begins

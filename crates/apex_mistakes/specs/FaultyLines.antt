@@ -1,18 +1,10 @@
 -- All faulty lines of a text, with the places of their faults.
-use Rattle.std.specs.Prelude.{◌≡◌, ℕ, ◌+◌, List, [], ◌∷◌, ◌++◌, length, take, Option, Result, option_map, option_to_list}
-use Rattle.std.specs.Result.{result_err}
-use Rattle.std.specs.Str.Lines.{lines}
-use Rattle.apex_module.specs.Configuration.{Configuration}
-use Rattle.apex_texts.specs.declared.expected.Expected.{Expected}
+use Rattle.apex_mistakes.specs.Prelude.{◌≡◌, ℕ, ◌+◌, List, [], ◌∷◌, ◌++◌, length, take, Option, Result, option_map, option_to_list, result_err, lines, Configuration, Expected, LineFault, FaultyLine, item_of_line, timed_call_at, request_at}
 use Rattle.apex_texts.specs.declared.expected.Expected.TheVariants as kinds
 use Rattle.apex_mistakes.specs.declared.faulty_lines.FaultyLines.{FaultyLines}
-use Rattle.apex_texts.specs.declared.line_fault.LineFault.{LineFault}
 use Rattle.apex_mistakes.specs.declared.line_place.LinePlace.{LinePlace}
 use Rattle.apex_texts.specs.LineFault.{number_of}
-use Rattle.apex_texts.specs.Lines.{FaultyLine, item_of_line}
 use Rattle.apex_mistakes.specs.LinePlace.{place_in}
-use Rattle.apex_texts.specs.Script.{timed_call_at}
-use Rattle.apex_texts.specs.Trace.{request_at}
 
 -- the place of a line's fault, if it has one
 abbrev pub place_of : {A : Type 0} → (List ℕ → List (List ℕ) → Result A LineFault) → List Expected → ℕ → List ℕ → Option LinePlace

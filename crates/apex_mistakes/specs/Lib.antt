@@ -1,3 +1,4 @@
+pub mod Prelude
 pub mod FaultyLines
 pub mod LinePlace
 pub mod LogFaults

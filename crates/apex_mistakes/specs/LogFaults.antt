@@ -1,15 +1,7 @@
 -- All faulty lines of a log, with the places of their faults.
-use Rattle.std.specs.Prelude.{◌≡◌, ℕ, ◌+◌, if◌then◌else◌, List, [], ◌∷◌, ◌++◌, length, take, Option, Result, option_map, option_to_list}
-use Rattle.std.specs.Result.{result_err}
-use Rattle.std.specs.Str.Lines.{lines}
-use Rattle.apex_module.specs.Configuration.{Configuration}
-use Rattle.apex_ports.specs.declared.history.Request.{Request}
-use Rattle.apex_texts.specs.declared.expected.Expected.{Expected}
+use Rattle.apex_mistakes.specs.Prelude.{◌≡◌, ℕ, ◌+◌, if◌then◌else◌, List, [], ◌∷◌, ◌++◌, length, take, Option, Result, option_map, option_to_list, result_err, lines, Configuration, Request, Expected, LineFault, TimeOut, entry_of_line, ends_calls}
 use Rattle.apex_texts.specs.declared.expected.Expected.TheVariants as kinds
-use Rattle.apex_texts.specs.declared.line_fault.LineFault.{LineFault}
 use Rattle.apex_logs.specs.declared.log.FaultyLine.{FaultyLine}
-use Rattle.apex_logs.specs.declared.time_out.TimeOut.{TimeOut}
-use Rattle.apex_logs.specs.LogLine.{entry_of_line, ends_calls}
 use Rattle.apex_logs.specs.TimedCall.{logged_request_at, own_request_at}
 use Rattle.apex_mistakes.specs.declared.faulty_log.LogFaults.{LogFaults}
 use Rattle.apex_mistakes.specs.declared.log_place.LogPlace.{LogPlace}

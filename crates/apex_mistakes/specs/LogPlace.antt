@@ -1,16 +1,10 @@
 -- The place of the fault of a log's line: its part, the number of its word there, and its column.
-use Rattle.std.specs.Prelude.{ℕ, ◌+◌, ◌-◌, Bool, true, false, not, if◌then◌else◌, List, [], ◌++◌, codes, length, take, drop, position, unwrap_or, is_err, Result, Ok, Err}
+use Rattle.apex_mistakes.specs.Prelude.{ℕ, ◌+◌, ◌-◌, Bool, true, false, not, if◌then◌else◌, List, [], ◌++◌, codes, length, take, drop, position, unwrap_or, is_err, Result, Ok, Err, Request, Expected, LineFault, words_of, TimeOut, sides_of, is_bracket, before_note, entry_of_line}
 use Rattle.std.specs.List.{position_or_len, range_with_len}
 use Rattle.apex_types.specs.declared.reply.Reply.{Reply}
-use Rattle.apex_ports.specs.declared.history.Request.{Request}
-use Rattle.apex_texts.specs.declared.expected.Expected.{Expected}
-use Rattle.apex_texts.specs.declared.line_fault.LineFault.{LineFault}
 use Rattle.apex_texts.specs.declared.line_fault.LineFault.TheVariants as faults
-use Rattle.apex_texts.specs.Text.{words_of}
 use Rattle.apex_logs.specs.declared.log_fault.LogFault.{LogFault}
 use Rattle.apex_logs.specs.declared.log_fault.LogFault.TheVariants.{Line, NoReply, OpenNote, UnknownReply}
-use Rattle.apex_logs.specs.declared.time_out.TimeOut.{TimeOut}
-use Rattle.apex_logs.specs.LogLine.{sides_of, is_bracket, before_note, entry_of_line}
 use Rattle.apex_logs.specs.ReplyWords.{reply_of}
 use Rattle.apex_mistakes.specs.declared.line_place.LinePlace.{LinePlace}
 use Rattle.apex_mistakes.specs.declared.log_place.LogPart.{LogPart}

@@ -1,10 +1,6 @@
 //! The faulty lines of a text, with the places of their faults.
-ghost use Rattle.std.specs.Prelude.{◌≡◌, ◌+◌, ◌<◌, ◌≤◌, ◌^◌, ◌∷◌, [], length, slice_get, option_map, MatchOption, IfSome, IfOk};
-ghost use Rattle.std.specs.Result.{result_err};
-ghost use Rattle.std.specs.Str.Lines.{lines};
-ghost use Rattle.apex_texts.specs.Script.{script_of};
-ghost use Rattle.apex_texts.specs.Trace.{trace_of};
-ghost use Rattle.apex_mistakes.specs.FaultyLines.{places_from, places_of, trace_places, script_places, faulty_line, AreFirst};
+ghost use Rattle.apex_mistakes.specs.Prelude.{◌≡◌, ◌+◌, ◌<◌, ◌≤◌, ◌^◌, ◌∷◌, [], length, MatchOption, IfSome, IfOk, lines};
+ghost use Rattle.apex_mistakes.specs.FaultyLines.{places_from, places_of, trace_places, script_places, AreFirst};
 
 use crate::line_place::{LinePlace, place_in};
 use apex_module::Config;
@@ -22,22 +18,6 @@ pub struct FaultyLines {
     pub first: Vec<LinePlace>,
     /// The number of faulty lines.
     pub count: usize,
-}
-
-/// The place of a trace's first fault.
-pub fn find_trace_fault(config: &Config, text: &[u8]) -> Option<LinePlace>
-    ensures exact { result ≡ slice_get (trace_places config.now text.now) 0 }
-    ensures same { option_map faulty_line result ≡ result_err (trace_of config.now text.now) }
-{
-    find_fault(&TraceLine { config }, &TRACE_FRONT, text)
-}
-
-/// The place of a script's first fault.
-pub fn find_script_fault(text: &[u8]) -> Option<LinePlace>
-    ensures exact { result ≡ slice_get (script_places text.now) 0 }
-    ensures same { option_map faulty_line result ≡ result_err (script_of text.now) }
-{
-    find_fault(&ScriptLine, &SCRIPT_FRONT, text)
 }
 
 /// The faulty lines of a trace: the places of the first `most`, and the number of all.
@@ -64,16 +44,6 @@ pub(crate) const TRACE_FRONT: [Expected; 2] = [Expected::Moment, Expected::Parti
 
 // The words before the call word in a script's line.
 pub(crate) const SCRIPT_FRONT: [Expected; 1] = [Expected::Moment];
-
-fn find_fault<F: LineForm>(form: &F, front: &[Expected], text: &[u8]) -> Option<LinePlace>
-    requires { length front.now ≤ 2 }
-    ensures { result ≡ slice_get (places_of (F.item_at form.now) front.now text.now) 0 }
-{
-    match next_fault(form, front, 0, text) {
-        Some((place, _)) => Some(place),
-        None => None,
-    }
-}
 
 fn find_faults<F: LineForm>(
     alloc: Global,

@@ -1,9 +1,7 @@
 //! The faulty lines of a log, with the places of their faults.
-ghost use Rattle.std.specs.Prelude.{◌≡◌, ◌≤◌, ℕ, List, length, slice_get, option_map, IfOk};
-ghost use Rattle.std.specs.Result.{result_err};
-ghost use Rattle.std.specs.Str.Lines.{lines};
-ghost use Rattle.apex_module.specs.Configuration.{Configuration};
+ghost use Rattle.apex_mistakes.specs.Prelude.{◌≡◌, ◌≤◌, ℕ, List, length, slice_get, option_map, IfOk, result_err, lines, Configuration, script_of, trace_of};
 ghost use Rattle.apex_logs.specs.Log.{log_of, own_log_of};
+ghost use Rattle.apex_mistakes.specs.FaultyLines.{faulty_line, script_places, trace_places};
 ghost use Rattle.apex_mistakes.specs.LogFaults.{log_places_from, log_places, own_log_places, faulty_log_line, AreFirstOfLog};
 
 use crate::faulty_lines::{SCRIPT_FRONT, TRACE_FRONT};
@@ -54,9 +52,14 @@ pub fn own_log_faults(
     )
 }
 
-/// The law that the first of these places has the line and the fault for which a log is refused. There is nothing to
-/// run.
+/// The law that the first place has the line and the fault for which a trace, a script or a log is refused. There is
+/// nothing to run.
 pub fn first_place_is_of_the_refusal()
+    ensures trace { (config : Configuration) (text : List ℕ) →
+        option_map faulty_line (slice_get (trace_places config text) 0)
+        ≡ result_err (trace_of config text) }
+    ensures script { (text : List ℕ) →
+        option_map faulty_line (slice_get (script_places text) 0) ≡ result_err (script_of text) }
     ensures module { (config : Configuration) (text : List ℕ) →
         option_map faulty_log_line (slice_get (log_places config text) 0)
         ≡ result_err (log_of config text) }

@@ -18,9 +18,7 @@ mod reply_hint;
 mod reply_word;
 mod standard;
 
-pub use crate::faulty_lines::{
-    FaultyLines, find_script_fault, find_trace_fault, script_faults, trace_faults,
-};
+pub use crate::faulty_lines::{FaultyLines, script_faults, trace_faults};
 pub use crate::faulty_log::{LogFaults, first_place_is_of_the_refusal, log_faults, own_log_faults};
 pub use crate::line_place::LinePlace;
 pub use crate::log_place::{LogPart, LogPlace};

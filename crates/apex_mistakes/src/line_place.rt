@@ -1,7 +1,5 @@
 //! The place of a line's fault, and what was expected there.
-ghost use Rattle.std.specs.Prelude.{◌≡◌, ◌+◌, ◌<◌, ◌≤◌, ◌^◌, not, take, drop, length, [], position, slice_index_or, unwrap_or};
-ghost use Rattle.apex_texts.specs.Text.{words_of};
-ghost use Rattle.apex_texts.specs.Lines.{is_ascii};
+ghost use Rattle.apex_mistakes.specs.Prelude.{◌≡◌, ◌+◌, ◌<◌, ◌≤◌, ◌^◌, not, take, drop, length, [], position, slice_index_or, unwrap_or, words_of, is_ascii};
 ghost use Rattle.apex_texts.specs.declared.expected.Expected.TheVariants as kinds;
 ghost use Rattle.apex_mistakes.specs.LinePlace.{behind_first_word, from_first_word, from_word_at, column_of, parameters_at, words_expected, misfit, words_before, place_in};
 
@@ -190,6 +188,7 @@ fn words_before(front: &[Expected], fault: LineFault, line: &[u8]) -> usize
 }
 
 // What the word after `before` others must be.
+#[tactic(auto, using(crate::proofs::PlaceLemmas::words_from, crate::proofs::PlaceLemmas::behind_call))]
 fn expected_at(front: &[Expected], line: &[u8], before: usize) -> Expected
     requires { length front.now ≤ 2 }
     ensures { result ≡

@@ -1,28 +1,10 @@
 -- Histories with the same filtered parts continue alike.
-use Rattle.std.proofs.Common.{◌≡◌, ◌⊎◌, ⊎_elim, ℕ, ◌-◌, ◌&&◌, ◌||◌, not, Bool, if◌then◌else◌, List, [], ◌∷◌, ◌++◌, length, drop, Option, Some, None, refl, sym, ap, ◌∙◌, subst, append_assoc, append-nil, filter}
-use Rattle.std.specs.List.{slice_get}
-use Rattle.std.specs.Option.{unwrap_or, option_to_list}
+use Rattle.apex_orders.proofs.Common.{◌≡◌, ◌⊎◌, ⊎_elim, ℕ, ◌-◌, ◌&&◌, ◌||◌, not, Bool, if◌then◌else◌, List, [], ◌∷◌, ◌++◌, length, drop, Option, Some, None, refl, sym, ap, ◌∙◌, subst, append_assoc, append-nil, filter, slice_get, unwrap_or, option_to_list, Sample, Taken, Invalid, Configuration, port_of, Port, Entry, count_of, History, entries_of, IsLawful, IsLawfulEntry, mode_of, mode_set, restarts, is_restart}
+use Rattle.apex_orders.proofs.Common.{is_created, creates, accepted_on, received_on, taken_on, taken_by, writes_on, last_validity_of, validity_read, message_accepted, message_received, sample_written, reply_of, row_of, Seen, seen, waiting_of, sample_of, sampling_port, validity_shown, mode_of-append, is_created-append, last_validity_of-append, accepted_on-append, received_on-append, taken_on-append, writes_on-append}
+use Rattle.apex_orders.proofs.Common.{lawful_push, LeavesPartition, LeavesChannel, accepted_stays, received_stays, taken_stays, or_not, IsSamePoint}
 use Rattle.apex_types.specs.declared.mode.Mode.{Mode}
-use Rattle.apex_types.specs.declared.sample.Sample.{Sample}
-use Rattle.apex_types.specs.declared.taken.Taken.{Taken}
 use Rattle.apex_types.specs.declared.validity.Validity.{Validity}
-use Rattle.apex_types.specs.declared.validity.Validity.TheVariants.{Invalid}
-use Rattle.apex_module.specs.Configuration.{Configuration, port_of}
-use Rattle.apex_module.specs.declared.port.Port.{Port}
-use Rattle.apex_ports.specs.declared.history.Entry.{Entry}
-use Rattle.apex_ports.specs.Counts.{count_of}
-use Rattle.apex_ports.specs.History.{History, entries_of}
-use Rattle.apex_ports.specs.Lawful.{IsLawful, IsLawfulEntry}
-use Rattle.apex_ports.specs.Modes.{mode_of, mode_set, restarts, is_restart}
-use Rattle.apex_ports.specs.Ports.{is_created, creates}
-use Rattle.apex_ports.specs.Channels.{accepted_on, received_on, taken_on, taken_by, writes_on, last_validity_of, validity_read, message_accepted, message_received, sample_written}
-use Rattle.apex_ports.specs.ReplyTable.{reply_of, row_of}
-use Rattle.apex_ports.specs.Seen.{Seen, seen, waiting_of, sample_of, sampling_port, validity_shown}
-use Rattle.apex_ports.proofs.Appends.{mode_of-append, is_created-append, last_validity_of-append, accepted_on-append, received_on-append, taken_on-append, writes_on-append}
-use Rattle.apex_ports.proofs.LawfulSteps.{lawful_push}
-use Rattle.apex_ports.proofs.Stays.{LeavesPartition, LeavesChannel, accepted_stays, received_stays, taken_stays, or_not}
 use Rattle.apex_orders.proofs.GoingOn.{lawful_here}
-use Rattle.apex_orders.specs.Points.{IsSamePoint}
 use Rattle.apex_orders.proofs.Walks.{entries_of-append}
 
 -- ---- one channel

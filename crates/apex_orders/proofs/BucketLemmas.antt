@@ -1,11 +1,6 @@
 -- Hashes in buckets.
-use Rattle.std.proofs.Common.{◌≡◌, ⊎_elim, ℕ, ◌+◌, ◌<◌, ◌≤◌, ◌%◌, List, [], ◌∷◌, ◌++◌, length, length-append, get_or, Some, sym, ap, ◌∙◌, subst, arith}
-use Rattle.std.specs.List.{slice_get}
+use Rattle.apex_orders.proofs.Common.{◌≡◌, ⊎_elim, ℕ, ◌+◌, ◌<◌, ◌≤◌, ◌%◌, List, [], ◌∷◌, ◌++◌, length, length-append, get_or, Some, sym, ap, ◌∙◌, subst, arith, slice_get, cases_eq, slice_get-get_or, get_or_from_slice_get, slice_get_within, get_or-set_same, get_or-set_other, length-set, IsLastOf, AreChained, AreFiledBelow, AreFiled, AreNone}
 use Rattle.std.proofs.Math.ListN.{set}
-use Rattle.std.proofs.lemmas.Bool.{cases_eq}
-use Rattle.std.proofs.lemmas.Option.{slice_get-get_or, get_or_from_slice_get, slice_get_within}
-use Rattle.std.proofs.lemmas.List.{get_or-set_same, get_or-set_other, length-set}
-use Rattle.apex_orders.specs.Buckets.{IsLastOf, AreChained, AreFiledBelow, AreFiled, AreNone}
 use Rattle.apex_orders.proofs.Lists.{before_or_last, stays_before}
 
 was_before : (xs : List ℕ) (x k y : ℕ) → k < length xs → slice_get (xs ++ x ∷ []) k ≡ Some y → slice_get xs k ≡ Some y
@@ -120,15 +115,3 @@ module _ (hashes earlier last : List ℕ) (index hash b place : ℕ) (filed : Ar
   }
 
 -- ---- no hash is filed
-
-pub none_filed : (hashes earlier places : List ℕ) → 0 < length places → length hashes ≤ length earlier → AreNone places → AreFiledBelow hashes earlier places 0
-none_filed hashes earlier places some room none = record {
-  some = some;
-  chained = record { room = room; each = λ k hash below at. absurd (omega (arith, below)) };
-  heads = λ b within.
-      subst (IsLastOf hashes (length places) b 0) (sym (none b within)) (record {
-        within = omega arith;
-        own = λ k hash is at. absurd (omega (arith, is));
-        rest = λ k hash below at same. below;
-      });
-}

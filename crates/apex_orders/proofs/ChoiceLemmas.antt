@@ -1,20 +1,6 @@
 -- Partitions whose next calls are enough to try.
-use Rattle.std.proofs.Common.{◌≡◌, ◌≢◌, ◌⊎◌, ◌↔◌, inl, inr, ⊎_elim, ℕ, ◌+◌, ◌-◌, ◌^◌, ◌<◌, ◌≤◌, Bool, true, false, List, [], length, get_or, Option, Some, None, refl, sym, ap, ◌∙◌, subst, arith}
-use Rattle.std.specs.List.{slice_get}
-use Rattle.std.specs.Option.{unwrap_or}
-use Rattle.std.proofs.lemmas.Bool.{false≢true, cases_eq, cases_lt}
-use Rattle.std.proofs.lemmas.Option.{slice_get_within, slice_get_past, slice_get-get_or, unwrap_or-slice_get}
-use Rattle.apex_types.specs.declared.call.Call.{Call}
-use Rattle.apex_types.specs.declared.moment.Moment.{Moment}
-use Rattle.apex_module.specs.Configuration.{Configuration}
-use Rattle.apex_ports.specs.Counts.{count_of}
-use Rattle.apex_ports.specs.History.{History, entries_of}
-use Rattle.apex_orders.specs.Choices.{is_tried, HasNoChannel, IsNextCall, IsOnChannel, IsQuietOutside, IsSafeToTry}
-use Rattle.apex_orders.specs.Clock.{IsNextDue}
-use Rattle.apex_orders.specs.Enough.{HasNext, IsApartFromRest, IsEnough, IsRefusedEarly}
-use Rattle.apex_orders.specs.Commuting.{names}
-use Rattle.apex_orders.specs.Orders.{Scripts, script_of}
-use Rattle.apex_orders.specs.Searching.{AreDue, IsEnoughWith}
+use Rattle.apex_orders.proofs.Common.{◌≡◌, ◌≢◌, ◌⊎◌, ◌↔◌, inl, inr, ⊎_elim, ℕ, ◌+◌, ◌-◌, ◌^◌, ◌<◌, ◌≤◌, Bool, true, false, List, [], length, get_or, Option, Some, None, refl, sym, ap, ◌∙◌, subst, arith, slice_get, unwrap_or, false≢true, cases_eq, cases_lt, slice_get_within, slice_get_past, slice_get-get_or, unwrap_or-slice_get, Call, Moment, Configuration, count_of, History, entries_of, is_tried, HasNoChannel}
+use Rattle.apex_orders.proofs.Common.{IsNextCall, IsOnChannel, IsQuietOutside, IsSafeToTry, IsNextDue, HasNext, IsApartFromRest, IsEnough, IsRefusedEarly, names, Scripts, script_of, AreDue, IsEnoughWith}
 use Rattle.apex_orders.proofs.UseLemmas.{apart_quiet, apart_unnamed}
 
 pub has_script : (scripts : Scripts) (q k : ℕ) (timed : Moment × Call) → slice_get (script_of scripts q) k ≡ Some timed → q < length scripts

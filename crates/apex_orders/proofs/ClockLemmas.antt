@@ -1,19 +1,6 @@
 -- Histories in which each call was due when it was made.
-use Rattle.std.proofs.Common.{◌≡◌, ◌≢◌, ⊎_elim, ℕ, ◌+◌, ◌<◌, ◌≤◌, Bool, true, false, List, [], ◌∷◌, ◌++◌, length, take, Some, refl, sym, ap, ◌∙◌, subst, arith, append_assoc, append-nil, length-append}
-use Rattle.std.specs.List.{slice_get}
-use Rattle.std.proofs.lemmas.Bool.{false≢true, cases_eq}
-use Rattle.std.proofs.lemmas.List.{take-append-le}
-use Rattle.std.proofs.lemmas.Option.{slice_get_within}
-use Rattle.std.proofs.Math.Seq.{take-append_seam}
-use Rattle.apex_types.specs.declared.call.Call.{Call}
-use Rattle.apex_types.specs.declared.moment.Moment.{Moment}
-use Rattle.apex_module.specs.Configuration.{Configuration}
-use Rattle.apex_ports.specs.declared.history.Entry.{Entry}
-use Rattle.apex_ports.specs.History.{History, entries_of}
-use Rattle.apex_orders.specs.Clock.{ClockedNeverFalls, IsDue, IsNextDue, IsClocked}
-use Rattle.apex_orders.specs.Enough.{HasSameByTried}
-use Rattle.apex_orders.specs.Orders.{Scripts, script_of, IsWay, next_entries}
-use Rattle.apex_orders.specs.Searching.{IsEnoughWith}
+use Rattle.apex_orders.proofs.Common.{◌≡◌, ◌≢◌, ⊎_elim, ℕ, ◌+◌, ◌<◌, ◌≤◌, Bool, true, false, List, [], ◌∷◌, ◌++◌, length, take, Some, refl, sym, ap, ◌∙◌, subst, arith, append_assoc, append-nil, length-append, slice_get, false≢true, cases_eq, take-append-le, slice_get_within, take-append_seam, Call, Moment, Configuration, Entry, History, entries_of, ClockedNeverFalls, IsDue, IsNextDue, IsClocked, HasSameByTried}
+use Rattle.apex_orders.proofs.Common.{Scripts, script_of, IsWay, next_entries, IsEnoughWith}
 use Rattle.apex_orders.proofs.ChoiceLemmas.{has_script}
 use Rattle.apex_orders.proofs.Enough.{enough_goes_first}
 use Rattle.apex_orders.proofs.Lists.{at_seam, before_or_last, stays_before}
@@ -42,11 +29,6 @@ module _ (clock : Bool) (scripts : Scripts) where
       let whole : h ≡ take k (h ++ e ∷ []) = sym (ap (λ (n : ℕ). take n (h ++ e ∷ [])) last.0 ∙ take-append_seam h (e ∷ [])) in
       subst (λ (both : History × Entry). IsDue clock scripts both.0 both.1.at) (λ i. (whole i, last.1 i)) due)
       (before_or_last h e k x at)
-
-  pub clocked_start : (h rest : History) → IsClocked clock scripts (h ++ rest) → IsClocked clock scripts h
-  clocked_start h rest clocked k e at =
-      let inside = slice_get_within h k e at in
-      subst (λ (g : History). IsDue clock scripts g e.at) (take-append-le k h rest (omega (arith, inside))) (clocked k e (stays_before h rest k e at))
 
   pub due_here : (h : History) (e : Entry) (rest : List Entry) → IsClocked clock scripts (h ++ e ∷ rest) → IsDue clock scripts h e.at
   due_here h e rest clocked = subst (λ (g : History). IsDue clock scripts g e.at) (take-append_seam h (e ∷ rest)) (clocked (length h) e (at_seam h e rest))

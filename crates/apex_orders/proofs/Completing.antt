@@ -1,26 +1,6 @@
 -- A complete search has found each reply and each end.
-use Rattle.std.proofs.Common.{◌≡◌, ◌⊎◌, inl, inr, ⊎_elim, ℕ, zero, suc, ◌<◌, ◌≤◌, Bool, List, [], ◌∷◌, ◌++◌, length, map, Option, Some, None, refl, sym, ap, ◌∙◌, subst, arith, append_assoc, append-nil, length-append}
-use Rattle.std.specs.List.{slice_get}
-use Rattle.std.specs.Option.{unwrap_or}
-use Rattle.std.proofs.lemmas.Bool.{cases_eq}
-use Rattle.std.proofs.lemmas.Option.{slice_get_within}
-use Rattle.std.proofs.lemmas.List.{take_all}
-use Rattle.apex_types.specs.declared.call.Call.{Call}
-use Rattle.apex_types.specs.declared.moment.Moment.{Moment}
-use Rattle.apex_types.specs.declared.reply.Reply.{Reply}
-use Rattle.apex_module.specs.Configuration.{Configuration}
-use Rattle.apex_module.specs.Configuration.{IsConfiguration}
-use Rattle.apex_ports.specs.declared.history.Entry.{Entry}
-use Rattle.apex_ports.specs.History.{History, entry_of, entries_of}
-use Rattle.apex_ports.proofs.LawfulSteps.{sound-nil}
-use Rattle.apex_orders.specs.declared.replies.PossibleReply.{PossibleReply}
-use Rattle.apex_orders.specs.Clock.{IsNextDue, IsClocked}
-use Rattle.apex_orders.specs.Orders.{Scripts, script_of, calls_of, replies_of, IsBeginning, IsWay, IsOrder, next_entries, continued, history_of}
-use Rattle.apex_orders.specs.Outcomes.{CanOccurWith, AreRepliesWith, AreEndsWith, EndsAtOne}
-use Rattle.apex_orders.specs.Points.{IsSamePoint}
-use Rattle.apex_orders.specs.Lists.{Has}
-use Rattle.apex_orders.specs.Searching.{IsSearched, IsGivenByAnOrder}
-use Rattle.apex_orders.specs.Steps.{Makes}
+use Rattle.apex_orders.proofs.Common.{◌≡◌, ◌⊎◌, inl, inr, ⊎_elim, ℕ, zero, suc, ◌<◌, ◌≤◌, Bool, List, [], ◌∷◌, ◌++◌, length, map, Option, Some, None, refl, sym, ap, ◌∙◌, subst, arith, append_assoc, append-nil, length-append, slice_get, unwrap_or, cases_eq, slice_get_within, take_all, Call, Moment, Reply, Configuration, IsConfiguration, Entry, History, entry_of, entries_of, sound-nil, PossibleReply, IsNextDue}
+use Rattle.apex_orders.proofs.Common.{IsClocked, Scripts, script_of, calls_of, replies_of, IsBeginning, IsWay, IsOrder, next_entries, continued, history_of, CanOccurWith, AreRepliesWith, AreEndsWith, EndsAtOne, IsSamePoint, Has, IsSearched, IsGivenByAnOrder, Makes}
 use Rattle.apex_orders.proofs.ClockLemmas.{MadeAsMany, clocked_follow, clocked_next, goes_first, next_due}
 use Rattle.apex_orders.proofs.Enough.{begins}
 use Rattle.apex_orders.proofs.Finishing.{Finishes, finish_all}

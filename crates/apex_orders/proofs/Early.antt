@@ -1,26 +1,11 @@
 -- Calls that are refused before the channel is read.
 use Rattle.std.specs.Prelude.{nat_lt}
-use Rattle.std.proofs.Common.{◌≡◌, ◌≢◌, inr, ℕ, ◌==◌, ◌&&◌, not, Bool, true, false, if◌then◌else◌, List, [], ◌∷◌, ◌++◌, length, Option, Some, None, refl, sym, ap, ◌∙◌}
-use Rattle.apex_types.specs.declared.call.Call.{Call}
+use Rattle.apex_orders.proofs.Common.{◌≡◌, ◌≢◌, inr, ℕ, ◌==◌, ◌&&◌, not, Bool, true, false, if◌then◌else◌, List, [], ◌∷◌, ◌++◌, length, Option, Some, None, refl, sym, ap, ◌∙◌, Call, Moment, Sample, Configuration, refresh_of_kind, Port, Entry, Row, is_receive, is_clear, message_in, message_sent, message_written, sample_at, History, is_idle, is_code_no_error, is_source, NamedPort, queuing_named, sampling_named}
+use Rattle.apex_orders.proofs.Common.{size_of, depth_of, create_queuing_row, create_sampling_row, id_row, send_row, oldest_row, receive_row, last_row, read_row, service_row, row_of, reply_of, reply_to, Seen, seen, queuing_port, sampling_port, leaves_others, LeavesPartition, LeavesChannel, none_or_none, is_early, IsRefusedEarly}
 use Rattle.apex_types.specs.declared.call.Call.TheVariants as call
-use Rattle.apex_types.specs.declared.moment.Moment.{Moment}
-use Rattle.apex_types.specs.declared.sample.Sample.{Sample}
-use Rattle.apex_module.specs.Configuration.{Configuration, refresh_of_kind}
-use Rattle.apex_module.specs.declared.port.Port.{Port}
-use Rattle.apex_ports.specs.declared.history.Entry.{Entry}
 use Rattle.apex_ports.specs.declared.rows.Refusal.TheVariants as refusal
-use Rattle.apex_ports.specs.declared.rows.Row.{Row}
 use Rattle.apex_ports.specs.declared.rows.Row.TheVariants as row
-use Rattle.apex_ports.specs.Channels.{is_receive, is_clear, message_in, message_sent, message_written, sample_at}
-use Rattle.apex_ports.specs.History.{History}
-use Rattle.apex_ports.specs.Modes.{is_idle, is_code_no_error}
-use Rattle.apex_ports.specs.Ports.{is_source, NamedPort, queuing_named, sampling_named}
-use Rattle.apex_ports.specs.ReplyTable.{size_of, depth_of, create_queuing_row, create_sampling_row, id_row, send_row, oldest_row, receive_row, last_row, read_row, service_row, row_of, reply_of, reply_to}
-use Rattle.apex_ports.specs.Seen.{Seen, seen, queuing_port, sampling_port}
-use Rattle.apex_ports.proofs.PartitionSteps.{leaves_others}
 use Rattle.apex_ports.proofs.RowCalls.{is_an_error}
-use Rattle.apex_ports.proofs.Stays.{LeavesPartition, LeavesChannel, none_or_none}
-use Rattle.apex_orders.specs.Enough.{is_early, IsRefusedEarly}
 use Rattle.apex_orders.proofs.Alike.{partition_left}
 use Rattle.apex_orders.proofs.Leaving.{reply_left}
 use Rattle.apex_orders.proofs.Swapping.{MaySwap}

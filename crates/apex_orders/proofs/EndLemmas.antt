@@ -1,20 +1,9 @@
 -- Ends, and more points than a bound.
-use Rattle.std.proofs.Common.{◌≡◌, ◌⊎◌, inl, inr, ⊎_elim, ℕ, zero, suc, ◌+◌, ◌<◌, ◌≤◌, ◌==◌, Bool, true, false, cond, if◌then◌else◌, List, [], ◌∷◌, ◌++◌, length, map, Some, Ok, Err, Result, IsErrAnd, refl, sym, ap, subst, arith, length-append}
-use Rattle.std.specs.List.{slice_get}
-use Rattle.std.proofs.lemmas.List.{length-map}
+use Rattle.apex_orders.proofs.Common.{◌≡◌, ◌⊎◌, inl, inr, ⊎_elim, ℕ, zero, suc, ◌+◌, ◌<◌, ◌≤◌, ◌==◌, Bool, true, false, cond, if◌then◌else◌, List, [], ◌∷◌, ◌++◌, length, map, Some, Ok, Err, Result, IsErrAnd, refl, sym, ap, subst, arith, length-append, slice_get, length-map, Configuration, IsConfiguration, Entry, count_of, History, entries_of, IsClocked, Scripts, script_of, AreShort, calls_of, IsBeginning}
+use Rattle.apex_orders.proofs.Common.{next_entries, continued, history_of, times, HasMorePointsWith, IsUndecidedWith, IsSamePoint, Has, HasMadeAll, AreEndsOf, HasMoreOrders, IsGivenUp}
 use Rattle.std.proofs.lemmas.List.Sums.{sum_by-cons}
-use Rattle.apex_module.specs.Configuration.{Configuration, IsConfiguration}
-use Rattle.apex_ports.specs.declared.history.Entry.{Entry}
-use Rattle.apex_ports.specs.Counts.{count_of}
-use Rattle.apex_ports.specs.History.{History, entries_of}
 use Rattle.apex_orders.specs.declared.orders_fault.OrdersFault.{OrdersFault}
 use Rattle.apex_orders.specs.declared.orders_fault.OrdersFault.TheVariants.{TooManyStates, OutOfMemory, Stopped}
-use Rattle.apex_orders.specs.Clock.{IsClocked}
-use Rattle.apex_orders.specs.Orders.{Scripts, script_of, AreShort, calls_of, IsBeginning, next_entries, continued, history_of, times}
-use Rattle.apex_orders.specs.Outcomes.{HasMorePointsWith, IsUndecidedWith}
-use Rattle.apex_orders.specs.Points.{IsSamePoint}
-use Rattle.apex_orders.specs.Lists.{Has}
-use Rattle.apex_orders.specs.Searching.{HasMadeAll, AreEndsOf, HasMoreOrders, IsGivenUp}
 use Rattle.apex_orders.proofs.Lists.{stays_before, before_or_last, at_seam}
 use Rattle.apex_orders.proofs.Walks.{entries_of-append, calls_count, IsDone, IsNext, next_cases, answered, is_beginning}
 use Rattle.apex_orders.proofs.Completing.{good_history}
@@ -34,9 +23,6 @@ module _ (config : Configuration) (scripts : Scripts) where
       (λ (before : slice_get orders has.0 ≡ Some other). inl (has.0, before))
       (λ (last : (has.0 ≡ length orders) × (order ≡ other)). inr last.1)
       (before_or_last orders order has.0 other has.1)
-
-  pub no_ends : AreEndsOf config scripts [] []
-  no_ends = record { each = λ order has. absurd (let at = has.1 in cc); every = λ order has made. absurd (let at = has.1 in cc) }
 
   pub one_end : (orders ends : List (List ℕ)) (order : List ℕ) → AreEndsOf config scripts orders ends → HasMadeAll config scripts (history_of config scripts order)
       → AreEndsOf config scripts (orders ++ order ∷ []) (ends ++ order ∷ [])

@@ -1,19 +1,8 @@
 -- It is enough to try the next calls of some partitions.
-use Rattle.std.proofs.Common.{◌≡◌, ◌≢◌, ◌⊎◌, inl, inr, ⊎_elim, ℕ, zero, suc, ◌<◌, ◌≤◌, Bool, true, false, List, [], ◌∷◌, ◌++◌, length, map, take, Some, refl, sym, ap, ◌∙◌, subst, arith, append_assoc, append-nil, length-append}
-use Rattle.std.specs.List.{slice_get}
-use Rattle.std.proofs.lemmas.Option.{slice_get_within}
-use Rattle.std.proofs.Math.Seq.{take-append_seam}
-use Rattle.apex_types.specs.declared.call.Call.{Call}
-use Rattle.apex_types.specs.declared.moment.Moment.{Moment}
-use Rattle.apex_module.specs.Configuration.{Configuration}
-use Rattle.apex_ports.specs.declared.history.Entry.{Entry}
-use Rattle.apex_ports.specs.History.{History, entries_of}
-use Rattle.apex_ports.proofs.PartitionSteps.{leaves_others}
+use Rattle.apex_orders.proofs.Common.{◌≡◌, ◌≢◌, ◌⊎◌, inl, inr, ⊎_elim, ℕ, zero, suc, ◌<◌, ◌≤◌, Bool, true, false, List, [], ◌∷◌, ◌++◌, length, map, take, Some, refl, sym, ap, ◌∙◌, subst, arith, append_assoc, append-nil, length-append, slice_get, slice_get_within, take-append_seam, Call, Moment, Configuration, Entry, History, entries_of, leaves_others, Scripts, script_of, calls_of, IsBeginning, IsWay, Commutes}
+use Rattle.apex_orders.proofs.Common.{IsRefusedEarly, IsApartFromRest, HasNext, IsEnough, IsSameWay, AreAmongTried, TryingEnoughIsEnough, EnoughGoesFirst}
 use Rattle.apex_orders.proofs.GoingOn.{lawful_here}
-use Rattle.apex_orders.specs.Orders.{Scripts, script_of, calls_of, IsBeginning, IsWay}
 use Rattle.apex_orders.proofs.Walks.{entries_of-append, calls_of-append, calls_count, other_entry}
-use Rattle.apex_orders.specs.Commuting.{Commutes}
-use Rattle.apex_orders.specs.Enough.{IsRefusedEarly, IsApartFromRest, HasNext, IsEnough, IsSameWay, AreAmongTried, TryingEnoughIsEnough, EnoughGoesFirst}
 use Rattle.apex_orders.proofs.Early.{still_early, early_may}
 use Rattle.apex_orders.proofs.SameWays.{same_way, way_along, way_same, next_call, next_entry, timed_of}
 use Rattle.apex_orders.proofs.Swapping.{MaySwap, apart_back, apart_may, commutes, lawful_start}

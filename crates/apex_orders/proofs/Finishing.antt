@@ -1,15 +1,6 @@
 -- Each clocked beginning can be finished: a call with the least moment comes next.
-use Rattle.std.proofs.Common.{◌≡◌, ◌≢◌, ◌⊎◌, inl, inr, ⊎_elim, ℕ, zero, suc, ◌+◌, ◌-◌, ◌<◌, ◌≤◌, Bool, List, [], ◌∷◌, ◌++◌, length, Option, Some, None, refl, sym, ap, ◌∙◌, subst, arith, append-nil, length-append}
-use Rattle.std.specs.List.{slice_get}
-use Rattle.std.proofs.lemmas.Bool.{cases_eq, cases_lt}
-use Rattle.std.proofs.lemmas.Option.{slice_get_within}
-use Rattle.apex_types.specs.declared.call.Call.{Call}
-use Rattle.apex_types.specs.declared.moment.Moment.{Moment}
-use Rattle.apex_module.specs.Configuration.{Configuration}
-use Rattle.apex_ports.specs.declared.history.Entry.{Entry}
-use Rattle.apex_ports.specs.History.{History, entries_of}
-use Rattle.apex_orders.specs.Clock.{IsNextDue, IsClocked}
-use Rattle.apex_orders.specs.Orders.{Scripts, script_of, calls_of, entries_for, IsOrder, next_entries, continued}
+use Rattle.apex_orders.proofs.Common.{◌≡◌, ◌≢◌, ◌⊎◌, inl, inr, ⊎_elim, ℕ, zero, suc, ◌+◌, ◌-◌, ◌<◌, ◌≤◌, Bool, List, [], ◌∷◌, ◌++◌, length, Option, Some, None, refl, sym, ap, ◌∙◌, subst, arith, append-nil, length-append, slice_get, cases_eq, cases_lt, slice_get_within, Call, Moment, Configuration, Entry, History, entries_of, IsNextDue, IsClocked, Scripts, script_of, calls_of, entries_for, IsOrder, next_entries}
+use Rattle.apex_orders.proofs.Common.{continued}
 use Rattle.apex_orders.proofs.ChoiceLemmas.{has_script, one_more}
 use Rattle.apex_orders.proofs.ClockLemmas.{clocked_next}
 use Rattle.apex_orders.proofs.Lists.{none_past}

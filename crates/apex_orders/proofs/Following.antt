@@ -1,25 +1,9 @@
 -- Histories that lead to one point continue alike.
-use Rattle.std.proofs.Common.{◌≡◌, ⊎_elim, ℕ, ◌<◌, ◌≤◌, List, [], ◌∷◌, ◌++◌, length, filter, Option, Some, None, refl, sym, ap, ◌∙◌, subst, arith, length-append, append-nil}
-use Rattle.std.specs.List.{slice_get}
-use Rattle.std.specs.Option.{option_to_list}
+use Rattle.apex_orders.proofs.Common.{◌≡◌, ⊎_elim, ℕ, ◌<◌, ◌≤◌, List, [], ◌∷◌, ◌++◌, length, filter, Option, Some, None, refl, sym, ap, ◌∙◌, subst, arith, length-append, append-nil, slice_get, option_to_list, length-take, Call, Moment, Reply, Taken, Configuration, Entry, accepted_on, received_on, cleared_on, taken_on, taken_by, waiting_on, message_accepted, message_received, count_of, History, entry_of, entries_of}
+use Rattle.apex_orders.proofs.Common.{IsSound, accepted_on-append, received_on-append, taken_on-append, IsSameChannel, Scripts, script_of, AreShort, calls_of, entries_for, next_entries, IsSameCalls, HasSameCounts, IsSamePoint}
 use Rattle.std.proofs.lemmas.List.Elements.{filter-append}
-use Rattle.std.proofs.lemmas.List.{length-take}
-use Rattle.apex_types.specs.declared.call.Call.{Call}
-use Rattle.apex_types.specs.declared.moment.Moment.{Moment}
-use Rattle.apex_types.specs.declared.reply.Reply.{Reply}
-use Rattle.apex_types.specs.declared.taken.Taken.{Taken}
-use Rattle.apex_module.specs.Configuration.{Configuration}
-use Rattle.apex_ports.specs.declared.history.Entry.{Entry}
-use Rattle.apex_ports.specs.Channels.{accepted_on, received_on, cleared_on, taken_on, taken_by, waiting_on, message_accepted, message_received}
-use Rattle.apex_ports.specs.Counts.{count_of}
-use Rattle.apex_ports.specs.History.{History, entry_of, entries_of}
-use Rattle.apex_ports.specs.Sound.{IsSound}
-use Rattle.apex_ports.proofs.Appends.{accepted_on-append, received_on-append, taken_on-append}
-use Rattle.apex_orders.specs.States.{IsSameChannel}
 use Rattle.apex_orders.proofs.SeenAlike.{same_reply}
 use Rattle.apex_orders.proofs.StateSteps.{state_step}
-use Rattle.apex_orders.specs.Orders.{Scripts, script_of, AreShort, calls_of, entries_for, next_entries}
-use Rattle.apex_orders.specs.Points.{IsSameCalls, HasSameCounts, IsSamePoint}
 use Rattle.apex_orders.proofs.Walks.{IsGood, IsDone, IsNext, next_cases, answered, calls_count, entries_of-append, same_history, one_longer}
 
 -- ---- being one point is reflexive, symmetric and transitive

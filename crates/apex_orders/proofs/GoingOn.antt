@@ -1,13 +1,5 @@
 -- The law of states.
-use Rattle.std.proofs.Common.{List, [], ◌∷◌, ◌++◌, length, sym, ◌∙◌, subst, append_assoc, append-nil}
-use Rattle.std.proofs.Math.Seq.{take-append_seam}
-use Rattle.apex_module.specs.Configuration.{Configuration}
-use Rattle.apex_ports.specs.declared.history.Entry.{Entry}
-use Rattle.apex_ports.specs.History.{History}
-use Rattle.apex_ports.specs.Lawful.{IsLawful, IsLawfulEntry}
-use Rattle.apex_ports.specs.Sound.{IsSound}
-use Rattle.apex_ports.proofs.LawfulSteps.{sound-push}
-use Rattle.apex_orders.specs.States.{IsSameState}
+use Rattle.apex_orders.proofs.Common.{List, [], ◌∷◌, ◌++◌, length, sym, ◌∙◌, subst, append_assoc, append-nil, take-append_seam, Configuration, Entry, History, IsLawful, IsLawfulEntry, IsSound, sound-push, IsSameState}
 use Rattle.apex_orders.specs.StateLaw.{AlwaysGoesOnAlike}
 use Rattle.apex_orders.proofs.Lists.{at_seam}
 use Rattle.apex_orders.proofs.SeenAlike.{same_reply}

@@ -1,11 +1,6 @@
 -- Orders that continue each other by one call.
-use Rattle.std.proofs.Common.{◌≡◌, ⊎_elim, ℕ, zero, suc, ◌+◌, ◌<◌, ◌≤◌, List, [], ◌∷◌, ◌++◌, length, Some, refl, sym, ap, ◌∙◌, subst, arith, length-append}
-use Rattle.std.specs.List.{slice_get}
-use Rattle.std.proofs.lemmas.Option.{slice_get-get_or, get_or_from_slice_get, slice_get_within}
-use Rattle.apex_orders.specs.declared.orders.LastCall.{LastCall}
-use Rattle.apex_orders.specs.Orders.{order_at}
+use Rattle.apex_orders.proofs.Common.{◌≡◌, ⊎_elim, ℕ, zero, suc, ◌+◌, ◌<◌, ◌≤◌, List, [], ◌∷◌, ◌++◌, length, Some, refl, sym, ap, ◌∙◌, subst, arith, length-append, slice_get, slice_get-get_or, get_or_from_slice_get, slice_get_within, LastCall, order_at, Keeps}
 use Rattle.apex_orders.specs.Growth.{grown, orders_of, ContinueEarlier}
-use Rattle.apex_orders.specs.Searching.{Keeps}
 use Rattle.apex_orders.proofs.Lists.{at_seam, stays_before, before_or_last}
 
 -- the order that ends with the call

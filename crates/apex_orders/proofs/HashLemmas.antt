@@ -1,14 +1,6 @@
 -- Equal points have the same hash.
-use Rattle.std.proofs.Common.{◌≡◌, ⊎_elim, ℕ, zero, suc, ◌+◌, ◌≤◌, List, [], ◌∷◌, ◌++◌, length, Some, refl, sym, ap, ◌∙◌, arith, length-append}
-use Rattle.std.specs.List.{slice_get}
+use Rattle.apex_orders.proofs.Common.{◌≡◌, ⊎_elim, ℕ, zero, suc, ◌+◌, ◌≤◌, List, [], ◌∷◌, ◌++◌, length, Some, refl, sym, ap, ◌∙◌, arith, length-append, slice_get, Configuration, ports_of, History, IsIdentifier, IsSamePorts, mix, calls_below, shown_below, all_shown_below, shown_hash, messages_hash, channels_below, hash_of, AreHashes, Scripts, history_of, IsSamePoint, IsSameCalls}
 use Rattle.apex_types.specs.Validity.{number_of}
-use Rattle.apex_module.specs.Configuration.{Configuration, ports_of}
-use Rattle.apex_ports.specs.History.{History}
-use Rattle.apex_ports.specs.Ports.{IsIdentifier}
-use Rattle.apex_orders.specs.States.{IsSamePorts}
-use Rattle.apex_orders.specs.Hashes.{mix, calls_below, shown_below, all_shown_below, shown_hash, messages_hash, channels_below, hash_of, AreHashes}
-use Rattle.apex_orders.specs.Orders.{Scripts, history_of}
-use Rattle.apex_orders.specs.Points.{IsSamePoint, IsSameCalls}
 use Rattle.apex_orders.proofs.Lists.{at_seam, stays_before, before_or_last}
 
 module _ (config : Configuration) (h other : History) where

@@ -1,14 +1,6 @@
 -- The known points, with one more, and with one taken out.
-use Rattle.std.proofs.Common.{◌≡◌, ⊎_elim, ℕ, suc, ◌+◌, ◌-◌, ◌≤◌, List, [], ◌∷◌, ◌++◌, length, Bor, Option, Some, None, sym, ap, ◌∙◌, subst, arith, length-append}
-use Rattle.std.specs.List.{slice_get}
-use Rattle.std.specs.Option.{MatchOption, IfSome, option_copied}
-use Rattle.std.proofs.lemmas.Option.{slice_get_within}
-use Rattle.apex_module.specs.Configuration.{Configuration}
-use Rattle.apex_ports.specs.PortsView.{PortsView}
+use Rattle.apex_orders.proofs.Common.{◌≡◌, ⊎_elim, ℕ, suc, ◌+◌, ◌-◌, ◌≤◌, List, [], ◌∷◌, ◌++◌, length, Bor, Option, Some, None, sym, ap, ◌∙◌, subst, arith, length-append, slice_get, MatchOption, IfSome, option_copied, slice_get_within, Configuration, PortsView, IsAfter, ArePoints, IsTaken, IsLeft, hash_of, AreHashes, Scripts, history_of}
 use Rattle.apex_orders.specs.declared.points.Points.{Points}
-use Rattle.apex_orders.specs.Known.{IsAfter, ArePoints, IsTaken, IsLeft}
-use Rattle.apex_orders.specs.Hashes.{hash_of, AreHashes}
-use Rattle.apex_orders.specs.Orders.{Scripts, history_of}
 use Rattle.apex_orders.proofs.Lists.{before_or_last}
 use Rattle.apex_orders.proofs.HashLemmas.{hashed_push}
 

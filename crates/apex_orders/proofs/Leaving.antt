@@ -1,31 +1,16 @@
 -- What a call reads of a channel, and what it leaves unchanged.
 use Rattle.std.specs.Prelude.{nat_lt}
-use Rattle.std.proofs.lemmas.Bool.Decides.{nat_tests}
-use Rattle.std.proofs.Common.{not, length, arith, ◌≡◌, ◌≢◌, ◌⊎◌, inl, inr, ℕ, ◌==◌, ◌&&◌, Bool, true, false, if◌then◌else◌, List, [], ◌∷◌, ◌++◌, Option, Some, None, refl, sym, ap, ◌∙◌}
+use Rattle.apex_orders.proofs.Common.{nat_tests, not, length, arith, ◌≡◌, ◌≢◌, ◌⊎◌, inl, inr, ℕ, ◌==◌, ◌&&◌, Bool, true, false, if◌then◌else◌, List, [], ◌∷◌, ◌++◌, Option, Some, None, refl, sym, ap, ◌∙◌, Call, Moment, Sample, Invalid, Configuration, port_of, refresh_of_kind, Port, Entry, Row, History, is_idle, is_normal, is_cold_start, is_source, NamedPort, queuing_named, sampling_named, size_of, depth_of}
+use Rattle.apex_orders.proofs.Common.{create_queuing_row, create_sampling_row, id_row, send_row, oldest_row, receive_row, clear_row, write_row, last_row, read_row, status_row, set_mode_row, service_row, row_of, queuing_status_reply, sampling_status_reply, reply_of, reply_to, Seen, seen, waiting_of, sample_of, queuing_port, sampling_port, leaves_others, LeavesPartition, LeavesChannel, IsElsewhere, leaves_channel}
+use Rattle.apex_orders.proofs.Common.{waiting_stays, sample_stays, and_false, id_in, port_in, is_on, names, is_change, changes, IsApart}
 use Rattle.apex_types.specs.Direction.{number_of}
 use Rattle.apex_types.specs.Mode.{mode_numbered}
-use Rattle.apex_types.specs.declared.call.Call.{Call}
 use Rattle.apex_types.specs.declared.call.Call.TheVariants as call
 use Rattle.apex_types.specs.declared.mode.Mode.{Mode}
 use Rattle.apex_types.specs.declared.mode.Mode.TheVariants.{Normal, WarmStart, ColdStart, Idle}
-use Rattle.apex_types.specs.declared.moment.Moment.{Moment}
 use Rattle.apex_types.specs.declared.reply.Reply.TheVariants as reply
-use Rattle.apex_types.specs.declared.sample.Sample.{Sample}
-use Rattle.apex_types.specs.declared.validity.Validity.TheVariants.{Invalid}
-use Rattle.apex_module.specs.Configuration.{Configuration, port_of, refresh_of_kind}
-use Rattle.apex_module.specs.declared.port.Port.{Port}
-use Rattle.apex_ports.specs.declared.history.Entry.{Entry}
-use Rattle.apex_ports.specs.declared.rows.Row.{Row}
 use Rattle.apex_ports.specs.declared.rows.Row.TheVariants as row
-use Rattle.apex_ports.specs.History.{History}
-use Rattle.apex_ports.specs.Modes.{is_idle, is_normal, is_cold_start}
-use Rattle.apex_ports.specs.Ports.{is_source, NamedPort, queuing_named, sampling_named}
-use Rattle.apex_ports.specs.ReplyTable.{size_of, depth_of, create_queuing_row, create_sampling_row, id_row, send_row, oldest_row, receive_row, clear_row, write_row, last_row, read_row, status_row, set_mode_row, service_row, row_of, queuing_status_reply, sampling_status_reply, reply_of, reply_to}
-use Rattle.apex_ports.specs.Seen.{Seen, seen, waiting_of, sample_of, queuing_port, sampling_port}
 use Rattle.apex_ports.proofs.OneChannel.{LiesElsewhere, off_channel, sends_elsewhere, receives_elsewhere, clears_elsewhere, writes_elsewhere}
-use Rattle.apex_ports.proofs.PartitionSteps.{leaves_others}
-use Rattle.apex_ports.proofs.Stays.{LeavesPartition, LeavesChannel, IsElsewhere, leaves_channel, waiting_stays, sample_stays, and_false}
-use Rattle.apex_orders.specs.Commuting.{id_in, port_in, is_on, names, is_change, changes, IsApart}
 use Rattle.apex_orders.proofs.Alike.{partition_left}
 
 -- ---- channels that a call leaves unchanged

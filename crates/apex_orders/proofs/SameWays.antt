@@ -1,15 +1,5 @@
 -- Ways that are the same to each partition and lead to one point.
-use Rattle.std.proofs.Common.{◌≡◌, ℕ, List, [], ◌∷◌, ◌++◌, length, map, Some, refl, sym, ap, ◌∙◌}
-use Rattle.std.specs.List.{slice_get}
-use Rattle.apex_types.specs.declared.call.Call.{Call}
-use Rattle.apex_types.specs.declared.moment.Moment.{Moment}
-use Rattle.apex_types.specs.declared.reply.Reply.{Reply}
-use Rattle.apex_module.specs.Configuration.{Configuration}
-use Rattle.apex_ports.specs.declared.history.Entry.{Entry}
-use Rattle.apex_ports.specs.History.{History, entry_of, entries_of}
-use Rattle.apex_ports.specs.Lawful.{IsLawful}
-use Rattle.apex_orders.specs.Enough.{IsSameWay}
-use Rattle.apex_orders.specs.Orders.{Scripts, script_of, calls_of, IsWay, next_entries, entries_for}
+use Rattle.apex_orders.proofs.Common.{◌≡◌, ℕ, List, [], ◌∷◌, ◌++◌, length, map, Some, refl, sym, ap, ◌∙◌, slice_get, Call, Moment, Reply, Configuration, Entry, History, entry_of, entries_of, IsLawful, IsSameWay, Scripts, script_of, calls_of, IsWay, next_entries, entries_for}
 use Rattle.apex_orders.proofs.Following.{same_self, same_along}
 use Rattle.apex_orders.proofs.GoingOn.{lawful_here}
 use Rattle.apex_orders.proofs.Lists.{at_seam}

@@ -1,20 +1,6 @@
 -- The steps of a search.
-use Rattle.std.proofs.Common.{◌≡◌, ◌⊎◌, ⊎_elim, ℕ, ◌<◌, Bool, List, [], ◌∷◌, ◌++◌, length, Option, Some, refl, sym, ap, ◌∙◌, subst, arith, append-nil}
-use Rattle.std.specs.List.{slice_get}
-use Rattle.std.proofs.lemmas.Option.{slice_get_within, slice_get-get_or}
-use Rattle.apex_types.specs.declared.reply.Reply.{Reply}
-use Rattle.apex_module.specs.Configuration.{Configuration}
-use Rattle.apex_ports.specs.History.{History}
-use Rattle.apex_ports.specs.PortsView.{PortsView}
-use Rattle.apex_orders.specs.declared.asked.Asked.{Asked}
-use Rattle.apex_orders.specs.declared.replies.PossibleReply.{PossibleReply}
-use Rattle.apex_orders.specs.Clock.{IsNextDue, IsClocked}
-use Rattle.apex_orders.specs.Known.{IsAfter}
-use Rattle.apex_orders.specs.Orders.{Scripts, IsOrder, next_entries, history_of}
-use Rattle.apex_orders.specs.Points.{IsSamePoint}
-use Rattle.apex_orders.specs.Lists.{Has}
-use Rattle.apex_orders.specs.Searching.{Knows, Keeps, Includes, AreOrders, AreApart, AreClocked, IsUnansweredAt, IsTried, HasTried, IsFound, AreFound}
-use Rattle.apex_orders.specs.Steps.{MakesNothing, Makes}
+use Rattle.apex_orders.proofs.Common.{◌≡◌, ◌⊎◌, ⊎_elim, ℕ, ◌<◌, Bool, List, [], ◌∷◌, ◌++◌, length, Option, Some, refl, sym, ap, ◌∙◌, subst, arith, append-nil, slice_get, slice_get_within, slice_get-get_or, Reply, Configuration, History, PortsView, Asked, PossibleReply, IsNextDue, IsClocked, IsAfter, Scripts, IsOrder, next_entries, history_of, IsSamePoint, Has, Knows, Keeps, Includes, AreOrders, AreApart, AreClocked}
+use Rattle.apex_orders.proofs.Common.{IsUnansweredAt, IsTried, HasTried, IsFound, AreFound, MakesNothing, Makes}
 use Rattle.apex_orders.proofs.ClockLemmas.{clocked_none}
 use Rattle.apex_orders.proofs.Lists.{at_seam, stays_before, before_or_last}
 use Rattle.apex_orders.proofs.Walks.{continued-append, none_ordered, joined, one_ordered}

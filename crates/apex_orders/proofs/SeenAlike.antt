@@ -1,23 +1,9 @@
 -- A reply depends only on what a partition's configured ports show.
-use Rattle.std.proofs.Common.{◌≡◌, ℕ, ◌<◌, Bool, true, false, if◌then◌else◌, ◌⊎◌, inl, inr, ⊎_elim, List, length, Option, Some, None, refl, sym, ap, ◌∙◌}
-use Rattle.std.specs.Option.{is_some}
-use Rattle.std.proofs.lemmas.Option.{slice_get_within}
-use Rattle.apex_types.specs.declared.call.Call.{Call}
+use Rattle.apex_orders.proofs.Common.{◌≡◌, ℕ, ◌<◌, Bool, true, false, if◌then◌else◌, ◌⊎◌, inl, inr, ⊎_elim, List, length, Option, Some, None, refl, sym, ap, ◌∙◌, is_some, slice_get_within, Call, Moment, Invalid, Configuration, IsConfiguration, port_of, id_named, is_queuing_port, refresh_of_kind, Port, Row, History, is_idle, is_created, NamedPort, queuing_only, sampling_only, with_id, queuing_of_id, queuing_named}
+use Rattle.apex_orders.proofs.Common.{sampling_of_id, sampling_named, Seen, seen, waiting_of, sample_of, created_port, queuing_port, sampling_port, validity_shown, size_of, create_queuing_row, create_sampling_row, id_row, send_row, receive_row, clear_row, write_row, read_row, status_row, service_row, row_of, queuing_status_reply, sampling_status_reply, reply_of, reply_to, is_identifier, IsSameState, last_shown}
 use Rattle.apex_types.specs.declared.call.Call.TheVariants as call
-use Rattle.apex_types.specs.declared.moment.Moment.{Moment}
 use Rattle.apex_types.specs.declared.reply.Reply.TheVariants as reply
-use Rattle.apex_types.specs.declared.validity.Validity.TheVariants.{Invalid}
-use Rattle.apex_module.specs.Configuration.{Configuration, IsConfiguration, port_of, id_named, is_queuing_port, refresh_of_kind}
-use Rattle.apex_module.specs.declared.port.Port.{Port}
-use Rattle.apex_ports.specs.declared.rows.Row.{Row}
 use Rattle.apex_ports.specs.declared.rows.Row.TheVariants as row
-use Rattle.apex_ports.specs.History.{History}
-use Rattle.apex_ports.specs.Modes.{is_idle}
-use Rattle.apex_ports.specs.Ports.{is_created, NamedPort, queuing_only, sampling_only, with_id, queuing_of_id, queuing_named, sampling_of_id, sampling_named}
-use Rattle.apex_ports.specs.Seen.{Seen, seen, waiting_of, sample_of, created_port, queuing_port, sampling_port, validity_shown}
-use Rattle.apex_ports.specs.ReplyTable.{size_of, create_queuing_row, create_sampling_row, id_row, send_row, receive_row, clear_row, write_row, read_row, status_row, service_row, row_of, queuing_status_reply, sampling_status_reply, reply_of, reply_to}
-use Rattle.apex_ports.proofs.Lookups.{is_identifier}
-use Rattle.apex_orders.specs.States.{IsSameState, last_shown}
 
 abbrev is_port : Option Port → Bool
 is_port port = is_some port

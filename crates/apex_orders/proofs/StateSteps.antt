@@ -1,26 +1,10 @@
 -- One more entry keeps two histories with one state in one state.
-use Rattle.std.proofs.Common.{◌≡◌, ℕ, ◌&&◌, ◌||◌, not, Bool, true, false, if◌then◌else◌, List, [], ◌∷◌, ◌++◌, length, drop, Option, Some, None, refl, sym, ap, ◌∙◌, append_assoc, length-append}
-use Rattle.std.specs.Option.{unwrap_or, option_to_list}
-use Rattle.std.proofs.Math.Seq.{drop-append_seam}
-use Rattle.std.proofs.lemmas.List.{length-map, drop-drop}
-use Rattle.apex_types.specs.declared.sample.Sample.{Sample}
-use Rattle.apex_types.specs.declared.taken.Taken.{Taken}
+use Rattle.apex_orders.proofs.Common.{◌≡◌, ℕ, ◌&&◌, ◌||◌, not, Bool, true, false, if◌then◌else◌, List, [], ◌∷◌, ◌++◌, length, drop, Option, Some, None, refl, sym, ap, ◌∙◌, append_assoc, length-append, unwrap_or, option_to_list, drop-append_seam, length-map, drop-drop, Sample, Taken, Invalid, Configuration, ports_of, port_of, Port, Entry, History, mode_set, restarts, IsIdentifier, is_created, creates, sampling_only}
+use Rattle.apex_orders.proofs.Common.{accepted_on, taken_on, taken_by, waiting_on, last_write_on, messages_of, message_accepted, sample_written, last_validity_of, validity_read, seen, sampling_port, validity_shown, IsSound, mode_of-append, is_created-append, last_validity_of-append, accepted_on-append, taken_on-append, sample_stays, sample_changes, IsSameState, IsSamePartition, IsSamePorts, IsSameChannel}
+use Rattle.apex_orders.proofs.Common.{last_shown}
 use Rattle.apex_types.specs.declared.validity.Validity.{Validity}
-use Rattle.apex_types.specs.declared.validity.Validity.TheVariants.{Invalid}
-use Rattle.apex_module.specs.Configuration.{Configuration, ports_of, port_of}
-use Rattle.apex_module.specs.declared.port.Port.{Port}
-use Rattle.apex_ports.specs.declared.history.Entry.{Entry}
-use Rattle.apex_ports.specs.History.{History}
-use Rattle.apex_ports.specs.Modes.{mode_set, restarts}
-use Rattle.apex_ports.specs.Ports.{IsIdentifier, is_created, creates, sampling_only}
-use Rattle.apex_ports.specs.Channels.{accepted_on, taken_on, taken_by, waiting_on, last_write_on, messages_of, message_accepted, sample_written, last_validity_of, validity_read}
 use Rattle.apex_ports.specs.Rules.{IsConserved}
-use Rattle.apex_ports.specs.Seen.{seen, sampling_port, validity_shown}
-use Rattle.apex_ports.specs.Sound.{IsSound}
-use Rattle.apex_ports.proofs.Appends.{mode_of-append, is_created-append, last_validity_of-append, accepted_on-append, taken_on-append}
 use Rattle.apex_ports.proofs.Conserved.{always_conserved}
-use Rattle.apex_ports.proofs.Stays.{sample_stays, sample_changes}
-use Rattle.apex_orders.specs.States.{IsSameState, IsSamePartition, IsSamePorts, IsSameChannel, last_shown}
 
 -- ---- the last validity that is shown
 

@@ -1,14 +1,5 @@
 -- One call of a script, as a function's body reads it.
-use Rattle.std.proofs.Common.{◌≡◌, ℕ, ◌-◌, ◌^◌, ◌<◌, ◌≤◌, List, [], ◌∷◌, length, Option, Some, sym, ap, ◌∙◌, arith}
-use Rattle.std.specs.List.{slice_get}
-use Rattle.std.specs.Option.{unwrap_or}
-use Rattle.std.proofs.lemmas.Option.{slice_get_past}
-use Rattle.apex_types.specs.declared.call.Call.{Call}
-use Rattle.apex_types.specs.declared.moment.Moment.{Moment}
-use Rattle.apex_module.specs.Configuration.{Configuration}
-use Rattle.apex_ports.specs.Counts.{count_of}
-use Rattle.apex_ports.specs.History.{History, entries_of}
-use Rattle.apex_orders.specs.Orders.{Scripts, script_of, entries_for, next_entries}
+use Rattle.apex_orders.proofs.Common.{◌≡◌, ℕ, ◌-◌, ◌^◌, ◌<◌, ◌≤◌, List, [], ◌∷◌, length, Option, Some, sym, ap, ◌∙◌, arith, slice_get, unwrap_or, slice_get_past, Call, Moment, Configuration, count_of, History, entries_of, Scripts, script_of, entries_for, next_entries}
 use Rattle.apex_orders.proofs.Walks.{answered}
 
 module _ (config : Configuration) (scripts : Scripts) (h : History) (p : ℕ) (script : List (Moment × Call)) (here : slice_get scripts p ≡ Some script) where

@@ -1,21 +1,8 @@
 -- Two entries whose calls are apart may be swapped.
-use Rattle.std.proofs.Common.{◌≡◌, ◌≢◌, ◌⊎◌, inl, inr, ⊎_elim, ℕ, List, [], ◌∷◌, ◌++◌, take, sym, ap, ◌∙◌, subst, arith, append_assoc, append-nil}
-use Rattle.std.proofs.lemmas.Bool.{cases_eq}
-use Rattle.std.proofs.lemmas.List.{take-append-le}
-use Rattle.std.proofs.lemmas.Option.{slice_get_within}
-use Rattle.apex_types.specs.declared.call.Call.{Call}
-use Rattle.apex_module.specs.Configuration.{Configuration}
-use Rattle.apex_ports.specs.declared.history.Entry.{Entry}
-use Rattle.apex_ports.specs.History.{History, entries_of}
-use Rattle.apex_ports.specs.Lawful.{IsLawful, IsLawfulEntry}
-use Rattle.apex_ports.specs.ReplyTable.{reply_to}
-use Rattle.apex_ports.proofs.LawfulSteps.{lawful_push}
-use Rattle.apex_ports.proofs.PartitionSteps.{leaves_others}
-use Rattle.apex_ports.proofs.Stays.{LeavesPartition, LeavesChannel}
+use Rattle.apex_orders.proofs.Common.{◌≡◌, ◌≢◌, ◌⊎◌, inl, inr, ⊎_elim, ℕ, List, [], ◌∷◌, ◌++◌, take, sym, ap, ◌∙◌, subst, arith, append_assoc, append-nil, cases_eq, take-append-le, slice_get_within, Call, Configuration, Entry, History, entries_of, IsLawful, IsLawfulEntry, reply_to, lawful_push, leaves_others, LeavesPartition, LeavesChannel, IsApart, Commutes, AlwaysCommutes}
 use Rattle.apex_orders.proofs.GoingOn.{lawful_here}
 use Rattle.apex_orders.proofs.Lists.{stays_before}
 use Rattle.apex_orders.proofs.Walks.{entries_of-append, other_entry}
-use Rattle.apex_orders.specs.Commuting.{IsApart, Commutes, AlwaysCommutes}
 use Rattle.apex_orders.proofs.Alike.{IsAlike, partition_swap, channel_swap, alike_follows, point_alike}
 use Rattle.apex_orders.proofs.Leaving.{one_leaves, reply_unchanged}
 

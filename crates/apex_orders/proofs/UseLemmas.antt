@@ -1,17 +1,5 @@
 -- What the last uses of channels say about the remaining calls.
-use Rattle.std.proofs.Common.{◌≡◌, ◌≢◌, ⊎_elim, ℕ, ◌+◌, ◌<◌, ◌≤◌, ◌&&◌, Bool, true, false, if◌then◌else◌, List, length, Option, Some, None, refl, sym, ap, ◌∙◌, subst, arith}
-use Rattle.std.specs.List.{slice_get}
-use Rattle.std.proofs.lemmas.Bool.{cases_eq}
-use Rattle.std.proofs.lemmas.Bool.Decides.{nat_tests}
-use Rattle.std.proofs.lemmas.Option.{slice_get_within}
-use Rattle.apex_types.specs.declared.call.Call.{Call}
-use Rattle.apex_types.specs.declared.moment.Moment.{Moment}
-use Rattle.apex_module.specs.Configuration.{Configuration}
-use Rattle.apex_module.specs.declared.port.Port.{Port}
-use Rattle.apex_ports.proofs.Stays.{and_false}
-use Rattle.apex_orders.specs.declared.last_uses.LastUse.{LastUse}
-use Rattle.apex_orders.specs.Commuting.{channel_in, channel_named, id_in, port_in, is_on, is_change, names, changes, IsApart}
-use Rattle.apex_orders.specs.LastUses.{IsLastUseBelow, IsQuiet, IsQuietFrom}
+use Rattle.apex_orders.proofs.Common.{◌≡◌, ◌≢◌, ⊎_elim, ℕ, ◌+◌, ◌<◌, ◌≤◌, ◌&&◌, Bool, true, false, if◌then◌else◌, List, length, Option, Some, None, refl, sym, ap, ◌∙◌, subst, arith, slice_get, cases_eq, nat_tests, slice_get_within, Call, Moment, Configuration, Port, and_false, LastUse, channel_in, channel_named, id_in, port_in, is_on, is_change, names, changes, IsApart, IsLastUseBelow, IsQuiet, IsQuietFrom}
 
 -- ---- the channel that a call names
 

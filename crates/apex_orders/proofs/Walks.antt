@@ -1,22 +1,8 @@
 -- The histories that orders lead to are beginnings, and each beginning is the history of its order.
-use Rattle.std.proofs.Common.{◌≡◌, ◌≢◌, ◌⊎◌, inl, inr, ⊎_elim, ℕ, zero, suc, if◌then◌else◌, ◌<◌, ◌==◌, true, false, List, [], ◌∷◌, ◌++◌, length, take, map, Option, Some, None, refl, sym, ap, ◌∙◌, subst, arith, append_assoc, append-nil, length-append}
-use Rattle.std.specs.List.{slice_get}
-use Rattle.std.proofs.lemmas.Bool.{cases_eq}
-use Rattle.std.proofs.lemmas.Bool.Decides.{nat_tests}
-use Rattle.std.proofs.lemmas.List.{length-map, map-append}
+use Rattle.apex_orders.proofs.Common.{◌≡◌, ◌≢◌, ◌⊎◌, inl, inr, ⊎_elim, ℕ, zero, suc, if◌then◌else◌, ◌<◌, ◌==◌, true, false, List, [], ◌∷◌, ◌++◌, length, take, map, Option, Some, None, refl, sym, ap, ◌∙◌, subst, arith, append_assoc, append-nil, length-append, slice_get, cases_eq, nat_tests, length-map, map-append, Call, Moment, Reply, Configuration, Entry, History, entry_of, entries_of, IsLawful, reply_to, IsSound}
+use Rattle.apex_orders.proofs.Common.{sound-push, Scripts, script_of, calls_of, replies_of, IsBeginning, order_of, IsOrder, entries_for, next_entries, continued, history_of}
 use Rattle.std.proofs.lemmas.List.Elements.{filter-append}
-use Rattle.apex_types.specs.declared.call.Call.{Call}
-use Rattle.apex_types.specs.declared.moment.Moment.{Moment}
-use Rattle.apex_types.specs.declared.reply.Reply.{Reply}
-use Rattle.apex_module.specs.Configuration.{Configuration}
-use Rattle.apex_ports.specs.declared.history.Entry.{Entry}
-use Rattle.apex_ports.specs.History.{History, entry_of, entries_of}
-use Rattle.apex_ports.specs.Lawful.{IsLawful}
-use Rattle.apex_ports.specs.ReplyTable.{reply_to}
-use Rattle.apex_ports.specs.Sound.{IsSound}
-use Rattle.apex_ports.proofs.LawfulSteps.{sound-push}
 use Rattle.apex_orders.proofs.GoingOn.{lawful_here}
-use Rattle.apex_orders.specs.Orders.{Scripts, script_of, calls_of, replies_of, IsBeginning, order_of, IsOrder, entries_for, next_entries, continued, history_of}
 use Rattle.apex_orders.proofs.Lists.{at_seam, take_one_more, taken_from}
 
 -- ---- what one partition did
@@ -164,34 +150,3 @@ module _ (config : Configuration) (scripts : Scripts) where
       of_entry [] k at each = absurd (cc)
       of_entry (e ∷ g) zero at each = let same : e.partition ≡ p = cc in subst (λ (n : ℕ). n < length config.partitions) same (each 0 e refl)
       of_entry (e ∷ g) (suc k) at each = of_entry g k at (λ j x is. each (suc j) x is)
-
-  next_is : (h : History) (e : Entry) (rest : List Entry) → IsLawful config (h ++ e ∷ rest)
-      → calls_of e.partition (h ++ e ∷ rest) ≡ take (length (calls_of e.partition (h ++ e ∷ rest))) (script_of scripts e.partition)
-      → next_entries config scripts h e.partition ≡ e ∷ []
-  next_is h e rest lawful begins =
-      let p = e.partition in
-      let split : calls_of p (h ++ e ∷ rest) ≡ calls_of p h ++ timed_of e ∷ calls_of p rest =
-      calls_of-append p h (e ∷ rest) ∙ ap (λ (calls : List (Moment × Call)). calls_of p h ++ calls) (calls_of-append p (e ∷ []) rest ∙ ap (λ (es : History). map timed_of es ++ calls_of p rest) (own_entry p e refl)) in
-      let seam : slice_get (calls_of p (h ++ e ∷ rest)) (length (calls_of p h)) ≡ Some (timed_of e) =
-      ap (λ (calls : List (Moment × Call)). slice_get calls (length (calls_of p h))) split ∙ at_seam (calls_of p h) (timed_of e) (calls_of p rest) in
-      let taken : slice_get (take (length (calls_of p (h ++ e ∷ rest))) (script_of scripts p)) (length (calls_of p h)) ≡ Some (timed_of e) =
-      ap (λ (calls : List (Moment × Call)). slice_get calls (length (calls_of p h))) (sym begins) ∙ seam in
-      let here : slice_get (script_of scripts p) (length (entries_of p h)) ≡ Some (timed_of e) =
-      ap (λ (n : ℕ). slice_get (script_of scripts p) n) (sym (calls_count p h)) ∙ taken_from (length (calls_of p (h ++ e ∷ rest))) (script_of scripts p) (length (calls_of p h)) (timed_of e) taken in
-      let lawful_entry = lawful_here config h e rest lawful in
-      ap (entries_for config h p) here ∙ ap (λ (r : Reply). entry_of p e.at e.call r ∷ []) (sym lawful_entry.1)
-
-  pub walks_along : (h : History) (rest : List Entry) → IsLawful config (h ++ rest)
-      → ((p : ℕ) → calls_of p (h ++ rest) ≡ take (length (calls_of p (h ++ rest))) (script_of scripts p))
-      → continued config scripts h (order_of rest) ≡ h ++ rest
-  walks_along h [] lawful begins = sym (append-nil h)
-  walks_along h (e ∷ rest) lawful begins =
-      let regroup : h ++ e ∷ rest ≡ (h ++ e ∷ []) ++ rest = sym (append_assoc h (e ∷ []) rest) in
-      ap (λ (es : List Entry). continued config scripts (h ++ es) (order_of rest)) (next_is h e rest lawful (begins e.partition))
-      ∙ (walks_along (h ++ e ∷ []) rest (subst (IsLawful config) regroup lawful)
-      (λ p. subst (λ (g : History). calls_of p g ≡ take (length (calls_of p g)) (script_of scripts p)) regroup (begins p))
-      ∙ sym regroup)
-
-  -- a beginning is the history of its order
-  pub history_of_order : (h : History) → IsBeginning config scripts h → history_of config scripts (order_of h) ≡ h
-  history_of_order h begins = walks_along [] h begins.lawful begins.calls

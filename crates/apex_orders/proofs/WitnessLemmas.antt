@@ -1,14 +1,5 @@
 -- An order in which a call gets a reply.
-use Rattle.std.proofs.Common.{◌≡◌, ℕ, Bool, List, [], ◌∷◌, ◌++◌, Option, Some, None, refl, sym, ap, ◌∙◌, subst}
-use Rattle.std.proofs.lemmas.Option.{slice_get_within}
-use Rattle.apex_module.specs.Configuration.{Configuration, IsConfiguration}
-use Rattle.apex_ports.specs.History.{History, entry_of}
-use Rattle.apex_orders.specs.declared.asked.Asked.{Asked}
-use Rattle.apex_orders.specs.declared.replies.PossibleReply.{PossibleReply}
-use Rattle.apex_orders.specs.Clock.{IsClocked}
-use Rattle.apex_orders.specs.Orders.{Scripts, IsOrder, IsBeginning, next_entries, history_of}
-use Rattle.apex_orders.specs.Outcomes.{CanBeAnsweredWith, IsAnsweredByWith, IsGivenByWith}
-use Rattle.apex_orders.specs.Searching.{HasEnded, IsAnsweredAfter, IsGivenAfter, IsSearched, IsSearchedInVain}
+use Rattle.apex_orders.proofs.Common.{◌≡◌, ℕ, Bool, List, [], ◌∷◌, ◌++◌, Option, Some, None, refl, sym, ap, ◌∙◌, subst, slice_get_within, Configuration, IsConfiguration, History, entry_of, Asked, PossibleReply, IsClocked, Scripts, IsOrder, IsBeginning, next_entries, history_of, CanBeAnsweredWith, IsAnsweredByWith, IsGivenByWith, HasEnded, IsAnsweredAfter, IsGivenAfter, IsSearched, IsSearchedInVain}
 use Rattle.apex_orders.proofs.ClockLemmas.{clocked_next}
 use Rattle.apex_orders.proofs.Walks.{good_next, is_beginning}
 use Rattle.apex_orders.proofs.Completing.{IsAnswered, given_of_occurs, good_history, made_is_answered}

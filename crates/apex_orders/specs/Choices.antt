@@ -1,9 +1,5 @@
 -- Partitions whose next calls are tried.
-use Rattle.std.specs.Prelude.{ℕ, Bool, false, ◌≡◌, ◌⊎◌, List, length, slice_get, Some, unwrap_or}
-use Rattle.apex_types.specs.declared.call.Call.{Call}
-use Rattle.apex_types.specs.declared.moment.Moment.{Moment}
-use Rattle.apex_module.specs.Configuration.{Configuration}
-use Rattle.apex_ports.specs.History.{History, entries_of}
+use Rattle.apex_orders.specs.Prelude.{ℕ, Bool, false, ◌≡◌, ◌⊎◌, List, length, slice_get, Some, unwrap_or, Call, Moment, Configuration, History, entries_of}
 use Rattle.apex_orders.specs.declared.choice.NextUse.{NextUse}
 use Rattle.apex_orders.specs.declared.choice.NextUse.TheVariants.{NoCall, NoChannel, Channel}
 use Rattle.apex_orders.specs.Commuting.{channel_named, is_change, names}

@@ -1,10 +1,5 @@
 -- Moments of one clock.
-use Rattle.std.specs.Prelude.{ℕ, Bool, true, ◌≡◌, ◌≤◌, ◌+◌, List, ◌∷◌, ◌++◌, length, take, slice_get, Some}
-use Rattle.apex_types.specs.declared.call.Call.{Call}
-use Rattle.apex_types.specs.declared.moment.Moment.{Moment}
-use Rattle.apex_module.specs.Configuration.{Configuration}
-use Rattle.apex_ports.specs.declared.history.Entry.{Entry}
-use Rattle.apex_ports.specs.History.{History, entries_of}
+use Rattle.apex_orders.specs.Prelude.{ℕ, Bool, true, ◌≡◌, ◌≤◌, ◌+◌, List, ◌∷◌, ◌++◌, length, take, slice_get, Some, Call, Moment, Configuration, Entry, History, entries_of}
 use Rattle.apex_orders.specs.Orders.{Scripts, script_of, IsWay}
 
 -- with the clock, no partition's next call after the history has a smaller moment

@@ -1,12 +1,6 @@
 -- Calls of two partitions that may be swapped.
-use Rattle.std.specs.Prelude.{ℕ, Bool, true, false, ◌≡◌, ◌≢◌, ◌==◌, ◌&&◌, List, ◌∷◌, ◌++◌, Option, Some, None}
-use Rattle.apex_types.specs.declared.call.Call.{Call}
+use Rattle.apex_orders.specs.Prelude.{ℕ, Bool, true, false, ◌≡◌, ◌≢◌, ◌==◌, ◌&&◌, List, ◌∷◌, ◌++◌, Option, Some, None, Call, Configuration, port_of, Port, Entry, History, entries_of, IsLawful}
 use Rattle.apex_types.specs.declared.call.Call.TheVariants.{WriteSampling, ReadSampling, SendQueuing, ReceiveQueuing, QueuingStatus, ClearQueuing}
-use Rattle.apex_module.specs.Configuration.{Configuration, port_of}
-use Rattle.apex_module.specs.declared.port.Port.{Port}
-use Rattle.apex_ports.specs.declared.history.Entry.{Entry}
-use Rattle.apex_ports.specs.History.{History, entries_of}
-use Rattle.apex_ports.specs.Lawful.{IsLawful}
 use Rattle.apex_orders.specs.Points.{IsSamePoint}
 
 -- ---- the channel that a call concerns

@@ -1,16 +1,8 @@
 -- After which histories it is enough to try the next calls of some partitions.
-use Rattle.std.specs.Prelude.{ℕ, Bool, true, false, not, ◌≡◌, ◌<◌, ◌≤◌, ◌⊎◌, List, [], ◌∷◌, ◌++◌, length, slice_get, Some}
-use Rattle.apex_types.specs.declared.call.Call.{Call}
-use Rattle.apex_types.specs.declared.moment.Moment.{Moment}
-use Rattle.apex_module.specs.Configuration.{Configuration}
-use Rattle.apex_ports.specs.declared.history.Entry.{Entry}
+use Rattle.apex_orders.specs.Prelude.{ℕ, Bool, true, false, not, ◌≡◌, ◌<◌, ◌≤◌, ◌⊎◌, List, [], ◌∷◌, ◌++◌, length, slice_get, Some, Call, Moment, Configuration, Entry, Row, History, entries_of, row_of, seen}
 use Rattle.apex_ports.specs.declared.rows.Refusal.{Refusal}
 use Rattle.apex_ports.specs.declared.rows.Refusal.TheVariants.{QueueFull, QueueEmpty, NeverWritten}
-use Rattle.apex_ports.specs.declared.rows.Row.{Row}
 use Rattle.apex_ports.specs.declared.rows.Row.TheVariants.{Idle, Refused}
-use Rattle.apex_ports.specs.History.{History, entries_of}
-use Rattle.apex_ports.specs.ReplyTable.{row_of}
-use Rattle.apex_ports.specs.Seen.{seen}
 use Rattle.apex_orders.specs.Orders.{Scripts, script_of, IsBeginning, IsWay, next_entries}
 use Rattle.apex_orders.specs.Commuting.{IsApart}
 use Rattle.apex_orders.specs.Points.{IsSamePoint}

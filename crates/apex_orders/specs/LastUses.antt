@@ -1,8 +1,5 @@
 -- The last calls of scripts that name channels.
-use Rattle.std.specs.Prelude.{ℕ, Bool, true, false, ◌≡◌, ◌<◌, ◌≤◌, ◌-◌, ◌^◌, List, length, slice_get, Some}
-use Rattle.apex_types.specs.declared.call.Call.{Call}
-use Rattle.apex_types.specs.declared.moment.Moment.{Moment}
-use Rattle.apex_module.specs.Configuration.{Configuration}
+use Rattle.apex_orders.specs.Prelude.{ℕ, Bool, true, false, ◌≡◌, ◌<◌, ◌≤◌, ◌-◌, ◌^◌, List, length, slice_get, Some, Call, Moment, Configuration}
 use Rattle.apex_orders.specs.declared.last_uses.LastUse.{LastUse}
 use Rattle.apex_orders.specs.declared.last_uses.LastUses.{LastUses}
 use Rattle.apex_orders.specs.Commuting.{names, changes}

@@ -1,13 +1,5 @@
 -- Orders of the calls of scripts, and the histories that they lead to.
-use Rattle.std.specs.Prelude.{ℕ, ◌≡◌, ◌<◌, ◌≤◌, ◌-◌, ◌^◌, List, [], ◌∷◌, ◌++◌, length, map, take, count_by, ◌==◌, slice_get, slice_index_or, unwrap_or, Option, Some, None}
-use Rattle.apex_types.specs.declared.call.Call.{Call}
-use Rattle.apex_types.specs.declared.moment.Moment.{Moment}
-use Rattle.apex_types.specs.declared.reply.Reply.{Reply}
-use Rattle.apex_module.specs.Configuration.{Configuration}
-use Rattle.apex_ports.specs.declared.history.Entry.{Entry}
-use Rattle.apex_ports.specs.History.{History, entry_of, entries_of}
-use Rattle.apex_ports.specs.Lawful.{IsLawful}
-use Rattle.apex_ports.specs.ReplyTable.{reply_to}
+use Rattle.apex_orders.specs.Prelude.{ℕ, ◌≡◌, ◌<◌, ◌≤◌, ◌-◌, ◌^◌, List, [], ◌∷◌, ◌++◌, length, map, take, count_by, ◌==◌, slice_get, slice_index_or, unwrap_or, Option, Some, None, Call, Moment, Reply, Configuration, Entry, History, entry_of, entries_of, IsLawful, reply_to}
 
 -- ---- merges
 

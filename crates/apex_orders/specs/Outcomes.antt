@@ -1,11 +1,7 @@
 -- All that can happen to scripts, over every order of their calls.
-use Rattle.std.specs.Prelude.{ℕ, Bool, false, ◌≡◌, ◌<◌, ◌↔◌, List, [], ◌∷◌, ◌++◌, length, slice_get, Some, Result, Err}
+use Rattle.apex_orders.specs.Prelude.{ℕ, Bool, false, ◌≡◌, ◌<◌, ◌↔◌, List, [], ◌∷◌, ◌++◌, length, slice_get, Some, Result, Err, Reply, Configuration, Entry, History, entries_of}
 use Rattle.apex_types.specs.Reply.{code_of}
-use Rattle.apex_types.specs.declared.reply.Reply.{Reply}
 use Rattle.apex_types.specs.declared.reply.Reply.TheVariants as reply
-use Rattle.apex_module.specs.Configuration.{Configuration}
-use Rattle.apex_ports.specs.declared.history.Entry.{Entry}
-use Rattle.apex_ports.specs.History.{History, entries_of}
 use Rattle.apex_orders.specs.declared.asked.Admitted.{Admitted}
 use Rattle.apex_orders.specs.declared.asked.Admitted.TheVariants as admitted
 use Rattle.apex_orders.specs.declared.asked.Asked.{Asked}

@@ -1,9 +1,5 @@
 -- The points that orders lead to.
-use Rattle.std.specs.Prelude.{ℕ, ◌≡◌, ◌<◌, length}
-use Rattle.apex_module.specs.Configuration.{Configuration}
-use Rattle.apex_ports.specs.Channels.{accepted_on, received_on, cleared_on}
-use Rattle.apex_ports.specs.Counts.{count_of}
-use Rattle.apex_ports.specs.History.{History, entries_of}
+use Rattle.apex_orders.specs.Prelude.{ℕ, ◌≡◌, ◌<◌, length, Configuration, accepted_on, received_on, cleared_on, count_of, History, entries_of}
 use Rattle.apex_orders.specs.States.{IsSameState}
 
 -- each partition made the same number of calls in both

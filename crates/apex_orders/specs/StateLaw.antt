@@ -1,13 +1,5 @@
 -- The law of states: what follows depends only on the state.
-use Rattle.std.specs.Prelude.{ℕ, ◌≡◌, ◌<◌, List, ◌++◌, length}
-use Rattle.apex_types.specs.declared.call.Call.{Call}
-use Rattle.apex_types.specs.declared.moment.Moment.{Moment}
-use Rattle.apex_module.specs.Configuration.{Configuration}
-use Rattle.apex_ports.specs.declared.history.Entry.{Entry}
-use Rattle.apex_ports.specs.History.{History}
-use Rattle.apex_ports.specs.Lawful.{IsLawful}
-use Rattle.apex_ports.specs.ReplyTable.{reply_to}
-use Rattle.apex_ports.specs.Sound.{IsSound}
+use Rattle.apex_orders.specs.Prelude.{ℕ, ◌≡◌, ◌<◌, List, ◌++◌, length, Call, Moment, Configuration, Entry, History, IsLawful, reply_to, IsSound}
 use Rattle.apex_orders.specs.States.{IsSameState}
 
 -- both histories continue alike

@@ -1,12 +1,5 @@
 -- The state that a history leads to: all that later replies depend on.
-use Rattle.std.specs.Prelude.{ℕ, ◌≡◌, ◌<◌, length}
-use Rattle.apex_types.specs.declared.validity.Validity.{Validity}
-use Rattle.apex_module.specs.Configuration.{Configuration, ports_of}
-use Rattle.apex_ports.specs.History.{History}
-use Rattle.apex_ports.specs.Modes.{mode_of}
-use Rattle.apex_ports.specs.Ports.{IsIdentifier, is_created}
-use Rattle.apex_ports.specs.Channels.{waiting_on, last_write_on}
-use Rattle.apex_ports.specs.Seen.{seen, sampling_port, validity_shown}
+use Rattle.apex_orders.specs.Prelude.{ℕ, ◌≡◌, ◌<◌, length, Validity, Configuration, ports_of, History, mode_of, IsIdentifier, is_created, waiting_on, last_write_on, seen, sampling_port, validity_shown}
 
 -- the last validity that the partition's port with this identifier shows
 abbrev pub last_shown : Configuration → History → ℕ → ℕ → Validity

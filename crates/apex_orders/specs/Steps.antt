@@ -1,9 +1,5 @@
 -- One call of a script.
-use Rattle.std.specs.Prelude.{ℕ, ◌≡◌, [], ◌∷◌, length}
-use Rattle.apex_types.specs.declared.call.Call.{Call}
-use Rattle.apex_types.specs.declared.moment.Moment.{Moment}
-use Rattle.apex_module.specs.Configuration.{Configuration}
-use Rattle.apex_ports.specs.History.{History, entry_of, entries_of}
+use Rattle.apex_orders.specs.Prelude.{ℕ, ◌≡◌, [], ◌∷◌, length, Call, Moment, Configuration, History, entry_of, entries_of}
 use Rattle.apex_orders.specs.declared.replies.PossibleReply.{PossibleReply}
 use Rattle.apex_orders.specs.Orders.{Scripts, next_entries}
 

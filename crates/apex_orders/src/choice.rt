@@ -1,6 +1,5 @@
 //! The partitions whose next calls are enough to try.
-ghost use Rattle.std.specs.Prelude.{◌≡◌, ◌<◌, ◌↔◌, length, true, slice_get, Some, None, OnOk, MatchOption, IsTrue};
-ghost use Rattle.apex_ports.specs.History.{entries_of};
+ghost use Rattle.apex_orders.specs.Prelude.{◌≡◌, ◌<◌, ◌↔◌, length, true, slice_get, Some, None, OnOk, MatchOption, IsTrue, entries_of};
 ghost use Rattle.apex_orders.specs.Choices.{AreNextUses, IsNextUse, IsQuietOutside, IsSafeToTry, is_tried};
 ghost use Rattle.apex_orders.specs.Clock.{IsNextDue};
 ghost use Rattle.apex_orders.specs.Enough.{IsEnough, is_early};
@@ -293,7 +292,7 @@ fn find_members(
 {
     if let Some(p) = from {
         if has_call(nexts, p) {
-            return grow(ports, uses, nexts, p, smallest);
+            return grow(ports, uses, nexts, p, uses.len(), smallest);
         }
     }
     find_smallest(ports, uses, nexts, smallest, members)
@@ -312,7 +311,12 @@ fn find_smallest(
     smallest.clear();
     for p in 0..nexts.len() {
         if has_call(nexts, p) && smallest.len() != 1 {
-            grow(ports, uses, nexts, p, members)?;
+            let most = if smallest.is_empty() {
+                uses.len()
+            } else {
+                smallest.len()
+            };
+            grow(ports, uses, nexts, p, most, members)?;
             if smallest.is_empty() || members.len() < smallest.len() {
                 smallest.clear();
                 smallest.extend_from_slice(members.as_slice())?;
@@ -336,6 +340,7 @@ fn grow(
     uses: &[LastUses],
     nexts: &[NextUse],
     first: usize,
+    most: usize,
     members: &mut Vec<usize>,
 ) -> Result<(), OutOfMemory>
     requires { length uses.now ≡ length ports.now.config.partitions }
@@ -343,6 +348,9 @@ fn grow(
     members.clear();
     members.push(first)?;
     for i in 0..uses.len() {
+        if members.len() >= most {
+            return Ok(());
+        }
         if let Some(next) = next_of(members, i, nexts) {
             for q in 0..uses.len() {
                 if !members.contains(&q) && disturbs(ports, uses, q, next) {

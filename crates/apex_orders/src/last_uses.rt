@@ -1,8 +1,5 @@
 //! The last calls of a script that name a channel.
-ghost use Rattle.std.specs.Prelude.{◌≡◌, ◌<◌, ◌≤◌, ◌+◌, if◌then◌else◌, ℕ, List, length, slice_get, Some, IfOk, IsTrue};
-ghost use Rattle.apex_types.specs.declared.call.Call.{Call};
-ghost use Rattle.apex_types.specs.declared.moment.Moment.{Moment};
-ghost use Rattle.apex_module.specs.Configuration.{Configuration};
+ghost use Rattle.apex_orders.specs.Prelude.{◌≡◌, ◌<◌, ◌≤◌, ◌+◌, if◌then◌else◌, ℕ, List, length, slice_get, Some, IfOk, IsTrue, Call, Moment, Configuration};
 ghost use Rattle.apex_orders.specs.LastUses.{AreLastUses, AreLastUsesBelow, AreOfScripts, IsQuietFrom};
 
 use crate::commuting::{channel_named, is_change};

@@ -1,6 +1,5 @@
 //! Orders of calls.
 ghost use Rattle.std.specs.Prelude.{◌≡◌, ◌++◌, ◌∷◌, [], ◌<◌, reverse, IfOk, OnOk};
-ghost use Rattle.apex_orders.specs.Orders.{times};
 
 use std::alloc::{AllocError, Global};
 use std::marker::Model;
@@ -64,19 +63,6 @@ impl PackedOrder {
         ensures { result.now ≡ self.now }
     {
         self.partitions.as_slice()
-    }
-
-    /// The number of the partition's calls.
-    pub(crate) fn calls_of(&self, p: usize) -> usize
-        ensures { result ≡ times p self.now }
-    {
-        let mut count = 0;
-        for partition in self.partitions.as_slice() {
-            if *partition as usize == p {
-                count += 1;
-            }
-        }
-        count
     }
 
     /// Removes all calls.

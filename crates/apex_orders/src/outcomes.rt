@@ -1,7 +1,6 @@
 //! All that can happen to scripts.
-ghost use Rattle.std.specs.Prelude.{◌≡◌, length, IfOk, IsTrue, ◌↔◌};
-ghost use Rattle.apex_module.specs.Configuration.{Configuration};
-ghost use Rattle.apex_orders.specs.Orders.{IsOrder, history_of};
+ghost use Rattle.apex_orders.specs.Prelude.{◌≡◌, ◌<◌, length, true, IfOk, IsTrue, ◌↔◌, Configuration};
+ghost use Rattle.apex_orders.specs.Orders.{IsOrder, history_of, order_at};
 ghost use Rattle.apex_orders.specs.Outcomes.{AreReplies, AreRepliesWith, AreEnds, AreEndsWith, IsUndecided, IsUndecidedWith};
 ghost use Rattle.apex_orders.specs.Searching.{AreOrders, AreEndsOf, HasMadeAll};
 
@@ -93,8 +92,7 @@ fn ends_of(
     let mut ends = Vec::new(alloc);
     let mut order = PackedOrder::new(alloc);
     for k in 0..orders.len() {
-        orders.read(k, &mut order)?;
-        if is_end(alloc, config, scripts, &order)? {
+        if is_end(alloc, config, scripts, orders, k, &mut order)? {
             let end = order.unpacked(alloc)?;
             ends.push(end)?;
         }
@@ -102,34 +100,46 @@ fn ends_of(
     Ok(ends)
 }
 
-/// Whether the order makes all calls. An order that names a partition fewer times than it has calls isn't run.
+/// Whether the order at the index makes all calls. If so, it is written. An order that names a partition fewer times than
+/// it has calls isn't run.
 fn is_end(
     alloc: Global,
     config: &Config,
     scripts: &[Script],
-    order: &PackedOrder,
+    orders: &Orders,
+    k: usize,
+    order: &mut PackedOrder,
 ) -> Result<bool, OutOfMemory>
     requires scripts { length scripts.now ≡ length config.now.partitions }
-    requires order { IsOrder config.now order.now }
-    ensures { IfOk result (λ all. IsTrue all
-        ↔ HasMadeAll config.now scripts.now (history_of config.now scripts.now order.now)) }
+    requires index { k < length orders.now }
+    requires order { IsOrder config.now (order_at orders.now k) }
+    ensures end { IfOk result (λ all. IsTrue all ↔ HasMadeAll config.now scripts.now
+        (history_of config.now scripts.now (order_at orders.now k))) }
+    ensures written { IfOk result (λ all. all ≡ true → order.new ≡ order_at orders.now k) }
 {
-    if !has_calls_for(order, scripts) {
+    if !has_calls_for(orders, k, scripts) {
         return Ok(false);
     }
+    orders.read(k, order)?;
     let ports = replay(alloc, config, scripts, order)?;
     Ok(has_made_all(&ports, scripts))
 }
 
-/// Whether the order names each partition as many times as it has calls.
-fn has_calls_for(order: &PackedOrder, scripts: &[Script]) -> bool
+/// Whether the order at the index names each partition as many times as it has calls.
+fn has_calls_for(orders: &Orders, k: usize, scripts: &[Script]) -> bool
+    requires { k < length orders.now }
     ensures { (config : Configuration) → length scripts.now ≡ length config.partitions →
-        HasMadeAll config scripts.now (history_of config scripts.now order.now) → IsTrue result }
+        HasMadeAll config scripts.now (history_of config scripts.now (order_at orders.now k))
+        → IsTrue result }
 {
-    for (p, script) in scripts.iter().enumerate() {
-        if order.calls_of(p) < script.calls.len() {
+    let mut left = scripts.len();
+    while left > 0 {
+        let p = left - 1;
+        let script = &scripts[p];
+        if orders.calls_of(k, p) < script.calls.len() {
             return false;
         }
+        left = p;
     }
     true
 }

@@ -1,6 +1,5 @@
 //! The known points: their hashes, and the ports at those from which the search has yet to continue.
-ghost use Rattle.std.specs.Prelude.{◌≡◌, ◌-◌, ◌<◌, ◌≤◌, ◌↔◌, ◌++◌, [], ◌∷◌, ℕ, List, length, IfOk, OnOk, IfSome, MatchOption, IsTrue, slice_get, Some, true};
-ghost use Rattle.apex_ports.specs.Sound.{IsSound};
+ghost use Rattle.apex_orders.specs.Prelude.{◌≡◌, ◌-◌, ◌<◌, ◌≤◌, ◌↔◌, ◌++◌, [], ◌∷◌, ℕ, List, length, IfOk, OnOk, IfSome, MatchOption, IsTrue, slice_get, Some, true, IsSound};
 ghost use Rattle.apex_orders.specs.Known.{ArePoints, IsAfter, IsReadyAfter, IsTrialOf, IsLeft, IsTaken};
 ghost use Rattle.apex_orders.specs.Hashes.{hash_of};
 ghost use Rattle.apex_orders.specs.Orders.{Scripts, IsOrder, history_of, order_at};
@@ -19,12 +18,19 @@ use apex_types::OutOfMemory;
 use std::alloc::Global;
 use std::collections::VecDeque;
 
+/// The greatest number of saved ports whose memory is kept to be used again.
+const SPARE: usize = 64;
+
 /// The hashes of all known points, and the ports at those from the index `first` on.
 #[derive(Drop)]
 pub(crate) struct Points {
     pub(crate) hashes: HashIndex,
     pub(crate) first: usize,
     pub(crate) saved: VecDeque<SavedPorts>,
+    /// What was taken out, whose memory is used again.
+    pub(crate) spare: Vec<SavedPorts>,
+    /// About how many bytes the saved ports take.
+    pub(crate) bytes: usize,
 }
 
 impl Points {
@@ -39,10 +45,13 @@ impl Points {
         hashes.push(alloc, hash_of(&ports))?;
         let mut saved = VecDeque::new(alloc);
         saved.push_back(ports.save(alloc)?)?;
+        let spare = Vec::new(alloc);
         Ok(Points {
             hashes,
             first: 0,
             saved,
+            spare,
+            bytes: 0,
         })
     }
 
@@ -59,6 +68,7 @@ impl Points {
             None => None,
             Some(ports) => {
                 self.first += 1;
+                self.bytes = self.bytes.saturating_sub(ports.bytes());
                 Some(ports)
             }
         }
@@ -77,7 +87,24 @@ impl Points {
             (self.new.saved.items ≡ self.old.saved.items ++ ports.now ∷ []) }
     {
         self.hashes.push(alloc, hash)?;
-        self.saved.push_back(ports.save(alloc)?)?;
+        let saved = match self.spare.pop() {
+            None => ports.save(alloc)?,
+            Some(old) => ports.save_over(old)?,
+        };
+        self.bytes = self.bytes.saturating_add(saved.bytes());
+        self.saved.push_back(saved)?;
+        Ok(())
+    }
+
+    /// Keeps the memory of saved ports, if there is not enough of it already.
+    pub(crate) fn keep(&mut self, old: Option<SavedPorts>) -> Result<(), OutOfMemory>
+        ensures { IsLeft self.old self.new }
+    {
+        if let Some(ports) = old {
+            if self.spare.len() < SPARE {
+                self.spare.push(ports)?;
+            }
+        }
         Ok(())
     }
 

@@ -1,6 +1,5 @@
 //! Runs an order.
-ghost use Rattle.std.specs.Prelude.{◌≡◌, length, IfOk};
-ghost use Rattle.apex_ports.specs.Sound.{IsSound};
+ghost use Rattle.apex_orders.specs.Prelude.{◌≡◌, length, IfOk, IsSound};
 ghost use Rattle.apex_orders.specs.Orders.{history_of, IsOrder};
 
 use crate::order::PackedOrder;

@@ -1,7 +1,5 @@
 //! Compares the states of the ports of two runs of one configuration.
-ghost use Rattle.std.specs.Prelude.{◌≡◌, ◌<◌, ◌↔◌, length, IsTrue};
-ghost use Rattle.std.specs.Option.{option_copied};
-ghost use Rattle.apex_ports.specs.Channels.{waiting_on, last_write_on};
+ghost use Rattle.apex_orders.specs.Prelude.{◌≡◌, ◌<◌, ◌↔◌, length, IsTrue, option_copied, waiting_on, last_write_on};
 ghost use Rattle.apex_orders.specs.States.{IsSameState, IsSamePartition, IsSamePorts, IsSameChannel};
 
 use apex_ports::Ports;

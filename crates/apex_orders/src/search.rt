@@ -1,6 +1,5 @@
 //! The search of all points that orders lead to.
-ghost use Rattle.std.specs.Prelude.{◌≡◌, ◌<◌, ◌++◌, [], ◌∷◌, ℕ, Bool, true, length, IfOk, OnOk, IfSome};
-ghost use Rattle.std.specs.Option.{option_copied};
+ghost use Rattle.apex_orders.specs.Prelude.{◌≡◌, ◌<◌, ◌++◌, [], ◌∷◌, ℕ, Bool, true, length, IfOk, OnOk, IfSome, option_copied};
 ghost use Rattle.apex_orders.specs.Choices.{is_tried};
 ghost use Rattle.apex_orders.specs.Clock.{IsClocked, IsNextDue};
 ghost use Rattle.apex_orders.specs.Known.{IsAfter, IsReadyAfter};
@@ -19,7 +18,7 @@ use crate::orders_fault::OrdersFault;
 use crate::points::{Points, go_to, is_known, return_to};
 use crate::progress::{Level, Progress};
 use crate::replies::{PossibleReply, Replies};
-use crate::sizes::PointMemory;
+use crate::sizes::size_of;
 use crate::step::step_into;
 use crate::trial::Trial;
 use apex_module::Config;
@@ -75,15 +74,14 @@ pub(crate) fn search_points<P: Progress>(
 }
 
 /// A search: one order to each point, in the order in which they are found; what is kept of the points; the replies;
-/// ports on which calls are tried; the memory that is kept; the last uses of channels by the scripts; and the partition
-/// that a question is about, whose next call is always tried, so that an order that answers is short.
+/// ports on which calls are tried; the last uses of channels by the scripts; and the partition that a question is about,
+/// whose next call is always tried, so that an order that answers is short.
 #[derive(Drop)]
 pub(crate) struct Search {
     pub(crate) orders: Orders,
     pub(crate) points: Points,
     pub(crate) replies: Replies,
     pub(crate) trial: Trial,
-    pub(crate) memory: PointMemory,
     pub(crate) uses: Vec<LastUses>,
     pub(crate) from: Option<usize>,
 }
@@ -114,7 +112,6 @@ impl Search {
             points,
             replies,
             trial,
-            memory: PointMemory::new(alloc),
             uses,
             from,
         })
@@ -122,7 +119,7 @@ impl Search {
 
     /// The bytes that are kept for points and replies.
     fn bytes(&self) -> usize {
-        self.memory.bytes(self.replies.found.len())
+        size_of(self.orders.len(), self.replies.found.len()).saturating_add(self.points.bytes)
     }
 
     /// Tries the next calls of enough partitions after the order at an index.
@@ -145,8 +142,8 @@ impl Search {
         let orders = self.orders.len();
         prove!(i < orders);
         let saved = self.points.take(i);
-        self.memory.take();
         self.try_each(alloc, config, scripts, clock, i, saved.as_ref(), choice)?;
+        self.points.keep(saved)?;
         Ok(())
     }
 
@@ -289,7 +286,6 @@ impl Search {
         }
         let partitions = config.partitions();
         prove!(p < partitions);
-        self.memory.add(&self.trial.ports)?;
         self.points.push(alloc, &self.trial.ports, hash)?;
         self.orders.push(i, p)?;
         Ok(())

@@ -1,18 +1,7 @@
 -- How one more entry changes what the definitions filter out of a history.
-use Rattle.std.proofs.Common.{◌≡◌, ℕ, false, ◌&&◌, ◌||◌, not, if◌then◌else◌, List, [], ◌∷◌, ◌++◌, length, drop, Option, Some, None, refl, sym, ap, ◌∙◌, append_assoc, append-nil}
-use Rattle.std.specs.Option.{unwrap_or, option_to_list}
-use Rattle.std.specs.List.{filter_map}
+use Rattle.apex_ports.proofs.Common.{◌≡◌, ℕ, false, ◌&&◌, ◌||◌, not, if◌then◌else◌, List, [], ◌∷◌, ◌++◌, length, drop, Option, Some, None, refl, sym, ap, ◌∙◌, append_assoc, append-nil, unwrap_or, option_to_list, filter_map, filter_map-append, Configuration, ColdStart, Taken, Invalid, Entry, History, mode_of, mode_set, restarts, is_created, creates, accepted_on, received_on, taken_after, taken_on, taken_by}
+use Rattle.apex_ports.proofs.Common.{waiting_on, writes_on, message_accepted, message_received, sample_written, last_validity_of, validity_read}
 use Rattle.std.proofs.lemmas.List.Sums.{fold-append}
-use Rattle.std.proofs.lemmas.List.Elements.{filter_map-append}
-use Rattle.apex_module.specs.Configuration.{Configuration}
-use Rattle.apex_types.specs.declared.mode.Mode.TheVariants.{ColdStart}
-use Rattle.apex_types.specs.declared.taken.Taken.{Taken}
-use Rattle.apex_types.specs.declared.validity.Validity.TheVariants.{Invalid}
-use Rattle.apex_ports.specs.declared.history.Entry.{Entry}
-use Rattle.apex_ports.specs.History.{History}
-use Rattle.apex_ports.specs.Modes.{mode_of, mode_set, restarts}
-use Rattle.apex_ports.specs.Ports.{is_created, creates}
-use Rattle.apex_ports.specs.Channels.{accepted_on, received_on, taken_after, taken_on, taken_by, waiting_on, writes_on, message_accepted, message_received, sample_written, last_validity_of, validity_read}
 
 pub mode_of-append : (p : ℕ) (h : History) (e : Entry) → mode_of p (h ++ e ∷ []) ≡ unwrap_or (mode_set p e) (mode_of p h)
 mode_of-append p h e = fold-append (λ mode entry. unwrap_or (mode_set p entry) mode) ColdStart h (e ∷ [])

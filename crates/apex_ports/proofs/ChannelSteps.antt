@@ -1,25 +1,7 @@
 -- What a send, a receive, a clear and a write do to the state of a channel.
-use Rattle.std.proofs.Common.{◌≡◌, ◌≢◌, ◌<◌, ⊎_elim, ℕ, ◌+◌, ◌-◌, ◌^◌, true, false, if◌then◌else◌, min, List, [], ◌∷◌, ◌++◌, length, drop, map, set, Option, Some, None, refl, sym, ap, ◌∙◌, arith}
-use Rattle.std.specs.List.{slice_get}
-use Rattle.apex_types.specs.declared.call.Call.TheVariants.{SendQueuing, ReceiveQueuing, ClearQueuing, WriteSampling}
-use Rattle.apex_types.specs.declared.moment.Moment.{Moment}
-use Rattle.apex_types.specs.declared.reply.Reply.TheVariants.{Code, Received}
-use Rattle.apex_types.specs.declared.return_code.ReturnCode.TheVariants.{NoError}
-use Rattle.std.proofs.lemmas.List.{length-map}
-use Rattle.apex_module.specs.Configuration.{Configuration, port_of}
-use Rattle.apex_module.specs.declared.port.Port.{Port}
-use Rattle.apex_ports.specs.declared.history.Entry.{Entry}
-use Rattle.apex_ports.specs.declared.partition.PartitionState.{PartitionState}
-use Rattle.apex_ports.specs.declared.channel.ChannelState.{ChannelState}
+use Rattle.apex_ports.proofs.Common.{◌≡◌, ◌≢◌, ◌<◌, ⊎_elim, ℕ, ◌+◌, ◌-◌, ◌^◌, true, false, if◌then◌else◌, min, List, [], ◌∷◌, ◌++◌, length, drop, map, set, Option, Some, None, refl, sym, ap, ◌∙◌, arith, slice_get, SendQueuing, ReceiveQueuing, ClearQueuing, WriteSampling, Moment, Code, Received, NoError, length-map, Configuration, port_of, Port, Entry, PartitionState, ChannelState, has_queue, waiting_in, ring_depth}
+use Rattle.apex_ports.proofs.Common.{message_size, accepted_in, received_in, cleared_in, sample_in, count_of, History, entry_of, is_source_of, is_destination_of, accepted_on, received_on, cleared_on, waiting_on, message_accepted, message_received, clears, as_cleared, sample_at, IsChannelKept, AreKept, oldest_reply, IsConserved}
 use Rattle.apex_ports.specs.declared.channel.ChannelState.TheVariants.{Queuing, Sampling}
-use Rattle.apex_ports.specs.ChannelStates.{has_queue, waiting_in, ring_depth, message_size, accepted_in, received_in, cleared_in, sample_in}
-use Rattle.apex_ports.specs.Counts.{count_of}
-use Rattle.apex_ports.specs.History.{History, entry_of}
-use Rattle.apex_ports.specs.Ports.{is_source_of, is_destination_of}
-use Rattle.apex_ports.specs.Channels.{accepted_on, received_on, cleared_on, waiting_on, message_accepted, message_received, clears, as_cleared, sample_at}
-use Rattle.apex_ports.specs.Kept.{IsChannelKept, AreKept}
-use Rattle.apex_ports.specs.ReplyTable.{oldest_reply}
-use Rattle.apex_ports.specs.Rules.{IsConserved}
 use Rattle.apex_ports.specs.Slots.{slot}
 use Rattle.apex_ports.proofs.Counts.{count-push, count-append}
 use Rattle.apex_ports.proofs.Histories.{accepted-sent, received-received, cleared-received, cleared-cleared, waiting-sent, waiting-received, waiting-cleared}

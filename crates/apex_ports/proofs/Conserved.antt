@@ -1,33 +1,15 @@
 -- The law of every lawful history: no message is lost, doubled or reordered, and at most the depth wait.
-use Rattle.std.proofs.Common.{◌≡◌, ℕ, ◌≤◌, ◌==◌, Bool, true, false, if◌then◌else◌, List, [], ◌∷◌, ◌++◌, length, drop, map, Option, Some, None, refl, sym, ap, ◌∙◌, subst, arith, length-append, length-drop, append_assoc, append-nil}
-use Rattle.std.specs.List.{slice_get}
-use Rattle.std.proofs.lemmas.Bool.Decides.{nat_tests}
-use Rattle.std.proofs.lemmas.List.{length-map}
+use Rattle.apex_ports.proofs.Common.{◌≡◌, ℕ, ◌≤◌, ◌==◌, Bool, true, false, if◌then◌else◌, List, [], ◌∷◌, ◌++◌, length, drop, map, Option, Some, None, refl, sym, ap, ◌∙◌, subst, arith, length-append, append_assoc, append-nil, slice_get, nat_tests, length-map, Call, SendQueuing, ReceiveQueuing, ClearQueuing, WriteSampling, Moment, Taken, Reply, Configuration, IsConfiguration, port_of, channel_of, is_queuing_port}
+use Rattle.apex_ports.proofs.Common.{is_queuing_channel, depth_of_kind, Port, Entry, Row, Refused, Sent, History, entry_of, mode_of, is_idle, is_code_no_error, is_created, queuing_only, sampling_only, is_queuing, is_queue, is_source, is_source_of, is_destination_of, accepted_on, taken_on, cleared_on, waiting_on, messages_of, message_in, message_sent, message_accepted, message_received, clears, as_cleared}
+use Rattle.apex_ports.proofs.Common.{sample_at, depth_of, depth_in, send_row, oldest_row, receive_row, write_row, oldest_reply, reply_of, reply_to, IsConserved, AlwaysConserved, Seen, seen, waiting_of, queuing_port, sampling_port, IsSound}
+use Rattle.std.proofs.Common.{length-drop}
 use Rattle.std.proofs.lemmas.List.Sums.{length-filter, count_by-le-length}
-use Rattle.apex_types.specs.declared.call.Call.{Call}
-use Rattle.apex_types.specs.declared.call.Call.TheVariants.{SendQueuing, ReceiveQueuing, ClearQueuing, WriteSampling}
-use Rattle.apex_types.specs.declared.moment.Moment.{Moment}
-use Rattle.apex_types.specs.declared.taken.Taken.{Taken}
-use Rattle.apex_types.specs.declared.reply.Reply.{Reply}
-use Rattle.apex_module.specs.Configuration.{Configuration, IsConfiguration, port_of, channel_of, is_queuing_port, is_queuing_channel, depth_of_kind}
 use Rattle.apex_module.specs.declared.channel.Channel.{Channel}
 use Rattle.apex_module.specs.declared.channel.ChannelKind.{ChannelKind}
 use Rattle.apex_module.specs.declared.channel.ChannelKind.TheVariants.{Queuing, Sampling}
-use Rattle.apex_module.specs.declared.port.Port.{Port}
-use Rattle.apex_ports.specs.declared.history.Entry.{Entry}
 use Rattle.apex_ports.specs.declared.rows.Refusal.TheVariants.{EmptyMessage, MessageTooLong, NotSource, NotDestination, QueueFull}
-use Rattle.apex_ports.specs.declared.rows.Row.{Row}
 use Rattle.apex_ports.specs.declared.rows.Row.TheVariants as row
-use Rattle.apex_ports.specs.declared.rows.Row.TheVariants.{Refused, Sent}
-use Rattle.apex_ports.specs.History.{History, entry_of}
-use Rattle.apex_ports.specs.Modes.{mode_of, is_idle, is_code_no_error}
-use Rattle.apex_ports.specs.Ports.{is_created, queuing_only, sampling_only, is_queuing, is_queue, is_source, is_source_of, is_destination_of}
-use Rattle.apex_ports.specs.Channels.{accepted_on, taken_on, cleared_on, waiting_on, messages_of, message_in, message_sent, message_accepted, message_received, clears, as_cleared, sample_at}
 use Rattle.apex_ports.specs.LawfulLaws.{along_lawful}
-use Rattle.apex_ports.specs.ReplyTable.{depth_of, depth_in, send_row, oldest_row, receive_row, write_row, oldest_reply, reply_of, reply_to}
-use Rattle.apex_ports.specs.Rules.{IsConserved, AlwaysConserved}
-use Rattle.apex_ports.specs.Seen.{Seen, seen, waiting_of, queuing_port, sampling_port}
-use Rattle.apex_ports.specs.Sound.{IsSound}
 use Rattle.apex_ports.proofs.Histories.{accepted-sent, taken-received, taken-cleared, waiting-sent, waiting-received, waiting-cleared, received_conserved, cleared_conserved}
 use Rattle.apex_ports.proofs.Stays.{LeavesChannel, leaves_channel, accepted_stays, taken_stays, waiting_stays, sample_stays, none_or_none, and_true, and_false}
 

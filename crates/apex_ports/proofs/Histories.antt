@@ -1,16 +1,6 @@
 -- What is taken from a channel and what waits on it, after a send, a receive and a clear.
-use Rattle.std.proofs.Common.{◌≡◌, List, [], ◌∷◌, ◌++◌, ℕ, true, false, if◌then◌else◌, length, drop, map, filter, Some, None, refl, sym, ap, ◌∙◌, append_assoc, append-nil}
-use Rattle.std.specs.Option.{option_to_list}
-use Rattle.std.specs.List.{slice_get}
-use Rattle.std.proofs.Math.Seq.{drop-append_seam}
-use Rattle.std.proofs.lemmas.List.{length-map, map-append}
-use Rattle.std.proofs.lemmas.List.Elements.{filter-append}
-use Rattle.apex_types.specs.declared.taken.Taken.{Taken}
-use Rattle.apex_module.specs.Configuration.{Configuration}
-use Rattle.apex_ports.specs.declared.history.Entry.{Entry}
-use Rattle.apex_ports.specs.History.{History}
-use Rattle.apex_ports.specs.Channels.{accepted_on, received_on, taken_on, cleared_on, waiting_on, message_accepted, message_received, clears, as_received, as_cleared, messages_of}
-use Rattle.apex_ports.specs.Rules.{IsConserved}
+use Rattle.apex_ports.proofs.Common.{◌≡◌, List, [], ◌∷◌, ◌++◌, ℕ, true, false, if◌then◌else◌, length, drop, map, filter, Some, None, refl, sym, ap, ◌∙◌, append_assoc, append-nil, option_to_list, slice_get, drop-append_seam, length-map, map-append, filter-append, Taken, Configuration, Entry, History, accepted_on, received_on, taken_on, cleared_on, waiting_on, message_accepted, message_received, clears, as_received}
+use Rattle.apex_ports.proofs.Common.{as_cleared, messages_of, IsConserved}
 use Rattle.apex_ports.proofs.Appends.{accepted_on-append, received_on-append, taken_on-append}
 use Rattle.apex_ports.proofs.Stays.{accepted_stays, taken_stays}
 

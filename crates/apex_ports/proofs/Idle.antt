@@ -1,24 +1,10 @@
 -- A partition in IDLE stays there, and nothing is accepted from it.
-use Rattle.std.proofs.Common.{◌≡◌, ◌≢◌, ℕ, ◌==◌, Bool, true, false, ◌&&◌, if◌then◌else◌, [], ◌∷◌, ◌++◌, Option, Some, None, refl, sym, ap, ◌∙◌, arith}
-use Rattle.std.specs.Option.{unwrap_or}
-use Rattle.std.proofs.lemmas.Bool.Decides.{nat_tests}
-use Rattle.apex_types.specs.declared.call.Call.{Call}
-use Rattle.apex_types.specs.declared.call.Call.TheVariants.{SendQueuing, WriteSampling}
+use Rattle.apex_ports.proofs.Common.{◌≡◌, ◌≢◌, ℕ, ◌==◌, Bool, true, false, ◌&&◌, if◌then◌else◌, [], ◌∷◌, ◌++◌, Option, Some, None, refl, sym, ap, ◌∙◌, arith, unwrap_or, nat_tests, Call, SendQueuing, WriteSampling, Moment, Reply, Configuration, IsConfiguration, port_of, Port, Entry, History, entry_of, mode_of, mode_set, mode_asked, is_idle, is_code_no_error, is_source, is_source_of, message_accepted, message_sent}
+use Rattle.apex_ports.proofs.Common.{message_written, sample_at, sample_written, reply_to, reply_of, service_row, seen}
 use Rattle.apex_types.specs.declared.direction.Direction.{Direction}
 use Rattle.apex_types.specs.declared.direction.Direction.TheVariants.{Source, Destination}
-use Rattle.apex_types.specs.declared.moment.Moment.{Moment}
-use Rattle.apex_types.specs.declared.reply.Reply.{Reply}
-use Rattle.apex_module.specs.Configuration.{Configuration, IsConfiguration, port_of}
-use Rattle.apex_module.specs.declared.port.Port.{Port}
-use Rattle.apex_ports.specs.declared.history.Entry.{Entry}
 use Rattle.apex_ports.specs.declared.rows.Row.TheVariants as row
-use Rattle.apex_ports.specs.History.{History, entry_of}
 use Rattle.apex_ports.specs.Idle.{StaysIdle, HasSource}
-use Rattle.apex_ports.specs.Modes.{mode_of, mode_set, mode_asked, is_idle, is_code_no_error}
-use Rattle.apex_ports.specs.Ports.{is_source, is_source_of}
-use Rattle.apex_ports.specs.Channels.{message_accepted, message_sent, message_written, sample_at, sample_written}
-use Rattle.apex_ports.specs.ReplyTable.{reply_to, reply_of, service_row}
-use Rattle.apex_ports.specs.Seen.{seen}
 use Rattle.apex_ports.proofs.Appends.{mode_of-append}
 use Rattle.apex_ports.proofs.Stays.{accepted_stays, sample_stays, none_or_none, and_false, and_true}
 

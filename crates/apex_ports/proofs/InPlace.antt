@@ -1,8 +1,6 @@
 -- Lists that are changed item by item, after another list.
-use Rattle.std.proofs.Common.{◌≡◌, ◌≢◌, ⊎_elim, ℕ, ◌+◌, ◌<◌, ◌≤◌, List, length, set, Some, refl, sym, ap, ◌∙◌, subst, arith, length-set}
-use Rattle.std.specs.List.{slice_get}
+use Rattle.apex_ports.proofs.Common.{◌≡◌, ◌≢◌, ⊎_elim, ℕ, ◌+◌, ◌<◌, ◌≤◌, List, length, set, Some, refl, sym, ap, ◌∙◌, subst, arith, length-set, slice_get, slice_get_within}
 use Rattle.std.proofs.lemmas.Bool.{cases_eq}
-use Rattle.std.proofs.lemmas.Option.{slice_get_within}
 use Rattle.apex_ports.proofs.Stays.{slice_get-set_cases}
 
 -- R relates each of the first n items, as it was, and the other list's item to the item now; the others are unchanged

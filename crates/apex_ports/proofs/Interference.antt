@@ -1,28 +1,9 @@
 -- Partitions that share no channel with the others get the replies that they would get if the others made no call.
-use Rattle.std.proofs.Common.{◌≡◌, ◌≢◌, ℕ, ◌-◌, ◌&&◌, ◌||◌, not, Bool, true, false, cond, if◌then◌else◌, List, [], ◌∷◌, ◌++◌, length, drop, fold, Option, Some, None, refl, sym, ap, ◌∙◌, subst, arith, append-nil}
-use Rattle.std.specs.List.{slice_get, filter_map, cons_option}
-use Rattle.std.specs.Option.{unwrap_or, option_to_list}
-use Rattle.std.proofs.lemmas.Bool.Decides.{nat_tests}
-use Rattle.std.proofs.lemmas.List.Elements.{filter-append}
-use Rattle.apex_types.specs.declared.call.Call.{Call}
+use Rattle.apex_ports.proofs.Common.{◌≡◌, ◌≢◌, ℕ, ◌-◌, ◌&&◌, ◌||◌, not, Bool, true, false, cond, if◌then◌else◌, List, [], ◌∷◌, ◌++◌, length, drop, fold, Option, Some, None, refl, sym, ap, ◌∙◌, subst, arith, append-nil, slice_get, filter_map, cons_option, unwrap_or, option_to_list, nat_tests, filter-append, Call, Moment, ColdStart, Sample, Taken, Invalid, Configuration, port_of, Port, Entry, History, mode_of}
+use Rattle.apex_ports.proofs.Common.{mode_set, restarts, is_restart, is_created, creates, accepted_on, taken_after, taken_by, taken_on, last_validity_of, validity_read, message_accepted, sample_written, IsLawful, IsLawfulEntry, reply_to, reply_of, row_of, Seen, seen, waiting_of, sample_of}
 use Rattle.apex_types.specs.declared.call.Call.TheVariants as call
-use Rattle.apex_types.specs.declared.moment.Moment.{Moment}
-use Rattle.apex_types.specs.declared.mode.Mode.TheVariants.{ColdStart}
-use Rattle.apex_types.specs.declared.sample.Sample.{Sample}
-use Rattle.apex_types.specs.declared.taken.Taken.{Taken}
-use Rattle.apex_types.specs.declared.validity.Validity.TheVariants.{Invalid}
-use Rattle.apex_module.specs.Configuration.{Configuration, port_of}
-use Rattle.apex_module.specs.declared.port.Port.{Port}
-use Rattle.apex_ports.specs.declared.history.Entry.{Entry}
-use Rattle.apex_ports.specs.History.{History}
 use Rattle.apex_ports.specs.Interference.{IsClosed, entries_inside, requests_inside, IsIndependent, AlwaysFreeFromInterference}
-use Rattle.apex_ports.specs.Modes.{mode_of, mode_set, restarts, is_restart}
-use Rattle.apex_ports.specs.Ports.{is_created, creates}
-use Rattle.apex_ports.specs.Channels.{accepted_on, taken_after, taken_by, taken_on, last_validity_of, validity_read, message_accepted, sample_written}
-use Rattle.apex_ports.specs.Lawful.{IsLawful, IsLawfulEntry}
 use Rattle.apex_ports.specs.LawfulLaws.{along_lawful, one_history}
-use Rattle.apex_ports.specs.ReplyTable.{reply_to, reply_of, row_of}
-use Rattle.apex_ports.specs.Seen.{Seen, seen, waiting_of, sample_of}
 use Rattle.apex_ports.proofs.Appends.{accepted_on-append}
 use Rattle.apex_ports.proofs.LawfulSteps.{lawful_push}
 use Rattle.apex_ports.proofs.OneChannel.{LiesElsewhere, off_channel, sends_elsewhere, receives_elsewhere, clears_elsewhere, writes_elsewhere}

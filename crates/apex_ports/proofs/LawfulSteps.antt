@@ -1,20 +1,5 @@
 -- One more lawful entry, and what holds for lawful histories.
-use Rattle.std.proofs.Common.{◌≡◌, ◌≢◌, ℕ, ◌<◌, ◌==◌, Bool, true, false, [], ◌∷◌, ◌++◌, length, take, Some, refl, sym, ap, ◌∙◌, subst, arith}
-use Rattle.std.specs.List.{slice_get}
-use Rattle.std.proofs.lemmas.Bool.Decides.{nat_tests}
-use Rattle.std.proofs.lemmas.List.{take-append-le}
-use Rattle.std.proofs.Math.Seq.{take-append_seam}
-use Rattle.circular_buffer.proofs.Places.{slice_get-last, slice_get-push}
-use Rattle.std.proofs.lemmas.Option.{slice_get_within}
-use Rattle.apex_types.specs.declared.call.Call.{Call}
-use Rattle.apex_types.specs.declared.moment.Moment.{Moment}
-use Rattle.apex_types.specs.declared.reply.Reply.{Reply}
-use Rattle.apex_module.specs.Configuration.{Configuration, IsConfiguration}
-use Rattle.apex_ports.specs.declared.history.Entry.{Entry}
-use Rattle.apex_ports.specs.History.{History, entry_of}
-use Rattle.apex_ports.specs.Lawful.{IsLawful, IsLawfulEntry}
-use Rattle.apex_ports.specs.ReplyTable.{reply_to}
-use Rattle.apex_ports.specs.Sound.{IsSound}
+use Rattle.apex_ports.proofs.Common.{◌≡◌, ◌≢◌, ℕ, ◌<◌, ◌==◌, Bool, true, false, [], ◌∷◌, ◌++◌, length, take, Some, refl, sym, ap, ◌∙◌, subst, arith, slice_get, nat_tests, take-append-le, take-append_seam, slice_get-last, slice_get-push, slice_get_within, Call, Moment, Reply, Configuration, IsConfiguration, Entry, History, entry_of, IsLawful, IsLawfulEntry, reply_to, IsSound}
 
 -- a lawful history stays lawful with one more lawful entry
 pub lawful_push : (config : Configuration) (h : History) (p : ℕ) (at : Moment) (call : Call) (reply : Reply) → IsLawful config h → p < length config.partitions → reply ≡ reply_to config h p at call → IsLawful config (h ++ entry_of p at call reply ∷ [])

@@ -1,26 +1,11 @@
 -- What a state says at one index, if it follows from its history.
-use Rattle.std.proofs.Common.{◌≡◌, ℕ, ◌<◌, ◌≤◌, ◌-◌, ◌==◌, Bool, true, false, if◌then◌else◌, List, length, get_or, Bor, Option, Some, None, refl, sym, ap, ◌∙◌, arith}
-use Rattle.std.specs.List.{slice_get}
-use Rattle.std.specs.Option.{option_copied}
-use Rattle.std.proofs.lemmas.Bool.Decides.{nat_tests}
-use Rattle.std.proofs.lemmas.Option.{slice_get-get_or, slice_get_within}
-use Rattle.apex_types.specs.declared.sample.Sample.{Sample}
-use Rattle.apex_module.specs.Configuration.{Configuration, IsConfiguration, ports_of, port_of, channel_of, IsDepth, depth_of_kind}
+use Rattle.apex_ports.proofs.Common.{◌≡◌, ℕ, ◌<◌, ◌≤◌, ◌-◌, ◌==◌, Bool, true, false, if◌then◌else◌, List, length, get_or, Bor, Option, Some, None, refl, sym, ap, ◌∙◌, arith, slice_get, option_copied, nat_tests, slice_get-get_or, slice_get_within, Sample, Configuration, IsConfiguration, ports_of, port_of, channel_of, IsDepth, depth_of_kind, PartitionState, ChannelState, waiting_in, History, Port, waiting_on}
+use Rattle.apex_ports.proofs.Common.{IsIdentifier, depth_of, depth_in, IsSampleBy, AreKept, IsPartitionKept, IsChannelKept}
 use Rattle.apex_module.specs.declared.channel.Channel.{Channel}
 use Rattle.apex_module.specs.declared.channel.ChannelKind.{ChannelKind}
 use Rattle.apex_module.specs.declared.channel.ChannelKind.TheVariants.{Queuing, Sampling}
 use Rattle.apex_module.specs.declared.limits.TheConstants.{DEPTH_LIMIT}
-use Rattle.apex_ports.specs.declared.partition.PartitionState.{PartitionState}
-use Rattle.apex_ports.specs.declared.channel.ChannelState.{ChannelState}
-use Rattle.apex_ports.specs.ChannelStates.{waiting_in}
-use Rattle.apex_ports.specs.History.{History}
-use Rattle.apex_module.specs.declared.port.Port.{Port}
-use Rattle.apex_ports.specs.Channels.{waiting_on}
-use Rattle.apex_ports.specs.Ports.{IsIdentifier}
-use Rattle.apex_ports.specs.ReplyTable.{depth_of, depth_in}
-use Rattle.apex_ports.specs.Noted.{IsSampleBy}
 use Rattle.apex_ports.specs.declared.noted.SampleRef.{SampleRef}
-use Rattle.apex_ports.specs.Kept.{AreKept, IsPartitionKept, IsChannelKept}
 
 -- the item at an index
 pub at_index : {X : Type 0} (xs : List X) (k : ℕ) (x : X) → k < length xs → x ≡ get_or xs k x → slice_get xs k ≡ Some x

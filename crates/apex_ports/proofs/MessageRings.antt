@@ -1,15 +1,10 @@
 -- A ring of messages stays one, and the slots of the messages that wait keep their bytes.
-use Rattle.std.proofs.Common.{◌≡◌, ◌≢◌, inl, inr, ℕ, zero, suc, ◌+◌, ◌-◌, ◌*◌, ◌<◌, ◌≤◌, ◌==◌, true, false, Bool, if◌then◌else◌, List, [], ◌∷◌, ◌++◌, length, take, drop, map, Some, refl, sym, ap, ◌∙◌, subst, arith, rules, length-append, length-drop, length-take}
-use Rattle.std.specs.List.{slice_get}
+use Rattle.apex_ports.proofs.Common.{◌≡◌, ◌≢◌, inl, inr, ℕ, zero, suc, ◌+◌, ◌-◌, ◌*◌, ◌<◌, ◌≤◌, ◌==◌, true, false, Bool, if◌then◌else◌, List, [], ◌∷◌, ◌++◌, length, take, drop, map, Some, refl, sym, ap, ◌∙◌, subst, arith, rules, length-append, length-take, slice_get, nat_tests, drop-take, map-append, slice_get_within, below_or_not, slice_get-drop, message_at, messages_at, with_message, AreShort, IsPlaced, IsRing}
+use Rattle.std.proofs.Common.{length-drop}
 use Rattle.std.proofs.Math.Nat.{mul-le-mul_right}
-use Rattle.std.proofs.lemmas.Bool.Decides.{nat_tests}
-use Rattle.std.proofs.lemmas.List.{drop-take, map-append}
-use Rattle.std.proofs.lemmas.Option.{slice_get_within}
 use Rattle.std.proofs.lemmas.Slice.{take-put_mid_below, drop-put_mid, between-put_mid, overwrites}
-use Rattle.circular_buffer.proofs.Places.{below_or_not, slice_get-drop}
 use Rattle.apex_ports.specs.declared.message_ring.Place.{Place}
 use Rattle.apex_ports.proofs.Stays.{each_at_push}
-use Rattle.apex_ports.specs.MessageRing.{message_at, messages_at, with_message, AreShort, IsPlaced, IsRing}
 
 -- ---- bytes
 

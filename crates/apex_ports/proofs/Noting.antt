@@ -1,15 +1,5 @@
 -- What holds for the ports after an event is added to the history.
-use Rattle.std.proofs.Common.{◌≡◌, ℕ, ◌+◌, ◌-◌, ◌^◌, ◌<◌, List, [], ◌∷◌, ◌++◌, length, set, min, get_or, sym, subst, arith}
-use Rattle.apex_types.specs.declared.call.Call.{Call}
-use Rattle.apex_types.specs.declared.moment.Moment.{Moment}
-use Rattle.apex_types.specs.declared.reply.Reply.{Reply}
-use Rattle.apex_module.specs.Configuration.{Configuration}
-use Rattle.apex_ports.specs.declared.channel.ChannelState.{ChannelState}
-use Rattle.apex_ports.specs.declared.partition.PartitionState.{PartitionState}
-use Rattle.apex_ports.specs.History.{History, entry_of}
-use Rattle.apex_ports.specs.Kept.{AreCounted, AreKept}
-use Rattle.apex_ports.specs.ReplyTable.{reply_to}
-use Rattle.apex_ports.specs.Sound.{IsSound}
+use Rattle.apex_ports.proofs.Common.{◌≡◌, ℕ, ◌+◌, ◌-◌, ◌^◌, ◌<◌, List, [], ◌∷◌, ◌++◌, length, set, min, get_or, sym, subst, arith, Call, Moment, Reply, Configuration, ChannelState, PartitionState, History, entry_of, AreCounted, AreKept, reply_to, IsSound}
 use Rattle.apex_ports.proofs.Counts.{counted-push}
 use Rattle.apex_ports.proofs.LawfulSteps.{sound-push}
 use Rattle.apex_ports.proofs.Lookups.{at_index}

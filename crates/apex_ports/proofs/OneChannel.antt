@@ -1,14 +1,5 @@
 -- An entry concerns at most one channel.
-use Rattle.std.proofs.Common.{◌≡◌, ◌≢◌, ◌⊎◌, inl, inr, ℕ, ◌==◌, Bool, true, false, ◌&&◌, not, if◌then◌else◌, List, [], ◌∷◌, ◌++◌, Option, Some, None, refl, ◌∙◌, arith}
-use Rattle.std.proofs.lemmas.Bool.Decides.{nat_tests}
-use Rattle.apex_types.specs.declared.call.Call.{Call}
-use Rattle.apex_types.specs.declared.call.Call.TheVariants.{SendQueuing, ReceiveQueuing, ClearQueuing, WriteSampling}
-use Rattle.apex_types.specs.declared.moment.Moment.{Moment}
-use Rattle.apex_types.specs.declared.reply.Reply.{Reply}
-use Rattle.apex_module.specs.Configuration.{Configuration, port_of}
-use Rattle.apex_module.specs.declared.port.Port.{Port}
-use Rattle.apex_ports.specs.History.{History, entry_of}
-use Rattle.apex_ports.specs.Ports.{is_source, is_source_of, is_destination_of}
+use Rattle.apex_ports.proofs.Common.{◌≡◌, ◌≢◌, ◌⊎◌, inl, inr, ℕ, ◌==◌, Bool, true, false, ◌&&◌, not, if◌then◌else◌, List, [], ◌∷◌, ◌++◌, Option, Some, None, refl, ◌∙◌, arith, nat_tests, Call, SendQueuing, ReceiveQueuing, ClearQueuing, WriteSampling, Moment, Reply, Configuration, port_of, Port, History, entry_of, is_source, is_source_of, is_destination_of}
 use Rattle.apex_ports.specs.OneChannel.{SameChannel, ChangesOneChannel}
 use Rattle.apex_ports.proofs.Refused.{same_channel}
 use Rattle.apex_ports.proofs.Stays.{IsElsewhere, leaves_channel, and_false}

@@ -1,27 +1,7 @@
 -- What a change of mode, a creation and a sampling read do to a partition.
-use Rattle.std.proofs.Common.{◌≡◌, ◌≢◌, ℕ, ◌==◌, Bool, true, false, ◌&&◌, ◌||◌, not, if◌then◌else◌, List, [], ◌∷◌, ◌++◌, length, set, Option, Some, None, refl, sym, ap, ◌∙◌, arith}
-use Rattle.std.specs.Option.{unwrap_or}
-use Rattle.std.proofs.lemmas.Bool.Decides.{nat_tests}
-use Rattle.apex_types.specs.Mode.{mode_numbered}
-use Rattle.apex_types.specs.declared.call.Call.{Call}
-use Rattle.apex_types.specs.declared.call.Call.TheVariants.{SetMode, ReadSampling}
-use Rattle.apex_types.specs.declared.mode.Mode.{Mode}
-use Rattle.apex_types.specs.declared.moment.Moment.{Moment}
-use Rattle.apex_types.specs.declared.reply.Reply.{Reply}
-use Rattle.apex_types.specs.declared.reply.Reply.TheVariants.{Code, Id, Read}
-use Rattle.apex_types.specs.declared.return_code.ReturnCode.TheVariants.{NoError}
+use Rattle.apex_ports.proofs.Common.{◌≡◌, ◌≢◌, ℕ, ◌==◌, Bool, true, false, ◌&&◌, ◌||◌, not, if◌then◌else◌, List, [], ◌∷◌, ◌++◌, length, set, Option, Some, None, refl, sym, ap, ◌∙◌, arith, unwrap_or, nat_tests, mode_numbered, Call, SetMode, ReadSampling, Mode, Moment, Reply, Code, Id, Read, NoError, Invalid, Configuration, Entry, PartitionState, PortState, ChannelState, History, entry_of, mode_of, mode_set}
+use Rattle.apex_ports.proofs.Common.{mode_asked, is_start, is_restart, is_code_no_error, is_created, creates, is_create, is_id, last_validity_of, validity_read, validity_in, is_read, IsPartitionKept, AreKept, created_in, last_in, state_at}
 use Rattle.apex_types.specs.declared.validity.Validity.{Validity}
-use Rattle.apex_types.specs.declared.validity.Validity.TheVariants.{Invalid}
-use Rattle.apex_module.specs.Configuration.{Configuration}
-use Rattle.apex_ports.specs.declared.history.Entry.{Entry}
-use Rattle.apex_ports.specs.declared.partition.PartitionState.{PartitionState}
-use Rattle.apex_ports.specs.declared.partition.PortState.{PortState}
-use Rattle.apex_ports.specs.declared.channel.ChannelState.{ChannelState}
-use Rattle.apex_ports.specs.History.{History, entry_of}
-use Rattle.apex_ports.specs.Modes.{mode_of, mode_set, mode_asked, is_start, is_restart, is_code_no_error}
-use Rattle.apex_ports.specs.Ports.{is_created, creates, is_create, is_id}
-use Rattle.apex_ports.specs.Channels.{last_validity_of, validity_read, validity_in, is_read}
-use Rattle.apex_ports.specs.Kept.{IsPartitionKept, AreKept, created_in, last_in, state_at}
 use Rattle.apex_ports.proofs.Appends.{mode_of-append, is_created-append, last_validity_of-append}
 use Rattle.apex_ports.proofs.Stays.{LeavesPartition, IsElsewhere, leaves_channel, partition_changes, and_false}
 

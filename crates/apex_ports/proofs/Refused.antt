@@ -1,12 +1,5 @@
 -- A refused send changes no channel.
-use Rattle.std.proofs.Common.{◌≡◌, ℕ, true, false, ◌&&◌, if◌then◌else◌, [], ◌∷◌, ◌++◌, None, refl}
-use Rattle.apex_types.specs.declared.call.Call.{Call}
-use Rattle.apex_types.specs.declared.call.Call.TheVariants.{SendQueuing}
-use Rattle.apex_module.specs.Configuration.{Configuration}
-use Rattle.apex_ports.specs.declared.history.Entry.{Entry}
-use Rattle.apex_ports.specs.History.{History}
-use Rattle.apex_ports.specs.Modes.{is_code_no_error}
-use Rattle.apex_ports.specs.Channels.{message_sent, message_in, message_written, sample_at, is_receive, is_clear}
+use Rattle.apex_ports.proofs.Common.{◌≡◌, ℕ, true, false, ◌&&◌, if◌then◌else◌, [], ◌∷◌, ◌++◌, None, refl, Call, SendQueuing, Configuration, Entry, History, is_code_no_error, message_sent, message_in, message_written, sample_at, is_receive, is_clear}
 use Rattle.apex_ports.specs.OneChannel.{SameChannel}
 use Rattle.apex_ports.specs.Refused.{SameChannels, is_send}
 use Rattle.apex_ports.proofs.Stays.{LeavesChannel, accepted_stays, taken_stays, sample_stays, waiting_stays}

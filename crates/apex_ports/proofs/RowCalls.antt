@@ -1,27 +1,12 @@
 -- The call of a row: which rows a call can get.
-use Rattle.std.proofs.Common.{◌≡◌, ℕ, ◌==◌, Bool, true, false, nat_lt, not, if◌then◌else◌, List, [], ◌∷◌, length, Option, Some, None, refl, sym, ap, subst, arith}
-use Rattle.std.proofs.lemmas.Bool.Decides.{nat_tests}
+use Rattle.apex_ports.proofs.Common.{◌≡◌, ℕ, ◌==◌, Bool, true, false, nat_lt, not, if◌then◌else◌, List, [], ◌∷◌, length, Option, Some, None, refl, subst, arith, nat_tests, mode_numbered, Call, Mode, Idle, ColdStart, WarmStart, Normal, Moment, Sample, Configuration, refresh_of_kind, Port, Row, Refused, is_code_no_error, is_cold_start, is_idle, is_no_error, is_normal, NamedPort, is_create, is_source, queuing_named}
+use Rattle.apex_ports.proofs.Common.{sampling_named, size_of, depth_of, create_queuing_row, create_sampling_row, id_row, send_row, oldest_row, receive_row, clear_row, write_row, last_row, read_row, status_row, set_mode_row, service_row, row_of, reply_of, Seen, queuing_port, sampling_port}
 use Rattle.apex_types.specs.Direction.{number_of}
-use Rattle.apex_types.specs.Mode.{mode_numbered}
-use Rattle.apex_types.specs.declared.call.Call.{Call}
 use Rattle.apex_types.specs.declared.call.Call.TheVariants as call
-use Rattle.apex_types.specs.declared.mode.Mode.{Mode}
-use Rattle.apex_types.specs.declared.mode.Mode.TheVariants.{Idle, ColdStart, WarmStart, Normal}
-use Rattle.apex_types.specs.declared.moment.Moment.{Moment}
-use Rattle.apex_types.specs.declared.sample.Sample.{Sample}
-use Rattle.apex_types.specs.declared.validity.Validity.{Validity}
-use Rattle.apex_module.specs.Configuration.{Configuration, refresh_of_kind}
-use Rattle.apex_module.specs.declared.port.Port.{Port}
 use Rattle.apex_ports.specs.declared.rows.Refusal.{Refusal}
 use Rattle.apex_ports.specs.declared.rows.Refusal.TheVariants as refusal
-use Rattle.apex_ports.specs.declared.rows.Row.{Row}
 use Rattle.apex_ports.specs.declared.rows.Row.TheVariants as row
-use Rattle.apex_ports.specs.declared.rows.Row.TheVariants.{Refused}
-use Rattle.apex_ports.specs.Modes.{is_code_no_error, is_cold_start, is_idle, is_no_error, is_normal}
-use Rattle.apex_ports.specs.Ports.{NamedPort, is_create, is_source, queuing_named, sampling_named}
-use Rattle.apex_ports.specs.ReplyTable.{size_of, depth_of, create_queuing_row, create_sampling_row, id_row, send_row, oldest_row, receive_row, clear_row, write_row, last_row, read_row, status_row, set_mode_row, service_row, row_of, reply_of}
 use Rattle.apex_ports.specs.Rows.{code_of}
-use Rattle.apex_ports.specs.Seen.{Seen, queuing_port, sampling_port}
 
 -- ---- refusals
 
@@ -68,9 +53,6 @@ fits _ _ = false
 
 pub same_number : (n : ℕ) → (n == n) ≡ true
 same_number n = grind (arith, nat_tests)
-
-is_number : (m n : ℕ) → (m == n) ≡ true → m ≡ n
-is_number m n same = grind (arith, nat_tests)
 
 module _ (config : Configuration) (s : Seen) (p : ℕ) (now : Moment) where
   queuing_fits : (of : Call) (named : Option NamedPort) (size depth direction discipline : ℕ) → is_create of ≡ true → fits of (create_queuing_row config s named size depth direction discipline) ≡ true
@@ -204,21 +186,6 @@ module _ (config : Configuration) (s : Seen) (p : ℕ) (now : Moment) where
   pub creates_only : (of : Call) (id : ℕ) → row_of config s p now of ≡ row.Created id → is_create of ≡ true
   creates_only of id is = row_fits of (row.Created id) is
 
-  not_creating : (of : Call) (id : ℕ) → fits of (row.Identified id) ≡ true → is_create of ≡ false
-  not_creating (call.SamplingId name) id is = refl
-  not_creating (call.QueuingId name) id is = refl
-  not_creating _ id is = absurd (cc)
-
-  pub identified_only : (of : Call) (id : ℕ) → row_of config s p now of ≡ row.Identified id → is_create of ≡ false
-  identified_only of id is = not_creating of id (row_fits of (row.Identified id) is)
-
-  sending : (of : Call) → fits of row.Sent ≡ true → (id : ℕ) × (message : List ℕ) × (of ≡ call.SendQueuing id message)
-  sending (call.SendQueuing id message) is = (id, message, refl)
-  sending _ is = absurd (cc)
-
-  pub sent_only : (of : Call) → row_of config s p now of ≡ row.Sent → (id : ℕ) × (message : List ℕ) × (of ≡ call.SendQueuing id message)
-  sent_only of is = sending of (row_fits of row.Sent is)
-
   -- NO_ERROR to a send or a write is the reply of its own row
   accepted_send : (id : ℕ) (message : List ℕ) (given : Row) → fits (call.SendQueuing id message) given ≡ true → is_code_no_error (reply_of config s p given) ≡ true → given ≡ row.Sent
   accepted_send id message row.Sent fit ok = refl
@@ -235,38 +202,3 @@ module _ (config : Configuration) (s : Seen) (p : ℕ) (now : Moment) where
 
   pub written_by_code : (id : ℕ) (message : List ℕ) → is_code_no_error (reply_of config s p (row_of config s p now (call.WriteSampling id message))) ≡ true → row_of config s p now (call.WriteSampling id message) ≡ row.Written
   written_by_code id message ok = accepted_write id message _ (row_fits (call.WriteSampling id message) _ refl) ok
-
-  receiving : (of : Call) (id : ℕ) → fits of (row.OldestReceived id) ≡ true → of ≡ call.ReceiveQueuing id
-  receiving (call.ReceiveQueuing n) id is = ap call.ReceiveQueuing (sym (is_number id n is))
-  receiving _ id is = absurd (cc)
-
-  pub received_only : (of : Call) (id : ℕ) → row_of config s p now of ≡ row.OldestReceived id → of ≡ call.ReceiveQueuing id
-  received_only of id is = receiving of id (row_fits of (row.OldestReceived id) is)
-
-  clearing : (of : Call) → fits of row.Cleared ≡ true → (id : ℕ) × (of ≡ call.ClearQueuing id)
-  clearing (call.ClearQueuing id) is = (id, refl)
-  clearing _ is = absurd (cc)
-
-  pub cleared_only : (of : Call) → row_of config s p now of ≡ row.Cleared → (id : ℕ) × (of ≡ call.ClearQueuing id)
-  cleared_only of is = clearing of (row_fits of row.Cleared is)
-
-  writing : (of : Call) → fits of row.Written ≡ true → (id : ℕ) × (message : List ℕ) × (of ≡ call.WriteSampling id message)
-  writing (call.WriteSampling id message) is = (id, message, refl)
-  writing _ is = absurd (cc)
-
-  pub written_only : (of : Call) → row_of config s p now of ≡ row.Written → (id : ℕ) × (message : List ℕ) × (of ≡ call.WriteSampling id message)
-  written_only of is = writing of (row_fits of row.Written is)
-
-  reading : (of : Call) (id : ℕ) (validity : Validity) → fits of (row.LastRead id validity) ≡ true → of ≡ call.ReadSampling id
-  reading (call.ReadSampling n) id validity is = ap call.ReadSampling (sym (is_number id n is))
-  reading _ id validity is = absurd (cc)
-
-  pub read_only : (of : Call) (id : ℕ) (validity : Validity) → row_of config s p now of ≡ row.LastRead id validity → of ≡ call.ReadSampling id
-  read_only of id validity is = reading of id validity (row_fits of (row.LastRead id validity) is)
-
-  changing : (of : Call) → fits of row.ModeSet ≡ true → (number : ℕ) × (of ≡ call.SetMode number)
-  changing (call.SetMode number) is = (number, refl)
-  changing _ is = absurd (cc)
-
-  pub mode_only : (of : Call) → row_of config s p now of ≡ row.ModeSet → (number : ℕ) × (of ≡ call.SetMode number)
-  mode_only of is = changing of (row_fits of row.ModeSet is)

@@ -1,28 +1,13 @@
 -- What the row of a call says about the port that the call names.
-use Rattle.std.proofs.Common.{◌≡◌, ◌≢◌, ℕ, ◌<◌, ◌≤◌, ◌==◌, Bool, true, false, nat_lt, ◌&&◌, not, if◌then◌else◌, List, [], ◌∷◌, length, Option, Some, None, refl, sym, ap, ◌∙◌, subst, arith}
-use Rattle.std.proofs.lemmas.Bool.Decides.{nat_tests}
-use Rattle.apex_types.specs.Mode.{mode_numbered}
-use Rattle.apex_types.specs.declared.call.Call.{Call}
+use Rattle.apex_ports.proofs.Common.{◌≡◌, ◌≢◌, ℕ, ◌<◌, ◌≤◌, ◌==◌, Bool, true, false, nat_lt, ◌&&◌, not, if◌then◌else◌, List, [], ◌∷◌, length, Option, Some, None, refl, sym, ap, ◌∙◌, subst, arith, nat_tests, mode_numbered, Call, Mode, Moment, NoError, Sample, Configuration, port_of, ports_of, id_named, refresh_of_kind, is_queuing_port, Port, Row, Refused, History, is_code_no_error, is_idle, mode_asked, IsIdentifier}
+use Rattle.apex_ports.proofs.Common.{NamedPort, is_create, is_source, is_source_of, is_destination_of, queuing_only, sampling_only, with_id, queuing_named, sampling_named, queuing_of_id, sampling_of_id, is_read, sample_at, size_of, create_queuing_row, create_sampling_row, send_row, oldest_row, receive_row, clear_row, write_row, last_row, read_row, set_mode_row, status_row, service_row, row_of, reply_of, reply_to}
+use Rattle.apex_ports.proofs.Common.{queuing_status_reply, sampling_status_reply, Seen, seen, queuing_port, sampling_port}
 use Rattle.apex_types.specs.declared.call.Call.TheVariants as call
-use Rattle.apex_types.specs.declared.mode.Mode.{Mode}
-use Rattle.apex_types.specs.declared.moment.Moment.{Moment}
 use Rattle.apex_types.specs.declared.reply.Reply.TheVariants as reply
-use Rattle.apex_types.specs.declared.return_code.ReturnCode.TheVariants.{NoError}
-use Rattle.apex_types.specs.declared.sample.Sample.{Sample}
 use Rattle.apex_types.specs.declared.validity.Validity.{Validity}
-use Rattle.apex_module.specs.Configuration.{Configuration, port_of, ports_of, id_named, refresh_of_kind, is_queuing_port}
-use Rattle.apex_module.specs.declared.port.Port.{Port}
 use Rattle.apex_ports.specs.declared.rows.Refusal.{Refusal}
 use Rattle.apex_ports.specs.declared.rows.Refusal.TheVariants as refusal
-use Rattle.apex_ports.specs.declared.rows.Row.{Row}
 use Rattle.apex_ports.specs.declared.rows.Row.TheVariants as row
-use Rattle.apex_ports.specs.declared.rows.Row.TheVariants.{Refused}
-use Rattle.apex_ports.specs.History.{History}
-use Rattle.apex_ports.specs.Modes.{is_code_no_error, is_idle, mode_asked}
-use Rattle.apex_ports.specs.Ports.{IsIdentifier, NamedPort, is_create, is_source, is_source_of, is_destination_of, queuing_only, sampling_only, with_id, queuing_named, sampling_named, queuing_of_id, sampling_of_id}
-use Rattle.apex_ports.specs.Channels.{is_read, sample_at}
-use Rattle.apex_ports.specs.ReplyTable.{size_of, create_queuing_row, create_sampling_row, send_row, oldest_row, receive_row, clear_row, write_row, last_row, read_row, set_mode_row, service_row, row_of, reply_of, reply_to}
-use Rattle.apex_ports.specs.Seen.{Seen, seen, queuing_port, sampling_port}
 use Rattle.apex_ports.specs.Writes.{Writes}
 use Rattle.apex_ports.proofs.Conserved.{queuing_configured, sampling_configured}
 use Rattle.apex_ports.proofs.Lookups.{is_identifier}
@@ -163,6 +148,22 @@ module _ (config : Configuration) (s : Seen) (p : ℕ) (now : Moment) where
       by_mode : (mode : Option Mode) → set_mode_row s.mode mode ≡ row.ModeSet → (one : Mode) × (mode ≡ Some one)
       by_mode None given = absurd (cc)
       by_mode (Some mode) given = (mode, refl)
+
+  -- ---- statuses
+
+  pub queuing_status_given : (id : ℕ) → is_idle s.mode ≡ false → reply_of config s p (row_of config s p now (call.QueuingStatus id)) ≡ queuing_status_reply config s id (queuing_port config s p id)
+  queuing_status_given id active = rw active (by_port (queuing_port config s p id) refl)
+    where
+      by_port : (port : Option Port) → queuing_port config s p id ≡ port → reply_of config s p (status_row (row.QueuingStatus id) port) ≡ queuing_status_reply config s id port
+      by_port None found = refl
+      by_port (Some q) found = ap (queuing_status_reply config s id) found
+
+  pub sampling_status_given : (id : ℕ) → is_idle s.mode ≡ false → reply_of config s p (row_of config s p now (call.SamplingStatus id)) ≡ sampling_status_reply config s id (sampling_port config s p id)
+  sampling_status_given id active = rw active (by_port (sampling_port config s p id) refl)
+    where
+      by_port : (port : Option Port) → sampling_port config s p id ≡ port → reply_of config s p (status_row (row.SamplingStatus id) port) ≡ sampling_status_reply config s id port
+      by_port None found = refl
+      by_port (Some q) found = ap (sampling_status_reply config s id) found
 
   -- ---- creation
 

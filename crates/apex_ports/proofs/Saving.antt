@@ -1,26 +1,10 @@
 -- A saved state follows from the history as the state does, and a state has room for it.
-use Rattle.std.proofs.Common.{◌≡◌, ℕ, zero, suc, ◌+◌, ◌-◌, ◌<◌, ◌≤◌, List, [], ◌∷◌, ◌++◌, length, take, drop, Option, Some, refl, sym, ap, ◌∙◌, subst, arith, length-append}
-use Rattle.std.specs.List.{slice_get}
-use Rattle.std.specs.Option.{unwrap_or}
-use Rattle.std.proofs.Math.Seq.{take-append_seam, drop-append_seam, take-length}
-use Rattle.std.proofs.lemmas.List.{length-drop, length-take-le, drop-append-le, take-append-le, take_more}
-use Rattle.circular_buffer.proofs.Places.{slice_get-append_left, slice_get-drop}
-use Rattle.std.proofs.lemmas.Option.{slice_get_within, get_or_from_slice_get}
-use Rattle.apex_module.specs.Configuration.{Configuration}
-use Rattle.apex_ports.specs.declared.partition.PortState.{PortState}
-use Rattle.apex_ports.specs.declared.partition.PartitionState.{PartitionState}
-use Rattle.apex_ports.specs.declared.channel.ChannelState.{ChannelState}
+use Rattle.apex_ports.proofs.Common.{◌≡◌, ℕ, zero, suc, ◌+◌, ◌-◌, ◌<◌, ◌≤◌, List, [], ◌∷◌, ◌++◌, length, take, drop, Option, Some, refl, sym, ap, ◌∙◌, subst, arith, length-append, slice_get, unwrap_or, take-append_seam, drop-append_seam, take-length, length-drop, length-take-le, drop-append-le, take-append-le, take_more, slice_get-append_left, slice_get-drop, slice_get_within, get_or_from_slice_get, Configuration}
+use Rattle.apex_ports.proofs.Common.{PortState, PartitionState, SavedPartition, ChannelState, SavedChannel, has_queue, waiting_in, ring_depth, message_size, History, EachAt, IsPartitionKept, IsChannelKept, AreKept, state_at, created_in, last_in, messages, AreShort, channel_size, depth_of, EachPair, IsSavedTable, HasAsManyPorts, IsPartitionSaved, messages_from, is_saved_queue, count_saved, restored, IsAmong}
+use Rattle.apex_ports.proofs.Common.{IsSavedFrom, HasRoomFor, AreRestored, AreSaved, IsSound}
 use Rattle.apex_ports.specs.declared.channel.ChannelState.TheVariants as state
-use Rattle.apex_ports.specs.declared.saved_channel.SavedChannel.{SavedChannel}
 use Rattle.apex_ports.specs.declared.saved_channel.SavedChannel.TheVariants.{Queuing, Unwritten, Written}
-use Rattle.apex_ports.specs.ChannelStates.{has_queue, waiting_in, ring_depth, message_size}
-use Rattle.apex_ports.specs.History.{History}
-use Rattle.apex_ports.specs.Kept.{EachAt, IsPartitionKept, IsChannelKept, AreKept, state_at, created_in, last_in}
-use Rattle.apex_ports.specs.MessageRing.{messages, AreShort}
-use Rattle.apex_ports.specs.ReplyTable.{channel_size, depth_of}
-use Rattle.apex_ports.specs.Saved.{EachPair, IsSameTable, HasAsManyPorts, messages_from, is_saved_queue, count_saved, restored, IsAmong, IsSavedFrom, HasRoomFor, AreRestored, AreSaved}
 use Rattle.apex_ports.specs.Slots.{slot}
-use Rattle.apex_ports.specs.Sound.{IsSound}
 use Rattle.apex_ports.proofs.Conserved.{always_conserved}
 use Rattle.apex_ports.proofs.Stays.{each_at_push}
 
@@ -57,6 +41,21 @@ each_pair_push {X} {Y} R xs ys n x y count each here mine k z w at listed =
     each_at_push (λ (m : ℕ) (v : Y). (u : X) → slice_get xs m ≡ Some u → R u v) ys n y count (λ m v there u is. each m u v is there)
     (λ u is. let both : Some x ≡ Some u = sym here ∙ is in let same : x ≡ u = cc in subst (λ (v : X). R v y) same mine) k w listed z at
 
+-- a part stays what it is as items are added
+same_span : {X : Type 0} (all more : List X) (first end : ℕ) → first ≤ end → end ≤ length all → take (end - first) (drop first (all ++ more)) ≡ take (end - first) (drop first all)
+same_span all more first end ordered within =
+    ap (take (end - first)) (drop-append-le first all more (omega (arith, ordered, within)))
+    ∙ take-append-le (end - first) (drop first all) more (omega (arith, ordered, within, length-drop first all))
+
+-- the items that were saved last
+pub last_saved : {X : Type 0} (all more : List X) (first end : ℕ) → first ≡ length all → end ≡ length (all ++ more) → more ≡ take (end - first) (drop first (all ++ more))
+last_saved all more first end from to =
+    let count : end - first ≡ length more = omega (arith, from, to, length-append all more) in
+    sym ((λ i. take (count i) (drop (from i) (all ++ more))) ∙ (ap (take (length more)) (drop-append_seam all more) ∙ take-length more))
+
+pub length_span : {X : Type 0} (all : List X) (first end : ℕ) → first ≤ end → end ≤ length all → length (take (end - first) (drop first all)) ≡ end - first
+length_span all first end ordered within = length-take-le (end - first) (drop first all) (omega (arith, ordered, within, length-drop first all))
+
 -- ---- partitions and channels
 
 -- the room makes no difference to the kind, and none to how many messages wait
@@ -73,13 +72,31 @@ count_is A all depth size most Unwritten among = refl
 count_is A all depth size most (Written index at) among = refl
 
 module _ {A : Type 0} (config : Configuration) where
-  pub same_table_kept : (h : History) (p : ℕ) (state copy : PartitionState A) → IsPartitionKept config h p state → IsSameTable state copy → IsPartitionKept config h p copy
-  same_table_kept h p state copy kept same = record {
-    mode = same.mode ∙ kept.mode;
-    ports = ap (λ (ports : List PortState). length ports) same.ports ∙ kept.ports;
-    created = λ id. ap (λ (ports : List PortState). created_in (state_at ports id)) same.ports ∙ kept.created id;
-    last = λ id. ap (λ (ports : List PortState). last_in (state_at ports id)) same.ports ∙ kept.last id;
-  }
+  module _ (tables : List PortState) where
+    pub table_saved : (h : History) (p : ℕ) (state : PartitionState A) (saved : SavedPartition) → IsPartitionKept config h p state → IsSavedTable tables state saved → IsPartitionSaved config h tables p saved
+    table_saved h p state saved kept same = record {
+      mode = same.mode ∙ kept.mode;
+      ports = ap (λ (ports : List PortState). length ports) same.ports ∙ kept.ports;
+      created = λ id. ap (λ (ports : List PortState). created_in (state_at ports id)) same.ports ∙ kept.created id;
+      last = λ id. ap (λ (ports : List PortState). last_in (state_at ports id)) same.ports ∙ kept.last id;
+      ordered = same.ordered;
+      within = same.within;
+    }
+
+    table_kept : (h : History) (p : ℕ) (saved : SavedPartition) (state : PartitionState A) → IsPartitionSaved config h tables p saved → IsSavedTable tables state saved → IsPartitionKept config h p state
+    table_kept h p saved state is same = record {
+      mode = sym same.mode ∙ is.mode;
+      ports = ap (λ (ports : List PortState). length ports) (sym same.ports) ∙ is.ports;
+      created = λ id. ap (λ (ports : List PortState). created_in (state_at ports id)) (sym same.ports) ∙ is.created id;
+      last = λ id. ap (λ (ports : List PortState). last_in (state_at ports id)) (sym same.ports) ∙ is.last id;
+    }
+
+    table_fits : (h now : History) (p : ℕ) (state : PartitionState A) (saved : SavedPartition) → IsPartitionKept config now p state → IsPartitionSaved config h tables p saved → HasAsManyPorts tables state saved
+    table_fits h now p state saved kept is = record {
+      count = kept.ports ∙ (sym is.ports ∙ length_span tables saved.first saved.end is.ordered is.within);
+      ordered = is.ordered;
+      within = is.within;
+    }
 
   module _ (all : List (List ℕ)) where
     pub saved_kept : (h : History) (c : ℕ) (state : ChannelState A) (saved : SavedChannel) → IsChannelKept config h c state → IsSavedFrom all state saved
@@ -113,9 +130,7 @@ module _ {A : Type 0} (config : Configuration) where
 
 module _ (all more : List (List ℕ)) where
   same_part : (first end : ℕ) → first ≤ end → end ≤ length all → messages_from (all ++ more) first end ≡ messages_from all first end
-  same_part first end ordered within =
-      ap (take (end - first)) (drop-append-le first all more (omega (arith, ordered, within)))
-      ∙ take-append-le (end - first) (drop first all) more (omega (arith, ordered, within, length-drop first all))
+  same_part first end ordered within = same_span all more first end ordered within
 
   still_among : (size : ℕ) (saved : SavedChannel) → IsAmong all size saved → IsAmong (all ++ more) size saved
   still_among size (Queuing queue) among =
@@ -146,11 +161,19 @@ module _ (all more : List (List ℕ)) where
   pub all_still_saved : {A : Type 0} (channels : List (ChannelState A)) (saved : List SavedChannel) → EachPair (IsSavedFrom all) channels saved → EachPair (IsSavedFrom (all ++ more)) channels saved
   all_still_saved channels saved each c one two at listed = still_saved one two (each c one two at listed)
 
--- the messages that were saved last
-pub last_saved : (all more : List (List ℕ)) (first end : ℕ) → first ≡ length all → end ≡ length (all ++ more) → more ≡ messages_from (all ++ more) first end
-last_saved all more first end from to =
-    let count : end - first ≡ length more = omega (arith, from, to, length-append all more) in
-    sym ((λ i. take (count i) (drop (from i) (all ++ more))) ∙ (ap (take (length more)) (drop-append_seam all more) ∙ take-length more))
+-- ---- more ports are saved
+
+module _ (all more : List PortState) where
+  table_still_saved : {A : Type 0} (one : PartitionState A) (saved : SavedPartition) → IsSavedTable all one saved → IsSavedTable (all ++ more) one saved
+  table_still_saved one saved is = record {
+    mode = is.mode;
+    ports = same_span all more saved.first saved.end is.ordered is.within ∙ is.ports;
+    ordered = is.ordered;
+    within = let within = is.within in omega (arith, within, length-append all more);
+  }
+
+  pub tables_still_saved : {A : Type 0} (partitions : List (PartitionState A)) (saved : List SavedPartition) → EachPair (IsSavedTable all) partitions saved → EachPair (IsSavedTable (all ++ more)) partitions saved
+  tables_still_saved partitions saved each p one two at listed = table_still_saved one two (each p one two at listed)
 
 -- a message of a part
 pub part_at : (all : List (List ℕ)) (first end k : ℕ) (m : List ℕ) → first ≤ k → k < end → slice_get all k ≡ Some m → slice_get (messages_from all first end) (k - first) ≡ Some m
@@ -170,30 +193,30 @@ one_more_at all first k m from at =
 -- ---- the whole
 
 module _ {A : Type 0} (config : Configuration) (h : History) where
-  pub are_saved : (partitions copies : List (PartitionState A)) (channels : List (ChannelState A)) (all : List (List ℕ)) (saved : List SavedChannel) → AreKept config h partitions channels
-      → length copies ≡ length partitions → EachPair IsSameTable partitions copies → length saved ≡ length channels → EachPair (IsSavedFrom all) channels saved
-      → AreSaved config h copies all saved
-  are_saved partitions copies channels all saved kept count same count_too from = record {
+  pub are_saved : (partitions : List (PartitionState A)) (copies : List SavedPartition) (tables : List PortState) (channels : List (ChannelState A)) (all : List (List ℕ)) (saved : List SavedChannel) → AreKept config h partitions channels
+      → length copies ≡ length partitions → EachPair (IsSavedTable tables) partitions copies → length saved ≡ length channels → EachPair (IsSavedFrom all) channels saved
+      → AreSaved A config h copies tables all saved
+  are_saved partitions copies tables channels all saved kept count same count_too from = record {
     all_partitions = count ∙ kept.all_partitions;
     all_channels = count_too ∙ kept.all_channels;
-    each_partition = each_along (IsPartitionKept config h) (IsPartitionKept config h) IsSameTable partitions copies count kept.each_partition same (same_table_kept config h);
+    each_partition = each_along (IsPartitionKept config h) (IsPartitionSaved config h tables) (IsSavedTable tables) partitions copies count kept.each_partition same (table_saved config tables h);
     each_channel = each_along (IsChannelKept config h) (λ (c : ℕ) (one : SavedChannel). IsChannelKept {A = A} config h c (restored all (depth_of config c) (channel_size config c) one)) (IsSavedFrom all) channels saved count_too kept.each_channel from (saved_kept config all h);
     each_among = each_along (IsChannelKept config h) (λ (c : ℕ) (one : SavedChannel). IsAmong all (channel_size config c) one) (IsSavedFrom all) channels saved count_too kept.each_channel from (saved_among config all h);
   }
 
-  module _ (now : History) (partitions copies : List (PartitionState A)) (channels : List (ChannelState A)) (all : List (List ℕ)) (saved : List SavedChannel) (kept : AreKept config now partitions channels) (are : AreSaved config h copies all saved) where
-    pub as_many_ports : EachPair HasAsManyPorts partitions copies
-    as_many_ports p state copy at listed = (kept.each_partition p state at).ports ∙ sym (are.each_partition p copy listed).ports
+  module _ (now : History) (partitions : List (PartitionState A)) (copies : List SavedPartition) (tables : List PortState) (channels : List (ChannelState A)) (all : List (List ℕ)) (saved : List SavedChannel) (kept : AreKept config now partitions channels) (are : AreSaved A config h copies tables all saved) where
+    pub as_many_ports : EachPair (HasAsManyPorts tables) partitions copies
+    as_many_ports p state copy at listed = table_fits config tables h now p state copy (kept.each_partition p state at) (are.each_partition p copy listed)
 
     pub have_room : IsSound config h → EachPair (HasRoomFor all) channels saved
     have_room sound c state one at listed = has_room config all h now c state one sound (kept.each_channel c state at) (are.each_channel c one listed) (are.each_among c one listed)
 
     pub are_restored : (new_partitions : List (PartitionState A)) (new_channels : List (ChannelState A)) → length new_partitions ≡ length partitions
-        → EachPair IsSameTable copies new_partitions → length new_channels ≡ length channels → AreRestored all channels saved new_channels → AreKept config h new_partitions new_channels
+        → EachPair (IsSavedTable tables) new_partitions copies → length new_channels ≡ length channels → AreRestored all channels saved new_channels → AreKept config h new_partitions new_channels
     are_restored new_partitions new_channels count same count_too restored_all = record {
       all_partitions = count ∙ kept.all_partitions;
       all_channels = count_too ∙ kept.all_channels;
-      each_partition = each_along (IsPartitionKept config h) (IsPartitionKept config h) IsSameTable copies new_partitions (count ∙ (kept.all_partitions ∙ sym are.all_partitions)) are.each_partition same (same_table_kept config h);
+      each_partition = each_along (IsPartitionSaved config h tables) (IsPartitionKept config h) (λ (one : SavedPartition) (state : PartitionState A). IsSavedTable tables state one) copies new_partitions (count ∙ (kept.all_partitions ∙ sym are.all_partitions)) are.each_partition (λ p one state at listed. same p state one listed at) (table_kept config tables h);
       each_channel = λ c state at.
           let within = slice_get_within new_channels c state at in
           let old_count = count_too in

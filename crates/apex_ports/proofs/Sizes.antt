@@ -1,22 +1,6 @@
 -- No message on a channel is longer than the channel's size.
-use Rattle.std.proofs.Common.{◌≡◌, ℕ, zero, suc, ◌-◌, ◌≤◌, Bool, true, false, if◌then◌else◌, List, [], ◌∷◌, length, take, Option, None, Some, refl, sym, ap, ◌∙◌, subst, arith}
-use Rattle.std.specs.List.{slice_get, filter_map, cons_option}
-use Rattle.circular_buffer.proofs.Places.{slice_get-drop}
-use Rattle.apex_types.specs.declared.call.Call.{Call}
-use Rattle.apex_types.specs.declared.call.Call.TheVariants.{SendQueuing, WriteSampling}
-use Rattle.apex_types.specs.declared.moment.Moment.{Moment}
-use Rattle.apex_types.specs.declared.reply.Reply.TheVariants.{Received}
-use Rattle.apex_types.specs.declared.sample.Sample.{Sample}
-use Rattle.apex_module.specs.Configuration.{Configuration, channel_of, port_of}
-use Rattle.apex_module.specs.declared.port.Port.{Port}
-use Rattle.apex_ports.specs.declared.history.Entry.{Entry}
-use Rattle.apex_ports.specs.Channels.{accepted_on, last_write_on, message_accepted, message_sent, message_written, sample_at, sample_written, taken_on, waiting_on, writes_on}
-use Rattle.apex_ports.specs.History.{History}
-use Rattle.apex_ports.specs.Modes.{is_code_no_error}
-use Rattle.apex_ports.specs.Lawful.{IsLawful}
-use Rattle.apex_ports.specs.Ports.{is_source_of}
-use Rattle.apex_ports.specs.ReplyTable.{oldest_reply, reply_to, size_in, size_of_port}
-use Rattle.apex_ports.specs.Seen.{seen, sample_of, waiting_of}
+use Rattle.apex_ports.proofs.Common.{◌≡◌, ℕ, zero, suc, ◌-◌, ◌≤◌, Bool, true, false, if◌then◌else◌, List, [], ◌∷◌, length, take, Option, None, Some, refl, sym, ap, ◌∙◌, subst, arith, slice_get, filter_map, cons_option, slice_get-drop, Call, SendQueuing, WriteSampling, Moment, Received, Sample, Configuration, channel_of, port_of, Port, Entry, accepted_on, last_write_on, message_accepted, message_sent}
+use Rattle.apex_ports.proofs.Common.{message_written, sample_at, sample_written, taken_on, waiting_on, writes_on, History, is_code_no_error, IsLawful, is_source_of, oldest_reply, reply_to, size_in, size_of_port, seen, sample_of, waiting_of}
 use Rattle.apex_ports.proofs.Conserved.{channel_of_source}
 use Rattle.apex_ports.proofs.RowCalls.{sent_by_code, written_by_code}
 use Rattle.apex_ports.proofs.RowFacts.{sent_at, written_at}

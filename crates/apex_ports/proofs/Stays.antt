@@ -1,31 +1,8 @@
 -- A state still follows from the history if an entry leaves its parts alone, or if the part that the entry changes is set.
-use Rattle.std.proofs.Common.{◌≡◌, ◌≢◌, ◌⊎◌, inl, inr, ⊎_elim, ℕ, zero, suc, ◌+◌, ◌-◌, Bool, true, false, ◌&&◌, ◌||◌, ◌==◌, not, if◌then◌else◌, List, [], ◌∷◌, ◌++◌, length, drop, map, filter, set, Option, Some, None, refl, sym, ap, ◌∙◌, subst, arith, length-append, length-set, append-nil}
-use Rattle.std.specs.Option.{unwrap_or, option_to_list}
-use Rattle.std.specs.List.{slice_get}
-use Rattle.circular_buffer.proofs.Places.{slice_get-last, slice_get-push}
-use Rattle.std.proofs.lemmas.Bool.Decides.{nat_tests}
-use Rattle.apex_types.specs.declared.validity.Validity.TheVariants.{Invalid}
-use Rattle.apex_module.specs.Configuration.{Configuration}
-use Rattle.apex_types.specs.declared.call.Call.{Call}
-use Rattle.apex_types.specs.declared.moment.Moment.{Moment}
-use Rattle.apex_types.specs.declared.reply.Reply.{Reply}
-use Rattle.apex_types.specs.declared.reply.Reply.TheVariants.{Code, NotMade}
+use Rattle.apex_ports.proofs.Common.{◌≡◌, ◌≢◌, ◌⊎◌, inl, inr, ⊎_elim, ℕ, zero, suc, ◌+◌, ◌-◌, Bool, true, false, ◌&&◌, ◌||◌, ◌==◌, not, if◌then◌else◌, List, [], ◌∷◌, ◌++◌, length, drop, map, filter, set, Option, Some, None, refl, sym, ap, ◌∙◌, subst, arith, length-append, length-set, append-nil, unwrap_or, option_to_list, slice_get, slice_get-last, slice_get-push, nat_tests, Invalid, Configuration, Call, Moment}
+use Rattle.apex_ports.proofs.Common.{Reply, Code, NotMade, InvalidParam, Port, Entry, Sample, Taken, PartitionState, ChannelState, History, entry_of, mode_of, mode_set, mode_asked, is_restart, is_code_no_error, is_no_error, is_created, creates, is_create, is_id, accepted_on, received_on, taken_on, cleared_on, waiting_on, writes_on, last_write_on, message_accepted, message_sent, message_received, message_in}
+use Rattle.apex_ports.proofs.Common.{is_receive, clears, is_clear, taken_by, as_received, as_cleared, sample_written, sample_at, message_written, last_validity_of, validity_read, validity_in, is_read, queuing_status_reply, sampling_status_reply, Seen, count_of, EachAt, IsPartitionKept, IsChannelKept, AreKept}
 use Rattle.apex_types.specs.declared.return_code.ReturnCode.{ReturnCode}
-use Rattle.apex_types.specs.declared.return_code.ReturnCode.TheVariants.{InvalidParam}
-use Rattle.apex_module.specs.declared.port.Port.{Port}
-use Rattle.apex_ports.specs.declared.history.Entry.{Entry}
-use Rattle.apex_types.specs.declared.sample.Sample.{Sample}
-use Rattle.apex_types.specs.declared.taken.Taken.{Taken}
-use Rattle.apex_ports.specs.declared.partition.PartitionState.{PartitionState}
-use Rattle.apex_ports.specs.declared.channel.ChannelState.{ChannelState}
-use Rattle.apex_ports.specs.History.{History, entry_of}
-use Rattle.apex_ports.specs.Modes.{mode_of, mode_set, mode_asked, is_restart, is_code_no_error, is_no_error}
-use Rattle.apex_ports.specs.Ports.{is_created, creates, is_create, is_id}
-use Rattle.apex_ports.specs.Channels.{accepted_on, received_on, taken_on, cleared_on, waiting_on, writes_on, last_write_on, message_accepted, message_sent, message_received, message_in, is_receive, clears, is_clear, taken_by, as_received, as_cleared, sample_written, sample_at, message_written, last_validity_of, validity_read, validity_in, is_read}
-use Rattle.apex_ports.specs.ReplyTable.{queuing_status_reply, sampling_status_reply}
-use Rattle.apex_ports.specs.Seen.{Seen}
-use Rattle.apex_ports.specs.Counts.{count_of}
-use Rattle.apex_ports.specs.Kept.{EachAt, IsPartitionKept, IsChannelKept, AreKept}
 use Rattle.apex_ports.proofs.Appends.{mode_of-append, is_created-append, last_validity_of-append, accepted_on-append, received_on-append, taken_on-append, writes_on-append}
 
 -- ---- entries that leave a part alone

@@ -1,7 +1,5 @@
 -- Stored messages stay the same while bytes are appended.
-use Rattle.std.proofs.Common.{◌≡◌, ℕ, suc, ◌-◌, List, [], ◌∷◌, ◌++◌, length, map, take, drop, refl, sym, ap, ◌∙◌, arith, length-append, append-nil}
-use Rattle.std.proofs.lemmas.List.{map-append, take-append-le, drop-append-le, length-drop}
-use Rattle.std.proofs.Math.Seq.{take-append_seam, drop-append_seam}
+use Rattle.apex_ports.proofs.Common.{◌≡◌, ℕ, suc, ◌-◌, List, [], ◌∷◌, ◌++◌, length, map, take, drop, refl, sym, ap, ◌∙◌, arith, length-append, append-nil, map-append, take-append-le, drop-append-le, length-drop, take-append_seam, drop-append_seam}
 use Rattle.apex_ports.specs.declared.stored_messages.Part.{Part}
 use Rattle.apex_ports.specs.Stored.{message_of, IsPart, AreParts}
 

@@ -1,17 +1,6 @@
 -- How the taken messages relate to the received ones, entry by entry.
-use Rattle.std.proofs.Common.{◌≡◌, ℕ, Bool, true, false, ◌&&◌, ◌||◌, not, if◌then◌else◌, List, [], ◌∷◌, ◌++◌, length, drop, map, filter, Option, Some, None, refl, sym, ap, ◌∙◌, append_assoc, append-nil}
-use Rattle.std.specs.Option.{option_to_list}
-use Rattle.std.specs.List.{list_any}
-use Rattle.std.proofs.lemmas.List.{length-map, map-append}
-use Rattle.std.proofs.lemmas.List.Elements.{filter-append, filter_map-append}
-use Rattle.apex_types.specs.declared.call.Call.{Call}
-use Rattle.apex_types.specs.declared.call.Call.TheVariants.{ClearQueuing}
-use Rattle.apex_types.specs.declared.taken.Taken.{Taken}
-use Rattle.apex_module.specs.Configuration.{Configuration}
-use Rattle.apex_ports.specs.declared.history.Entry.{Entry}
-use Rattle.apex_ports.specs.History.{History}
-use Rattle.apex_ports.specs.Modes.{is_code_no_error}
-use Rattle.apex_ports.specs.Channels.{accepted_on, received_on, taken_on, taken_after, taken_by, message_received, clears, is_clear, as_received, as_cleared}
+use Rattle.apex_ports.proofs.Common.{◌≡◌, ℕ, Bool, true, false, ◌&&◌, ◌||◌, not, if◌then◌else◌, List, [], ◌∷◌, ◌++◌, length, drop, map, filter, Option, Some, None, refl, sym, ap, ◌∙◌, append_assoc, append-nil, option_to_list, list_any, length-map, map-append, filter-append, filter_map-append, Call, ClearQueuing, Taken, Configuration, Entry, History, is_code_no_error, accepted_on, received_on, taken_on, taken_after}
+use Rattle.apex_ports.proofs.Common.{taken_by, message_received, clears, is_clear, as_received, as_cleared}
 use Rattle.apex_ports.specs.WithoutClears.{AlwaysReceivedOrCleared, WithoutClears, HasNoClear, asks_clear}
 use Rattle.apex_ports.proofs.Appends.{one_more}
 use Rattle.apex_ports.proofs.Stays.{receives_no_clear, and_false}

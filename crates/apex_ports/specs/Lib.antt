@@ -1,3 +1,4 @@
+pub mod Answered
 pub mod Channels
 pub mod ChannelStates
 pub mod Counts

@@ -13,6 +13,14 @@ use Rattle.apex_ports.specs.declared.history.Entry.{Entry}
 use Rattle.apex_ports.specs.History.{History}
 use Rattle.apex_ports.specs.Modes.{restarts}
 
+abbrev pub is_create_sampling : Call → Bool
+is_create_sampling (CreateSampling name size direction refresh) = true
+is_create_sampling _ = false
+
+abbrev pub is_create_queuing : Call → Bool
+is_create_queuing (CreateQueuing name size depth direction discipline) = true
+is_create_queuing _ = false
+
 abbrev pub is_create : Call → Bool
 is_create (CreateSampling name size direction refresh) = true
 is_create (CreateQueuing name size depth direction discipline) = true

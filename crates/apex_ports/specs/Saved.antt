@@ -1,16 +1,22 @@
 -- Saved ports follow from the history as the state does, without its unused room.
 use Rattle.std.specs.Prelude.{ℕ, Bool, true, false, ◌≡◌, ◌-◌, ◌<◌, ◌≤◌, List, [], length, take, drop, slice_get, unwrap_or, Option, None, Some}
 use Rattle.apex_types.specs.declared.sample.Sample.{Sample}
-use Rattle.apex_module.specs.Configuration.{Configuration}
+use Rattle.std.specs.declared.vec.Vec.{Vec}
+use Rattle.apex_module.specs.Configuration.{Configuration, ports_of}
 use Rattle.apex_ports.specs.declared.partition.PartitionState.{PartitionState}
+use Rattle.apex_ports.specs.declared.partition.PortState.{PortState}
+use Rattle.apex_ports.specs.declared.partition.SavedPartition.{SavedPartition}
 use Rattle.apex_ports.specs.declared.channel.ChannelState.{ChannelState}
 use Rattle.apex_ports.specs.declared.channel.ChannelState.TheVariants as state
 use Rattle.apex_ports.specs.declared.saved_channel.SavedChannel.{SavedChannel}
 use Rattle.apex_ports.specs.declared.saved_channel.SavedChannel.TheVariants as saved
 use Rattle.apex_ports.specs.ChannelStates.{has_queue, ring_depth, message_size}
+use Rattle.apex_ports.specs.Channels.{last_validity_of}
 use Rattle.apex_ports.specs.History.{History}
-use Rattle.apex_ports.specs.Kept.{EachAt, IsPartitionKept, IsChannelKept, AreCounted}
+use Rattle.apex_ports.specs.Kept.{EachAt, IsChannelKept, AreCounted, state_at, created_in, last_in}
 use Rattle.apex_ports.specs.MessageRing.{messages, AreShort}
+use Rattle.apex_ports.specs.Modes.{mode_of}
+use Rattle.apex_ports.specs.Ports.{is_created}
 use Rattle.apex_ports.specs.ReplyTable.{channel_size, depth_of}
 use Rattle.apex_ports.specs.Slots.{slot}
 use Rattle.apex_ports.specs.Sound.{IsSound}
@@ -21,14 +27,31 @@ EachPair {X} {Y} P xs ys = (k : ℕ) (x : X) (y : Y) → slice_get xs k ≡ Some
 
 -- ---- partitions
 
--- both have the same mode and the same ports
-pub record IsSameTable {A : Type 0} (state copy : PartitionState A) : Type 0 where
-  pub mode : copy.mode ≡ state.mode
-  pub ports : copy.ports.items ≡ state.ports.items
+-- the saved ports from one index up to another
+abbrev pub ports_from : List PortState → ℕ → ℕ → List PortState
+ports_from all first end = take (end - first) (drop first all)
 
--- both have as many ports
-abbrev pub HasAsManyPorts : {A : Type 0} → PartitionState A → PartitionState A → Type 0
-HasAsManyPorts state copy = length state.ports.items ≡ length copy.ports.items
+-- it has the mode, and its ports are among the saved ones
+pub record IsSavedTable {A : Type 0} (all : List PortState) (state : PartitionState A) (partition : SavedPartition) : Type 0 where
+  pub mode : partition.mode ≡ state.mode
+  pub ports : ports_from all partition.first partition.end ≡ state.ports.items
+  pub ordered : partition.first ≤ partition.end
+  pub within : partition.end ≤ length all
+
+-- the partition has as many ports as the saved one
+pub record HasAsManyPorts {A : Type 0} (all : List PortState) (state : PartitionState A) (partition : SavedPartition) : Type 0 where
+  pub count : length state.ports.items ≡ partition.end - partition.first
+  pub ordered : partition.first ≤ partition.end
+  pub within : partition.end ≤ length all
+
+-- it follows from the history as the state of the partition does
+pub record IsPartitionSaved (config : Configuration) (history : History) (all : List PortState) (p : ℕ) (partition : SavedPartition) : Type 0 where
+  pub mode : partition.mode ≡ mode_of p history
+  pub ports : length (ports_from all partition.first partition.end) ≡ length (ports_of config p)
+  pub created : (id : ℕ) → created_in (state_at (ports_from all partition.first partition.end) id) ≡ is_created p id history
+  pub last : (id : ℕ) → last_in (state_at (ports_from all partition.first partition.end) id) ≡ last_validity_of p id history
+  pub ordered : partition.first ≤ partition.end
+  pub within : partition.end ≤ length all
 
 -- ---- channels
 
@@ -86,15 +109,15 @@ AreRestored {A} all old saved new =
 
 -- ---- the whole
 
-pub record AreSaved {A : Type 0} (config : Configuration) (history : History) (partitions : List (PartitionState A)) (all : List (List ℕ)) (channels : List SavedChannel) : Type 0 where
+pub record AreSaved (A : Type 0) (config : Configuration) (history : History) (partitions : List SavedPartition) (tables : List PortState) (all : List (List ℕ)) (channels : List SavedChannel) : Type 0 where
   pub all_partitions : length partitions ≡ length config.partitions
   pub all_channels : length channels ≡ length config.channels
-  pub each_partition : EachAt (IsPartitionKept config history) partitions
+  pub each_partition : EachAt (IsPartitionSaved config history tables) partitions
   pub each_channel : EachAt (λ c one. IsChannelKept {A = A} config history c (restored all (depth_of config c) (channel_size config c) one)) channels
   pub each_among : EachAt (λ c one. IsAmong all (channel_size config c) one) channels
 
 -- what holds for the saved ports of a module
-pub record IsSavedKept {A : Type 0} (config : Configuration) (history : History) (partitions : List (PartitionState A)) (all : List (List ℕ)) (channels : List SavedChannel) (calls : List ℕ) : Type 0 where
+pub record IsSavedKept {A : Type 0} (config : Configuration) (history : History) (partitions : List SavedPartition) (tables : Vec PortState A) (all : List (List ℕ)) (channels : List SavedChannel) (calls : List ℕ) : Type 0 where
   pub sound : IsSound config history
-  pub saved : AreSaved config history partitions all channels
+  pub saved : AreSaved A config history partitions tables.items all channels
   pub counted : AreCounted config history calls

@@ -1,20 +1,23 @@
 -- The answers of the services, and the replies that they stand for.
-use Rattle.std.specs.Prelude.{ℕ, List, length, take, Option, Some, None, Result, Ok, Err}
+use Rattle.std.specs.Prelude.{ℕ, Bool, true, false, List, length, take, Option, Some, None, Result, Ok, Err}
 use Rattle.apex_types.specs.declared.call.Call.{Call}
-use Rattle.apex_types.specs.declared.call.Call.TheVariants.{SendQueuing, WriteSampling}
+use Rattle.apex_types.specs.declared.call.Call.TheVariants.{SendQueuing, ReceiveQueuing, WriteSampling, ReadSampling}
 use Rattle.apex_types.specs.declared.reply.Reply.{Reply}
-use Rattle.apex_types.specs.declared.reply.Reply.TheVariants as reply
-use Rattle.apex_types.specs.declared.reply.Reply.TheVariants.{NotMade, Code, Id, Received, Read}
+use Rattle.apex_types.specs.declared.reply.Reply.TheVariants.{NotMade, Code, Received, Read}
 use Rattle.apex_types.specs.declared.return_code.ReturnCode.{ReturnCode}
 use Rattle.apex_types.specs.declared.validity.Validity.{Validity}
-use Rattle.apex_ports.specs.declared.statuses.QueuingStatus.{QueuingStatus}
-use Rattle.apex_ports.specs.declared.statuses.SamplingStatus.{SamplingStatus}
 
 -- the length of the message that a call sends or writes, in bytes
 abbrev pub length_sent : Call → ℕ
 length_sent (SendQueuing id message) = length message
 length_sent (WriteSampling id message) = length message
 length_sent call = 0
+
+-- whether no reply to the call has a message
+abbrev pub is_plain : Call → Bool
+is_plain (ReceiveQueuing id) = false
+is_plain (ReadSampling id) = false
+is_plain call = true
 
 -- the length of the reply's message, in bytes
 abbrev pub message_length : Reply → ℕ
@@ -26,27 +29,6 @@ message_length reply = 0
 abbrev pub reply_coded : Option ReturnCode → Reply
 reply_coded None = NotMade
 reply_coded (Some code) = Code code
-
--- the reply with an identifier
-abbrev pub reply_id : Result ℕ (Option ReturnCode) → Reply
-reply_id (Ok id) = Id id
-reply_id (Err code) = reply_coded code
-
-abbrev pub with_queuing_status : QueuingStatus → Reply
-with_queuing_status status = reply.QueuingStatus status.waiting status.depth status.size status.direction
-
--- the reply with a queuing port's status
-abbrev pub reply_queuing_status : Result QueuingStatus (Option ReturnCode) → Reply
-reply_queuing_status (Ok status) = with_queuing_status status
-reply_queuing_status (Err code) = reply_coded code
-
-abbrev pub with_sampling_status : SamplingStatus → Reply
-with_sampling_status status = reply.SamplingStatus status.refresh status.size status.direction status.last
-
--- the reply with a sampling port's status
-abbrev pub reply_sampling_status : Result SamplingStatus (Option ReturnCode) → Reply
-reply_sampling_status (Ok status) = with_sampling_status status
-reply_sampling_status (Err code) = reply_coded code
 
 -- the reply with a message of this length, from the first bytes of the buffer
 abbrev pub reply_received : Result ℕ (Option ReturnCode) → List ℕ → Reply

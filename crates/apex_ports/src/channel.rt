@@ -113,6 +113,7 @@ impl<A: Allocator> ChannelState<A> {
     }
 
     /// Appends a message. There is room for it.
+    #[inline(always)]
     pub(crate) fn send(&mut self, message: &[u8])
         requires room { length (waiting_in self.old) < ring_depth self.old }
         requires short { length message.now ≤ message_size self.old }
@@ -177,6 +178,7 @@ impl<A: Allocator> ChannelState<A> {
     }
 
     /// Replaces the sample. The channel has no queue.
+    #[inline(always)]
     pub(crate) fn write(&mut self, message: &[u8], at: Moment)
         requires kind { has_queue self.old ≡ false }
         requires short { length message.now ≤ message_size self.old }

@@ -46,6 +46,7 @@ impl<A: Allocator> State<A> {
     }
 
     /// Appends the message of a send.
+    #[inline(always)]
     pub(crate) fn send(
         &mut self,
         config: &Config,
@@ -104,6 +105,7 @@ impl<A: Allocator> State<A> {
     }
 
     /// Replaces the sample with the message of a write.
+    #[inline(always)]
     pub(crate) fn write(
         &mut self,
         config: &Config,

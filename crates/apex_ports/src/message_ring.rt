@@ -88,6 +88,7 @@ impl<A: Allocator> MessageRing<A> {
     }
 
     /// Appends a message. There is room for it.
+    #[inline(always)]
     pub(crate) fn push_back(&mut self, message: &[u8])
         requires room { length self.old.items < self.old.capacity }
         requires short { length message.now ≤ self.old.size }

@@ -2,9 +2,8 @@
 ghost use Rattle.std.specs.Prelude.{◌≡◌, ◌≤◌, length};
 ghost use Rattle.apex_types.specs.Sample.{validity_at};
 ghost use Rattle.apex_ports.specs.Noted.{call_by, reply_by, sample_by};
-ghost use Rattle.apex_ports.specs.Services.{length_read, length_received, length_sent, message_length, reply_coded, reply_id, reply_queuing_status, reply_read, reply_received, reply_sampling_status};
+ghost use Rattle.apex_ports.specs.Services.{length_read, length_received, length_sent, message_length, reply_coded, reply_read, reply_received};
 
-use crate::statuses::{QueuingStatus, SamplingStatus};
 use apex_types::{
     Call, Direction, MESSAGE_LIMIT, Moment, Name, Reply, ReturnCode, Sample, Validity,
 };
@@ -144,13 +143,6 @@ impl<'a> CallRef<'a> {
                 direction: *direction,
                 refresh: *refresh,
             },
-            Call::WriteSampling { id, message } => CallRef::WriteSampling {
-                id: *id,
-                message: message.bytes(),
-            },
-            Call::ReadSampling { id } => CallRef::ReadSampling { id: *id },
-            Call::SamplingId { name } => CallRef::SamplingId { name },
-            Call::SamplingStatus { id } => CallRef::SamplingStatus { id: *id },
             Call::CreateQueuing {
                 name,
                 size,
@@ -164,13 +156,20 @@ impl<'a> CallRef<'a> {
                 direction: *direction,
                 discipline: *discipline,
             },
+            Call::SamplingId { name } => CallRef::SamplingId { name },
+            Call::QueuingId { name } => CallRef::QueuingId { name },
+            Call::SamplingStatus { id } => CallRef::SamplingStatus { id: *id },
+            Call::QueuingStatus { id } => CallRef::QueuingStatus { id: *id },
+            Call::WriteSampling { id, message } => CallRef::WriteSampling {
+                id: *id,
+                message: message.bytes(),
+            },
             Call::SendQueuing { id, message } => CallRef::SendQueuing {
                 id: *id,
                 message: message.bytes(),
             },
+            Call::ReadSampling { id } => CallRef::ReadSampling { id: *id },
             Call::ReceiveQueuing { id } => CallRef::ReceiveQueuing { id: *id },
-            Call::QueuingId { name } => CallRef::QueuingId { name },
-            Call::QueuingStatus { id } => CallRef::QueuingStatus { id: *id },
             Call::ClearQueuing { id } => CallRef::ClearQueuing { id: *id },
             Call::SetMode { mode } => CallRef::SetMode { mode: *mode },
         }
@@ -187,52 +186,6 @@ impl<'a> ReplyRef<'a> {
         match code {
             None => ReplyRef::NotMade,
             Some(code) => ReplyRef::Code(code),
-        }
-    }
-
-    /// The reply with an identifier, or with a return code.
-    #[inline(always)]
-    pub fn identified(answer: Result<u32, Option<ReturnCode>>) -> ReplyRef<'a>
-        ensures reply { reply_by result ≡ reply_id answer }
-        ensures short { message_length (reply_by result) ≤ MESSAGE_LIMIT }
-    {
-        match answer {
-            Ok(id) => ReplyRef::Id(id),
-            Err(code) => ReplyRef::coded(code),
-        }
-    }
-
-    /// The reply with a queuing port's status, or with a return code.
-    #[inline(always)]
-    pub fn queuing_status(answer: Result<QueuingStatus, Option<ReturnCode>>) -> ReplyRef<'a>
-        ensures reply { reply_by result ≡ reply_queuing_status answer }
-        ensures short { message_length (reply_by result) ≤ MESSAGE_LIMIT }
-    {
-        match answer {
-            Ok(status) => ReplyRef::QueuingStatus {
-                waiting: status.waiting,
-                depth: status.depth,
-                size: status.size,
-                direction: status.direction,
-            },
-            Err(code) => ReplyRef::coded(code),
-        }
-    }
-
-    /// The reply with a sampling port's status, or with a return code.
-    #[inline(always)]
-    pub fn sampling_status(answer: Result<SamplingStatus, Option<ReturnCode>>) -> ReplyRef<'a>
-        ensures reply { reply_by result ≡ reply_sampling_status answer }
-        ensures short { message_length (reply_by result) ≤ MESSAGE_LIMIT }
-    {
-        match answer {
-            Ok(status) => ReplyRef::SamplingStatus {
-                refresh: status.refresh,
-                size: status.size,
-                direction: status.direction,
-                last: status.last,
-            },
-            Err(code) => ReplyRef::coded(code),
         }
     }
 

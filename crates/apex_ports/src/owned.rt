@@ -25,13 +25,6 @@ impl CallRef<'_> {
                 direction,
                 refresh,
             },
-            CallRef::WriteSampling { id, message } => Call::WriteSampling {
-                id,
-                message: Message::from_bytes(message).unwrap(),
-            },
-            CallRef::ReadSampling { id } => Call::ReadSampling { id },
-            CallRef::SamplingId { name } => Call::SamplingId { name: name.copy() },
-            CallRef::SamplingStatus { id } => Call::SamplingStatus { id },
             CallRef::CreateQueuing {
                 name,
                 size,
@@ -45,13 +38,20 @@ impl CallRef<'_> {
                 direction,
                 discipline,
             },
+            CallRef::SamplingId { name } => Call::SamplingId { name: name.copy() },
+            CallRef::QueuingId { name } => Call::QueuingId { name: name.copy() },
+            CallRef::SamplingStatus { id } => Call::SamplingStatus { id },
+            CallRef::QueuingStatus { id } => Call::QueuingStatus { id },
+            CallRef::WriteSampling { id, message } => Call::WriteSampling {
+                id,
+                message: Message::from_bytes(message).unwrap(),
+            },
             CallRef::SendQueuing { id, message } => Call::SendQueuing {
                 id,
                 message: Message::from_bytes(message).unwrap(),
             },
+            CallRef::ReadSampling { id } => Call::ReadSampling { id },
             CallRef::ReceiveQueuing { id } => Call::ReceiveQueuing { id },
-            CallRef::QueuingId { name } => Call::QueuingId { name: name.copy() },
-            CallRef::QueuingStatus { id } => Call::QueuingStatus { id },
             CallRef::ClearQueuing { id } => Call::ClearQueuing { id },
             CallRef::SetMode { mode } => Call::SetMode { mode },
         }

@@ -21,29 +21,43 @@ pub(crate) struct PartitionState<A: Allocator> {
     pub(crate) ports: Vec<PortState, A>,
 }
 
-impl<A: Allocator> PartitionState<A> {
-    ghost use Rattle.apex_ports.specs.Saved.{IsSameTable, HasAsManyPorts};
+/// The saved state of a partition: its mode, and its ports as the saved ones from one index up to another.
+#[derive(Clone, Copy)]
+pub(crate) struct SavedPartition {
+    pub(crate) mode: Mode,
+    pub(crate) first: usize,
+    pub(crate) end: usize,
+}
 
-    /// A copy of the state.
-    pub(crate) fn copy(&self, alloc: A) -> Result<PartitionState<A>, AllocError>
-        ensures { IfOk result (λ copy. IsSameTable self.now copy) }
+impl<A: Allocator> PartitionState<A> {
+    ghost use Rattle.std.specs.Prelude.{List, ◌++◌};
+    ghost use Rattle.apex_ports.specs.Saved.{IsSavedTable, HasAsManyPorts};
+    ghost use Rattle.apex_ports.specs.declared.partition.PortState.{PortState};
+
+    /// Saves the state. Its ports are added to the saved ones.
+    pub(crate) fn save(&self, stored: &mut Vec<PortState, A>) -> Result<SavedPartition, AllocError>
+        ensures saved { IfOk result (λ saved. IsSavedTable stored.new.items self.now saved) }
+        ensures more { IfOk result
+            (λ _. (more : List PortState) × (stored.new.items ≡ stored.old.items ++ more)) }
     {
-        let ports = Vec::from_slice(alloc, self.ports.as_slice())?;
-        Ok(PartitionState {
+        let first = stored.len();
+        stored.extend_from_slice(self.ports.as_slice())?;
+        Ok(SavedPartition {
             mode: self.mode,
-            ports,
+            first,
+            end: stored.len(),
         })
     }
 
-    /// Makes the state equal to another with as many ports.
-    pub(crate) fn restore(&mut self, saved: &PartitionState<A>)
-        requires { HasAsManyPorts self.old saved.now }
-        ensures { IsSameTable saved.now self.new }
+    /// Restores the state to what was saved of one with as many ports.
+    pub(crate) fn restore(&mut self, saved: &SavedPartition, stored: &[PortState])
+        requires { HasAsManyPorts stored.now self.old saved.now }
+        ensures { IsSavedTable stored.now self.new saved.now }
     {
         self.mode = saved.mode;
         self.ports
             .as_mut_slice()
-            .copy_from_slice(saved.ports.as_slice());
+            .copy_from_slice(&stored[saved.first..saved.end]);
     }
 
     /// The state of the port with an identifier, which is its index, counted from 1.

@@ -1,5 +1,5 @@
 //! The ports of a module.
-ghost use Rattle.std.specs.Prelude.{◌≡◌, ◌<◌, ◌≤◌, ◌∷◌, ◌++◌, [], length, IfOk};
+ghost use Rattle.std.specs.Prelude.{◌≡◌, ◌<◌, ◌≤◌, ◌∷◌, ◌++◌, [], length, true, IfOk};
 
 use crate::initial_state::new_counts;
 use crate::noted::{CallRef, ReplyRef};
@@ -9,7 +9,6 @@ use apex_types::{Call, MESSAGE_LIMIT, Moment, OutOfMemory, Reply};
 use std::alloc::{Allocator, Global};
 use std::marker::Model;
 
-mod naming;
 mod readers;
 pub mod saved;
 mod services;
@@ -62,7 +61,7 @@ impl<A: Allocator> Ports<A> {
     ghost use Rattle.apex_ports.specs.History.{entry_of};
     ghost use Rattle.apex_ports.specs.Noted.{call_by, reply_by};
     ghost use Rattle.apex_ports.specs.ReplyTable.{reply_to};
-    ghost use Rattle.apex_ports.specs.Services.{message_length};
+    ghost use Rattle.apex_ports.specs.Services.{is_plain, message_length};
     ghost use Rattle.apex_ports.specs.Sound.{IsSound};
 
     /// Makes one call of the partition at the moment. It always answers, and doesn't allocate.
@@ -100,6 +99,29 @@ impl<A: Allocator> Ports<A> {
         ensures sound { IsSound self.new.config self.new.history }
     {
         let reply = self.state.answer(&self.config, partition, at, call, buffer);
+        self.state
+            .note(&self.config, &mut self.calls, partition, at, call, reply);
+        reply
+    }
+
+    /// Makes a call whose reply has no message, as `answer` does. It needs no buffer.
+    #[inline(always)]
+    pub fn answer_plain(
+        &mut self,
+        partition: usize,
+        at: Moment,
+        call: CallRef<'_>,
+    ) -> ReplyRef<'static>
+        requires partition { partition < length self.old.config.partitions }
+        requires plain { is_plain (call_by call) ≡ true }
+        ensures reply { reply_by result
+            ≡ reply_to self.old.config self.old.history partition at (call_by call.entry) }
+        ensures entry { self.new.history ≡ self.old.history
+            ++ entry_of partition at (call_by call.entry) (reply_by result) ∷ [] }
+        ensures config { self.new.config ≡ self.old.config }
+        ensures sound { IsSound self.new.config self.new.history }
+    {
+        let reply = self.state.answer_plain(&self.config, partition, at, call);
         self.state
             .note(&self.config, &mut self.calls, partition, at, call, reply);
         reply

@@ -55,6 +55,7 @@ impl<A: Allocator> SampleSlot<A> {
     }
 
     /// Replaces the sample.
+    #[inline(always)]
     pub(crate) fn put(&mut self, message: &[u8], at: Moment)
         requires { length message.now ≤ self.old.size }
         ensures { self.new

@@ -1,52 +1,21 @@
-//! The services with the message in the caller's buffer: the row of a call, and what it does.
+//! The services that put a message into the caller's buffer.
 ghost use Rattle.std.specs.Prelude.{◌≡◌, ◌<◌, ◌≤◌, length, take, drop};
 ghost use Rattle.apex_types.specs.declared.call.Call.TheVariants as call;
 ghost use Rattle.apex_ports.specs.History.{entry_of};
 ghost use Rattle.apex_ports.specs.Kept.{IsCurrent, IsKeptWith};
 ghost use Rattle.apex_ports.specs.ReplyTable.{reply_to, size_at};
-ghost use Rattle.apex_ports.specs.Services.{length_read, length_received, reply_coded, reply_read, reply_received};
+ghost use Rattle.apex_ports.specs.Services.{length_read, length_received, reply_read, reply_received};
 
 use crate::modes::is_idle;
 use crate::state::State;
-use crate::table::modes::set_mode_row;
-use crate::table::queuing::{clear_row, received_message, send_row};
-use crate::table::sampling::{read_sample, write_row};
+use crate::table::queuing::received_message;
+use crate::table::sampling::read_sample;
 use crate::view::View;
 use apex_module::Config;
 use apex_types::{MESSAGE_LIMIT, Moment, ReturnCode, Validity};
 use std::alloc::Allocator;
 
 impl<A: Allocator> State<A> {
-    /// SEND_QUEUING_MESSAGE. `None` if the partition is in IDLE.
-    pub(crate) fn answer_send(
-        &mut self,
-        config: &Config,
-        partition: usize,
-        at: Moment,
-        id: u32,
-        message: &[u8],
-    ) -> Option<ReturnCode>
-        requires partition { partition < length config.now.partitions }
-        requires current { IsCurrent config.now self.old }
-        ensures reply { let asked = call.SendQueuing id message.now in
-            reply_coded result ≡ reply_to config.now self.old.history partition at asked }
-        ensures kept { let asked = call.SendQueuing id message.now in
-            let entry = entry_of partition at asked (reply_coded result) in
-            IsKeptWith config.now self.old entry self.new }
-        ensures history { self.new.history ≡ self.old.history }
-    {
-        if is_idle(self.mode(config, partition)) {
-            return None;
-        }
-        match send_row(self, config, partition, id, message) {
-            Ok(_) => {
-                self.send(config, partition, at, id, message);
-                Some(ReturnCode::NoError)
-            }
-            Err(refusal) => Some(refusal.code()),
-        }
-    }
-
     /// RECEIVE_QUEUING_MESSAGE, with the message in the first bytes of the buffer: its length, or the return code.
     pub(crate) fn answer_receive(
         &mut self,
@@ -80,36 +49,6 @@ impl<A: Allocator> State<A> {
                 Ok(length)
             }
             Err(refusal) => Err(Some(refusal.code())),
-        }
-    }
-
-    /// WRITE_SAMPLING_MESSAGE. `None` if the partition is in IDLE.
-    pub(crate) fn answer_write(
-        &mut self,
-        config: &Config,
-        partition: usize,
-        at: Moment,
-        id: u32,
-        message: &[u8],
-    ) -> Option<ReturnCode>
-        requires partition { partition < length config.now.partitions }
-        requires current { IsCurrent config.now self.old }
-        ensures reply { let asked = call.WriteSampling id message.now in
-            reply_coded result ≡ reply_to config.now self.old.history partition at asked }
-        ensures kept { let asked = call.WriteSampling id message.now in
-            let entry = entry_of partition at asked (reply_coded result) in
-            IsKeptWith config.now self.old entry self.new }
-        ensures history { self.new.history ≡ self.old.history }
-    {
-        if is_idle(self.mode(config, partition)) {
-            return None;
-        }
-        match write_row(self, config, partition, id, message) {
-            Ok(_) => {
-                self.write(config, partition, at, id, message);
-                Some(ReturnCode::NoError)
-            }
-            Err(refusal) => Some(refusal.code()),
         }
     }
 
@@ -147,65 +86,6 @@ impl<A: Allocator> State<A> {
                 Ok((length, validity))
             }
             Err(refusal) => Err(Some(refusal.code())),
-        }
-    }
-
-    /// CLEAR_QUEUING_PORT. `None` if the partition is in IDLE.
-    pub(crate) fn answer_clear(
-        &mut self,
-        config: &Config,
-        partition: usize,
-        at: Moment,
-        id: u32,
-    ) -> Option<ReturnCode>
-        requires partition { partition < length config.now.partitions }
-        requires current { IsCurrent config.now self.old }
-        ensures reply { let asked = call.ClearQueuing id in
-            reply_coded result ≡ reply_to config.now self.old.history partition at asked }
-        ensures kept { let asked = call.ClearQueuing id in
-            let entry = entry_of partition at asked (reply_coded result) in
-            IsKeptWith config.now self.old entry self.new }
-        ensures history { self.new.history ≡ self.old.history }
-    {
-        if is_idle(self.mode(config, partition)) {
-            return None;
-        }
-        match clear_row(self, config, partition, id) {
-            Ok(_) => {
-                self.clear(config, partition, at, id);
-                Some(ReturnCode::NoError)
-            }
-            Err(refusal) => Some(refusal.code()),
-        }
-    }
-
-    /// SET_PARTITION_MODE. `None` if the partition is in IDLE.
-    pub(crate) fn answer_change_mode(
-        &mut self,
-        config: &Config,
-        partition: usize,
-        at: Moment,
-        number: u32,
-    ) -> Option<ReturnCode>
-        requires partition { partition < length config.now.partitions }
-        requires current { IsCurrent config.now self.old }
-        ensures reply { let asked = call.SetMode number in
-            reply_coded result ≡ reply_to config.now self.old.history partition at asked }
-        ensures kept { let asked = call.SetMode number in
-            let entry = entry_of partition at asked (reply_coded result) in
-            IsKeptWith config.now self.old entry self.new }
-        ensures history { self.new.history ≡ self.old.history }
-    {
-        let present = self.mode(config, partition);
-        if is_idle(present) {
-            return None;
-        }
-        match set_mode_row(present, number) {
-            Ok(_) => {
-                self.change_mode(config, partition, at, number);
-                Some(ReturnCode::NoError)
-            }
-            Err(refusal) => Some(refusal.code()),
         }
     }
 }

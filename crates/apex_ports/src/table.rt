@@ -8,9 +8,10 @@ use crate::modes::is_idle;
 use crate::noted::CallRef;
 use crate::rows::{Refusal, Row};
 use crate::table::creation::{created_queuing_id, created_sampling_id, queuing_id, sampling_id};
+use crate::table::lookup::{queuing_port, sampling_port};
 use crate::table::modes::set_mode_row;
-use crate::table::queuing::{clear_row, queuing_status_row, receive_row, send_row};
-use crate::table::sampling::{read_row, sampling_status_row, write_row};
+use crate::table::queuing::{clear_row, received_message, send_row};
+use crate::table::sampling::{read_sample, write_row};
 use crate::view::View;
 use apex_module::Config;
 use apex_types::Moment;
@@ -58,44 +59,53 @@ fn accepted_row<V: View>(
         IsRowOfDecision (service_row config.now here partition at (call_by call.entry)) result }
 {
     match call {
-        CallRef::CreateSampling {
-            name,
-            size,
-            direction,
-            refresh,
-        } => {
-            let id = created_sampling_id(view, config, partition, name, size, direction, refresh)?;
+        CallRef::CreateSampling { .. } => {
+            let id = created_sampling_id(view, config, partition, call)?;
             Ok(Row::Created { id })
         }
-        CallRef::WriteSampling { id, message } => {
-            write_row(view, config, partition, id, message)
+        CallRef::CreateQueuing { .. } => {
+            let id = created_queuing_id(view, config, partition, call)?;
+            Ok(Row::Created { id })
         }
-        CallRef::ReadSampling { id } => read_row(view, config, partition, at, id),
         CallRef::SamplingId { name } => {
             let id = sampling_id(view, config, partition, name)?;
             Ok(Row::Identified { id })
         }
-        CallRef::SamplingStatus { id } => sampling_status_row(view, config, partition, id),
-        CallRef::CreateQueuing {
-            name,
-            size,
-            depth,
-            direction,
-            discipline,
-        } => {
-            let id = created_queuing_id(
-                view, config, partition, name, size, depth, direction, discipline,
-            )?;
-            Ok(Row::Created { id })
-        }
-        CallRef::SendQueuing { id, message } => { send_row(view, config, partition, id, message) }
-        CallRef::ReceiveQueuing { id } => receive_row(view, config, partition, id),
         CallRef::QueuingId { name } => {
             let id = queuing_id(view, config, partition, name)?;
             Ok(Row::Identified { id })
         }
-        CallRef::QueuingStatus { id } => queuing_status_row(view, config, partition, id),
-        CallRef::ClearQueuing { id } => clear_row(view, config, partition, id),
-        CallRef::SetMode { mode } => set_mode_row(view.mode(config, partition), mode),
+        CallRef::SamplingStatus { id } => match sampling_port(view, config, partition, id) {
+            Some(_) => Ok(Row::SamplingStatus { id }),
+            None => Err(Refusal::NoSuchPort),
+        },
+        CallRef::QueuingStatus { id } => match queuing_port(view, config, partition, id) {
+            Some(_) => Ok(Row::QueuingStatus { id }),
+            None => Err(Refusal::NoSuchPort),
+        },
+        CallRef::WriteSampling { id, message } => {
+            write_row(view, config, partition, id, message)?;
+            Ok(Row::Written)
+        }
+        CallRef::SendQueuing { id, message } => {
+            send_row(view, config, partition, id, message)?;
+            Ok(Row::Sent)
+        }
+        CallRef::ReadSampling { id } => {
+            let (_, validity) = read_sample(view, config, partition, at, id)?;
+            Ok(Row::LastRead { id, validity })
+        }
+        CallRef::ReceiveQueuing { id } => {
+            received_message(view, config, partition, id)?;
+            Ok(Row::OldestReceived { id })
+        }
+        CallRef::ClearQueuing { id } => {
+            clear_row(view, config, partition, id)?;
+            Ok(Row::Cleared)
+        }
+        CallRef::SetMode { mode } => {
+            set_mode_row(view.mode(config, partition), mode)?;
+            Ok(Row::ModeSet)
+        }
     }
 }

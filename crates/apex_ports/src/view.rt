@@ -61,13 +61,7 @@ pub trait View {
         ensures short { IfSome result (λ message. length message.now ≤ MESSAGE_LIMIT) };
 
     /// The sample written last into the channel of the port with the identifier.
-    fn sample(
-        &self,
-        config: &Config,
-        partition: usize,
-        id: u32,
-        port: &Port,
-    ) -> Option<SampleRef<'_>>
+    fn sample(&self, config: &Config, partition: usize, id: u32, port: &Port) -> Option<SampleRef>
         requires kept { is_kept config.now self.now }
         requires port { port_of config.now partition id ≡ Some port.now }
         requires linked { port.now.channel < length config.now.channels }
@@ -111,13 +105,7 @@ impl<A: Allocator> View for State<A> {
         self.channels[port.channel].waiting(0)
     }
 
-    fn sample(
-        &self,
-        config: &Config,
-        partition: usize,
-        id: u32,
-        port: &Port,
-    ) -> Option<SampleRef<'_>> {
+    fn sample(&self, config: &Config, partition: usize, id: u32, port: &Port) -> Option<SampleRef> {
         self.channels[port.channel].sample()
     }
 }

@@ -1,4 +1,3 @@
-pub mod More
 pub mod Nearest
 pub mod Paths
 pub mod PlaceLines

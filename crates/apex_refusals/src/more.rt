@@ -1,16 +1,11 @@
 //! The number of mistakes that are not listed.
-ghost use Rattle.std.specs.Prelude.{◌≡◌, ◌++◌, string_bytes, OnOk};
-ghost use Rattle.apex_refusals.specs.More.{more_line};
-
 use std::alloc::AllocError;
 
 /// The maximum number of mistakes that are listed for a text.
 pub const MISTAKE_LIMIT: usize = 20;
 
 /// Adds the line with the number of further mistakes, if there are any. The only error is a failed allocation.
-pub fn push_more(text: &mut String, more: usize) -> Result<(), AllocError>
-    ensures { OnOk result (string_bytes text.new ≡ string_bytes text.old ++ more_line more) }
-{
+pub fn push_more(text: &mut String, more: usize) -> Result<(), AllocError> {
     if more == 0 {
         return Ok(());
     }

@@ -19,6 +19,7 @@ fn nth_item(items: &[Value], index: usize) -> Option<&Value>
 }
 
 /// An item of the array at a key.
+#[tactic(auto, using(crate::proofs::Documents::item_seen))]
 fn item_at(value: &Value, key: Key, index: usize) -> Option<&Value>
     ensures { option_map (λ found. view found.now) result
         ≡ slice_get (items_at key (view value.now)) index }

@@ -1,13 +1,10 @@
 -- Names and messages are ASCII, so bytes that are not UTF-8 are neither.
-use Rattle.std.proofs.Common.{◌≡◌, ℕ, List, None, Result, Ok, Err, refl}
-use Rattle.std.specs.Str.{IsUtf8}
+use Rattle.apex_texts.proofs.Common.{◌≡◌, ℕ, List, None, Result, Ok, Err, refl, IsUtf8, message_of_hex, value_of, name_in, message_in}
 use Rattle.std.proofs.lemmas.Str.{IsUtf8-from_ascii}
 use Rattle.apex_types.proofs.ReadText.{read_name_is_ascii, read_message_is_ascii}
-use Rattle.apex_types.specs.Message.{message_of_hex}
 use Rattle.apex_types.specs.Name.{name_of}
 use Rattle.apex_types.specs.declared.message.HexFault.{HexFault}
 use Rattle.apex_types.specs.declared.name.NameFault.{NameFault}
-use Rattle.apex_texts.specs.Arguments.{value_of, name_in, message_in}
 
 no_name : (word : List ℕ) (read : Result (List ℕ) NameFault) → name_of word ≡ read → (IsUtf8 word → ⊥) → value_of read ≡ None
 no_name word (Ok name) is broken = absurd (broken (IsUtf8-from_ascii word (read_name_is_ascii word name is)))

@@ -1,10 +1,7 @@
 -- The ports of the partitions so far, and the line of their counts.
-use Rattle.std.proofs.Common.{◌≡◌, ℕ, ◌+◌, ◌<◌, List, [], ◌++◌, length, take, Option, Some, None, Result, Ok, Err, refl, sym, ap, ◌∙◌, append_assoc, codes, String, Global, string_bytes}
-use Rattle.std.specs.Prelude.{slice_get, sum_by, decimal, IfOk}
+use Rattle.apex_texts.proofs.Common.{◌≡◌, ℕ, ◌+◌, ◌<◌, List, [], ◌++◌, length, take, Option, Some, None, Result, Ok, Err, refl, sym, ap, ◌∙◌, append_assoc, codes, String, Global, string_bytes, slice_get, sum_by, decimal, IfOk, sum_by_more, Configuration, PartitionData, ports_of_partition, ports_of}
 use Rattle.std.specs.declared.alloc.AllocError.{AllocError}
-use Rattle.std.proofs.lemmas.List.Sums.{sum_by_more}
 use Rattle.std.proofs.lemmas.Option.{slice_get-get_or, get_or_from_slice_get}
-use Rattle.apex_module.specs.Configuration.{Configuration, PartitionData, ports_of_partition, ports_of}
 use Rattle.apex_texts.specs.Check.{counts_line}
 
 ports_more_by : (partitions : List PartitionData) (p : ℕ) (found : Option PartitionData) → slice_get partitions p ≡ found → p < length partitions

@@ -1,18 +1,11 @@
 -- Each request that is read has a partition of the configuration.
-use Rattle.std.proofs.Common.{◌≡◌, ℕ, ◌+◌, ◌<◌, List, [], ◌∷◌, length, Option, Some, None, Result, Ok, Err, refl, sym, subst, arith}
-use Rattle.std.specs.Prelude.{IfOk}
+use Rattle.apex_texts.proofs.Common.{◌≡◌, ℕ, ◌+◌, ◌<◌, List, [], ◌∷◌, length, Option, Some, None, Result, Ok, Err, refl, sym, subst, arith, IfOk, bytes_eq, lines, Configuration, partition_named, ◌>>=◌, or_fault, word_at, moment_of, call_of, FaultyLine, line_words, item_of_words, item_of_line, before, items_from, HavePartitions, partition_of, request_at, trace_of, IsTraceRead}
 use Rattle.std.specs.Global.{Vec}
-use Rattle.std.specs.Str.{bytes_eq}
-use Rattle.std.specs.Str.Lines.{lines}
 use Rattle.std.proofs.lemmas.List.Elements.{All-nil, All-cons}
-use Rattle.apex_module.specs.Configuration.{Configuration, partition_named}
 use Rattle.apex_ports.specs.declared.history.Request.{Request}
 use Rattle.apex_texts.specs.declared.line_fault.LineFault.{LineFault}
 use Rattle.apex_texts.specs.declared.line_fault.LineFault.TheVariants as faults
 use Rattle.apex_texts.specs.declared.fault.TraceFault.{TraceFault}
-use Rattle.apex_texts.specs.Arguments.{◌>>=◌, or_fault, word_at, moment_of, call_of}
-use Rattle.apex_texts.specs.Lines.{FaultyLine, line_words, item_of_words, item_of_line, before, items_from}
-use Rattle.apex_texts.specs.Trace.{HavePartitions, partition_of, request_at, trace_of, IsTraceRead}
 use Rattle.apex_texts.proofs.TextLemmas.{position_found}
 
 -- a fact about what was read, if anything was

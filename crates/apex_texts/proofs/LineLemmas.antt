@@ -1,12 +1,7 @@
 -- Reading lines one after the other, as a loop does.
-use Rattle.std.proofs.Common.{◌≡◌, ℕ, ◌+◌, List, [], ◌∷◌, ◌++◌, Option, Some, None, Bool, true, false, Result, Ok, Err, refl, sym, ap, ◌∙◌, append_assoc}
-use Rattle.std.specs.List.{list_all}
-use Rattle.std.proofs.lemmas.List.{append-nil}
+use Rattle.apex_texts.proofs.Common.{◌≡◌, ℕ, ◌+◌, List, [], ◌∷◌, ◌++◌, Some, None, Result, Ok, Err, refl, sym, ap, ◌∙◌, append_assoc, append-nil, ◌>>=◌, FaultyLine, item_of_line, before, items_from}
 use Rattle.apex_texts.specs.declared.line_fault.LineFault.{LineFault}
 use Rattle.apex_texts.specs.LineFault.{number_of}
-use Rattle.apex_texts.specs.Arguments.{◌>>=◌}
-use Rattle.apex_texts.specs.declared.line_fault.LineFault.TheVariants as faults
-use Rattle.apex_texts.specs.Lines.{FaultyLine, is_ascii, line_words, item_of_line, before, items_from}
 
 -- what was read before, and what is still read
 abbrev pub with_front : {A : Type 0} → List A → Result (List A) FaultyLine → Result (List A) FaultyLine
@@ -56,14 +51,3 @@ unfolding items_from
 ends {A} item_at front number lines total cut so_far =
     let one : with_front front (items_from item_at number lines) ≡ Ok front = rw cut (ap (λ (all : List A). Ok all) (append-nil front)) in
     sym so_far ∙ one
-
--- a line that is read is ASCII
-pub read_is_ascii : {A : Type 0} (item_at : List ℕ → List (List ℕ) → Result A LineFault) (line : List ℕ) (item : Option A) → item_of_line item_at line ≡ Ok item → list_all is_ascii line ≡ true
-unfolding item_of_line line_words
-read_is_ascii item_at line item is = by_test (list_all is_ascii line) refl
-  where
-    by_test : (b : Bool) → list_all is_ascii line ≡ b → list_all is_ascii line ≡ true
-    by_test true all = all
-    by_test false some =
-        let refused : item_of_line item_at line ≡ Err faults.NotAscii = rw some refl in
-        absurd cc

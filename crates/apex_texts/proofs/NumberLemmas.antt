@@ -1,7 +1,5 @@
 -- Numbers that grow past the limit.
-use Rattle.std.proofs.Common.{◌≡◌, ℕ, suc, ◌+◌, ◌*◌, ◌-◌, ◌<◌, Bool, true, false, leb, cond, List, [], ◌∷◌, length, drop, get_or, None, refl, sym, ap, ◌∙◌, arith}
-use Rattle.std.proofs.Math.Seq.{drop-cons}
-use Rattle.apex_texts.specs.Text.{is_digit, digits_after, at_most}
+use Rattle.apex_texts.proofs.Common.{◌≡◌, ℕ, suc, ◌+◌, ◌*◌, ◌-◌, ◌<◌, Bool, true, false, leb, cond, List, [], ◌∷◌, length, drop, get_or, None, refl, sym, ap, ◌∙◌, arith, drop-cons, is_digit, digits_after, at_most}
 
 stays : (limit value byte : ℕ) (b : Bool) (rest : List ℕ) → at_most limit (digits_after (value * 10 + (byte - 48)) rest) ≡ None
     → at_most limit (cond b (digits_after (value * 10 + (byte - 48)) rest) None) ≡ None

@@ -1,7 +1,5 @@
 -- Where the first element that passes is, in a list that is cut in two.
-use Rattle.std.proofs.Common.{◌≡◌, ℕ, ◌+◌, ◌<◌, ◌≤◌, Bool, true, false, nat_lt, List, [], ◌∷◌, ◌++◌, length, Option, Some, None, refl, sym, ap, ◌∙◌, arith, length-append}
-use Rattle.std.specs.Prelude.{position, option_map, IfSome}
-use Rattle.std.specs.List.{position_or_len}
+use Rattle.apex_texts.proofs.Common.{◌≡◌, ℕ, ◌+◌, ◌<◌, ◌≤◌, Bool, true, false, nat_lt, List, [], ◌∷◌, ◌++◌, length, Option, Some, None, refl, sym, ap, ◌∙◌, arith, length-append, position, option_map, MatchOption, position_or_len}
 use Rattle.std.proofs.lemmas.Bool.Decides.{nat_tests}
 use Rattle.apex_texts.proofs.TextLemmas.{position_found, position_missed}
 
@@ -55,7 +53,15 @@ module _ {X : Type 0} (p : X → Bool) where
       let within : nat_lt (position_or_len p (xs ++ ys)) (length (xs ++ ys)) ≡ true = grind (arith, nat_tests, length-append xs ys, same, at.0) in
       rw within (ap Some (same ∙ ap (λ (n : ℕ). length xs + n) (sym at.1)))
 
-  -- what is found in the first part is the first of all
-  pub front_found : (xs ys zs : List X) (found : Option ℕ) → xs ++ ys ≡ zs → found ≡ position p xs → IfSome found (λ at. position p zs ≡ Some at)
-  front_found xs ys zs (Some at) whole is = sym (ap (position p) whole) ∙ in_front xs ys at (sym is)
-  front_found xs ys zs None whole is = tt
+  none_of : (ys : List X) → length ys ≡ 0 → position p ys ≡ None
+  none_of [] empty = refl
+  none_of (y ∷ ys) empty = absurd (omega arith)
+
+  -- what is found in the first part is the first of all; if that is the whole, there is no other
+  pub front_found : (xs ys zs : List X) (found : Option ℕ) (n : ℕ) → xs ++ ys ≡ zs → (length zs ≤ n → length xs ≡ length zs) → found ≡ position p xs
+      → MatchOption found (length zs ≤ n → position p zs ≡ None) (λ at. position p zs ≡ Some at)
+  front_found xs ys zs (Some at) n whole size is = sym (ap (position p) whole) ∙ in_front xs ys at (sym is)
+  front_found xs ys zs None n whole size is = λ short.
+      let same = size short in
+      let sum : length xs + length ys ≡ length zs = sym (length-append xs ys) ∙ ap length whole in
+      sym (ap (position p) whole) ∙ behind xs ys None (sym is) (none_of ys (omega (arith, same, sum)))

@@ -1,22 +1,13 @@
 -- A replay of two texts, step by step.
-use Rattle.std.proofs.Common.{◌≡◌, ℕ, ◌+◌, List, [], ◌∷◌, ◌++◌, Result, Ok, Err, refl, ap, ◌∙◌, String, Global, string_bytes}
-use Rattle.std.specs.Prelude.{◌≢◌}
-use Rattle.std.specs.Str.Lines.{lines}
-use Rattle.apex_module.specs.Configuration.{Configuration}
+use Rattle.apex_texts.proofs.Common.{◌≡◌, ℕ, ◌+◌, List, [], ◌∷◌, ◌++◌, Result, Ok, Err, refl, ap, ◌∙◌, String, Global, string_bytes, ◌≢◌, lines, Configuration, History, request_of, requests_of, request_at, trace_of, entry_lines, totals_of, report_of, items_from}
 use Rattle.apex_config.specs.Meaning.{config_of}
 use Rattle.apex_module.specs.declared.fault.ConfigFault.{ConfigFault}
 use Rattle.apex_module.specs.declared.fault.ConfigFault.TheVariants as config_faults
 use Rattle.apex_ports.specs.declared.history.Entry.{Entry}
-use Rattle.apex_ports.specs.History.{History, request_of, requests_of}
 use Rattle.apex_ports.specs.PortsView.{PortsView}
-use Rattle.apex_texts.specs.declared.fault.TraceFault.{TraceFault}
-use Rattle.apex_texts.specs.declared.fault.TraceFault.TheVariants as trace_faults
 use Rattle.apex_texts.specs.declared.fault.Fault.{Fault}
 use Rattle.apex_texts.specs.declared.fault.Fault.TheVariants as faults
-use Rattle.apex_texts.specs.Trace.{request_at, trace_of, IsTraceRead}
-use Rattle.apex_texts.specs.Report.{entry_lines, totals_of, report_of}
-use Rattle.apex_texts.specs.Replay.{config_fault, trace_fault, IsServed, IsTraceReplay, IsReplay}
-use Rattle.apex_texts.specs.Lines.{items_from}
+use Rattle.apex_texts.specs.Replay.{config_fault, IsServed, IsTraceReplay, IsReplay}
 use Rattle.apex_texts.proofs.LineLemmas.{with_front, with_front-nil}
 
 -- nothing is read yet
@@ -60,8 +51,3 @@ config_read (Err (faults.Script partition fault)) config trace configuration rea
 config_read (Err (faults.Held partition n)) config trace configuration read replay = absurd replay
 config_read (Err (faults.Run fault)) config trace configuration read replay = absurd replay
 config_read (Err faults.Gone) config trace configuration read replay = absurd replay
-
--- a trace is refused
-pub trace_refused : (fault : TraceFault) (config : Configuration) (trace : List ℕ) → IsTraceRead (Err fault) (trace_of config trace) → IsTraceReplay (Err (trace_fault fault)) config trace
-trace_refused (trace_faults.Line line fault) config trace refused = refused
-trace_refused trace_faults.OutOfMemory config trace refused = tt

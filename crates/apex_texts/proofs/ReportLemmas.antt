@@ -1,20 +1,11 @@
 -- The lines of a report, one after the other.
-use Rattle.std.proofs.Common.{◌≡◌, ℕ, suc, ◌+◌, ◌^◌, ◌<◌, ◌≤◌, ◌==◌, List, [], ◌∷◌, ◌++◌, length, drop, arith, Option, Some, None, codes, sym, ap, ◌∙◌, append_assoc, add-one, refl}
-use Rattle.std.specs.Prelude.{slice_get, option_map}
-use Rattle.std.specs.List.{filter_map}
-use Rattle.std.proofs.Math.Seq.{drop-cons}
+use Rattle.apex_texts.proofs.Common.{◌≡◌, ℕ, suc, ◌+◌, ◌^◌, ◌<◌, ◌≤◌, ◌==◌, List, [], ◌∷◌, ◌++◌, length, drop, arith, Option, Some, None, codes, sym, ap, ◌∙◌, append_assoc, add-one, refl, slice_get, option_map, filter_map, drop-cons, append-nil, length-filter, count_by-le-length, hex_text_of, Configuration, PartitionData, partition_name_of, History, entries_of, accepted_on, received_on, cleared_on}
+use Rattle.apex_texts.proofs.Common.{message_accepted, message_received, line_of, entry_lines, partition_line, partition_lines, messages_text, channel_text, channel_lines}
 use Rattle.std.proofs.Math.ListN.{drop_of_length-le}
-use Rattle.std.proofs.lemmas.List.{append-nil}
-use Rattle.std.proofs.lemmas.List.Sums.{length-filter, count_by-le-length}
 use Rattle.std.proofs.lemmas.Option.{slice_get_within, get_or_from_slice_get}
-use Rattle.apex_types.specs.Message.{hex_text_of}
-use Rattle.apex_module.specs.Configuration.{Configuration, PartitionData, partition_name_of}
 use Rattle.apex_module.specs.declared.channel.Channel.{Channel}
 use Rattle.apex_ports.specs.declared.history.Entry.{Entry}
-use Rattle.apex_ports.specs.History.{History, entries_of}
-use Rattle.apex_ports.specs.Channels.{accepted_on, received_on, cleared_on, message_accepted, message_received}
 use Rattle.apex_ports.specs.Counts.{count_of}
-use Rattle.apex_texts.specs.Report.{line_of, entry_lines, partition_line, partition_lines, messages_text, channel_text, channel_lines}
 
 -- a text that grew by the next line
 pub grows : {X : Type 0} (old new line rest all total : List X) → new ≡ old ++ line → all ≡ line ++ rest → old ++ all ≡ total → new ++ rest ≡ total

@@ -1,13 +1,8 @@
 -- A search for a byte finds its first index.
-use Rattle.std.proofs.Common.{◌≡◌, ℕ, zero, suc, ◌<◌, ◌≤◌, ◌&&◌, Bool, true, false, nat_lt, List, [], ◌∷◌, length, get_or, Option, Some, None, refl, sym, ap, ◌∙◌, arith}
-use Rattle.std.specs.Prelude.{position}
-use Rattle.std.specs.List.{position_or_len, list_all}
+use Rattle.apex_texts.proofs.Common.{◌≡◌, ℕ, zero, suc, ◌<◌, ◌≤◌, ◌&&◌, Bool, true, false, nat_lt, List, [], ◌∷◌, length, get_or, Option, Some, None, refl, sym, ap, ◌∙◌, arith, position, position_or_len, list_all, IsAscii, IsNotAscii, fails_before_first, passes_at_first, is_ascii}
 use Rattle.std.specs.Bool.{MatchBool}
-use Rattle.std.specs.Str.{IsAscii, IsNotAscii}
 use Rattle.std.proofs.lemmas.Bool.Decides.{nat_tests}
-use Rattle.std.proofs.lemmas.List.Sums.{fails_before_first, passes_at_first}
 use Rattle.memchr.specs.Find.{IsFirstByte}
-use Rattle.apex_texts.specs.Lines.{is_ascii}
 
 module _ (p : ℕ → Bool) (xs : List ℕ) where
   none_found : ((k : ℕ) → 0 ≤ k → k < length xs → p (get_or xs k 0) ≡ true → ⊥) → None ≡ position p xs
@@ -71,13 +66,3 @@ not_all_ascii (x ∷ xs) (suc i) high =
 pub ascii_test : (xs : List ℕ) (b : Bool) → MatchBool b (IsAscii xs) (IsNotAscii xs) → b ≡ list_all is_ascii xs
 ascii_test xs true each = sym (all_ascii xs each)
 ascii_test xs false some = sym (not_all_ascii xs some.0 some.1)
-
-pub test_ascii : (xs : List ℕ) → list_all is_ascii xs ≡ true → IsAscii xs
-test_ascii xs all i = by_test (nat_lt (get_or xs i 0) 128) refl
-  where
-    by_test : (b : Bool) → nat_lt (get_or xs i 0) 128 ≡ b → get_or xs i 0 < 128
-    by_test true is = grind (arith, nat_tests)
-    by_test false is =
-        let high : 128 ≤ get_or xs i 0 = grind (arith, nat_tests) in
-        let some = not_all_ascii xs i high in
-        absurd cc

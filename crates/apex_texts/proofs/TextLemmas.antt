@@ -1,14 +1,8 @@
 -- Lines and words of a text, taken from the front one by one.
-use Rattle.std.proofs.Common.{◌≡◌, ℕ, suc, ◌+◌, ◌-◌, ◌<◌, ◌≤◌, Bool, true, false, not, eqb, List, [], ◌∷◌, length, take, drop, get_or, Some, None, refl, sym, ap, ◌∙◌, arith, add-one, add-zero}
-use Rattle.std.proofs.Math.Seq.{drop-cons}
+use Rattle.apex_texts.proofs.Common.{◌≡◌, ℕ, suc, ◌+◌, ◌-◌, ◌<◌, ◌≤◌, Bool, true, false, not, eqb, List, [], ◌∷◌, length, take, drop, get_or, Some, None, refl, sym, ap, ◌∙◌, arith, add-one, add-zero, drop-cons, filter, position, slice_split, position_or_len, before_first, after_first, lines, lines_of_parts, strip_carriage_return, length-take, length-drop, get_or-drop, drop-drop, fails_before_first, passes_at_first}
+use Rattle.apex_texts.proofs.Common.{is_line_feed, is_blank, words_of}
 use Rattle.std.proofs.Math.ListN.{drop_of_length-le}
-use Rattle.std.specs.Prelude.{filter, position}
-use Rattle.std.specs.List.{slice_split, position_or_len, before_first, after_first}
-use Rattle.std.specs.Str.Lines.{lines, lines_of_parts, strip_carriage_return}
-use Rattle.std.proofs.lemmas.List.{length-take, length-drop, get_or-drop, drop-drop}
-use Rattle.std.proofs.lemmas.List.Sums.{fails_before_first, passes_at_first}
 use Rattle.std.proofs.lemmas.List.Splits.{slice_split-cons_yes, slice_split_none, slice_split_first, length-slice_split}
-use Rattle.apex_texts.specs.Text.{is_line_feed, is_blank, words_of}
 
 -- if `position` finds an index, it is that of the first element that passes
 pub position_found : {X : Type 0} (p : X → Bool) (xs : List X) (i : ℕ) → position p xs ≡ Some i → (position_or_len p xs < length xs) × (i ≡ position_or_len p xs)

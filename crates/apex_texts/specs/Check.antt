@@ -1,6 +1,5 @@
 -- The line of an accepted configuration.
-use Rattle.std.specs.Prelude.{ℕ, List, ◌++◌, length, codes, decimal, sum_by}
-use Rattle.apex_module.specs.Configuration.{Configuration}
+use Rattle.apex_texts.specs.Prelude.{ℕ, List, ◌++◌, length, codes, decimal, sum_by, Configuration}
 
 -- the number of ports of all partitions
 abbrev pub port_count : Configuration → ℕ

@@ -1,3 +1,4 @@
+pub mod Prelude
 pub mod Arguments
 pub mod Check
 pub mod Expected

@@ -1,7 +1,6 @@
 -- The meaning of a text of lines: the items of its lines in order, or its first faulty line. How the words of a line
 -- are read is a parameter.
-use Rattle.std.specs.Prelude.{◌≡◌, ℕ, Bool, ◌+◌, ◌==◌, nat_lt, if◌then◌else◌, List, [], ◌∷◌, slice_index, Option, Some, None, Result, Ok, Err}
-use Rattle.std.specs.List.{list_all}
+use Rattle.apex_texts.specs.Prelude.{◌≡◌, ℕ, Bool, ◌+◌, ◌==◌, nat_lt, if◌then◌else◌, List, [], ◌∷◌, slice_index, Option, Some, None, Result, Ok, Err, list_all}
 use Rattle.std.specs.Str.Lines.{lines}
 use Rattle.apex_texts.specs.declared.line_fault.LineFault.{LineFault}
 use Rattle.apex_texts.specs.declared.line_fault.LineFault.TheVariants as faults

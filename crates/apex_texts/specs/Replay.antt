@@ -1,13 +1,8 @@
 -- What a replay gives: the report of the lawful history of the trace's requests, or why a text is refused.
-use Rattle.std.specs.Prelude.{◌≡◌, ℕ, List, Result, Ok, Err, String, string_bytes}
+use Rattle.apex_texts.specs.Prelude.{◌≡◌, ℕ, List, Result, Ok, Err, String, string_bytes, Configuration, ConfigFault, Entry, Request, History, entry_of, requests_of}
 use Rattle.std.specs.declared.alloc.Global.{Global}
-use Rattle.apex_module.specs.Configuration.{Configuration}
 use Rattle.apex_config.specs.Meaning.{config_of}
-use Rattle.apex_module.specs.declared.fault.ConfigFault.{ConfigFault}
 use Rattle.apex_module.specs.declared.fault.ConfigFault.TheVariants as config_faults
-use Rattle.apex_ports.specs.declared.history.Entry.{Entry}
-use Rattle.apex_ports.specs.declared.history.Request.{Request}
-use Rattle.apex_ports.specs.History.{History, entry_of, requests_of}
 use Rattle.apex_ports.specs.Lawful.{IsLawful, Answers}
 use Rattle.apex_ports.specs.ReplyTable.{reply_to}
 use Rattle.apex_texts.specs.declared.fault.TraceFault.{TraceFault}

@@ -1,25 +1,18 @@
 -- The report of a history: a line for each entry, each partition and each channel.
-use Rattle.std.specs.Prelude.{ℕ, ◌+◌, ◌==◌, if◌then◌else◌, List, [], ◌∷◌, ◌++◌, length, codes, decimal, Option, Some, None, unwrap_or}
-use Rattle.apex_types.specs.Message.{hex_text_of}
+use Rattle.apex_texts.specs.Prelude.{ℕ, ◌+◌, ◌==◌, if◌then◌else◌, List, [], ◌∷◌, ◌++◌, length, codes, decimal, Option, Some, None, unwrap_or, hex_text_of, Call, Moment, Configuration, PartitionData, partition_name_of, Entry, History, entries_of, accepted_on, received_on, cleared_on, waiting_on, last_write_on}
 use Rattle.apex_types.specs.Direction.{word_of as direction_word}
 use Rattle.apex_types.specs.Mode.{word_of as mode_word}
 use Rattle.apex_types.specs.ReturnCode.{word_of as code_word}
 use Rattle.apex_types.specs.Validity.{word_of as validity_word}
 use Rattle.apex_types.specs.declared.direction.Direction.{Direction}
 use Rattle.apex_types.specs.declared.validity.Validity.{Validity}
-use Rattle.apex_types.specs.declared.call.Call.{Call}
-use Rattle.apex_types.specs.declared.moment.Moment.{Moment}
 use Rattle.apex_types.specs.declared.reply.Reply.{Reply}
 use Rattle.apex_types.specs.declared.reply.Reply.TheVariants.{NotMade, Code, Id, Received, Read, QueuingStatus, SamplingStatus}
-use Rattle.apex_module.specs.Configuration.{Configuration, PartitionData, partition_name_of}
 use Rattle.apex_module.specs.declared.channel.Channel.{Channel}
 use Rattle.apex_module.specs.declared.channel.ChannelKind.{ChannelKind}
 use Rattle.apex_module.specs.declared.channel.ChannelKind.TheVariants as kinds
-use Rattle.apex_ports.specs.declared.history.Entry.{Entry}
 use Rattle.apex_types.specs.declared.sample.Sample.{Sample}
-use Rattle.apex_ports.specs.History.{History, entries_of}
 use Rattle.apex_ports.specs.Modes.{mode_of}
-use Rattle.apex_ports.specs.Channels.{accepted_on, received_on, cleared_on, waiting_on, last_write_on}
 use Rattle.apex_texts.specs.Service.{word_of, service_of}
 
 -- ---- replies

@@ -1,7 +1,6 @@
 -- The services that a trace can ask for, by their call words.
-use Rattle.std.specs.Prelude.{ℕ, List, [], ◌∷◌, length, codes, find, Option}
+use Rattle.apex_texts.specs.Prelude.{ℕ, List, [], ◌∷◌, length, codes, find, Option, Call}
 use Rattle.std.specs.Str.{bytes_eq}
-use Rattle.apex_types.specs.declared.call.Call.{Call}
 use Rattle.apex_types.specs.declared.call.Call.TheVariants as calls
 use Rattle.apex_texts.specs.declared.expected.Expected.{Expected}
 use Rattle.apex_texts.specs.declared.expected.Expected.TheVariants.{Name, Size, Depth, Direction, Discipline, Refresh, Identifier, Message, Mode}

@@ -1,6 +1,5 @@
 -- The words and numbers of a line. The lines of a text are std's `lines`.
-use Rattle.std.specs.Prelude.{ℕ, Bool, ◌+◌, ◌*◌, ◌-◌, ◌==◌, ◌||◌, ◌&&◌, not, nat_le, if◌then◌else◌, List, [], ◌∷◌, length, filter, Option, Some, None}
-use Rattle.std.specs.List.{slice_split}
+use Rattle.apex_texts.specs.Prelude.{ℕ, Bool, ◌+◌, ◌*◌, ◌-◌, ◌==◌, ◌||◌, ◌&&◌, not, nat_le, if◌then◌else◌, List, [], ◌∷◌, length, filter, Option, Some, None, slice_split}
 
 -- a line feed
 abbrev pub is_line_feed : ℕ → Bool

@@ -1,6 +1,5 @@
 //! Lines, words and numbers of a text, which is read as bytes.
-ghost use Rattle.std.specs.Prelude.{◌≡◌, ◌-◌, ◌<◌, ◌≤◌, false, [], ◌∷◌, length, take, drop, slice_index, not, position, Some, IfSome, MatchOption};
-ghost use Rattle.std.specs.List.{after_first};
+ghost use Rattle.apex_texts.specs.Prelude.{◌≡◌, ◌-◌, ◌<◌, ◌≤◌, false, [], ◌∷◌, length, take, drop, slice_index, not, position, Some, None, IfSome, MatchOption, after_first};
 ghost use Rattle.std.specs.Str.Lines.{lines, strip_carriage_return};
 ghost use Rattle.apex_texts.specs.Text.{is_line_feed, is_blank, words_of, number_up_to};
 
@@ -39,10 +38,11 @@ fn without_carriage_return(line: &[u8]) -> &[u8]
     }
 }
 
+// Most bytes are greater than both blanks, so one comparison decides.
 fn is_blank(byte: u8) -> bool
     ensures { result ≡ is_blank byte }
 {
-    byte == b' ' || byte == b'\t'
+    byte <= b' ' && (byte == b' ' || byte == b'\t')
 }
 
 /// The bytes in which a blank is looked for one by one. Most words end within them, and it takes longer than that to begin
@@ -64,7 +64,8 @@ pub fn blank_in(line: &[u8]) -> Option<usize>
 
 // The first blank of a line, if it is near.
 fn near_blank_in(line: &[u8]) -> Option<usize>
-    ensures { IfSome result (λ at. position is_blank line.now ≡ Some at) }
+    ensures { MatchOption result (length line.now ≤ NEAR_BYTES → position is_blank line.now ≡ None)
+        (λ at. position is_blank line.now ≡ Some at) }
 {
     let (near, _) = line.split_at(line.len().min(NEAR_BYTES));
     blank_near_in(near)
@@ -119,6 +120,7 @@ fn word_bounds(line: &[u8]) -> (usize, usize)
     let (_, rest) = line.split_at(start);
     match near_blank_in(rest) {
         Some(length) => (start, start + length),
+        None if rest.len() <= NEAR_BYTES => (start, line.len()),
         None => (start, start + long_word(rest)),
     }
 }

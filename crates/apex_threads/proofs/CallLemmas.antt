@@ -1,13 +1,7 @@
 -- Packed calls stay the same while messages and names are added.
-use Rattle.std.proofs.Common.{◌≡◌, ◌≢◌, ℕ, suc, ◌<◌, ◌==◌, Bool, true, false, List, [], ◌∷◌, ◌++◌, length, map, Some, refl, sym, ap, ◌∙◌, subst, arith, length-append}
+use Rattle.apex_threads.proofs.Common.{◌≡◌, ◌≢◌, ℕ, suc, ◌<◌, ◌==◌, Bool, true, false, List, [], ◌∷◌, ◌++◌, length, map, Some, refl, sym, ap, ◌∙◌, subst, arith, length-append, slice_get, nat_tests, map-append, slice_get_within, Call, Moment}
 use Rattle.std.specs.Prelude.{unwrap_or}
-use Rattle.std.specs.List.{slice_get}
-use Rattle.std.proofs.lemmas.Bool.Decides.{nat_tests}
-use Rattle.std.proofs.lemmas.List.{map-append}
-use Rattle.std.proofs.lemmas.Option.{slice_get_within}
-use Rattle.apex_types.specs.declared.call.Call.{Call}
 use Rattle.apex_types.specs.declared.call.Call.TheVariants as call
-use Rattle.apex_types.specs.declared.moment.Moment.{Moment}
 use Rattle.apex_threads.specs.declared.packed_script.PackedCall.{PackedCall}
 use Rattle.apex_threads.specs.declared.packed_script.PackedCall.TheVariants as packed
 use Rattle.apex_threads.specs.PackedCalls.{stored_at, call_in, timed_in, IsPackedCall, ArePackedCalls}

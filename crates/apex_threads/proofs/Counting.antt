@@ -1,16 +1,10 @@
 -- One more entry of a log, counted for its partition.
-use Rattle.std.proofs.Common.{◌≡◌, ◌≢◌, ℕ, zero, suc, ◌+◌, ◌<◌, ◌≤◌, ◌==◌, Bool, true, false, List, [], ◌∷◌, ◌++◌, length, take, set, get_or, replicate, map, Some, refl, sym, ap, ◌∙◌, subst, arith, append_assoc, append-nil, length-append, length-set, get_or-set_same, get_or-set_other}
-use Rattle.std.specs.List.{slice_get, filter}
-use Rattle.std.proofs.lemmas.Bool.Decides.{nat_tests}
-use Rattle.std.proofs.lemmas.List.{map-append, get_or-replicate, length-take-le}
+use Rattle.apex_threads.proofs.Common.{◌≡◌, ◌≢◌, ℕ, zero, suc, ◌+◌, ◌<◌, ◌≤◌, ◌==◌, Bool, true, false, List, [], ◌∷◌, ◌++◌, length, take, set, get_or, replicate, map, Some, refl, sym, ap, ◌∙◌, subst, arith, append_assoc, length-append, get_or-set_same, get_or-set_other, slice_get, filter, nat_tests, map-append, get_or-replicate, length-take-le, slice_get_within, slice_get-get_or, Call, Moment, Reply, History}
+use Rattle.apex_threads.proofs.Common.{entries_of}
+use Rattle.std.proofs.Common.{append-nil, length-set}
 use Rattle.std.proofs.lemmas.List.Elements.{filter-append}
-use Rattle.std.proofs.lemmas.Option.{slice_get_within, slice_get-get_or}
 use Rattle.std.proofs.Math.Seq.{take-length}
-use Rattle.apex_types.specs.declared.call.Call.{Call}
-use Rattle.apex_types.specs.declared.moment.Moment.{Moment}
-use Rattle.apex_types.specs.declared.reply.Reply.{Reply}
 use Rattle.apex_ports.specs.declared.history.Entry.{Entry}
-use Rattle.apex_ports.specs.History.{History, entries_of}
 use Rattle.apex_threads.specs.Partition.{calls_of, replies_of}
 use Rattle.apex_threads.specs.Collected.{HasScripts, HasReplies, IsCollected, IsNext, IsServed, AreCounted, AreComplete}
 use Rattle.apex_threads.proofs.Lists.{slice_get_end, slice_get_before}

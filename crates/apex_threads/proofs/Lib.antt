@@ -1,3 +1,4 @@
+pub mod Common
 pub mod CallLemmas
 pub mod Counting
 pub mod Lists

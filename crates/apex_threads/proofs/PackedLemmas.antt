@@ -1,10 +1,5 @@
 -- Packed replies stay the same while messages are added.
-use Rattle.std.proofs.Common.{◌≡◌, ◌≢◌, ℕ, suc, ◌<◌, ◌==◌, Bool, true, false, List, [], ◌∷◌, ◌++◌, length, map, Some, refl, sym, ap, ◌∙◌, subst, arith, length-append}
-use Rattle.std.specs.List.{slice_get}
-use Rattle.std.proofs.lemmas.Bool.Decides.{nat_tests}
-use Rattle.std.proofs.lemmas.List.{map-append}
-use Rattle.std.proofs.lemmas.Option.{slice_get_within}
-use Rattle.apex_types.specs.declared.reply.Reply.{Reply}
+use Rattle.apex_threads.proofs.Common.{◌≡◌, ◌≢◌, ℕ, suc, ◌<◌, ◌==◌, Bool, true, false, List, [], ◌∷◌, ◌++◌, length, map, Some, refl, sym, ap, ◌∙◌, subst, arith, length-append, slice_get, nat_tests, map-append, slice_get_within, Reply}
 use Rattle.apex_types.specs.declared.reply.Reply.TheVariants as reply
 use Rattle.apex_threads.specs.declared.packed.Packed.{Packed}
 use Rattle.apex_threads.specs.declared.packed.Packed.TheVariants as packed

@@ -1,25 +1,19 @@
 -- What is published remains equal to the writes of the history, call by call.
-use Rattle.std.proofs.Common.{◌≡◌, ℕ, ◌<◌, false, List, [], ◌∷◌, ◌++◌, length, slice_get, slice_index_or, get_or, option_map, Option, None, Some, Result, Ok, Err, refl, ap, sym, subst, ◌∙◌, arith}
+use Rattle.apex_threads.proofs.Common.{◌≡◌, ℕ, ◌<◌, false, List, [], ◌∷◌, ◌++◌, length, slice_get, slice_index_or, get_or, option_map, Option, None, Some, Result, Ok, Err, refl, ap, sym, subst, ◌∙◌, arith, append-nil, length-set, slice_get-get_or, get_or_from_slice_get, Call, Moment, History, entry_of, IsPublished, ArePublished}
 use Rattle.std.specs.Option.{option_to_list}
 use Rattle.std.specs.Result.{MatchResult, OnOk}
-use Rattle.std.proofs.lemmas.List.{append-nil, length-set}
-use Rattle.std.proofs.lemmas.Option.{slice_get-get_or, get_or_from_slice_get}
 use Rattle.std.proofs.Math.Seq.{map-set_same}
-use Rattle.apex_types.specs.declared.call.Call.{Call}
-use Rattle.apex_types.specs.declared.moment.Moment.{Moment}
 use Rattle.apex_types.specs.declared.sample.Sample.{Sample}
 use Rattle.apex_module.specs.Configuration.{Configuration}
 use Rattle.apex_observers.specs.Channels.{Channels, written_on, books_of}
 use Rattle.apex_observers.specs.Published.{Published, with_write}
 use Rattle.apex_ports.specs.Channels.{writes_on, sample_written}
-use Rattle.apex_ports.specs.History.{History, entry_of}
 use Rattle.apex_ports.specs.declared.history.Entry.{Entry}
 use Rattle.apex_ports.specs.Ports.{is_queuing}
 use Rattle.apex_ports.specs.ReplyTable.{reply_to}
 use Rattle.apex_ports.specs.Writes.{Writes, WritesNothing}
 use Rattle.apex_ports.proofs.Appends.{writes_on-append}
 use Rattle.apex_ports.proofs.Stays.{each_at_set}
-use Rattle.apex_threads.specs.OnChannels.{IsPublished, ArePublished}
 
 module _ (config : Configuration) (h : History) (e : Entry) where
   -- an entry that writes nothing on the channel

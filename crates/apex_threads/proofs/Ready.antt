@@ -1,15 +1,8 @@
 -- The lists that are ready for the replies, and the vector that gains them.
-use Rattle.std.proofs.Common.{◌≡◌, ◌≢◌, ℕ, ◌+◌, ◌<◌, ◌==◌, Bool, true, false, List, [], ◌∷◌, ◌++◌, length, Some, Vec, vec_len, vec_capacity, Result, Ok, Err, IfOk, IfErr, refl, sym, ap, subst, ◌∙◌, arith, length-append}
-use Rattle.std.specs.List.{slice_get}
-use Rattle.std.proofs.lemmas.Bool.Decides.{nat_tests}
-use Rattle.std.proofs.lemmas.Option.{slice_get_within}
-use Rattle.apex_types.specs.declared.call.Call.{Call}
-use Rattle.apex_types.specs.declared.moment.Moment.{Moment}
-use Rattle.apex_types.specs.declared.reply.Reply.{Reply}
+use Rattle.apex_threads.proofs.Common.{◌≡◌, ◌≢◌, ℕ, ◌+◌, ◌<◌, ◌==◌, Bool, true, false, List, [], ◌∷◌, ◌++◌, length, Some, Vec, vec_len, vec_capacity, Result, Ok, Err, IfOk, IfErr, refl, sym, ap, subst, ◌∙◌, arith, length-append, slice_get, nat_tests, slice_get_within, Call, Moment, Reply, AreReady, AddsReplies}
 use Rattle.apex_ports.specs.declared.run_fault.RunFault.{RunFault}
 use Rattle.apex_ports.specs.declared.run_fault.RunFault.TheVariants as run_fault
 use Rattle.apex_threads.specs.Order.{first_fault}
-use Rattle.apex_threads.specs.Room.{AreReady, AddsReplies}
 use Rattle.apex_threads.proofs.Lists.{slice_get_end, slice_get_before}
 
 module _ (scripts : List (List (Moment × Call))) (lists : List (List Reply)) (last : List Reply) where

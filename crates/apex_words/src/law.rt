@@ -3,6 +3,7 @@ ghost use Rattle.apex_words.specs.Law.{RefusalsAreListed};
 ghost use Rattle.apex_words.specs.Replies.{RepliesAreGiven};
 
 /// Outside of IDLE, only a check that its service lists refuses a call. There is nothing to run.
+#[tactic(auto, using(crate::proofs::LawLemmas::refusals_listed))]
 pub fn refusals_are_listed()
     ensures { RefusalsAreListed }
 {}

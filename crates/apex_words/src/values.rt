@@ -8,8 +8,9 @@ use apex_types::{Direction, Name};
 use std::fmt;
 
 /// A value of a call or of a port. It is `Absent` if the call or the configuration has no such value.
-#[derive(Clone, Copy)]
+#[derive(Clone, Copy, Default)]
 pub(crate) enum Value<'a> {
+    #[default]
     Absent,
     Text(&'a str),
     Number(u64),
@@ -62,7 +63,7 @@ impl<'a> Values<'a> {
             call: CallValues::of(call),
             port: match port_called(config, p, call) {
                 Some(port) => PortValues::of(port, config.channel(port.channel)),
-                None => PortValues::ABSENT,
+                None => PortValues::default(),
             },
         }
     }
@@ -97,7 +98,7 @@ pub(crate) fn kind_of(service: Service) -> &'static str {
 }
 
 /// The values that a call is made with.
-#[derive(Clone, Copy)]
+#[derive(Clone, Copy, Default)]
 pub(crate) struct CallValues<'a> {
     pub(crate) name: Value<'a>,
     pub(crate) id: Value<'a>,
@@ -112,18 +113,6 @@ pub(crate) struct CallValues<'a> {
 }
 
 impl<'a> CallValues<'a> {
-    const ABSENT: CallValues<'static> = CallValues {
-        name: Value::Absent,
-        id: Value::Absent,
-        length: Value::Absent,
-        size: Value::Absent,
-        depth: Value::Absent,
-        direction: Value::Absent,
-        refresh: Value::Absent,
-        discipline: Value::Absent,
-        mode: Value::Absent,
-    };
-
     const PLACEHOLDERS: CallValues<'static> = CallValues {
         name: Value::Text("NAME"),
         id: Value::Text("ID"),
@@ -137,7 +126,7 @@ impl<'a> CallValues<'a> {
     };
 
     fn of(call: CallRef<'a>) -> CallValues<'a> {
-        let mut values = CallValues::ABSENT;
+        let mut values = CallValues::default();
         match call {
             CallRef::CreateSampling {
                 name,
@@ -178,7 +167,7 @@ impl<'a> CallValues<'a> {
 
     /// The values that both kinds of creation have.
     fn of_creation(name: &'a Name, size: u32, direction: u32) -> CallValues<'a> {
-        let mut values = CallValues::ABSENT;
+        let mut values = CallValues::default();
         values.name = Value::Text(name.text());
         values.size = Value::of(size);
         values.direction = Value::of(direction);
@@ -187,7 +176,7 @@ impl<'a> CallValues<'a> {
 }
 
 /// The values of a configured port and its channel.
-#[derive(Clone, Copy)]
+#[derive(Clone, Copy, Default)]
 pub(crate) struct PortValues<'a> {
     pub(crate) name: Value<'a>,
     /// The kind of the port; empty if there is none.
@@ -202,17 +191,6 @@ pub(crate) struct PortValues<'a> {
 }
 
 impl<'a> PortValues<'a> {
-    const ABSENT: PortValues<'static> = PortValues {
-        name: Value::Absent,
-        kind: "",
-        channel: Value::Absent,
-        size: Value::Absent,
-        depth: Value::Absent,
-        waiting: Value::Absent,
-        direction: Value::Absent,
-        refresh: Value::Absent,
-    };
-
     const PLACEHOLDERS: PortValues<'static> = PortValues {
         name: Value::Text("PORT"),
         kind: "",

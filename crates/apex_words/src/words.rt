@@ -1,7 +1,7 @@
 //! The words of the rows of the reply table.
 ghost use Rattle.std.specs.Prelude.{◌<◌, length};
 
-use crate::values::{Value, Values};
+use crate::values::Values;
 use apex_module::Config;
 use apex_ports::{CallRef, Refusal, Row};
 use std::alloc::AllocError;
@@ -102,20 +102,32 @@ fn write_refusal<W: fmt::Write>(
     match refusal {
         Refusal::NotConfigured => write!(f, "{partition} has no {kind} port {name} configured"),
         Refusal::AlreadyCreated => write!(f, "{name} is created already"),
-        Refusal::SizeDiffers => write_difference(f, "size", call.size, port.size),
-        Refusal::DepthDiffers => write_difference(f, "depth", call.depth, port.depth),
+        Refusal::SizeDiffers => write!(f, "size {}, configured {}", call.size, port.size),
+        Refusal::DepthDiffers => write!(f, "depth {}, configured {}", call.depth, port.depth),
         Refusal::DirectionDiffers => {
-            write_difference(f, "direction", call.direction, port.direction)
+            write!(
+                f,
+                "direction {}, configured {}",
+                call.direction, port.direction
+            )
         }
         Refusal::RefreshDiffers => {
-            write_difference(f, "refresh period", call.refresh, port.refresh)
+            write!(
+                f,
+                "refresh period {}, configured {}",
+                call.refresh, port.refresh
+            )
         }
         Refusal::UnknownDiscipline => write!(f, "discipline {discipline} is neither 0 nor 1"),
         Refusal::InNormal => f.write_str("partition is in NORMAL"),
         Refusal::NotCreated => write!(f, "no {kind} port {name} is created"),
         Refusal::NoSuchPort => write!(f, "no {kind} port of identifier {} is created", call.id),
         Refusal::EmptyMessage => f.write_str("message of 0 bytes"),
-        Refusal::MessageTooLong => write_excess(f, call.length, port.channel, port.size),
+        Refusal::MessageTooLong => write!(
+            f,
+            "message of {} bytes, channel {} takes {}",
+            call.length, port.channel, port.size
+        ),
         Refusal::NotSource => write!(f, "port {} is a destination", port.name),
         Refusal::NotDestination => write!(f, "port {} is a source", port.name),
         Refusal::QueueFull => write!(f, "{} on {}, its depth", port.waiting, port.channel),
@@ -125,27 +137,4 @@ fn write_refusal<W: fmt::Write>(
         Refusal::AlreadyNormal => f.write_str("partition is in NORMAL already"),
         Refusal::WarmStartInColdStart => f.write_str("no WARM_START while in COLD_START"),
     }
-}
-
-/// A value of a creation that differs from the configured one.
-fn write_difference<W: fmt::Write>(
-    f: &mut fmt::Formatter<W>,
-    what: &str,
-    called: Value<'_>,
-    configured: Value<'_>,
-) -> fmt::Result {
-    write!(f, "{what} {called}, configured {configured}")
-}
-
-/// The excess of a message that is longer than its channel allows.
-fn write_excess<W: fmt::Write>(
-    f: &mut fmt::Formatter<W>,
-    length: Value<'_>,
-    channel: Value<'_>,
-    size: Value<'_>,
-) -> fmt::Result {
-    write!(
-        f,
-        "message of {length} bytes, channel {channel} takes {size}"
-    )
 }

@@ -98,17 +98,23 @@ fn config<'a>(alloc: Global) -> Arg<'a> {
         .help("The file of a configuration")
 }
 
+/// The command with this name, which its usage has; `dekarino` is the whole program.
+pub(crate) fn alone<'a>(alloc: Global, name: &str) -> Result<Command<'a>, AllocError> {
+    match name {
+        "explain" => explain(alloc)?.bin_name("dekarino explain"),
+        "draw" => draw(alloc)?.bin_name("dekarino draw"),
+        "judge" => judge(alloc)?.bin_name("dekarino judge"),
+        "orders" => orders(alloc)?.bin_name("dekarino orders"),
+        _ => program(alloc),
+    }
+}
+
 fn table<'a>(alloc: Global) -> Result<Command<'a>, AllocError> {
     Command::new(alloc, "table")
         .about("Prints the ports of a configuration")
         .after_help(help::TABLE)
         .arg(config(alloc))?
         .arg(json(alloc))
-}
-
-/// The command `explain`, with the name that its usage has.
-pub(crate) fn explain_alone<'a>(alloc: Global) -> Result<Command<'a>, AllocError> {
-    explain(alloc)?.bin_name("dekarino explain")
 }
 
 fn explain<'a>(alloc: Global) -> Result<Command<'a>, AllocError> {
@@ -121,11 +127,6 @@ fn explain<'a>(alloc: Global) -> Result<Command<'a>, AllocError> {
         .arg(json(alloc))
 }
 
-/// The command `draw`, with the name that its usage has.
-pub(crate) fn draw_alone<'a>(alloc: Global) -> Result<Command<'a>, AllocError> {
-    draw(alloc)?.bin_name("dekarino draw")
-}
-
 fn draw<'a>(alloc: Global) -> Result<Command<'a>, AllocError> {
     Command::new(alloc, "draw")
         .about("Draws a configuration, or the calls of a trace")
@@ -133,11 +134,6 @@ fn draw<'a>(alloc: Global) -> Result<Command<'a>, AllocError> {
         .arg(config(alloc))?
         .arg(Arg::new(alloc, TRACE).help("The file of a trace"))?
         .arg(flag(alloc, JSON, help::ARROWS))
-}
-
-/// The command `judge`, with the name that its usage has.
-pub(crate) fn judge_alone<'a>(alloc: Global) -> Result<Command<'a>, AllocError> {
-    judge(alloc)?.bin_name("dekarino judge")
 }
 
 fn judge<'a>(alloc: Global) -> Result<Command<'a>, AllocError> {
@@ -155,11 +151,6 @@ fn judge<'a>(alloc: Global) -> Result<Command<'a>, AllocError> {
         .arg(option(alloc, SECONDS, "N", help::SECONDS))?
         .arg(option(alloc, MEMORY, "MIB", help::DEAD_ENDS))?
         .arg(json(alloc))
-}
-
-/// The command `orders`, with the name that its usage has.
-pub(crate) fn orders_alone<'a>(alloc: Global) -> Result<Command<'a>, AllocError> {
-    orders(alloc)?.bin_name("dekarino orders")
 }
 
 fn orders<'a>(alloc: Global) -> Result<Command<'a>, AllocError> {

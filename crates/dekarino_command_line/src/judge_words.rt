@@ -48,10 +48,7 @@ fn judge_apart<'a>(
     if let Some(message) = flag_of_one_log(given) {
         return Err(judge_fault(alloc, message));
     }
-    let limits = match limits_in(given) {
-        Ok(limits) => limits,
-        Err(message) => return Err(judge_fault(alloc, message)),
-    };
+    let limits = limits_in(given).map_err(|message| judge_fault(alloc, message))?;
     Ok(Task::JudgeApart {
         config: config_in(alloc, given)?,
         logs,
@@ -76,5 +73,5 @@ fn flag_of_one_log(given: &ArgMatches<'_>) -> Option<&'static str> {
 }
 
 fn judge_fault(alloc: Global, message: &str) -> WordsFault {
-    fault_of(alloc, commands::judge_alone(alloc), message)
+    fault_of(alloc, "judge", message)
 }

@@ -11,10 +11,7 @@ use std::alloc::{AllocError, Global};
 
 /// The task of the words.
 pub(crate) fn orders_in<'a>(alloc: Global, given: &ArgMatches<'a>) -> Result<Task<'a>, WordsFault> {
-    let mut limits = match limits_in(given) {
-        Ok(limits) => limits,
-        Err(message) => return Err(orders_fault(alloc, message)),
-    };
+    let mut limits = limits_in(given).map_err(|message| orders_fault(alloc, message))?;
     limits.clock = given.get_flag(commands::CLOCK);
     let words = given.get_strs(commands::SCRIPTS).unwrap_or(&[]);
     if !words.iter().all(|word| names_partition(word)) {
@@ -69,5 +66,5 @@ fn questions_in<'a>(
 }
 
 fn orders_fault(alloc: Global, message: &str) -> WordsFault {
-    fault_of(alloc, commands::orders_alone(alloc), message)
+    fault_of(alloc, "orders", message)
 }

@@ -61,7 +61,7 @@ fn unknown_command<S: AsStr>(alloc: Global, words: &[S], error: &clap::Error) ->
             };
         }
     };
-    fault_of(alloc, commands::program(alloc), message)
+    fault_of(alloc, "dekarino", message)
 }
 
 const CHECK: &str = "\
@@ -81,9 +81,7 @@ unrecognized subcommand 'run'
 
 fn task_in<'a>(alloc: Global, matches: &ArgMatches<'a>) -> Result<Task<'a>, WordsFault> {
     match matches.subcommand() {
-        Some((_, given)) if is_read_twice(given) => {
-            Err(fault_of(alloc, commands::program(alloc), TWICE))
-        }
+        Some((_, given)) if is_read_twice(given) => { Err(fault_of(alloc, "dekarino", TWICE)) }
         Some(("table", given)) => Ok(Task::Table {
             config: config_in(alloc, given)?,
             form: form_in(given),
@@ -96,7 +94,7 @@ fn task_in<'a>(alloc: Global, matches: &ArgMatches<'a>) -> Result<Task<'a>, Word
             service: given.get_str(commands::SERVICE),
             form: form_in(given),
         }),
-        _ => Err(fault_of(alloc, commands::program(alloc), "a command is missing")),
+        _ => Err(fault_of(alloc, "dekarino", "a command is missing")),
     }
 }
 
@@ -104,7 +102,7 @@ fn task_in<'a>(alloc: Global, matches: &ArgMatches<'a>) -> Result<Task<'a>, Word
 pub(crate) fn config_in<'a>(alloc: Global, given: &ArgMatches<'a>) -> Result<&'a str, WordsFault> {
     match given.get_str(commands::CONFIG) {
         Some(config) => Ok(config),
-        None => Err(fault_of(alloc, commands::program(alloc), "CONFIG is missing")),
+        None => Err(fault_of(alloc, "dekarino", "CONFIG is missing")),
     }
 }
 
@@ -112,7 +110,7 @@ fn explain_in<'a>(alloc: Global, given: &ArgMatches<'a>) -> Result<Task<'a>, Wor
     let Some(calls) = files_in(alloc, given, commands::CALLS)? else {
         return Err(fault_of(
             alloc,
-            commands::explain_alone(alloc),
+            "explain",
             "give one trace, or only arguments NAME=SCRIPT",
         ));
     };
@@ -128,11 +126,7 @@ fn draw_in<'a>(alloc: Global, given: &ArgMatches<'a>) -> Result<Task<'a>, WordsF
     match (form_in(given), given.get_str(commands::TRACE)) {
         (Form::Text, trace) => Ok(Task::Draw { config, trace }),
         (Form::Json, Some(trace)) => Ok(Task::ReadArrows { config, trace }),
-        (Form::Json, None) => Err(fault_of(
-            alloc,
-            commands::draw_alone(alloc),
-            "--json goes with a trace",
-        )),
+        (Form::Json, None) => Err(fault_of(alloc, "draw", "--json goes with a trace")),
     }
 }
 

@@ -1,14 +1,7 @@
 -- The calls of a history one after the other, as a loop goes through them.
-use Rattle.std.proofs.Common.{◌≡◌, ℕ, ◌+◌, ◌≤◌, List, [], ◌∷◌, ◌++◌, length, drop, take, Some, refl, ap, ◌∙◌}
-use Rattle.std.specs.Prelude.{slice_get}
+use Rattle.dekarino_drawings.proofs.Common.{◌≡◌, ℕ, ◌+◌, ◌≤◌, List, [], ◌∷◌, ◌++◌, length, drop, take, Some, refl, ap, ◌∙◌, slice_get, length-map, take_more, slice_get_within, get_or_from_slice_get, Configuration, History, request_of, requests_of, origin_of, arrow_from, arrows_after, drop_at}
 use Rattle.std.proofs.Math.ListN.{drop_of_length-le}
-use Rattle.std.proofs.lemmas.List.{length-map, take_more}
-use Rattle.std.proofs.lemmas.Option.{slice_get_within, get_or_from_slice_get}
-use Rattle.apex_module.specs.Configuration.{Configuration}
 use Rattle.apex_ports.specs.declared.history.Entry.{Entry}
-use Rattle.apex_ports.specs.History.{History, request_of, requests_of}
-use Rattle.dekarino_drawings.specs.Arrows.{origin_of, arrow_from, arrows_after}
-use Rattle.apex_texts.proofs.ReportLemmas.{drop_at}
 
 pub take_at : {X : Type 0} (xs : List X) (i : ℕ) (x : X) → slice_get xs i ≡ Some x → take (i + 1) xs ≡ take i xs ++ x ∷ []
 take_at xs i x is = take_more xs i x (slice_get_within xs i x is) ∙ ap (λ y. take i xs ++ y ∷ []) (get_or_from_slice_get xs i x x is)
@@ -22,6 +15,3 @@ arrow_cut config calls i entry is = rw (drop_at calls i entry is, take_at calls 
 pub arrow_end : (config : Configuration) (calls : History) (i : ℕ) → length calls ≤ i → arrows_after config (take i calls) (drop i calls) ≡ []
 unfolding arrows_after
 arrow_end config calls i past = rw (drop_of_length-le calls past) refl
-
-pub length-requests_of : (h : History) → length (requests_of h) ≡ length h
-length-requests_of h = length-map h request_of

@@ -1,28 +1,20 @@
 -- What is kept for each channel, before and after one more entry.
-use Rattle.std.proofs.Common.{◌≡◌, ◌≢◌, ℕ, suc, ◌+◌, ◌-◌, ◌^◌, ◌<◌, ◌≤◌, min, max, Bool, true, false, if◌then◌else◌, List, [], ◌∷◌, ◌++◌, length, length-append, length-set, set, drop, arith, Option, Some, None, is_some, refl, sym, ap, ◌∙◌, subst, append_assoc, append-nil}
-use Rattle.std.specs.Prelude.{slice_get, option_map}
-use Rattle.std.specs.List.{cons_option, filter_map, flat_map}
+use Rattle.dekarino_drawings.proofs.Common.{◌≡◌, ◌≢◌, ℕ, suc, ◌+◌, ◌-◌, ◌^◌, ◌<◌, ◌≤◌, min, max, Bool, true, false, if◌then◌else◌, List, [], ◌∷◌, ◌++◌, length, length-append, length-set, set, drop, arith, Option, Some, None, is_some, refl, sym, ap, ◌∙◌, subst, append_assoc, append-nil, slice_get, option_map, cons_option, filter_map, flat_map, length-drop, slice_get_within, Configuration, port_of, History, ChannelCalls}
+use Rattle.dekarino_drawings.proofs.Common.{index_if, indexes_from, sends_on, writes_on, last_write, on_channel_of, origin_of, waiting_from, IsFollowed, AreFollowed, waits_in, channel_changed}
 use Rattle.std.proofs.lemmas.Bool.Decides.{nat_tests}
-use Rattle.std.proofs.lemmas.List.{length-drop}
-use Rattle.std.proofs.lemmas.Option.{slice_get_within}
 use Rattle.apex_types.specs.declared.call.Call.{Call}
 use Rattle.apex_types.specs.declared.call.Call.TheVariants.{SendQueuing, ReceiveQueuing, ClearQueuing, WriteSampling, ReadSampling}
 use Rattle.apex_types.specs.declared.reply.Reply.{Reply}
 use Rattle.apex_types.specs.declared.reply.Reply.TheVariants.{Read}
 use Rattle.apex_types.specs.declared.taken.Taken.{Taken}
 use Rattle.apex_types.specs.declared.validity.Validity.{Validity}
-use Rattle.apex_module.specs.Configuration.{Configuration, port_of}
 use Rattle.apex_module.specs.declared.channel.Channel.{Channel}
 use Rattle.apex_module.specs.declared.port.Port.{Port}
 use Rattle.apex_ports.specs.declared.history.Entry.{Entry}
-use Rattle.apex_ports.specs.History.{History}
 use Rattle.apex_ports.specs.Channels.{message_accepted, accepted_on, taken_on, taken_by, waiting_on, sample_written}
 use Rattle.apex_ports.proofs.Appends.{taken_on-append}
 use Rattle.apex_ports.proofs.OneChannel.{LiesElsewhere, off_channel, sends_elsewhere, receives_elsewhere, clears_elsewhere, writes_elsewhere}
 use Rattle.apex_ports.proofs.Stays.{IsElsewhere, LeavesChannel, leaves_channel, taken_stays, each_at_set}
-use Rattle.dekarino_drawings.specs.declared.channel_calls.ChannelCalls.{ChannelCalls}
-use Rattle.dekarino_drawings.specs.Arrows.{index_if, indexes_from, sends_on, writes_on, last_write, on_channel_of, origin_of, waiting_from}
-use Rattle.dekarino_drawings.specs.Following.{IsFollowed, AreFollowed, waits_in, channel_changed}
 
 -- ---- indexes
 

@@ -1,15 +1,9 @@
 -- The call whose message a call showed. Calls are given by their indexes in the history, from 0.
-use Rattle.std.specs.Prelude.{ℕ, Bool, ◌+◌, ◌-◌, if◌then◌else◌, List, [], ◌∷◌, ◌++◌, length, drop, slice_get, Option, Some, None, is_some}
-use Rattle.apex_types.specs.declared.call.Call.{Call}
-use Rattle.apex_types.specs.declared.call.Call.TheVariants.{ReceiveQueuing, ReadSampling}
+use Rattle.dekarino_drawings.specs.Prelude.{ℕ, Bool, ◌+◌, ◌-◌, if◌then◌else◌, List, [], ◌∷◌, ◌++◌, length, drop, slice_get, Option, Some, None, is_some, Call, ReceiveQueuing, ReadSampling, Configuration, port_of, Entry, History, message_accepted, taken_on, sample_written}
 use Rattle.apex_types.specs.declared.reply.Reply.{Reply}
 use Rattle.apex_types.specs.declared.reply.Reply.TheVariants.{Received, Read}
-use Rattle.apex_module.specs.Configuration.{Configuration, port_of}
 use Rattle.apex_module.specs.declared.channel.Channel.{Channel}
 use Rattle.apex_module.specs.declared.port.Port.{Port}
-use Rattle.apex_ports.specs.declared.history.Entry.{Entry}
-use Rattle.apex_ports.specs.History.{History}
-use Rattle.apex_ports.specs.Channels.{message_accepted, taken_on, sample_written}
 use Rattle.dekarino_drawings.specs.declared.arrow.Arrow.{Arrow}
 
 -- ---- indexes

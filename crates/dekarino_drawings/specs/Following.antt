@@ -1,11 +1,5 @@
 -- What is kept for each channel while going through the calls of a history.
-use Rattle.std.specs.Prelude.{◌≡◌, ℕ, ◌≤◌, List, length, drop, Option, None, option_map}
-use Rattle.apex_types.specs.declared.call.Call.{Call}
-use Rattle.apex_types.specs.declared.call.Call.TheVariants.{SendQueuing, ReceiveQueuing, ClearQueuing, WriteSampling}
-use Rattle.apex_module.specs.Configuration.{Configuration, port_of}
-use Rattle.apex_ports.specs.History.{History}
-use Rattle.apex_ports.specs.Channels.{taken_on}
-use Rattle.apex_ports.specs.Kept.{EachAt}
+use Rattle.dekarino_drawings.specs.Prelude.{◌≡◌, ℕ, ◌≤◌, List, length, drop, Option, None, option_map, Call, SendQueuing, ReceiveQueuing, ClearQueuing, WriteSampling, Configuration, port_of, History, taken_on, EachAt}
 use Rattle.dekarino_drawings.specs.declared.channel_calls.ChannelCalls.{ChannelCalls}
 use Rattle.dekarino_drawings.specs.Arrows.{sends_on, last_write}
 

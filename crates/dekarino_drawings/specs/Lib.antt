@@ -1,3 +1,4 @@
+pub mod Prelude
 pub mod Arrows
 pub mod Chart
 pub mod Escaping

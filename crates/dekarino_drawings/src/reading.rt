@@ -1,7 +1,5 @@
 //! Reads what a trace's chart shows.
-ghost use Rattle.std.specs.Prelude.{◌≡◌, ◌<◌, ◌++◌, [], ◌∷◌, length, IfOk, MatchResult};
-ghost use Rattle.apex_ports.specs.History.{request_of};
-ghost use Rattle.apex_ports.specs.Lawful.{Answers};
+ghost use Rattle.dekarino_drawings.specs.Prelude.{◌≡◌, ◌<◌, ◌++◌, [], ◌∷◌, length, IfOk, MatchResult, request_of, Answers};
 ghost use Rattle.apex_ports.specs.Sound.{IsSound};
 ghost use Rattle.apex_texts.specs.Trace.{HavePartitions};
 ghost use Rattle.dekarino_drawings.specs.Chart.{IsChart, IsChartOf, IsDrawn, IsNotDrawn, IsNotRead};

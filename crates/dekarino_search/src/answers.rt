@@ -26,18 +26,14 @@ pub(crate) fn answers_to<'a, P: Progress>(
 ) -> Result<Outcome, Unfinished<'a>>
     requires { length scripts.old ≡ length config.now.partitions }
 {
-    let all_asked = match all_asked_in(alloc, config, scripts, lines, questions) {
-        Ok(all_asked) => all_asked,
-        Err(unfinished) => return Err(unfinished),
-    };
+    let all_asked = all_asked_in(alloc, config, scripts, lines, questions)?;
     let all_asked = all_asked.as_slice();
     match (questions, all_asked) {
         ([question], [asked]) => {
-            let found = find_occurrence(alloc, config, scripts, limits, question, asked, progress);
-            match found {
-                Ok(answer) => Ok(answer.verdict.outcome(answer.text.into_bytes())),
-                Err(unfinished) => Err(unfinished),
-            }
+            let answer = find_occurrence(
+                alloc, config, scripts, limits, question, asked, progress,
+            )?;
+            Ok(answer.verdict.outcome(answer.text.into_bytes()))
         }
         _ => several_answers(
             alloc, config, scripts, limits, questions, all_asked, progress,
@@ -55,13 +51,9 @@ fn all_asked_in<'a>(
 ) -> Result<Vec<AskedOf>, Unfinished<'a>> {
     let mut all_asked = Vec::new(alloc);
     for question in questions {
-        let asked = match question_in(alloc, config, scripts, lines, question.words()) {
-            Ok(asked) => asked,
-            Err(unfinished) => return Err(unfinished),
-        };
-        match all_asked.push(asked) {
-            Ok(()) => {}
-            Err(refused) => return Err(Unfinished::from(AllocError::from(refused))),
+        let asked = question_in(alloc, config, scripts, lines, question.words())?;
+        if let Err(refused) = all_asked.push(asked) {
+            return Err(Unfinished::from(AllocError::from(refused)));
         }
     }
     Ok(all_asked)

@@ -42,39 +42,23 @@ pub(crate) fn find_occurrence<'a, P: Progress>(
     requires { length scripts.old ≡ length config.now.partitions }
     ensures same { scripts.new ≡ scripts.old }
 {
-    let mut progress = SearchProgress::new(progress, limits);
-    let states = progress.states();
+    let mut search = SearchProgress::new(progress, limits);
+    let (clock, states) = (limits.clock, search.states());
     let found = match asked {
         AskedOf::Call(asked) => {
-            order_giving_apart(
-                alloc,
-                config,
-                scripts,
-                limits.clock,
-                asked,
-                states,
-                &mut progress,
-            )
+            order_giving_apart(alloc, config, scripts, clock, asked, states, &mut search)
         }
-        AskedOf::End(asked) => order_to_end(
-            alloc,
-            config,
-            scripts,
-            limits.clock,
-            asked,
-            states,
-            &mut progress,
-        ),
+        AskedOf::End(asked) => {
+            order_to_end(alloc, config, scripts, clock, asked, states, &mut search)
+        }
     };
     let order = match found {
         Ok(order) => order,
-        Err(fault) => return Err(unfinished_by(fault, &progress)),
+        Err(fault) => return Err(unfinished_by(fault, &search)),
     };
     let verdict = Verdict::of(order.is_some(), question.is_wanted());
-    match answer_text(alloc, config, scripts, order) {
-        Ok(text) => Ok(Answer { verdict, text }),
-        Err(_) => Err(Unfinished::from(AllocError)),
-    }
+    let text = answer_text(alloc, config, scripts, order)?;
+    Ok(Answer { verdict, text })
 }
 
 fn answer_text(

@@ -56,7 +56,7 @@ pub fn outcomes_of_scripts<'a, O: Opener + FileWriter, P: Progress>(
         Err(fault) => return Err(unfinished_by(fault, &progress)),
     };
     let replies = found.replies.as_slice();
-    let files = match write_witnesses(
+    let files = write_witnesses(
         alloc,
         opener,
         &config,
@@ -66,19 +66,9 @@ pub fn outcomes_of_scripts<'a, O: Opener + FileWriter, P: Progress>(
         replies,
         witness,
         &mut progress,
-    ) {
-        Ok(files) => files,
-        Err(unfinished) => return Err(unfinished),
-    };
-    let text = outcomes_text(
-        alloc,
-        &config,
-        scripts,
-        lines,
-        &found,
-        files.as_slice(),
-        form,
     )?;
+    let files = files.as_slice();
+    let text = outcomes_text(alloc, &config, scripts, lines, &found, files, form)?;
     Ok(Outcome::Done(text.into_bytes()))
 }
 

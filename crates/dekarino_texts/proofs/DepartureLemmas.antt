@@ -1,23 +1,14 @@
 -- Judging a log, entry by entry.
-use Rattle.std.proofs.Common.{◌≡◌, ℕ, ◌+◌, ◌≤◌, List, [], ◌∷◌, ◌++◌, Option, Some, None, Result, Ok, Err, refl, sym, ◌∙◌, subst, append-nil, append_assoc, arith}
-use Rattle.apex_module.specs.Configuration.{Configuration}
-use Rattle.apex_ports.specs.declared.history.Entry.{Entry}
-use Rattle.apex_ports.specs.History.{History}
+use Rattle.dekarino_texts.proofs.Common.{◌≡◌, ℕ, ◌+◌, ◌≤◌, List, [], ◌∷◌, ◌++◌, Option, Some, None, Result, Ok, Err, refl, sym, ◌∙◌, subst, append-nil, append_assoc, arith, Configuration, Entry, History, instead_of, Own, none_known, entry_in_ours, own_after, replaced_in, polled_entry, max_wait_of, DepartureCounts, LoggedDeparture, IsJudged, all_to_judge, known_in, log_to_judge, counts_with, departures_handed}
+use Rattle.dekarino_texts.proofs.Common.{handed_after, judged_counts_after, no_counts, IsHanded}
 use Rattle.apex_judge.specs.declared.departure.Expected.{Expected}
-use Rattle.apex_judge.specs.Departures.{instead_of}
-use Rattle.apex_judge.specs.OwnIds.{Own, none_known, entry_in_ours, own_after, replaced_in}
 use Rattle.apex_logs.specs.declared.log.FaultyLine.{FaultyLine}
 use Rattle.apex_logs.specs.declared.log.LoggedEntry.{LoggedEntry}
 use Rattle.apex_logs.specs.declared.time_out.MaxWait.{MaxWait}
 use Rattle.apex_logs.specs.declared.time_out.TimeOut.{TimeOut}
 use Rattle.apex_logs.specs.Log.{before}
-use Rattle.apex_logs.specs.Polled.{polled_entry}
-use Rattle.apex_logs.specs.TimeOut.{max_wait_of}
-use Rattle.dekarino_texts.specs.declared.departures.DepartureCounts.{DepartureCounts}
 use Rattle.dekarino_texts.specs.declared.departures.LogPlace.{LogPlace}
 use Rattle.dekarino_texts.specs.declared.departures.Reading.{Reading}
-use Rattle.dekarino_texts.specs.Departures.{LoggedDeparture, IsJudged, all_to_judge, known_in, log_to_judge, counts_with, departures_handed, handed_after, judged_counts_after, no_counts}
-use Rattle.dekarino_texts.specs.Handed.{IsHanded}
 use Rattle.dekarino_texts.proofs.HandedLemmas.{handed_more}
 
 -- an entry is one call more, and one departure more at most

@@ -1,24 +1,14 @@
 -- Explaining lines one after the other, as a loop does.
-use Rattle.std.proofs.Common.{◌≡◌, ℕ, ◌+◌, ◌≤◌, List, [], ◌∷◌, ◌++◌, length, length-append, Option, Some, None, Result, Ok, Err, refl, sym, ap, ◌∙◌, arith, subst}
+use Rattle.dekarino_texts.proofs.Common.{◌≡◌, ℕ, ◌+◌, ◌≤◌, List, [], ◌∷◌, ◌++◌, length, length-append, Option, Some, None, Result, Ok, Err, refl, sym, ap, ◌∙◌, arith, subst, lines, Configuration, History, item_of_line, request_at, grows, complete, Notes, ExplainedLine, line_without_call, line_faulty, answered_after, explained_line, explained, entry_in, log_in, IsHanded, AreNoted, ArePortsNoted, LineEntry, history_of}
+use Rattle.dekarino_texts.proofs.Common.{remarks_of, partition_remarks, channel_remarks}
 use Rattle.std.specs.List.{before_first, after_first}
-use Rattle.std.specs.Str.Lines.{lines}
 use Rattle.std.proofs.lemmas.Grind.{flat_map-append}
 use Rattle.std.proofs.lemmas.List.{append-nil}
-use Rattle.apex_module.specs.Configuration.{Configuration}
 use Rattle.apex_ports.specs.declared.history.Request.{Request}
-use Rattle.apex_ports.specs.History.{History}
 use Rattle.apex_texts.specs.declared.line_fault.LineFault.{LineFault}
-use Rattle.apex_texts.specs.Lines.{item_of_line}
 use Rattle.apex_texts.specs.Replay.{entry_after}
 use Rattle.apex_texts.specs.Text.{is_line_feed}
-use Rattle.apex_texts.specs.Trace.{request_at}
-use Rattle.apex_texts.proofs.ReportLemmas.{grows, complete}
-use Rattle.dekarino_texts.specs.declared.notes.Notes.{Notes}
 use Rattle.dekarino_texts.specs.declared.remark.Remark.{Remark}
-use Rattle.dekarino_texts.specs.Explanation.{ExplainedLine, line_without_call, line_faulty, answered_after, explained_line, explained, entry_in, log_in}
-use Rattle.dekarino_texts.specs.Handed.{IsHanded}
-use Rattle.dekarino_texts.specs.Notes.{AreNoted, ArePortsNoted}
-use Rattle.dekarino_texts.specs.Remarks.{LineEntry, history_of, remarks_of, partition_remarks, channel_remarks}
 use Rattle.dekarino_texts.proofs.HandedLemmas.{handed_one}
 use Rattle.dekarino_texts.proofs.NoteLemmas.{history_of-push}
 

@@ -1,6 +1,5 @@
 -- Handing more pieces to a sink.
-use Rattle.std.proofs.Common.{List, [], ◌∷◌, ◌++◌, refl, sym, subst}
-use Rattle.dekarino_texts.specs.Handed.{IsHanded}
+use Rattle.dekarino_texts.proofs.Common.{List, [], ◌∷◌, ◌++◌, refl, sym, subst, IsHanded}
 
 module _ {S X : Type 0} (takes : S → X → S → Type 0) where
   pub handed_more : (before middle after : S) (pieces more : List X) → IsHanded takes before pieces middle → IsHanded takes middle more after → IsHanded takes before (pieces ++ more) after

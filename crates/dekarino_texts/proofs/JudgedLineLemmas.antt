@@ -1,10 +1,6 @@
 -- Judging a log, line by line.
-use Rattle.std.proofs.Common.{◌≡◌, ℕ, ◌+◌, ◌≤◌, true, false, List, [], ◌∷◌, ◌++◌, Some, None, Result, Ok, Err, IfSome, inl, inr, refl, sym, ap, ◌∙◌, subst, append-nil, append_assoc}
-use Rattle.apex_module.specs.Configuration.{Configuration}
-use Rattle.apex_ports.specs.declared.history.Entry.{Entry}
-use Rattle.apex_ports.specs.History.{History}
-use Rattle.apex_judge.specs.Departures.{instead_of}
-use Rattle.apex_judge.specs.OwnIds.{Own, none_known, entry_in_ours, own_after, replaced_in}
+use Rattle.dekarino_texts.proofs.Common.{◌≡◌, ℕ, ◌+◌, ◌≤◌, true, false, List, [], ◌∷◌, ◌++◌, Some, None, Result, Ok, Err, IfSome, inl, inr, refl, sym, ap, ◌∙◌, subst, append-nil, append_assoc, Configuration, Entry, History, instead_of, Own, none_known, entry_in_ours, own_after, replaced_in, polled_entry, max_wait_of, DepartureCounts, LoggedDeparture, AreFirstJudged, IsJudged, IsJudgedThrough, IsStoppedAt, counts_with}
+use Rattle.dekarino_texts.proofs.Common.{departures_handed, known_in, no_counts, stopped_at, IsHanded}
 use Rattle.apex_logs.specs.declared.line_source.ReadError.{ReadError}
 use Rattle.apex_logs.specs.declared.line_source.ReadError.TheVariants as reads
 use Rattle.apex_logs.specs.declared.line_source.StepError.{StepError}
@@ -17,16 +13,12 @@ use Rattle.apex_logs.specs.declared.time_out.TimeOut.{TimeOut}
 use Rattle.apex_logs.specs.LineSource.{IsFaultyStep, KnownLines, LeavesLines}
 use Rattle.apex_logs.specs.Log.{entries_from}
 use Rattle.apex_logs.specs.LogLine.{entry_of_line, ends_calls}
-use Rattle.apex_logs.specs.Polled.{polled_entry}
-use Rattle.apex_logs.specs.TimeOut.{max_wait_of}
 use Rattle.apex_logs.specs.TimedCall.{logged_request_at}
 use Rattle.apex_logs.proofs.LogLemmas as of_log
-use Rattle.dekarino_texts.specs.declared.departures.DepartureCounts.{DepartureCounts}
 use Rattle.dekarino_texts.specs.declared.departures.LogPlace.{LogPlace}
 use Rattle.dekarino_texts.specs.declared.departures.Reading.{Reading}
 use Rattle.dekarino_texts.specs.declared.judged_lines.JudgeError.TheVariants as stops
-use Rattle.dekarino_texts.specs.Departures.{LoggedDeparture, AreFirstJudged, IsJudged, IsJudgedThrough, IsStoppedAt, counts_with, departures_handed, known_in, log_in, no_counts, stopped_at}
-use Rattle.dekarino_texts.specs.Handed.{IsHanded}
+use Rattle.dekarino_texts.specs.Departures.{log_in}
 use Rattle.dekarino_texts.proofs.DepartureLemmas.{IsUnderWay, starts, judges, ends}
 
 -- ---- what is left of known lines

@@ -1,3 +1,4 @@
+pub mod Common
 pub mod DepartureLemmas
 pub mod ExplanationLemmas
 pub mod HandedLemmas

@@ -1,15 +1,9 @@
 -- What is noted once a call is added.
-use Rattle.std.proofs.Common.{◌≡◌, ℕ, ◌+◌, ◌≤◌, List, [], ◌∷◌, ◌++◌, length, length-append, refl, sym, ap, ◌∙◌, arith, append_assoc}
+use Rattle.dekarino_texts.proofs.Common.{◌≡◌, ℕ, ◌+◌, ◌≤◌, List, [], ◌∷◌, ◌++◌, length, length-append, refl, sym, ap, ◌∙◌, arith, append_assoc, map-append, Configuration, Entry, History, Notes, AreNoted, last_moment, LineEntry, history_of, earlier, moment_remarks, not_made, idle_remarks}
 use Rattle.std.proofs.lemmas.Grind.{flat_map-append}
-use Rattle.std.proofs.lemmas.List.{append-nil, map-append}
+use Rattle.std.proofs.lemmas.List.{append-nil}
 use Rattle.apex_types.specs.declared.moment.Moment.{Moment}
-use Rattle.apex_module.specs.Configuration.{Configuration}
-use Rattle.apex_ports.specs.declared.history.Entry.{Entry}
-use Rattle.apex_ports.specs.History.{History}
-use Rattle.dekarino_texts.specs.declared.notes.Notes.{Notes}
 use Rattle.dekarino_texts.specs.declared.remark.Remark.{Remark}
-use Rattle.dekarino_texts.specs.Notes.{AreNoted, last_moment}
-use Rattle.dekarino_texts.specs.Remarks.{LineEntry, history_of, earlier, moment_remarks, not_made, idle_remarks}
 
 pub history_of-push : (log : List LineEntry) (one : LineEntry) → history_of (log ++ one ∷ []) ≡ history_of log ++ one.entry ∷ []
 history_of-push log one = map-append (λ (each : LineEntry). each.entry) log (one ∷ [])

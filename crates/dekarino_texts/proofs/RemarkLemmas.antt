@@ -1,16 +1,10 @@
 -- The remarks on ports and channels, one after the other.
-use Rattle.std.proofs.Common.{◌≡◌, ℕ, ◌+◌, ◌<◌, ◌≤◌, List, [], ◌++◌, length, drop, Option, Some, None, refl}
-use Rattle.std.specs.Prelude.{slice_get}
+use Rattle.dekarino_texts.proofs.Common.{◌≡◌, ℕ, ◌+◌, ◌<◌, ◌≤◌, List, [], ◌++◌, length, drop, Option, Some, None, refl, slice_get, Configuration, PartitionData, IsConfiguration, port_of, ports_of, History, name_of_partition, drop_at, port_remark, port_remarks, partition_remarks, waiting_remark, channel_remarks}
 use Rattle.std.proofs.Math.ListN.{drop_of_length-le}
 use Rattle.std.proofs.lemmas.Option.{slice_get_within, slice_get-get_or}
-use Rattle.apex_module.specs.Configuration.{Configuration, PartitionData, IsConfiguration, port_of, ports_of}
 use Rattle.apex_module.specs.declared.channel.Channel.{Channel}
 use Rattle.apex_module.specs.declared.port.Port.{Port}
 use Rattle.apex_ports.specs.Channels.{waiting_on}
-use Rattle.apex_ports.specs.History.{History}
-use Rattle.apex_texts.specs.Report.{name_of_partition}
-use Rattle.apex_texts.proofs.ReportLemmas.{drop_at}
-use Rattle.dekarino_texts.specs.Remarks.{port_remark, port_remarks, partition_remarks, waiting_remark, channel_remarks}
 
 -- ---- ports
 

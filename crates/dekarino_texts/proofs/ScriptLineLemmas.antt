@@ -1,14 +1,10 @@
 -- The numbers of the lines that have a call.
-use Rattle.std.proofs.Common.{◌≡◌, ℕ, zero, suc, ◌+◌, true, false, List, [], ◌∷◌, ◌++◌, length, Option, Some, None, Result, Ok, Err, refl, is_some, sym, ap, ◌∙◌, subst, append_assoc, append-nil, arith}
-use Rattle.std.specs.Prelude.{slice_get}
-use Rattle.std.specs.Str.Lines.{lines}
+use Rattle.dekarino_texts.proofs.Common.{◌≡◌, ℕ, zero, suc, ◌+◌, true, false, List, [], ◌∷◌, ◌++◌, length, Option, Some, None, Result, Ok, Err, refl, is_some, sym, ap, ◌∙◌, subst, append_assoc, append-nil, arith, slice_get, lines, FaultyLine, line_words, item_of_line, items_from, are_words, has_call, numbers_from, call_numbers, IsLineOf, AreLinesOf}
 use Rattle.apex_types.specs.declared.call.Call.{Call}
 use Rattle.apex_types.specs.declared.moment.Moment.{Moment}
 use Rattle.apex_texts.specs.declared.line_fault.LineFault.{LineFault}
 use Rattle.apex_texts.specs.LineFault.{number_of}
-use Rattle.apex_texts.specs.Lines.{FaultyLine, line_words, item_of_line, items_from}
 use Rattle.apex_texts.specs.Script.{timed_call_at, script_of}
-use Rattle.dekarino_texts.specs.ScriptLines.{are_words, has_call, numbers_from, call_numbers, IsLineOf, AreLinesOf}
 
 -- ---- one line more
 

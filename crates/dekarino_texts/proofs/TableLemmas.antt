@@ -1,13 +1,9 @@
 -- The rows of the table of ports, one after the other.
-use Rattle.std.proofs.Common.{◌≡◌, ℕ, ◌+◌, ◌<◌, ◌≤◌, List, [], ◌∷◌, ◌++◌, length, drop, Option, Some, None, sym, ◌∙◌, add-one, refl}
-use Rattle.std.specs.Prelude.{slice_get}
+use Rattle.dekarino_texts.proofs.Common.{◌≡◌, ℕ, ◌+◌, ◌<◌, ◌≤◌, List, [], ◌∷◌, ◌++◌, length, drop, Option, Some, None, sym, ◌∙◌, add-one, refl, slice_get, Configuration, PartitionData, ports_of, port_at, drop_at, place_if, places_in, partners_of, port_row, port_rows, partition_rows}
 use Rattle.std.proofs.Math.ListN.{drop_of_length-le}
 use Rattle.std.proofs.lemmas.Option.{slice_get-get_or}
-use Rattle.apex_module.specs.Configuration.{Configuration, PartitionData, ports_of, port_at}
 use Rattle.apex_module.specs.declared.port.Port.{Port}
 use Rattle.apex_module.proofs.PortLemmas.{port_at_suc}
-use Rattle.apex_texts.proofs.ReportLemmas.{drop_at}
-use Rattle.dekarino_texts.specs.PortTable.{place_if, places_in, partners_of, port_row, port_rows, partition_rows}
 
 -- ---- partners
 

@@ -1,24 +1,12 @@
 -- A log, judged entry by entry: which departures a sink is handed, and what is counted.
-use Rattle.std.specs.Prelude.{◌≡◌, ℕ, Bool, ◌+◌, ◌≤◌, ◌⊎◌, nat_lt, if◌then◌else◌, List, [], ◌∷◌, ◌++◌, Option, Some, None, option_map, Result, Ok, Err}
-use Rattle.apex_types.specs.declared.call.Call.{Call}
-use Rattle.apex_module.specs.Configuration.{Configuration}
-use Rattle.apex_ports.specs.declared.history.Entry.{Entry}
-use Rattle.apex_ports.specs.History.{History}
+use Rattle.dekarino_texts.specs.Prelude.{◌≡◌, ℕ, Bool, ◌+◌, ◌≤◌, ◌⊎◌, nat_lt, if◌then◌else◌, List, [], ◌∷◌, ◌++◌, Option, Some, None, option_map, Result, Ok, Err, Call, Configuration, Entry, History, instead_of, Own, none_known, entry_in_ours, own_after, replaced_in, LoggedEntry, MaxWait, entries_from, wait_of, polled_entry, as_waited, logged_request_at}
 use Rattle.apex_judge.specs.declared.departure.Expected.{Expected}
 use Rattle.apex_judge.specs.declared.own_ids.Replaced.{Replaced}
 use Rattle.apex_judge.specs.declared.port_ids.KnownIds.{KnownIds}
-use Rattle.apex_judge.specs.Departures.{instead_of}
-use Rattle.apex_judge.specs.OwnIds.{Own, none_known, entry_in_ours, own_after, replaced_in}
 use Rattle.apex_logs.specs.declared.log.FaultyLine.{FaultyLine}
 use Rattle.apex_logs.specs.declared.line_source.ReadError.TheVariants as reads
 use Rattle.apex_logs.specs.declared.line_source.StepError.{StepError}
 use Rattle.apex_logs.specs.declared.line_source.StepError.TheVariants.{Fault, Unread}
-use Rattle.apex_logs.specs.declared.log.LoggedEntry.{LoggedEntry}
-use Rattle.apex_logs.specs.declared.time_out.MaxWait.{MaxWait}
-use Rattle.apex_logs.specs.Log.{entries_from}
-use Rattle.apex_logs.specs.Polled.{wait_of, polled_entry}
-use Rattle.apex_logs.specs.TimeOut.{as_waited}
-use Rattle.apex_logs.specs.TimedCall.{logged_request_at}
 use Rattle.dekarino_texts.specs.declared.departures.DepartureCounts.{DepartureCounts}
 use Rattle.dekarino_texts.specs.declared.departures.LogPlace.{LogPlace}
 use Rattle.dekarino_texts.specs.declared.departures.Reading.{Reading}

@@ -1,6 +1,5 @@
 -- The end of an explanation, after its lines.
-use Rattle.std.specs.Prelude.{◌≡◌, List, [], length, MatchOption}
-use Rattle.apex_module.specs.Configuration.{Configuration}
+use Rattle.dekarino_texts.specs.Prelude.{◌≡◌, List, [], length, MatchOption, Configuration}
 use Rattle.apex_ports.specs.PortsView.{PortsView}
 use Rattle.dekarino_texts.specs.declared.explanation.Explanation.{Explanation}
 use Rattle.dekarino_texts.specs.Explanation.{ExplainedLine, log_in}

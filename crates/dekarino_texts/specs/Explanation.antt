@@ -1,20 +1,10 @@
 -- What an explanation has of each line of a trace, up to the first faulty one.
-use Rattle.std.specs.Prelude.{ℕ, ◌+◌, List, [], ◌∷◌, ◌++◌, Option, Some, None, Result, Ok, Err, IsOk}
-use Rattle.std.specs.List.{before_first, after_first, flat_map}
+use Rattle.dekarino_texts.specs.Prelude.{ℕ, ◌+◌, List, [], ◌∷◌, ◌++◌, Option, Some, None, Result, Ok, Err, IsOk, before_first, after_first, flat_map, Reply, Configuration, Request, History, entry_of, LineFault, FaultyLine, item_of_line, entry_after, IsRefused, is_line_feed, request_at}
 use Rattle.std.specs.Str.Lines.{lines}
-use Rattle.apex_types.specs.declared.reply.Reply.{Reply}
-use Rattle.apex_module.specs.Configuration.{Configuration}
-use Rattle.apex_ports.specs.declared.history.Request.{Request}
 use Rattle.apex_ports.specs.declared.rows.Row.{Row}
-use Rattle.apex_ports.specs.History.{History, entry_of}
 use Rattle.apex_ports.specs.ReplyTable.{row_of}
 use Rattle.apex_ports.specs.Seen.{seen}
-use Rattle.apex_texts.specs.declared.line_fault.LineFault.{LineFault}
 use Rattle.apex_texts.specs.declared.fault.TraceFault.{TraceFault}
-use Rattle.apex_texts.specs.Lines.{FaultyLine, item_of_line}
-use Rattle.apex_texts.specs.Replay.{entry_after, IsRefused}
-use Rattle.apex_texts.specs.Text.{is_line_feed}
-use Rattle.apex_texts.specs.Trace.{request_at}
 use Rattle.dekarino_texts.specs.declared.explanation.AnsweredCall.{AnsweredCall}
 use Rattle.dekarino_texts.specs.Remarks.{LineEntry}
 

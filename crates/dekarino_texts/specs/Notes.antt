@@ -1,10 +1,5 @@
 -- What is noted of the calls of a trace, for the remarks.
-use Rattle.std.specs.Prelude.{◌≡◌, ℕ, Bool, false, ◌==◌, ◌&&◌, List, [], ◌∷◌, length, Option, Some, None}
-use Rattle.std.specs.List.{list_any}
-use Rattle.apex_types.specs.declared.moment.Moment.{Moment}
-use Rattle.apex_module.specs.Configuration.{Configuration}
-use Rattle.apex_ports.specs.History.{History}
-use Rattle.apex_ports.specs.Ports.{creates}
+use Rattle.dekarino_texts.specs.Prelude.{◌≡◌, ℕ, Bool, false, ◌==◌, ◌&&◌, List, [], ◌∷◌, length, Option, Some, None, list_any, Moment, Configuration, History, creates}
 use Rattle.dekarino_texts.specs.declared.notes.Notes.{Notes}
 use Rattle.dekarino_texts.specs.declared.port_notes.PortKey.{PortKey}
 use Rattle.dekarino_texts.specs.declared.port_notes.PortNotes.{PortNotes}

@@ -1,6 +1,5 @@
 -- The calls of scripts, each with its line and the replies that it can get.
-use Rattle.std.specs.Prelude.{ℕ, Bool, ◌==◌, ◌&&◌, List, [], filter, map, slice_get, unwrap_or, Option, Some, None}
-use Rattle.apex_types.specs.declared.reply.Reply.{Reply}
+use Rattle.dekarino_texts.specs.Prelude.{ℕ, Bool, ◌==◌, ◌&&◌, List, [], filter, map, slice_get, unwrap_or, Option, Some, None, Reply}
 use Rattle.apex_orders.specs.declared.replies.PossibleReply.{PossibleReply}
 use Rattle.dekarino_texts.specs.declared.script_lines.LineNumbers.{LineNumbers}
 

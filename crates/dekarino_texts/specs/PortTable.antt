@@ -1,9 +1,7 @@
 -- The table of a configuration's ports: a row for each partition, and after it one for each of its ports.
-use Rattle.std.specs.Prelude.{ℕ, ◌+◌, ◌==◌, Bool, true, false, ◌&&◌, if◌then◌else◌, List, [], ◌∷◌, ◌++◌}
+use Rattle.dekarino_texts.specs.Prelude.{ℕ, ◌+◌, ◌==◌, Bool, true, false, ◌&&◌, if◌then◌else◌, List, [], ◌∷◌, ◌++◌, Configuration, PartitionData, Port}
 use Rattle.apex_types.specs.declared.direction.Direction.{Direction}
 use Rattle.apex_types.specs.declared.direction.Direction.TheVariants.{Source, Destination}
-use Rattle.apex_module.specs.Configuration.{Configuration, PartitionData}
-use Rattle.apex_module.specs.declared.port.Port.{Port}
 use Rattle.dekarino_texts.specs.declared.table.PortPlace.{PortPlace}
 use Rattle.dekarino_texts.specs.declared.table.TableRow.{TableRow}
 use Rattle.dekarino_texts.specs.declared.table.TableRow.TheVariants as rows

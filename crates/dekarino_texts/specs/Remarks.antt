@@ -1,18 +1,8 @@
 -- What is worth a look when a trace has ended: the remarks.
-use Rattle.std.specs.Prelude.{ℕ, Bool, true, false, ◌+◌, ◌&&◌, ◌==◌, nat_lt, not, if◌then◌else◌, List, [], ◌∷◌, ◌++◌, length, map}
-use Rattle.std.specs.List.{list_any, flat_map}
+use Rattle.dekarino_texts.specs.Prelude.{ℕ, Bool, true, false, ◌+◌, ◌&&◌, ◌==◌, nat_lt, not, if◌then◌else◌, List, [], ◌∷◌, ◌++◌, length, map, list_any, flat_map, Moment, Reply, Configuration, PartitionData, Port, Entry, is_read, validity_in, waiting_on, last_write_on, History, creates, is_created, is_source, name_of_partition}
 use Rattle.std.specs.Option.{is_some}
-use Rattle.apex_types.specs.declared.moment.Moment.{Moment}
-use Rattle.apex_types.specs.declared.reply.Reply.{Reply}
 use Rattle.apex_types.specs.declared.reply.Reply.TheVariants.{NotMade}
-use Rattle.apex_module.specs.Configuration.{Configuration, PartitionData}
 use Rattle.apex_module.specs.declared.channel.Channel.{Channel}
-use Rattle.apex_module.specs.declared.port.Port.{Port}
-use Rattle.apex_ports.specs.declared.history.Entry.{Entry}
-use Rattle.apex_ports.specs.Channels.{is_read, validity_in, waiting_on, last_write_on}
-use Rattle.apex_ports.specs.History.{History}
-use Rattle.apex_ports.specs.Ports.{creates, is_created, is_source}
-use Rattle.apex_texts.specs.Report.{name_of_partition}
 use Rattle.dekarino_texts.specs.declared.remark.Remark.{Remark}
 use Rattle.dekarino_texts.specs.declared.remark.Remark.TheVariants.{MomentBefore, CallNotMade, PortNotCreated, PortLost, NoSampleRead, MessagesWaiting}
 

@@ -1,11 +1,6 @@
 -- The lines of a script that have a call.
-use Rattle.std.specs.Prelude.{◌≡◌, ℕ, Bool, true, false, ◌+◌, if◌then◌else◌, List, [], ◌∷◌, length, slice_get, Option, Some, None, Result, Ok, Err}
+use Rattle.dekarino_texts.specs.Prelude.{◌≡◌, ℕ, Bool, true, false, ◌+◌, if◌then◌else◌, List, [], ◌∷◌, length, slice_get, Option, Some, None, Result, Ok, Err, Call, Moment, LineFault, FaultyLine, line_words, item_of_line, timed_call_at}
 use Rattle.std.specs.Str.Lines.{lines}
-use Rattle.apex_types.specs.declared.call.Call.{Call}
-use Rattle.apex_types.specs.declared.moment.Moment.{Moment}
-use Rattle.apex_texts.specs.declared.line_fault.LineFault.{LineFault}
-use Rattle.apex_texts.specs.Lines.{FaultyLine, line_words, item_of_line}
-use Rattle.apex_texts.specs.Script.{timed_call_at}
 
 -- ---- the numbers
 

@@ -1,13 +1,8 @@
 //! The explanation of a trace: each line with what comes of it, and then the remarks.
-ghost use Rattle.std.specs.Prelude.{◌≡◌, ◌<◌, ◌∷◌, ◌++◌, [], List, length, position, Some, IfOk, IfErr, OnOk};
-ghost use Rattle.std.specs.List.{before_first};
-ghost use Rattle.apex_ports.specs.Sound.{IsSound};
+ghost use Rattle.dekarino_texts.specs.Prelude.{◌≡◌, ◌<◌, ◌∷◌, ◌++◌, [], List, length, position, Some, IfOk, IfErr, OnOk, before_first, IsSound, entry_after, is_line_feed, trace_of};
 ghost use Rattle.apex_texts.specs.declared.fault.Fault.TheVariants as faults;
 ghost use Rattle.apex_texts.specs.declared.fault.TraceFault.TheVariants as traces;
 ghost use Rattle.apex_texts.specs.LineFault.{number_of};
-ghost use Rattle.apex_texts.specs.Replay.{entry_after};
-ghost use Rattle.apex_texts.specs.Text.{is_line_feed};
-ghost use Rattle.apex_texts.specs.Trace.{trace_of};
 ghost use Rattle.dekarino_texts.specs.Explained.{IsExplained, AreAfter};
 ghost use Rattle.dekarino_texts.specs.Explanation.{IsFaultOf, explanation_of, answered_after};
 ghost use Rattle.dekarino_texts.specs.Handed.{IsHanded};

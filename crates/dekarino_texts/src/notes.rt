@@ -1,7 +1,5 @@
 //! What the remarks need of the calls of a trace, noted call by call.
-ghost use Rattle.std.specs.Prelude.{◌≡◌, List, [], ◌∷◌, ◌++◌, ◌<◌, length, OnOk};
-ghost use Rattle.apex_module.specs.Configuration.{Configuration};
-ghost use Rattle.apex_ports.specs.History.{entry_of};
+ghost use Rattle.dekarino_texts.specs.Prelude.{◌≡◌, List, [], ◌∷◌, ◌++◌, ◌<◌, length, OnOk, Configuration, entry_of};
 ghost use Rattle.dekarino_texts.specs.Notes.{AreNoted};
 ghost use Rattle.dekarino_texts.specs.Remarks.{LineEntry, earlier, not_made};
 

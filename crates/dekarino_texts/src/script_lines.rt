@@ -1,6 +1,5 @@
 //! The numbers of the lines of a script that have a call.
-ghost use Rattle.std.specs.Prelude.{◌≡◌, IfOk};
-ghost use Rattle.apex_texts.specs.Script.{script_of};
+ghost use Rattle.dekarino_texts.specs.Prelude.{◌≡◌, IfOk, script_of};
 ghost use Rattle.dekarino_texts.specs.ScriptLines.{has_call, call_numbers, AreLinesOf};
 
 use apex_texts::lines::line_words;

@@ -9,14 +9,8 @@ use apex_types::{Message, Mode, Sample, Taken, Validity};
 use std::alloc::Allocator;
 
 impl<A: Allocator> Board<A> {
-    ghost use Rattle.apex_threads.specs.OnChannels.{ArePublished};
-    ghost use Rattle.apex_ports.specs.Channels.{accepted_on, messages_of, taken_on, waiting_on, last_write_on};
-    ghost use Rattle.apex_ports.specs.Idle.{IdleIsSilent};
+    ghost use Rattle.apex_board.specs.Prelude.{ArePublished, accepted_on, messages_of, taken_on, waiting_on, last_write_on, IdleIsSilent, IsLawful, mode_of, is_created, is_queuing, depth_of};
     ghost use Rattle.apex_ports.specs.Interference.{IsFreeFromInterference};
-    ghost use Rattle.apex_ports.specs.Lawful.{IsLawful};
-    ghost use Rattle.apex_ports.specs.Modes.{mode_of};
-    ghost use Rattle.apex_ports.specs.Ports.{is_created, is_queuing};
-    ghost use Rattle.apex_ports.specs.ReplyTable.{depth_of};
     ghost use Rattle.apex_ports.specs.Seen.{seen, sampling_port, validity_shown};
 
     /// The ports alone: the configuration and the log's history.

@@ -97,9 +97,13 @@ impl<A: Allocator> Ports<A> {
         ensures { let here = seen self.now.config self.now.history p in
             result ≡ validity_shown here id (sampling_port self.now.config here p id) }
     {
-        match sampling_port(&self.state, &self.config, p, id) {
-            Some(_) => self.state.partitions[p].last_validity(id),
-            None => Validity::Invalid,
+        let last = self.state.partitions[p].last_validity(id);
+        match last {
+            Validity::Invalid => Validity::Invalid,
+            Validity::Valid => match sampling_port(&self.state, &self.config, p, id) {
+                Some(_) => last,
+                None => Validity::Invalid,
+            },
         }
     }
 

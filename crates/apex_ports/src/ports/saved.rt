@@ -1,11 +1,11 @@
 //! Saves the state of ports in little memory, and restores it.
-ghost use Rattle.std.specs.Prelude.{◌≡◌, length, IfOk};
+ghost use Rattle.std.specs.Prelude.{◌≡◌, length, IfOk, OnOk};
 ghost use Rattle.apex_ports.specs.Kept.{EachAt};
-ghost use Rattle.apex_ports.specs.Saved.{EachPair, IsSameTable, HasAsManyPorts, IsSavedFrom, HasRoomFor, AreRestored};
+ghost use Rattle.apex_ports.specs.Saved.{EachPair, IsSavedTable, HasAsManyPorts, IsSavedFrom, HasRoomFor, AreRestored};
 
 use crate::channel::ChannelState;
 use crate::ghost_history::GhostHistory;
-use crate::partition::PartitionState;
+use crate::partition::{PartitionState, PortState, SavedPartition};
 use crate::ports::Ports;
 use crate::saved_channel::SavedChannel;
 use crate::stored_messages::StoredMessages;
@@ -15,13 +15,29 @@ use std::alloc::{AllocError, Allocator, Global};
 use std::marker::Model;
 use std::snapshot::Snapshot;
 
+/// What a partition with its calls, a port and a channel take where they are saved, and the lists besides, in bytes.
+const PARTITION_BYTES: usize = 32;
+
+const PORT_BYTES: usize = 2;
+
+const CHANNEL_BYTES: usize = 48;
+
+const FIXED_BYTES: usize = 384;
+
 /// The saved state of ports: their modes, created ports, messages, samples and counts, without unused room and without
 /// the configuration. A contract sees the configuration and the history that the ports had.
 #[derive(Drop)]
 pub struct SavedPorts<A: Allocator = Global> {
     config: Snapshot<Config>,
     history: GhostHistory,
-    partitions: Vec<PartitionState<A>, A>,
+    state: SavedState<A>,
+}
+
+/// What is saved of the partitions and the channels, and the number of calls of each partition.
+#[derive(Drop)]
+struct SavedState<A: Allocator> {
+    partitions: Vec<SavedPartition, A>,
+    tables: Vec<PortState, A>,
     messages: StoredMessages<A>,
     channels: Vec<SavedChannel, A>,
     calls: Vec<u64, A>,
@@ -37,7 +53,8 @@ impl<A: Allocator> Model for SavedPorts<A> {
     ghost view = { λ saved. record { config = saved.config.value; history = saved.history } };
 
     ghost invariant = { λ saved. IsSavedKept saved.config.value saved.history
-        saved.partitions.items saved.messages saved.channels.items saved.calls.items };
+        saved.state.partitions.items saved.state.tables saved.state.messages
+        saved.state.channels.items saved.state.calls.items };
 }
 
 impl<A: Allocator + Copy> Ports<A> {
@@ -45,18 +62,61 @@ impl<A: Allocator + Copy> Ports<A> {
     pub fn save(&self, alloc: A) -> Result<SavedPorts<A>, OutOfMemory>
         ensures { IfOk result (λ saved. saved ≡ self.now) }
     {
-        let partitions = saved_partitions(alloc, self.state.partitions.as_slice())?;
-        let mut messages = StoredMessages::new(alloc);
-        let channels = saved_channels(alloc, self.state.channels.as_slice(), &mut messages)?;
-        let calls = Vec::from_slice(alloc, self.calls.as_slice())?;
+        self.save_in(SavedState {
+            partitions: Vec::new(alloc),
+            tables: Vec::new(alloc),
+            messages: StoredMessages::new(alloc),
+            channels: Vec::new(alloc),
+            calls: Vec::new(alloc),
+        })
+    }
+}
+
+impl<A: Allocator> Ports<A> {
+    /// Saves the state of the ports in the memory of what was saved before.
+    pub fn save_over(&self, old: SavedPorts<A>) -> Result<SavedPorts<A>, OutOfMemory>
+        ensures { IfOk result (λ saved. saved ≡ self.now) }
+    {
+        self.save_in(old.state)
+    }
+
+    // Saves the state of the ports in these lists, whatever they hold.
+    fn save_in(&self, old: SavedState<A>) -> Result<SavedPorts<A>, OutOfMemory>
+        ensures { IfOk result (λ saved. saved ≡ self.now) }
+    {
+        let mut state = old;
+        save_partitions(
+            self.state.partitions.as_slice(),
+            &mut state.partitions,
+            &mut state.tables,
+        )?;
+        save_channels(
+            self.state.channels.as_slice(),
+            &mut state.channels,
+            &mut state.messages,
+        )?;
+        state.calls.clear();
+        state.calls.extend_from_slice(self.calls.as_slice())?;
         Ok(SavedPorts {
             config: Snapshot::of(&self.config),
             history: self.state.history.copy(),
-            partitions,
-            messages,
-            channels,
-            calls,
+            state,
         })
+    }
+}
+
+impl<A: Allocator> SavedPorts<A> {
+    /// About how many bytes of memory it takes.
+    pub fn bytes(&self) -> usize {
+        let state = &self.state;
+        let partitions = state.partitions.len().saturating_mul(PARTITION_BYTES);
+        let channels = state.channels.len().saturating_mul(CHANNEL_BYTES);
+        let ports = state.tables.len().saturating_mul(PORT_BYTES);
+        FIXED_BYTES
+            .saturating_add(partitions)
+            .saturating_add(channels)
+            .saturating_add(ports)
+            .saturating_add(state.messages.bytes())
     }
 }
 
@@ -71,62 +131,80 @@ impl<A: Allocator> Ports<A> {
     {
         restore_partitions(
             self.state.partitions.as_mut_slice(),
-            saved.partitions.as_slice(),
+            saved.state.partitions.as_slice(),
+            saved.state.tables.as_slice(),
         );
         restore_channels(
             self.state.channels.as_mut_slice(),
-            saved.channels.as_slice(),
-            &saved.messages,
+            saved.state.channels.as_slice(),
+            &saved.state.messages,
         );
         self.calls
             .as_mut_slice()
-            .copy_from_slice(saved.calls.as_slice());
+            .copy_from_slice(saved.state.calls.as_slice());
         self.state.history = saved.history.copy();
     }
 }
 
-fn saved_partitions<A: Allocator + Copy>(
-    alloc: A,
-    partitions: &[PartitionState<A>],
-) -> Result<Vec<PartitionState<A>, A>, AllocError>
-    ensures count { IfOk result (λ saved. length saved.items ≡ length partitions.now) }
-    ensures same { IfOk result (λ saved. EachPair IsSameTable partitions.now saved.items) }
-{
-    let mut saved = Vec::with_capacity(alloc, partitions.len())?;
+// The number of all ports.
+fn count_ports<A: Allocator>(partitions: &[PartitionState<A>]) -> usize {
+    let mut count: usize = 0;
     for partition in partitions {
-        let copy = partition.copy(alloc)?;
-        saved.push(copy)?;
+        count = count.saturating_add(partition.ports.len());
     }
-    Ok(saved)
+    count
 }
 
-fn saved_channels<A: Allocator + Copy>(
-    alloc: A,
-    channels: &[ChannelState<A>],
-    stored: &mut StoredMessages<A>,
-) -> Result<Vec<SavedChannel, A>, AllocError>
-    ensures count { IfOk result (λ saved. length saved.items ≡ length channels.now) }
-    ensures same { IfOk result
-        (λ saved. EachPair (IsSavedFrom stored.new) channels.now saved.items) }
+fn save_partitions<A: Allocator>(
+    partitions: &[PartitionState<A>],
+    saved: &mut Vec<SavedPartition, A>,
+    stored: &mut Vec<PortState, A>,
+) -> Result<(), AllocError>
+    ensures count { OnOk result (length saved.new.items ≡ length partitions.now) }
+    ensures same { OnOk result
+        (EachPair (IsSavedTable stored.new.items) partitions.now saved.new.items) }
 {
-    let mut saved = Vec::with_capacity(alloc, channels.len())?;
+    saved.clear();
+    stored.clear();
+    saved.reserve_exact(partitions.len())?;
+    stored.reserve_exact(count_ports(partitions))?;
+    for partition in partitions {
+        let one = partition.save(stored)?;
+        saved.push(one)?;
+    }
+    Ok(())
+}
+
+fn save_channels<A: Allocator>(
+    channels: &[ChannelState<A>],
+    saved: &mut Vec<SavedChannel, A>,
+    stored: &mut StoredMessages<A>,
+) -> Result<(), AllocError>
+    ensures count { OnOk result (length saved.new.items ≡ length channels.now) }
+    ensures same { OnOk result
+        (EachPair (IsSavedFrom stored.new) channels.now saved.new.items) }
+{
+    saved.clear();
+    stored.clear();
+    saved.reserve_exact(channels.len())?;
     for channel in channels {
         let one = channel.save(stored)?;
         saved.push(one)?;
     }
-    Ok(saved)
+    Ok(())
 }
 
 fn restore_partitions<A: Allocator>(
     partitions: &mut [PartitionState<A>],
-    saved: &[PartitionState<A>],
+    saved: &[SavedPartition],
+    stored: &[PortState],
 )
     requires count { length partitions.old ≡ length saved.now }
-    requires ports { EachPair HasAsManyPorts partitions.old saved.now }
-    ensures { EachPair IsSameTable saved.now partitions.new }
+    requires ports { EachPair (HasAsManyPorts stored.now) partitions.old saved.now }
+    ensures { EachPair (IsSavedTable stored.now) partitions.new saved.now }
 {
     for p in 0..saved.len() {
-        partitions[p].restore(&saved[p]);
+        partitions[p].restore(&saved[p], stored);
     }
 }
 

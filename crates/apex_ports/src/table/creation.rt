@@ -1,10 +1,13 @@
 //! What CREATE_QUEUING_PORT, CREATE_SAMPLING_PORT, GET_QUEUING_PORT_ID and GET_SAMPLING_PORT_ID decide.
-ghost use Rattle.std.specs.Prelude.{◌≡◌, ◌<◌, length, MatchResult};
+ghost use Rattle.std.specs.Prelude.{◌≡◌, ◌<◌, length, true, MatchResult};
 ghost use Rattle.apex_ports.specs.declared.rows.Row.TheVariants as row;
-ghost use Rattle.apex_ports.specs.Ports.{queuing_named, sampling_named};
-ghost use Rattle.apex_ports.specs.ReplyTable.{create_queuing_row, create_sampling_row, id_row};
+ghost use Rattle.apex_types.specs.declared.moment.Moment.{Moment};
+ghost use Rattle.apex_ports.specs.Noted.{call_by};
+ghost use Rattle.apex_ports.specs.Ports.{is_create_queuing, is_create_sampling, queuing_named, sampling_named};
+ghost use Rattle.apex_ports.specs.ReplyTable.{id_row, service_row};
 
 use crate::modes::is_normal;
+use crate::noted::CallRef;
 use crate::rows::Refusal;
 use crate::table::lookup::{queuing_named, sampling_named};
 use crate::view::View;
@@ -19,20 +22,26 @@ pub(crate) fn created_queuing_id<V: View>(
     view: &V,
     config: &Config,
     partition: usize,
-    name: &Name,
-    size: u32,
-    depth: u32,
-    direction: u32,
-    discipline: u32,
+    call: CallRef<'_>,
 ) -> Result<u32, Refusal>
     requires partition { partition < length config.now.partitions }
     requires kept { V.is_kept config.now view.now }
-    ensures { let here = V.seen config.now view.now partition in
-        let named = queuing_named config.now partition name.now in
-        let given = create_queuing_row config.now here named size depth direction discipline in
+    requires call { is_create_queuing (call_by call) ≡ true }
+    ensures { let here = V.seen config.now view.now partition in (at : Moment) →
+        let given = service_row config.now here partition at (call_by call.entry) in
         MatchResult result (λ id. given ≡ row.Created id)
         (λ refusal. given ≡ row.Refused refusal) }
 {
+    let CallRef::CreateQueuing {
+        name,
+        size,
+        depth,
+        direction,
+        discipline,
+    } = call
+    else {
+        unreachable!();
+    };
     let Some((id, port)) = queuing_named(config, partition, name) else {
         return Err(Refusal::NotConfigured);
     };
@@ -59,19 +68,25 @@ pub(crate) fn created_sampling_id<V: View>(
     view: &V,
     config: &Config,
     partition: usize,
-    name: &Name,
-    size: u32,
-    direction: u32,
-    refresh: u64,
+    call: CallRef<'_>,
 ) -> Result<u32, Refusal>
     requires partition { partition < length config.now.partitions }
     requires kept { V.is_kept config.now view.now }
-    ensures { let here = V.seen config.now view.now partition in
-        let named = sampling_named config.now partition name.now in
-        let given = create_sampling_row config.now here named size direction refresh in
+    requires call { is_create_sampling (call_by call) ≡ true }
+    ensures { let here = V.seen config.now view.now partition in (at : Moment) →
+        let given = service_row config.now here partition at (call_by call.entry) in
         MatchResult result (λ id. given ≡ row.Created id)
         (λ refusal. given ≡ row.Refused refusal) }
 {
+    let CallRef::CreateSampling {
+        name,
+        size,
+        direction,
+        refresh,
+    } = call
+    else {
+        unreachable!();
+    };
     let Some((id, port)) = sampling_named(config, partition, name) else {
         return Err(Refusal::NotConfigured);
     };

@@ -1,31 +1,30 @@
-//! The rows of SEND_QUEUING_MESSAGE, RECEIVE_QUEUING_MESSAGE, CLEAR_QUEUING_PORT and GET_QUEUING_PORT_STATUS.
+//! What SEND_QUEUING_MESSAGE, RECEIVE_QUEUING_MESSAGE and CLEAR_QUEUING_PORT decide.
 ghost use Rattle.std.specs.Prelude.{◌≡◌, ◌<◌, ◌≤◌, length, IfOk, MatchResult};
 ghost use Rattle.apex_types.specs.declared.reply.Reply.TheVariants.{Received};
 ghost use Rattle.apex_ports.specs.declared.rows.Row.TheVariants as row;
-ghost use Rattle.apex_ports.specs.Decisions.{IsRowOfDecision};
-ghost use Rattle.apex_ports.specs.ReplyTable.{send_row, receive_row, clear_row, status_row, oldest_reply};
+ghost use Rattle.apex_ports.specs.Decisions.{Decides};
+ghost use Rattle.apex_ports.specs.ReplyTable.{send_row, receive_row, clear_row, oldest_reply};
 ghost use Rattle.apex_ports.specs.Seen.{queuing_port};
 
-use crate::rows::{Refusal, Row};
+use crate::rows::Refusal;
 use crate::table::lookup::queuing_port;
 use crate::view::View;
 use apex_module::Config;
 use apex_types::{Direction, MESSAGE_LIMIT};
 
-/// The row of SEND_QUEUING_MESSAGE, or why it is refused.
+/// Whether SEND_QUEUING_MESSAGE is accepted, or why it is refused.
 pub(crate) fn send_row<V: View>(
     view: &V,
     config: &Config,
     partition: usize,
     id: u32,
     message: &[u8],
-) -> Result<Row, Refusal>
+) -> Result<(), Refusal>
     requires partition { partition < length config.now.partitions }
     requires kept { V.is_kept config.now view.now }
-    ensures decided { let here = V.seen config.now view.now partition in
+    ensures { let here = V.seen config.now view.now partition in
         let port = queuing_port config.now here partition id in
-        IsRowOfDecision (send_row config.now here id port message.now) result }
-    ensures accepted { IfOk result (λ accepted. accepted ≡ row.Sent) }
+        Decides (send_row config.now here id port message.now) row.Sent result }
 {
     let Some(port) = queuing_port(view, config, partition, id) else {
         return Err(Refusal::NoSuchPort);
@@ -44,26 +43,7 @@ pub(crate) fn send_row<V: View>(
     if view.waiting_count(config, partition, id, port) == channel.kind.depth() as usize {
         return Err(Refusal::QueueFull);
     }
-    Ok(Row::Sent)
-}
-
-/// The row of RECEIVE_QUEUING_MESSAGE, or why it is refused.
-pub(crate) fn receive_row<V: View>(
-    view: &V,
-    config: &Config,
-    partition: usize,
-    id: u32,
-) -> Result<Row, Refusal>
-    requires partition { partition < length config.now.partitions }
-    requires kept { V.is_kept config.now view.now }
-    ensures { let here = V.seen config.now view.now partition in
-        let port = queuing_port config.now here partition id in
-        IsRowOfDecision (receive_row here id port) result }
-{
-    match received_message(view, config, partition, id) {
-        Ok(_) => Ok(Row::OldestReceived { id }),
-        Err(refusal) => Err(refusal),
-    }
+    Ok(())
 }
 
 /// The message that RECEIVE_QUEUING_MESSAGE gives, or why it is refused.
@@ -95,44 +75,24 @@ pub(crate) fn received_message<'a, V: View>(
     }
 }
 
-/// The row of CLEAR_QUEUING_PORT, or why it is refused.
+/// Whether CLEAR_QUEUING_PORT is accepted, or why it is refused.
 pub(crate) fn clear_row<V: View>(
     view: &V,
     config: &Config,
     partition: usize,
     id: u32,
-) -> Result<Row, Refusal>
+) -> Result<(), Refusal>
     requires partition { partition < length config.now.partitions }
     requires kept { V.is_kept config.now view.now }
-    ensures decided { let here = V.seen config.now view.now partition in
+    ensures { let here = V.seen config.now view.now partition in
         let port = queuing_port config.now here partition id in
-        IsRowOfDecision (clear_row port) result }
-    ensures accepted { IfOk result (λ accepted. accepted ≡ row.Cleared) }
+        Decides (clear_row port) row.Cleared result }
 {
     let Some(port) = queuing_port(view, config, partition, id) else {
         return Err(Refusal::NoSuchPort);
     };
     match port.direction {
         Direction::Source => Err(Refusal::NotDestination),
-        Direction::Destination => Ok(Row::Cleared),
-    }
-}
-
-/// The row of GET_QUEUING_PORT_STATUS, or why it is refused.
-pub(crate) fn queuing_status_row<V: View>(
-    view: &V,
-    config: &Config,
-    partition: usize,
-    id: u32,
-) -> Result<Row, Refusal>
-    requires partition { partition < length config.now.partitions }
-    requires kept { V.is_kept config.now view.now }
-    ensures { let here = V.seen config.now view.now partition in
-        let port = queuing_port config.now here partition id in
-        IsRowOfDecision (status_row (row.QueuingStatus id) port) result }
-{
-    match queuing_port(view, config, partition, id) {
-        Some(_) => Ok(Row::QueuingStatus { id }),
-        None => Err(Refusal::NoSuchPort),
+        Direction::Destination => Ok(()),
     }
 }

@@ -1,15 +1,14 @@
 //! The reply of a row, by what its partition sees.
 ghost use Rattle.std.specs.Prelude.{◌≡◌, ◌<◌, ◌≤◌, length, IfSome, MatchOption};
 ghost use Rattle.apex_types.specs.declared.reply.Reply.TheVariants.{Code, Received};
-ghost use Rattle.apex_types.specs.declared.return_code.ReturnCode.TheVariants.{InvalidParam, NotAvailable};
-ghost use Rattle.apex_ports.specs.Noted.{IsSampleBy};
+ghost use Rattle.apex_types.specs.declared.return_code.ReturnCode.TheVariants.{NotAvailable};
+ghost use Rattle.apex_ports.specs.Noted.{IsSampleBy, reply_by};
 ghost use Rattle.apex_ports.specs.ReplyTable.{reply_of, oldest_reply, last_reply, queuing_status_reply, sampling_status_reply};
 ghost use Rattle.apex_ports.specs.Seen.{queuing_port, sampling_port};
-ghost use Rattle.apex_ports.specs.Services.{with_queuing_status, with_sampling_status};
+ghost use Rattle.apex_ports.specs.Services.{message_length};
 
-use crate::noted::SampleRef;
+use crate::noted::{ReplyRef, SampleRef};
 use crate::rows::Row;
-use crate::statuses::{QueuingStatus, SamplingStatus};
 use crate::table::lookup::{configured_port, queuing_port, sampling_port};
 use crate::view::View;
 use apex_module::Config;
@@ -30,10 +29,10 @@ pub fn reply<V: View>(view: &V, config: &Config, partition: usize, row: Row) -> 
         Row::Sent => Reply::Code(ReturnCode::NoError),
         Row::OldestReceived { id } => oldest_reply(view, config, partition, id),
         Row::Cleared => Reply::Code(ReturnCode::NoError),
-        Row::QueuingStatus { id } => queuing_status_reply(view, config, partition, id),
+        Row::QueuingStatus { id } => queuing_status(view, config, partition, id).to_reply(),
         Row::Written => Reply::Code(ReturnCode::NoError),
         Row::LastRead { id, validity } => last_reply(view, config, partition, id, validity),
-        Row::SamplingStatus { id } => sampling_status_reply(view, config, partition, id),
+        Row::SamplingStatus { id } => sampling_status(view, config, partition, id).to_reply(),
         Row::ModeSet => Reply::Code(ReturnCode::NoError),
     }
 }
@@ -102,79 +101,53 @@ fn last_reply<V: View>(
     }
 }
 
-/// What GET_QUEUING_PORT_STATUS shows; `None` if there is no such port.
+/// The reply to GET_QUEUING_PORT_STATUS.
 pub(crate) fn queuing_status<V: View>(
     view: &V,
     config: &Config,
     partition: usize,
     id: u32,
-) -> Option<QueuingStatus>
+) -> ReplyRef<'static>
     requires partition { partition < length config.now.partitions }
     requires kept { V.is_kept config.now view.now }
-    ensures { let here = V.seen config.now view.now partition in
+    ensures reply { let here = V.seen config.now view.now partition in
         let port = queuing_port config.now here partition id in
-        let given = queuing_status_reply config.now here id port in
-        MatchOption result (given ≡ Code InvalidParam)
-        (λ status. given ≡ with_queuing_status status) }
+        reply_by result ≡ queuing_status_reply config.now here id port }
+    ensures short { message_length (reply_by result) ≤ MESSAGE_LIMIT }
 {
-    let port = queuing_port(view, config, partition, id)?;
+    let Some(port) = queuing_port(view, config, partition, id) else {
+        return ReplyRef::Code(ReturnCode::InvalidParam);
+    };
     let channel = config.channel(port.channel);
-    Some(QueuingStatus {
+    ReplyRef::QueuingStatus {
         waiting: view.waiting_count(config, partition, id, port) as u32,
         depth: channel.kind.depth(),
         size: channel.size,
         direction: port.direction,
-    })
+    }
 }
 
-/// What GET_SAMPLING_PORT_STATUS shows; `None` if there is no such port.
+/// The reply to GET_SAMPLING_PORT_STATUS.
 pub(crate) fn sampling_status<V: View>(
     view: &V,
     config: &Config,
     partition: usize,
     id: u32,
-) -> Option<SamplingStatus>
+) -> ReplyRef<'static>
     requires partition { partition < length config.now.partitions }
     requires kept { V.is_kept config.now view.now }
-    ensures { let here = V.seen config.now view.now partition in
+    ensures reply { let here = V.seen config.now view.now partition in
         let port = sampling_port config.now here partition id in
-        let given = sampling_status_reply config.now here id port in
-        MatchOption result (given ≡ Code InvalidParam)
-        (λ status. given ≡ with_sampling_status status) }
+        reply_by result ≡ sampling_status_reply config.now here id port }
+    ensures short { message_length (reply_by result) ≤ MESSAGE_LIMIT }
 {
-    let port = sampling_port(view, config, partition, id)?;
-    Some(SamplingStatus {
-        refresh: port.kind.refresh(),
-        size: config.channel(port.channel).size,
-        direction: port.direction,
-        last: view.last_validity(config, partition, id),
-    })
-}
-
-// The reply with a queuing port's status.
-fn queuing_status_reply<V: View>(view: &V, config: &Config, partition: usize, id: u32) -> Reply
-    requires partition { partition < length config.now.partitions }
-    requires kept { V.is_kept config.now view.now }
-    ensures { let here = V.seen config.now view.now partition in
-        let port = queuing_port config.now here partition id in
-        result ≡ queuing_status_reply config.now here id port }
-{
-    match queuing_status(view, config, partition, id) {
-        Some(status) => status.reply(),
-        None => Reply::Code(ReturnCode::InvalidParam),
-    }
-}
-
-// The reply with a sampling port's status.
-fn sampling_status_reply<V: View>(view: &V, config: &Config, partition: usize, id: u32) -> Reply
-    requires partition { partition < length config.now.partitions }
-    requires kept { V.is_kept config.now view.now }
-    ensures { let here = V.seen config.now view.now partition in
-        let port = sampling_port config.now here partition id in
-        result ≡ sampling_status_reply config.now here id port }
-{
-    match sampling_status(view, config, partition, id) {
-        Some(status) => status.reply(),
-        None => Reply::Code(ReturnCode::InvalidParam),
+    match sampling_port(view, config, partition, id) {
+        Some(port) => ReplyRef::SamplingStatus {
+            refresh: port.kind.refresh(),
+            size: config.channel(port.channel).size,
+            direction: port.direction,
+            last: view.last_validity(config, partition, id),
+        },
+        None => ReplyRef::Code(ReturnCode::InvalidParam),
     }
 }

@@ -1,32 +1,31 @@
-//! The rows of WRITE_SAMPLING_MESSAGE, READ_SAMPLING_MESSAGE and GET_SAMPLING_PORT_STATUS.
+//! What WRITE_SAMPLING_MESSAGE and READ_SAMPLING_MESSAGE decide.
 ghost use Rattle.std.specs.Prelude.{◌≡◌, ◌<◌, ◌≤◌, length, Some, IfOk, MatchResult};
 ghost use Rattle.apex_ports.specs.declared.rows.Row.TheVariants as row;
-ghost use Rattle.apex_ports.specs.Decisions.{IsRowOfDecision};
+ghost use Rattle.apex_ports.specs.Decisions.{Decides};
 ghost use Rattle.apex_ports.specs.Noted.{sample_by};
-ghost use Rattle.apex_ports.specs.ReplyTable.{write_row, read_row, status_row};
+ghost use Rattle.apex_ports.specs.ReplyTable.{write_row, read_row};
 ghost use Rattle.apex_ports.specs.Seen.{sampling_port};
 
 use crate::noted::SampleRef;
-use crate::rows::{Refusal, Row};
+use crate::rows::Refusal;
 use crate::table::lookup::sampling_port;
 use crate::view::View;
 use apex_module::Config;
 use apex_types::{Direction, MESSAGE_LIMIT, Moment, Validity};
 
-/// The row of WRITE_SAMPLING_MESSAGE, or why it is refused.
+/// Whether WRITE_SAMPLING_MESSAGE is accepted, or why it is refused.
 pub(crate) fn write_row<V: View>(
     view: &V,
     config: &Config,
     partition: usize,
     id: u32,
     message: &[u8],
-) -> Result<Row, Refusal>
+) -> Result<(), Refusal>
     requires partition { partition < length config.now.partitions }
     requires kept { V.is_kept config.now view.now }
-    ensures decided { let here = V.seen config.now view.now partition in
+    ensures { let here = V.seen config.now view.now partition in
         let port = sampling_port config.now here partition id in
-        IsRowOfDecision (write_row config.now port message.now) result }
-    ensures accepted { IfOk result (λ accepted. accepted ≡ row.Written) }
+        Decides (write_row config.now port message.now) row.Written result }
 {
     let Some(port) = sampling_port(view, config, partition, id) else {
         return Err(Refusal::NoSuchPort);
@@ -41,27 +40,7 @@ pub(crate) fn write_row<V: View>(
     }
     match port.direction {
         Direction::Destination => Err(Refusal::NotSource),
-        Direction::Source => Ok(Row::Written),
-    }
-}
-
-/// The row of READ_SAMPLING_MESSAGE, or why it is refused.
-pub(crate) fn read_row<V: View>(
-    view: &V,
-    config: &Config,
-    partition: usize,
-    now: Moment,
-    id: u32,
-) -> Result<Row, Refusal>
-    requires partition { partition < length config.now.partitions }
-    requires kept { V.is_kept config.now view.now }
-    ensures { let here = V.seen config.now view.now partition in
-        let port = sampling_port config.now here partition id in
-        IsRowOfDecision (read_row here now id port) result }
-{
-    match read_sample(view, config, partition, now, id) {
-        Ok((_, validity)) => Ok(Row::LastRead { id, validity }),
-        Err(refusal) => Err(refusal),
+        Direction::Source => Ok(()),
     }
 }
 
@@ -94,23 +73,4 @@ pub(crate) fn read_sample<'a, V: View>(
     };
     let validity = sample.validity(now, port.kind.refresh());
     Ok((sample, validity))
-}
-
-/// The row of GET_SAMPLING_PORT_STATUS, or why it is refused.
-pub(crate) fn sampling_status_row<V: View>(
-    view: &V,
-    config: &Config,
-    partition: usize,
-    id: u32,
-) -> Result<Row, Refusal>
-    requires partition { partition < length config.now.partitions }
-    requires kept { V.is_kept config.now view.now }
-    ensures { let here = V.seen config.now view.now partition in
-        let port = sampling_port config.now here partition id in
-        IsRowOfDecision (status_row (row.SamplingStatus id) port) result }
-{
-    match sampling_port(view, config, partition, id) {
-        Some(_) => Ok(Row::SamplingStatus { id }),
-        None => Err(Refusal::NoSuchPort),
-    }
 }

@@ -1,12 +1,7 @@
-use Rattle.std.proofs.Common.{◌≡◌, ℕ, zero, suc, ◌+◌, ◌≤◌, false, true, sym, subst, arith}
-use Rattle.apex_types.specs.declared.call.Call.{Call}
+use Rattle.apex_board.proofs.Common.{◌≡◌, ℕ, zero, suc, ◌+◌, ◌≤◌, false, true, sym, subst, arith, Call, Configuration, History, at_index, none_or_none}
 use Rattle.apex_types.specs.declared.call.Call.TheVariants.{WriteSampling}
-use Rattle.apex_module.specs.Configuration.{Configuration}
 use Rattle.apex_ports.specs.declared.history.Request.{Request}
-use Rattle.apex_ports.specs.History.{History}
 use Rattle.apex_ports.specs.Writes.{WritesNothing}
-use Rattle.apex_ports.proofs.Lookups.{at_index}
-use Rattle.apex_ports.proofs.Stays.{none_or_none}
 use Rattle.apex_board.specs.OnRequests.{is_write}
 use Rattle.apex_board.proofs.requests.run_list.Goals as goal
 

@@ -1,8 +1,6 @@
-use Rattle.std.proofs.Common.{◌≡◌, ◌≤◌, ◌+◌, ◌++◌, take}
+use Rattle.apex_board.proofs.Common.{◌≡◌, ◌≤◌, ◌+◌, ◌++◌, take, requests_of, IsLawful}
 use Rattle.apex_observers.specs.Channels.{books_of}
-use Rattle.apex_ports.specs.History.{requests_of}
 use Rattle.apex_ports.specs.Idle.{StaysIdle}
-use Rattle.apex_ports.specs.Lawful.{IsLawful}
 use Rattle.apex_board.proofs.requests.run_list.Given as goal
 
 abbrev pub invariant-loop-done : goal.invariant-loop-done

@@ -1,6 +1,5 @@
-use Rattle.std.proofs.Common.{◌≡◌, ℕ, length, Option, None, refl, ap, ◌∙◌, arith}
+use Rattle.apex_board.proofs.Common.{◌≡◌, ℕ, length, Option, None, refl, ap, ◌∙◌, arith, each_at_push, length_push}
 use Rattle.apex_types.specs.declared.sample.Sample.{Sample}
-use Rattle.apex_ports.proofs.Stays.{each_at_push, length_push}
 use Rattle.apex_board.proofs.samples.new_samples.Goals as goal
 
 pub loop-preserved : goal.loop-preserved

@@ -1,5 +1,4 @@
-use Rattle.std.proofs.Common.{◌≡◌, length, None}
-use Rattle.apex_ports.specs.Kept.{EachAt}
+use Rattle.apex_board.proofs.Common.{◌≡◌, length, None, EachAt}
 use Rattle.apex_board.proofs.samples.new_samples.Given as goal
 
 abbrev pub invariant-loop : goal.invariant-loop

@@ -1,7 +1,4 @@
-use Rattle.std.proofs.Common.{◌≡◌, None, sym, ap, ◌∙◌}
-use Rattle.apex_config.specs.Text.{ConfigText}
-use Rattle.apex_config.specs.Passes.{passes}
-use Rattle.apex_config.specs.Meaning.{first_refusal}
+use Rattle.apex_config.proofs.Common.{◌≡◌, None, sym, ap, ◌∙◌, ConfigText, passes, first_refusal}
 use Rattle.apex_config.proofs.WithoutFault.{passes_all, all_have_names, all_are_acceptable, IsConfiguration-from}
 use Rattle.apex_config.proofs.accepted.accepted_config.Goals as goal
 

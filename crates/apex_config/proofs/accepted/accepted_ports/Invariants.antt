@@ -1,5 +1,4 @@
-use Rattle.std.proofs.Common.{◌≡◌, map, take}
-use Rattle.apex_config.specs.Meaning.{port_of_text}
+use Rattle.apex_config.proofs.Common.{◌≡◌, map, take, port_of_text}
 use Rattle.apex_config.proofs.accepted.accepted_ports.Given as goal
 
 abbrev pub invariant-loop-text : goal.invariant-loop-text

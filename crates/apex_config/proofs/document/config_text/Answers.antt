@@ -1,8 +1,5 @@
-use Rattle.std.proofs.Common.{◌≡◌, map, refl, ap, ◌∙◌}
-use Rattle.toml.specs.View.{view}
+use Rattle.apex_config.proofs.Common.{◌≡◌, map, refl, ap, ◌∙◌, view, items_at, partition_text_of, channel_text_of}
 use Rattle.apex_config.specs.declared.key.Key.TheVariants as key
-use Rattle.apex_config.specs.Values.{items_at}
-use Rattle.apex_config.specs.Text.{partition_text_of, channel_text_of}
 use Rattle.apex_config.proofs.Views.{map_views}
 use Rattle.apex_config.proofs.document.config_text.Goals as goal
 

@@ -1,6 +1,4 @@
-use Rattle.std.proofs.Common.{◌≡◌, map, take}
-use Rattle.toml.specs.View.{view}
-use Rattle.apex_config.specs.Text.{port_text_of}
+use Rattle.apex_config.proofs.Common.{◌≡◌, map, take, view, port_text_of}
 use Rattle.apex_config.proofs.document.port_texts.Given as goal
 
 abbrev pub invariant-loop-value : goal.invariant-loop-value

@@ -1,10 +1,5 @@
-use Rattle.std.proofs.Common.{ℕ, List, ◌++◌, nat_le, subst, ap, ◌∙◌}
+use Rattle.apex_config.proofs.Common.{ℕ, List, ◌++◌, nat_le, subst, ap, ◌∙◌, Place, ConfigText, Adds, whole, unless, at_each, at_ports, without_end, one_of_several, wrong_ends, EndsData, CountEnds}
 use Rattle.apex_config.specs.declared.place.Part.TheVariants as part
-use Rattle.apex_config.specs.declared.place.Place.{Place}
-use Rattle.apex_config.specs.Text.{ConfigText}
-use Rattle.apex_config.specs.Places.{Adds, whole, unless, at_each}
-use Rattle.apex_config.specs.Passes.{at_ports, without_end, one_of_several, wrong_ends}
-use Rattle.apex_config.specs.Ends.{EndsData, CountEnds}
 use Rattle.apex_config.proofs.EachEntry.{both}
 use Rattle.apex_config.proofs.EndCounts.{ends_counted}
 use Rattle.apex_config.proofs.Tails.{on_ok}

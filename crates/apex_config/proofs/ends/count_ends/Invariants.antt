@@ -1,5 +1,4 @@
-use Rattle.std.proofs.Common.{take}
-use Rattle.apex_config.specs.Ends.{CountMoreEnds}
+use Rattle.apex_config.proofs.Common.{take, CountMoreEnds}
 use Rattle.apex_config.proofs.ends.count_ends.Given as goal
 
 abbrev pub invariant-loop-port : goal.invariant-loop-port

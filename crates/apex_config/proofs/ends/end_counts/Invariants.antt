@@ -1,5 +1,4 @@
-use Rattle.std.proofs.Common.{take}
-use Rattle.apex_config.specs.Ends.{CountEnds}
+use Rattle.apex_config.proofs.Common.{take, CountEnds}
 use Rattle.apex_config.proofs.ends.end_counts.Given as goal
 
 abbrev pub invariant-loop-partition : goal.invariant-loop-partition

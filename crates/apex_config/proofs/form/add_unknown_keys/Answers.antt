@@ -1,9 +1,5 @@
-use Rattle.std.proofs.Common.{◌≡◌, List, ◌++◌, string_bytes, ap, ◌∙◌, arith}
+use Rattle.apex_config.proofs.Common.{◌≡◌, List, ◌++◌, string_bytes, ap, ◌∙◌, arith, keys_of, Place, unless, unknown, at_each, is_known}
 use Rattle.std.proofs.lemmas.Grind.{common_steps}
-use Rattle.std.specs.Map.{keys_of}
-use Rattle.apex_config.specs.declared.place.Place.{Place}
-use Rattle.apex_config.specs.Places.{unless, unknown, at_each}
-use Rattle.apex_config.specs.Form.{is_known}
 use Rattle.apex_config.proofs.Views.{at_keys}
 use Rattle.apex_config.proofs.form.add_unknown_keys.Goals as goal
 

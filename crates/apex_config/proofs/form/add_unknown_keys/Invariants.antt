@@ -1,7 +1,4 @@
-use Rattle.std.proofs.Common.{◌≡◌, ◌++◌, string_bytes}
-use Rattle.std.specs.Map.{keys_of}
-use Rattle.apex_config.specs.Places.{unless, unknown, at_each}
-use Rattle.apex_config.specs.Form.{is_known}
+use Rattle.apex_config.proofs.Common.{◌≡◌, ◌++◌, string_bytes, keys_of, unless, unknown, at_each, is_known}
 use Rattle.apex_config.proofs.form.add_unknown_keys.Given as goal
 
 abbrev pub invariant-loop-number : goal.invariant-loop-number

@@ -1,5 +1,4 @@
-use Rattle.std.proofs.Common.{take}
-use Rattle.apex_config.specs.Places.{Adds, at_each}
+use Rattle.apex_config.proofs.Common.{take, Adds, at_each}
 use Rattle.apex_config.proofs.found.add_each.Given as goal
 
 abbrev pub invariant-loop-index : goal.invariant-loop-index

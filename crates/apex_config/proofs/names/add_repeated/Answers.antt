@@ -1,16 +1,8 @@
-use Rattle.std.proofs.Common.{◌≡◌, ◌<◌, ℕ, Bool, true, not, cond, List, ◌++◌, Bor, length, map, take, get_or, sym, ap, ◌∙◌}
-use Rattle.std.specs.List.{list_any}
-use Rattle.std.specs.Str.{bytes_eq}
-use Rattle.std.specs.Ordering.{nat_cmp}
-use Rattle.std.specs.Cmp.Lexicographic.{slice_cmp}
+use Rattle.apex_config.proofs.Common.{◌≡◌, ◌<◌, ℕ, Bool, true, not, cond, List, ◌++◌, Bor, length, map, take, get_or, sym, ap, ◌∙◌, list_any, bytes_eq, nat_cmp, slice_cmp, get_or-map, length-map, Place, at, unless, part_in, occurred_before}
 use Rattle.std.specs.BTreeSet.{contains}
-use Rattle.std.proofs.lemmas.List.{get_or-map, length-map}
 use Rattle.std.proofs.lemmas.Map.Text.{is_eq-slice_cmp}
 use Rattle.apex_config.specs.declared.key.Key.TheVariants as key
 use Rattle.apex_config.specs.declared.place.Part.{Part}
-use Rattle.apex_config.specs.declared.place.Place.{Place}
-use Rattle.apex_config.specs.Places.{at, unless}
-use Rattle.apex_config.specs.Passes.{part_in, occurred_before}
 use Rattle.apex_config.proofs.SeenNames.{seen_at}
 use Rattle.apex_config.proofs.EachEntry.{one_more}
 use Rattle.apex_config.proofs.names.add_repeated.Goals as goal

@@ -1,11 +1,5 @@
-use Rattle.std.proofs.Common.{◌≡◌, ℕ, List, Bor, map, take}
-use Rattle.std.specs.List.{list_any}
-use Rattle.std.specs.Str.{bytes_eq}
-use Rattle.std.specs.Ordering.{nat_cmp}
-use Rattle.std.specs.Cmp.Lexicographic.{slice_cmp}
+use Rattle.apex_config.proofs.Common.{◌≡◌, ℕ, List, Bor, map, take, list_any, bytes_eq, nat_cmp, slice_cmp, Adds, at_each, part_in, occurred_before}
 use Rattle.std.specs.BTreeSet.{contains}
-use Rattle.apex_config.specs.Places.{Adds, at_each}
-use Rattle.apex_config.specs.Passes.{part_in, occurred_before}
 use Rattle.apex_config.proofs.names.add_repeated.Given as goal
 
 abbrev pub invariant-loop-index : goal.invariant-loop-index

@@ -1,5 +1,4 @@
-use Rattle.std.proofs.Common.{◌≡◌, drop}
-use Rattle.apex_config.specs.Meaning.{first_refusal}
+use Rattle.apex_config.proofs.Common.{◌≡◌, drop, first_refusal}
 use Rattle.apex_config.proofs.passes.first_refusal.Given as goal
 
 abbrev pub invariant-loop-fault : goal.invariant-loop-fault

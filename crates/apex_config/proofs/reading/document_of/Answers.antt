@@ -1,7 +1,4 @@
-use Rattle.std.proofs.Common.{Some, sym, ap, ◌∙◌}
-use Rattle.std.proofs.lemmas.Bool.{false≢true}
-use Rattle.toml.specs.Data.{Data}
-use Rattle.toml.specs.View.{table_view}
+use Rattle.apex_config.proofs.Common.{Some, sym, ap, ◌∙◌, false≢true, Data, table_view}
 use Rattle.toml.proofs.Views.{view-Table}
 use Rattle.apex_config.proofs.Answering.{is_document, no_document}
 use Rattle.apex_config.proofs.reading.document_of.Goals as goal

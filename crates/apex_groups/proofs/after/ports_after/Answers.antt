@@ -1,10 +1,6 @@
-use Rattle.std.proofs.Common.{◌≡◌, ◌+◌, ◌++◌, ◌∷◌, [], take, List, ℕ, slice_index_or, append-nil, ap, sym, ◌∙◌, subst}
-use Rattle.std.proofs.lemmas.List.{take_more}
-use Rattle.apex_ports.specs.History.{History}
+use Rattle.apex_groups.proofs.Common.{◌≡◌, ◌+◌, ◌++◌, ◌∷◌, [], take, List, ℕ, slice_index_or, append-nil, ap, sym, ◌∙◌, subst, take_more, History, history_of, next_entries, continued-append}
 use Rattle.apex_ports.specs.PortsView.{PortsView}
 use Rattle.apex_ports.specs.Sound.{IsSound}
-use Rattle.apex_orders.specs.Orders.{history_of, next_entries}
-use Rattle.apex_orders.proofs.Walks.{continued-append}
 use Rattle.apex_groups.proofs.OrderLemmas.{without_script}
 use Rattle.apex_groups.proofs.after.ports_after.Goals as goal
 use Rattle.apex_groups.proofs.after.ports_after.Goals.{then-p-scripts, else-p-scripts}

@@ -1,6 +1,5 @@
-use Rattle.std.proofs.Common.{◌≡◌, take}
+use Rattle.apex_groups.proofs.Common.{◌≡◌, take, history_of}
 use Rattle.apex_ports.specs.Sound.{IsSound}
-use Rattle.apex_orders.specs.Orders.{history_of}
 use Rattle.apex_groups.proofs.after.ports_after.Given as goal
 
 abbrev pub invariant-loop-p : goal.invariant-loop-p

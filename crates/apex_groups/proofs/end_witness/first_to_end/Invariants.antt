@@ -1,5 +1,4 @@
-use Rattle.std.proofs.Common.{◌≡◌, ℕ, ◌<◌, List, slice_get, Some}
-use Rattle.apex_orders.specs.Orders.{history_of}
+use Rattle.apex_groups.proofs.Common.{◌≡◌, ℕ, ◌<◌, List, slice_get, Some, history_of}
 use Rattle.apex_groups.specs.Ends.{IsSuchEnd}
 use Rattle.apex_groups.proofs.end_witness.first_to_end.Given as goal
 

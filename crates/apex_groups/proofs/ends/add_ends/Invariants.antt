@@ -1,6 +1,4 @@
-use Rattle.std.proofs.Common.{◌≡◌, ◌++◌, map, take}
-use Rattle.apex_groups.specs.Groups.{in_group}
-use Rattle.apex_groups.specs.ScriptParts.{made_whole}
+use Rattle.apex_groups.proofs.Common.{◌≡◌, ◌++◌, map, take, in_group, made_whole}
 use Rattle.apex_groups.proofs.ends.add_ends.Given as goal
 
 abbrev pub invariant-loop-end : goal.invariant-loop-end

@@ -1,6 +1,4 @@
-use Rattle.std.proofs.Common.{◌≡◌, take}
-use Rattle.std.specs.List.{filter}
-use Rattle.apex_groups.specs.Groups.{in_group}
+use Rattle.apex_groups.proofs.Common.{◌≡◌, take, filter, in_group}
 use Rattle.apex_groups.proofs.ends.calls_inside.Given as goal
 
 abbrev pub invariant-loop-p : goal.invariant-loop-p

@@ -1,6 +1,4 @@
-use Rattle.std.proofs.Common.{◌≡◌, ◌++◌, drop}
-use Rattle.apex_groups.specs.Groups.{in_group}
-use Rattle.apex_groups.specs.ScriptParts.{calls_outside}
+use Rattle.apex_groups.proofs.Common.{◌≡◌, ◌++◌, drop, in_group, calls_outside}
 use Rattle.apex_groups.proofs.ends.calls_outside.Given as goal
 
 abbrev pub invariant-loop-p : goal.invariant-loop-p

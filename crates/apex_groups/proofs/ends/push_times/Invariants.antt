@@ -1,5 +1,4 @@
-use Rattle.std.proofs.Common.{◌≡◌, ◌++◌}
-use Rattle.std.specs.Prelude.{replicate}
+use Rattle.apex_groups.proofs.Common.{◌≡◌, ◌++◌, replicate}
 use Rattle.apex_groups.proofs.ends.push_times.Given as goal
 
 abbrev pub invariant-loop : goal.invariant-loop

@@ -1,7 +1,4 @@
-use Rattle.std.proofs.Common.{◌≡◌, ◌<◌, ◌+◌, ◌∙◌, true, false, ℕ, Bool, Some, length, sym, ap, subst, arith}
-use Rattle.std.proofs.lemmas.Bool.Decides.{nat_tests}
-use Rattle.std.proofs.lemmas.Option.{slice_get-get_or}
-use Rattle.apex_groups.specs.Groups.{AreExchanged, group_of, in_group}
+use Rattle.apex_groups.proofs.Common.{◌≡◌, ◌<◌, ◌+◌, ◌∙◌, true, false, ℕ, Bool, Some, length, sym, ap, subst, arith, nat_tests, slice_get-get_or, AreExchanged, group_of, in_group}
 use Rattle.apex_groups.proofs.Exchanged.{below, exchanged_pass, exchanged_more, exchanged_all, still}
 use Rattle.apex_groups.proofs.exchanging.exchange.Goals as goal
 use Rattle.apex_groups.proofs.exchanging.exchange.Goals.{then-of_partition-group, else-of_partition-group}

@@ -1,11 +1,7 @@
-use Rattle.std.proofs.Common.{◌≡◌, ℕ, ◌++◌, Bool, List, length, sym, ap, ◌∙◌, subst, arith}
-use Rattle.std.specs.List.{filter}
-use Rattle.std.proofs.lemmas.Bool.{false≢true}
+use Rattle.apex_groups.proofs.Common.{◌≡◌, ℕ, ◌++◌, Bool, List, length, sym, ap, ◌∙◌, subst, arith, filter, false≢true, Logs, entries_at, in_group, AreWhole, IsOfGroups}
 use Rattle.apex_log_orders.specs.declared.answer.Answer.TheVariants.{Order, NoOrder, Undecided}
 use Rattle.apex_log_orders.specs.declared.answer.CallPlace.{CallPlace}
-use Rattle.apex_log_orders.specs.LogOrders.{Logs, entries_at}
-use Rattle.apex_groups.specs.Groups.{in_group}
-use Rattle.apex_groups.specs.LogParts.{AreWhole, IsAnswerOf, IsOfGroups}
+use Rattle.apex_groups.specs.LogParts.{IsAnswerOf}
 use Rattle.apex_log_orders.proofs.Fronts.{order_begins}
 use Rattle.apex_groups.proofs.LogGroupLemmas.{all_groups, of_added, whole_added}
 use Rattle.apex_groups.proofs.Joined.{no_order}

@@ -1,6 +1,4 @@
-use Rattle.std.proofs.Common.{◌≡◌, true}
-use Rattle.apex_log_orders.specs.LogOrders.{entries_at}
-use Rattle.apex_groups.specs.LogParts.{AreWhole, IsOfGroups}
+use Rattle.apex_groups.proofs.Common.{◌≡◌, true, entries_at, AreWhole, IsOfGroups}
 use Rattle.apex_groups.proofs.log_orders.find_by_groups.Given as goal
 
 abbrev pub invariant-loop-group : goal.invariant-loop-group

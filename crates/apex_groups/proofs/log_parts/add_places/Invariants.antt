@@ -1,6 +1,4 @@
-use Rattle.std.proofs.Common.{◌≡◌, ◌++◌, take}
-use Rattle.std.specs.List.{filter}
-use Rattle.apex_groups.specs.Groups.{in_group}
+use Rattle.apex_groups.proofs.Common.{◌≡◌, ◌++◌, take, filter, in_group}
 use Rattle.apex_groups.proofs.log_parts.add_places.Given as goal
 
 abbrev pub invariant-loop-place : goal.invariant-loop-place

@@ -1,7 +1,4 @@
-use Rattle.std.proofs.Common.{◌≡◌, ℕ, Bool, [], length, ◌∙◌, subst}
-use Rattle.std.specs.Prelude.{replicate}
-use Rattle.apex_log_orders.specs.LogOrders.{Logs, IsAnswer}
-use Rattle.apex_groups.specs.Groups.{AreExchanged, in_group}
+use Rattle.apex_groups.proofs.Common.{◌≡◌, ℕ, Bool, [], length, ◌∙◌, subst, replicate, Logs, IsAnswer, AreExchanged, in_group}
 use Rattle.apex_groups.specs.LogParts.{IsAnswerOf}
 use Rattle.apex_groups.proofs.Exchanged.{exchanged_back, put_in, of_ok}
 use Rattle.apex_groups.proofs.log_parts.find_order_of.Goals as goal

@@ -1,5 +1,4 @@
-use Rattle.std.proofs.Common.{Bool, IfOk, sym, subst}
-use Rattle.apex_orders.specs.Outcomes.{AreRepliesWith}
+use Rattle.apex_groups.proofs.Common.{Bool, IfOk, sym, subst, AreRepliesWith}
 use Rattle.apex_groups.proofs.outcomes.all_outcomes_apart.Goals as goal
 
 pub returns-clause-replies : goal.returns-clause-replies

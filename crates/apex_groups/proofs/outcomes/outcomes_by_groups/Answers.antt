@@ -1,8 +1,4 @@
-use Rattle.std.proofs.Common.{◌≡◌, ℕ, ◌+◌, ◌++◌, Bool, List, length, map, sym, ap, ◌∙◌, subst, arith}
-use Rattle.apex_orders.specs.Orders.{Scripts}
-use Rattle.apex_orders.specs.declared.replies.PossibleReply.{PossibleReply}
-use Rattle.apex_groups.specs.Groups.{HasNone, in_group}
-use Rattle.apex_groups.specs.ScriptParts.{AreRepliesBelow, IsFoundOf, ShowGroups, made_whole}
+use Rattle.apex_groups.proofs.Common.{◌≡◌, ℕ, ◌+◌, ◌++◌, Bool, List, length, map, sym, ap, ◌∙◌, subst, arith, Scripts, PossibleReply, HasNone, in_group, AreRepliesBelow, IsFoundOf, ShowGroups, made_whole}
 use Rattle.apex_groups.proofs.GroupSteps.{all_counts, all_replies, groups_added, groups_pass, replies_added, replies_pass}
 use Rattle.apex_groups.proofs.outcomes.outcomes_by_groups.Goals as goal
 

@@ -1,5 +1,4 @@
-use Rattle.std.proofs.Common.{◌≡◌}
-use Rattle.apex_groups.specs.ScriptParts.{AreRepliesBelow, ShowGroups}
+use Rattle.apex_groups.proofs.Common.{◌≡◌, AreRepliesBelow, ShowGroups}
 use Rattle.apex_groups.proofs.outcomes.outcomes_by_groups.Given as goal
 
 abbrev pub invariant-loop-group : goal.invariant-loop-group

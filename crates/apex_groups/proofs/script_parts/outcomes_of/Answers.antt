@@ -1,7 +1,4 @@
-use Rattle.std.proofs.Common.{◌≡◌, ℕ, Bool, [], length, ◌∙◌, subst}
-use Rattle.std.specs.Prelude.{replicate}
-use Rattle.apex_orders.specs.Orders.{Scripts}
-use Rattle.apex_groups.specs.Groups.{AreExchanged, in_group}
+use Rattle.apex_groups.proofs.Common.{◌≡◌, ℕ, Bool, [], length, ◌∙◌, subst, replicate, Scripts, AreExchanged, in_group}
 use Rattle.apex_groups.proofs.Exchanged.{exchanged_back, put_in}
 use Rattle.apex_groups.proofs.PartLemmas.{found_of, undecided_part}
 use Rattle.apex_groups.proofs.script_parts.outcomes_of.Goals as goal

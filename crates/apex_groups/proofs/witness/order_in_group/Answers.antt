@@ -1,7 +1,4 @@
-use Rattle.std.proofs.Common.{ℕ, Bool, Some, None, sym, ◌∙◌, subst}
-use Rattle.apex_groups.specs.Groups.{in_group}
-use Rattle.apex_orders.specs.Outcomes.{IsAnsweredBy}
-use Rattle.apex_groups.specs.ScriptParts.{IsAnswerOf}
+use Rattle.apex_groups.proofs.Common.{ℕ, Bool, Some, None, sym, ◌∙◌, subst, in_group, IsAnsweredBy, IsAnswerOf}
 use Rattle.apex_groups.proofs.GroupSteps.{is_in}
 use Rattle.apex_groups.proofs.PartLemmas.{answered_in_part}
 use Rattle.apex_groups.proofs.WholeLemmas.{answered_inside}

@@ -1,6 +1,4 @@
-use Rattle.std.proofs.Common.{ℕ, List, Option, subst}
-use Rattle.std.specs.Prelude.{IfSome, IfNone}
-use Rattle.apex_orders.specs.Outcomes.{CanBeAnsweredWith, IsAnsweredByWith}
+use Rattle.apex_groups.proofs.Common.{ℕ, List, Option, subst, IfSome, IfNone, CanBeAnsweredWith, IsAnsweredByWith}
 use Rattle.apex_groups.proofs.ReplyLemmas.{asked_for, can_be_answered, given_of_answered, undecided_alike}
 use Rattle.apex_groups.proofs.witness.order_of_reply.Goals as goal
 

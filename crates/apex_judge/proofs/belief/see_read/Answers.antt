@@ -1,7 +1,4 @@
-use Rattle.std.proofs.Common.{◌<◌, length, get_or, ap, ◌∙◌, arith}
-use Rattle.std.proofs.lemmas.Option.{slice_get-get_or}
-use Rattle.apex_types.specs.declared.call.Call.{Call}
-use Rattle.apex_judge.specs.Evidence.{reads_from}
+use Rattle.apex_judge.proofs.Common.{◌<◌, length, get_or, ap, ◌∙◌, arith, slice_get-get_or, Call, reads_from}
 use Rattle.apex_judge.proofs.EvidenceSteps.{reads_none, all_show_still, read_shows}
 use Rattle.apex_judge.proofs.belief.see_read.Goals as goal
 

@@ -1,6 +1,4 @@
-use Rattle.std.proofs.Common.{◌≡◌, ◌<◌, ℕ, Some, length}
-use Rattle.std.specs.List.{slice_get}
-use Rattle.apex_ports.specs.declared.history.Entry.{Entry}
+use Rattle.apex_judge.proofs.Common.{◌≡◌, ◌<◌, ℕ, Some, length, slice_get, Entry}
 use Rattle.apex_judge.proofs.departures.has_partitions.Given as goal
 
 abbrev pub invariant-loop-entry : goal.invariant-loop-entry

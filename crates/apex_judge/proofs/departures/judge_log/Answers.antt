@@ -1,8 +1,4 @@
-use Rattle.std.proofs.Common.{◌<◌, ◌++◌, ◌∷◌, [], length, add-one, sym, ap, subst, ◌∙◌}
-use Rattle.apex_module.specs.Configuration.{Configuration}
-use Rattle.apex_ports.specs.History.{History}
-use Rattle.apex_ports.proofs.Lookups.{at_index}
-use Rattle.apex_judge.specs.Departures.{instead_of}
+use Rattle.apex_judge.proofs.Common.{◌<◌, ◌++◌, ◌∷◌, [], length, add-one, sym, ap, subst, ◌∙◌, Configuration, History, at_index, instead_of}
 use Rattle.apex_judge.proofs.DepartureSteps.{parts_at, judged_on}
 use Rattle.apex_judge.proofs.departures.judge_log.Goals as goal
 

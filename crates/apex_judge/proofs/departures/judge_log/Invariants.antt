@@ -1,5 +1,4 @@
-use Rattle.std.proofs.Common.{◌≡◌, ◌++◌, take, drop}
-use Rattle.apex_judge.specs.Departures.{departures_after, departures_of}
+use Rattle.apex_judge.proofs.Common.{◌≡◌, ◌++◌, take, drop, departures_after, departures_of}
 use Rattle.apex_judge.proofs.departures.judge_log.Given as goal
 
 abbrev pub invariant-loop-index : goal.invariant-loop-index

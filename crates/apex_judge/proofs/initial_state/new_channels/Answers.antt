@@ -1,7 +1,4 @@
-use Rattle.std.proofs.Common.{◌≡◌, ◌≤◌, ◌^◌, ◌-◌, ℕ, List, [], length, refl, ap, ◌∙◌, arith}
-use Rattle.apex_ports.proofs.Stays.{each_at_push, length_push}
-use Rattle.apex_judge.specs.Kept.{IsChannelShown}
-use Rattle.apex_judge.specs.Picture.{opening}
+use Rattle.apex_judge.proofs.Common.{◌≡◌, ◌≤◌, ◌^◌, ◌-◌, ℕ, List, [], length, refl, ap, ◌∙◌, arith, each_at_push, length_push, IsChannelShown, opening}
 use Rattle.apex_judge.proofs.initial_state.new_channels.Goals as goal
 
 none_is_few : (xs : List (List ℕ)) → xs ≡ [] → length xs ≤ 2 ^ 32 - 1

@@ -1,7 +1,4 @@
-use Rattle.std.proofs.Common.{length, refl, ap, ◌∙◌}
-use Rattle.apex_ports.proofs.Stays.{each_at_push, length_push}
-use Rattle.apex_judge.specs.Kept.{IsPartitionShown}
-use Rattle.apex_judge.specs.Picture.{opening}
+use Rattle.apex_judge.proofs.Common.{length, refl, ap, ◌∙◌, each_at_push, length_push, IsPartitionShown, opening}
 use Rattle.apex_judge.proofs.initial_state.new_partitions.Goals as goal
 
 pub loop-p-preserved : goal.loop-p-preserved

@@ -1,7 +1,4 @@
-use Rattle.std.proofs.Common.{◌≡◌, length}
-use Rattle.apex_ports.specs.Kept.{EachAt}
-use Rattle.apex_judge.specs.Kept.{IsPartitionShown}
-use Rattle.apex_judge.specs.Picture.{opening}
+use Rattle.apex_judge.proofs.Common.{◌≡◌, length, EachAt, IsPartitionShown, opening}
 use Rattle.apex_judge.proofs.initial_state.new_partitions.Given as goal
 
 abbrev pub invariant-loop-p : goal.invariant-loop-p

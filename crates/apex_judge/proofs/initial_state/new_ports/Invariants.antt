@@ -1,7 +1,4 @@
-use Rattle.std.proofs.Common.{◌≡◌, ℕ, false, length}
-use Rattle.std.specs.List.{slice_get}
-use Rattle.apex_types.specs.declared.validity.Validity.TheVariants.{Invalid}
-use Rattle.apex_judge.specs.Kept.{created_in, last_in, doubted_in}
+use Rattle.apex_judge.proofs.Common.{◌≡◌, ℕ, false, length, slice_get, Invalid, created_in, last_in, doubted_in}
 use Rattle.apex_judge.proofs.initial_state.new_ports.Given as goal
 
 abbrev pub invariant-loop : goal.invariant-loop

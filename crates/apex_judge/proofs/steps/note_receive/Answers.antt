@@ -1,8 +1,4 @@
-use Rattle.std.proofs.Common.{◌<◌, length, get_or, sym, ap, ◌∙◌, arith}
-use Rattle.std.specs.Option.{option_copied}
-use Rattle.std.proofs.lemmas.Option.{slice_get-get_or}
-use Rattle.apex_types.specs.declared.call.Call.TheVariants.{ReceiveQueuing}
-use Rattle.apex_ports.specs.History.{entry_of}
+use Rattle.apex_judge.proofs.Common.{◌<◌, length, get_or, sym, ap, ◌∙◌, arith, option_copied, slice_get-get_or, ReceiveQueuing, entry_of}
 use Rattle.apex_judge.proofs.ChannelSteps.{all_stay, receive_elsewhere, receive_without, received_notes, emptied_notes}
 use Rattle.apex_judge.proofs.steps.note_receive.Goals as goal
 

@@ -1,7 +1,4 @@
-use Rattle.std.proofs.Common.{◌<◌, length, get_or, sym, ◌∙◌, arith}
-use Rattle.std.proofs.lemmas.Option.{slice_get-get_or}
-use Rattle.apex_types.specs.declared.call.Call.TheVariants.{WriteSampling}
-use Rattle.apex_ports.specs.History.{entry_of}
+use Rattle.apex_judge.proofs.Common.{◌<◌, length, get_or, sym, ◌∙◌, arith, slice_get-get_or, WriteSampling, entry_of}
 use Rattle.apex_judge.proofs.ChannelSteps.{all_stay, write_elsewhere, write_refused, written_notes}
 use Rattle.apex_judge.proofs.steps.note_write.Goals as goal
 

@@ -1,6 +1,4 @@
-use Rattle.std.proofs.Common.{◌≡◌, ℕ, ◌+◌, List, Some, if◌then◌else◌, subst, sym, ap, ◌∙◌, rules}
-use Rattle.std.specs.Str.{bytes_eq}
-use Rattle.apex_judge.specs.Tally.{times}
+use Rattle.apex_judge.proofs.Common.{◌≡◌, ℕ, ◌+◌, List, Some, if◌then◌else◌, subst, sym, ap, ◌∙◌, rules, bytes_eq, times}
 use Rattle.apex_judge.proofs.TallySteps.{counted_more}
 use Rattle.apex_judge.proofs.tally.count.Goals as goal
 

@@ -1,5 +1,4 @@
-use Rattle.std.proofs.Common.{ℕ, ◌-◌, Option, Some, None, ap, rules, arith}
-use Rattle.std.specs.Option.{unwrap_or}
+use Rattle.apex_judge.proofs.Common.{ℕ, ◌-◌, Option, Some, None, ap, rules, arith, unwrap_or}
 use Rattle.apex_judge.proofs.TallySteps.{counted_less}
 use Rattle.apex_judge.proofs.tally.uncount.Goals as goal
 

@@ -1,9 +1,4 @@
-use Rattle.std.proofs.Common.{◌≡◌, ◌==◌, ◌+◌, ap, arith, false, suc, sym, subst, take, ◌∙◌, ℕ, Bool, List}
-use Rattle.std.specs.List.{list_any}
-use Rattle.std.specs.Option.{option_copied}
-use Rattle.std.proofs.lemmas.Bool.Decides.{nat_tests}
-use Rattle.apex_module.specs.Configuration.{ports_of}
-use Rattle.apex_module.specs.declared.port.Port.{Port}
+use Rattle.apex_log_orders.proofs.Common.{◌≡◌, ◌==◌, ◌+◌, ap, arith, false, suc, sym, subst, take, ◌∙◌, ℕ, Bool, List, list_any, option_copied, nat_tests, ports_of, Port}
 use Rattle.apex_log_orders.proofs.AboutLemmas.{any_here, any_next, any_past, port_at_index}
 use Rattle.apex_log_orders.proofs.by_channel.has_end.Goals as goal
 use Rattle.apex_log_orders.proofs.by_channel.has_end.Goals.{in-Some+else-port-channel, in_default}

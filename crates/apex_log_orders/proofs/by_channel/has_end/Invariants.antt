@@ -1,6 +1,4 @@
-use Rattle.std.proofs.Common.{◌≡◌, ◌==◌, false, take}
-use Rattle.std.specs.List.{list_any}
-use Rattle.apex_module.specs.Configuration.{ports_of}
+use Rattle.apex_log_orders.proofs.Common.{◌≡◌, ◌==◌, false, take, list_any, ports_of}
 use Rattle.apex_log_orders.proofs.by_channel.has_end.Given as goal
 
 abbrev pub invariant-loop-index : goal.invariant-loop-index

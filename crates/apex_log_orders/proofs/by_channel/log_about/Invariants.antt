@@ -1,5 +1,4 @@
-use Rattle.std.proofs.Common.{◌≡◌, take}
-use Rattle.apex_log_orders.specs.ByChannel.{about}
+use Rattle.apex_log_orders.proofs.Common.{◌≡◌, take, about}
 use Rattle.apex_log_orders.proofs.by_channel.log_about.Given as goal
 
 abbrev pub invariant-loop-entry : goal.invariant-loop-entry

@@ -1,7 +1,4 @@
-use Rattle.std.proofs.Common.{ap, subst, sym, ◌∙◌}
-use Rattle.std.proofs.lemmas.List.{take_all}
-use Rattle.apex_log_orders.specs.ByChannel.{logs_about}
-use Rattle.apex_log_orders.specs.LogOrders.{Logs, HasNoOrder}
+use Rattle.apex_log_orders.proofs.Common.{ap, subst, sym, ◌∙◌, take_all, logs_about, Logs, HasNoOrder}
 use Rattle.apex_log_orders.proofs.AboutLemmas.{no_order_about}
 use Rattle.apex_log_orders.proofs.by_channel.logs_about.Goals as goal
 

@@ -1,5 +1,4 @@
-use Rattle.std.proofs.Common.{◌≡◌, take}
-use Rattle.apex_log_orders.specs.ByChannel.{logs_about}
+use Rattle.apex_log_orders.proofs.Common.{◌≡◌, take, logs_about}
 use Rattle.apex_log_orders.proofs.by_channel.logs_about.Given as goal
 
 abbrev pub invariant-loop-log : goal.invariant-loop-log

@@ -1,8 +1,4 @@
-use Rattle.std.proofs.Common.{◌≡◌, ◌+◌, ℕ, List, length, ap, ◌∙◌}
-use Rattle.std.specs.List.{slice_get}
-use Rattle.apex_module.specs.Configuration.{Configuration}
-use Rattle.apex_ports.specs.Channels.{waiting_on}
-use Rattle.apex_judge.specs.Shown.{waiting_shown}
+use Rattle.apex_log_orders.proofs.Common.{◌≡◌, ◌+◌, ℕ, List, length, ap, ◌∙◌, slice_get, Configuration, waiting_on, waiting_shown}
 use Rattle.apex_judge.proofs.PictureLaws.{shows_what_waits}
 use Rattle.apex_log_orders.proofs.Keys.{count_push, made_stays, waiting_push}
 use Rattle.apex_log_orders.proofs.dead_ends.key_of.Goals as goal

@@ -1,7 +1,4 @@
-use Rattle.std.proofs.Common.{◌≡◌, ◌<◌, ◌+◌, ℕ, length, Some}
-use Rattle.std.specs.List.{slice_get}
-use Rattle.apex_ports.specs.Channels.{waiting_on}
-use Rattle.apex_ports.specs.History.{entries_of}
+use Rattle.apex_log_orders.proofs.Common.{◌≡◌, ◌<◌, ◌+◌, ℕ, length, Some, slice_get, waiting_on, entries_of}
 use Rattle.apex_log_orders.proofs.dead_ends.key_of.Given as goal
 
 abbrev pub invariant-loop-channel : goal.invariant-loop-channel

@@ -1,7 +1,4 @@
-use Rattle.std.proofs.Common.{◌≡◌, ◌<◌, if◌then◌else◌, length, Some, sym, ap, ◌∙◌, arith}
-use Rattle.std.specs.List.{slice_get}
-use Rattle.apex_ports.specs.History.{History}
-use Rattle.apex_ports.proofs.Lookups.{at_index}
+use Rattle.apex_log_orders.proofs.Common.{◌≡◌, ◌<◌, if◌then◌else◌, length, Some, sym, ap, ◌∙◌, arith, slice_get, History, at_index}
 use Rattle.apex_log_orders.proofs.EndCounts.{accepted_more}
 use Rattle.apex_log_orders.proofs.ends.count_accepted.Goals as goal
 use Rattle.apex_log_orders.proofs.ends.count_accepted.Goals.{then-is_accepted_on, else-is_accepted_on}

@@ -1,5 +1,4 @@
-use Rattle.std.proofs.Common.{◌≡◌, ◌≤◌, length, take}
-use Rattle.apex_ports.specs.Channels.{accepted_on}
+use Rattle.apex_log_orders.proofs.Common.{◌≡◌, ◌≤◌, length, take, accepted_on}
 use Rattle.apex_log_orders.proofs.ends.count_accepted.Given as goal
 
 abbrev pub invariant-loop-i : goal.invariant-loop-i

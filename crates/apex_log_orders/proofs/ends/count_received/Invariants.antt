@@ -1,5 +1,4 @@
-use Rattle.std.proofs.Common.{◌≡◌, ◌≤◌, length, take}
-use Rattle.apex_ports.specs.Channels.{received_on}
+use Rattle.apex_log_orders.proofs.Common.{◌≡◌, ◌≤◌, length, take, received_on}
 use Rattle.apex_log_orders.proofs.ends.count_received.Given as goal
 
 abbrev pub invariant-loop-i : goal.invariant-loop-i

@@ -1,7 +1,4 @@
-use Rattle.std.proofs.Common.{◌<◌, ℕ, length}
-use Rattle.apex_ports.specs.History.{entries_of}
-use Rattle.apex_log_orders.specs.LogOrders.{log_in}
-use Rattle.apex_log_orders.specs.Stuck.{NoneWrites}
+use Rattle.apex_log_orders.proofs.Common.{◌<◌, ℕ, length, entries_of, log_in, NoneWrites}
 use Rattle.apex_log_orders.proofs.reads.is_read_held.Given as goal
 
 abbrev pub invariant-loop-q : goal.invariant-loop-q

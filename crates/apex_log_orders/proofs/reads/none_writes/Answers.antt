@@ -1,10 +1,4 @@
-use Rattle.std.proofs.Common.{◌≡◌, ◌<◌, ◌≤◌, ⊎_elim, length, Some, sym, ap, ◌∙◌, subst, arith}
-use Rattle.std.specs.List.{slice_get}
-use Rattle.std.proofs.lemmas.Bool.{false≢true, cases_lt}
-use Rattle.apex_ports.specs.declared.history.Entry.{Entry}
-use Rattle.apex_ports.specs.History.{History}
-use Rattle.apex_ports.proofs.Lookups.{at_index}
-use Rattle.apex_log_orders.specs.Stuck.{Writes}
+use Rattle.apex_log_orders.proofs.Common.{◌≡◌, ◌<◌, ◌≤◌, ⊎_elim, length, Some, sym, ap, ◌∙◌, subst, arith, slice_get, false≢true, cases_lt, Entry, History, at_index, Writes}
 use Rattle.apex_log_orders.proofs.reads.none_writes.Goals as goal
 
 pub loop-k-init : goal.loop-k-init

@@ -1,8 +1,4 @@
-use Rattle.std.proofs.Common.{◌++◌, ◌∷◌, [], take, slice_index_or, sym, ap, ◌∙◌}
-use Rattle.std.proofs.lemmas.List.{take_more}
-use Rattle.std.proofs.lemmas.Option.{slice_get-get_or}
-use Rattle.apex_log_orders.specs.declared.answer.CallPlace.{CallPlace}
-use Rattle.apex_log_orders.specs.LogOrders.{entries_at}
+use Rattle.apex_log_orders.proofs.Common.{◌++◌, ◌∷◌, [], take, slice_index_or, sym, ap, ◌∙◌, take_more, slice_get-get_or, CallPlace, entries_at}
 use Rattle.apex_log_orders.proofs.Beginnings.{entries_at-append}
 use Rattle.apex_log_orders.proofs.replay.judge_at.Goals as goal
 

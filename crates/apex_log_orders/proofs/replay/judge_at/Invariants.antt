@@ -1,5 +1,4 @@
-use Rattle.std.proofs.Common.{◌≡◌, take}
-use Rattle.apex_log_orders.specs.LogOrders.{entries_at}
+use Rattle.apex_log_orders.proofs.Common.{◌≡◌, take, entries_at}
 use Rattle.apex_log_orders.proofs.replay.judge_at.Given as goal
 
 abbrev pub invariant-loop-place : goal.invariant-loop-place

@@ -1,7 +1,4 @@
-use Rattle.std.proofs.Common.{⊎_elim, List, sym, ◌∙◌, subst}
-use Rattle.std.proofs.lemmas.Bool.{false≢true}
-use Rattle.apex_log_orders.specs.declared.answer.CallPlace.{CallPlace}
-use Rattle.apex_log_orders.specs.LogOrders.{IsBeginning, entries_at}
+use Rattle.apex_log_orders.proofs.Common.{⊎_elim, List, sym, ◌∙◌, subst, false≢true, CallPlace, IsBeginning, entries_at}
 use Rattle.apex_log_orders.proofs.Beginnings.{begins_nil}
 use Rattle.apex_log_orders.proofs.search.search.Goals as goal
 

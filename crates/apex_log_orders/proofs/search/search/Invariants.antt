@@ -1,6 +1,4 @@
-use Rattle.apex_log_orders.specs.DeadEnds.{AreDead}
-use Rattle.apex_log_orders.specs.LogOrders.{IsBeginning, entries_at}
-use Rattle.apex_log_orders.specs.Walking.{IsWalk}
+use Rattle.apex_log_orders.proofs.Common.{AreDead, IsBeginning, entries_at, IsWalk}
 use Rattle.apex_log_orders.proofs.search.search.Given as goal
 
 abbrev pub invariant-loop-left : goal.invariant-loop-left

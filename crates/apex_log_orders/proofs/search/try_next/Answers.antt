@@ -1,5 +1,4 @@
-use Rattle.std.proofs.Common.{sym, ◌∙◌}
-use Rattle.std.proofs.lemmas.Bool.{false≢true}
+use Rattle.apex_log_orders.proofs.Common.{sym, ◌∙◌, false≢true}
 use Rattle.apex_log_orders.proofs.Tries.{none_left}
 use Rattle.apex_log_orders.proofs.search.try_next.Goals as goal
 

@@ -1,5 +1,4 @@
-use Rattle.std.proofs.Common.{subst}
-use Rattle.apex_log_orders.specs.LogOrders.{HasNoOrder, IsAnswer}
+use Rattle.apex_log_orders.proofs.Common.{subst, HasNoOrder, IsAnswer}
 use Rattle.apex_log_orders.specs.declared.answer.Answer.{Answer}
 use Rattle.apex_log_orders.proofs.second_search.has_no_order_on.Goals as goal
 

@@ -1,7 +1,4 @@
-use Rattle.std.proofs.Common.{◌≡◌, ◌+◌, ℕ, suc, take, refl, sym, ◌∙◌, subst, arith}
-use Rattle.std.proofs.lemmas.List.{take_all}
-use Rattle.apex_ports.specs.WithoutClears.{HasNoClear}
-use Rattle.apex_ports.proofs.Lookups.{at_index}
+use Rattle.apex_log_orders.proofs.Common.{◌≡◌, ◌+◌, ℕ, suc, take, refl, sym, ◌∙◌, subst, arith, take_all, HasNoClear, at_index}
 use Rattle.apex_log_orders.proofs.OwnEntries.{no_clear_more}
 use Rattle.apex_log_orders.proofs.stuck.has_no_clear.Goals as goal
 

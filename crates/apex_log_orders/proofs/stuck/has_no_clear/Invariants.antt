@@ -1,5 +1,4 @@
-use Rattle.std.proofs.Common.{take}
-use Rattle.apex_ports.specs.WithoutClears.{HasNoClear}
+use Rattle.apex_log_orders.proofs.Common.{take, HasNoClear}
 use Rattle.apex_log_orders.proofs.stuck.has_no_clear.Given as goal
 
 abbrev pub invariant-loop-entry : goal.invariant-loop-entry

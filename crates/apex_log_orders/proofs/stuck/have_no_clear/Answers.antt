@@ -1,11 +1,4 @@
-use Rattle.std.proofs.Common.{◌≡◌, ◌<◌, ◌≤◌, ⊎_elim, ℕ, [], length, Option, refl, sym, ap, subst, arith}
-use Rattle.std.specs.Option.{unwrap_or}
-use Rattle.std.proofs.lemmas.Bool.{cases_lt}
-use Rattle.std.proofs.lemmas.Option.{slice_get_past}
-use Rattle.apex_ports.specs.History.{History}
-use Rattle.apex_ports.specs.WithoutClears.{HasNoClear}
-use Rattle.apex_ports.proofs.Lookups.{at_index}
-use Rattle.apex_log_orders.specs.LogOrders.{log_in}
+use Rattle.apex_log_orders.proofs.Common.{◌≡◌, ◌<◌, ◌≤◌, ⊎_elim, ℕ, [], length, Option, refl, sym, ap, subst, arith, unwrap_or, cases_lt, slice_get_past, History, HasNoClear, at_index, log_in}
 use Rattle.apex_log_orders.proofs.stuck.have_no_clear.Goals as goal
 
 pub loop-log-init : goal.loop-log-init

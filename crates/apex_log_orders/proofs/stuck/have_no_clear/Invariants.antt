@@ -1,6 +1,4 @@
-use Rattle.std.proofs.Common.{◌<◌, ℕ}
-use Rattle.apex_ports.specs.WithoutClears.{HasNoClear}
-use Rattle.apex_log_orders.specs.LogOrders.{log_in}
+use Rattle.apex_log_orders.proofs.Common.{◌<◌, ℕ, HasNoClear, log_in}
 use Rattle.apex_log_orders.proofs.stuck.have_no_clear.Given as goal
 
 abbrev pub invariant-loop-log : goal.invariant-loop-log

@@ -1,10 +1,4 @@
-use Rattle.std.proofs.Common.{◌≡◌, sym, ap, ◌∙◌}
-use Rattle.std.proofs.lemmas.Bool.{false≢true}
-use Rattle.apex_ports.specs.ReplyTable.{reply_to}
-use Rattle.apex_ports.specs.Sound.{IsSound}
-use Rattle.apex_judge.specs.Shown.{reply_shown}
-use Rattle.apex_judge.specs.Waiting.{is_code_not_available}
-use Rattle.apex_judge.proofs.JudgedLogs.{same_reply}
+use Rattle.apex_log_orders.proofs.Common.{◌≡◌, sym, ap, ◌∙◌, false≢true, reply_to, IsSound, reply_shown, is_code_not_available, same_reply}
 use Rattle.apex_log_orders.proofs.NeverNexts.{held, own_held}
 use Rattle.apex_log_orders.proofs.stuck.is_held.Goals as goal
 

@@ -1,6 +1,4 @@
-use Rattle.std.proofs.Common.{◌≡◌, ◌<◌, ◌≤◌, ⊎_elim, sym, ◌∙◌, subst, arith}
-use Rattle.std.proofs.lemmas.Bool.{false≢true, cases_lt}
-use Rattle.apex_log_orders.specs.Stuck.{NeverNext}
+use Rattle.apex_log_orders.proofs.Common.{◌≡◌, ◌<◌, ◌≤◌, ⊎_elim, sym, ◌∙◌, subst, arith, false≢true, cases_lt, NeverNext}
 use Rattle.apex_log_orders.proofs.Fronts.{stuck}
 use Rattle.apex_log_orders.proofs.stuck.is_stuck.Goals as goal
 

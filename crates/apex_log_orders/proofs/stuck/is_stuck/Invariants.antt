@@ -1,5 +1,4 @@
-use Rattle.std.proofs.Common.{◌<◌, ℕ}
-use Rattle.apex_log_orders.specs.Stuck.{NeverNext}
+use Rattle.apex_log_orders.proofs.Common.{◌<◌, ℕ, NeverNext}
 use Rattle.apex_log_orders.proofs.stuck.is_stuck.Given as goal
 
 abbrev pub invariant-loop-p : goal.invariant-loop-p

@@ -1,14 +1,4 @@
-use Rattle.std.proofs.Common.{◌≡◌, ℕ, [], length, take, Some, Option, true, refl, sym, ap, ◌∙◌, subst, arith}
-use Rattle.std.specs.Option.{unwrap_or}
-use Rattle.apex_types.specs.declared.direction.Direction.TheVariants.{Destination}
-use Rattle.apex_ports.specs.History.{History, entries_of}
-use Rattle.apex_ports.specs.Channels.{accepted_on, received_on, message_received}
-use Rattle.apex_ports.specs.Ports.{is_destination_of}
-use Rattle.apex_ports.specs.ReplyTable.{depth_of, depth_in}
-use Rattle.apex_module.specs.Configuration.{port_of}
-use Rattle.apex_ports.proofs.Lookups.{at_index}
-use Rattle.apex_log_orders.specs.LogOrders.{log_in}
-use Rattle.apex_log_orders.specs.Stuck.{HasEnd}
+use Rattle.apex_log_orders.proofs.Common.{◌≡◌, ℕ, [], length, take, Some, Option, true, refl, sym, ap, ◌∙◌, subst, arith, unwrap_or, Destination, History, entries_of, accepted_on, received_on, message_received, is_destination_of, depth_of, depth_in, port_of, at_index, log_in, HasEnd}
 use Rattle.apex_log_orders.proofs.EndCounts.{received_from}
 use Rattle.apex_log_orders.proofs.NeverNexts.{soon_receive, destination_test, received_before}
 use Rattle.apex_log_orders.proofs.too_soon.receives_too_soon.Goals as goal

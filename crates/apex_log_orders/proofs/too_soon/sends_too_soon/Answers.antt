@@ -1,13 +1,4 @@
-use Rattle.std.proofs.Common.{◌≡◌, ℕ, [], length, take, Some, Option, true, refl, sym, ap, ◌∙◌, subst, arith}
-use Rattle.std.specs.Option.{unwrap_or}
-use Rattle.apex_types.specs.declared.direction.Direction.TheVariants.{Destination}
-use Rattle.apex_ports.specs.History.{History, entries_of}
-use Rattle.apex_ports.specs.Channels.{accepted_on, received_on, message_accepted}
-use Rattle.apex_ports.specs.Ports.{is_source_of}
-use Rattle.apex_module.specs.Configuration.{port_of}
-use Rattle.apex_ports.proofs.Lookups.{at_index}
-use Rattle.apex_log_orders.specs.LogOrders.{log_in}
-use Rattle.apex_log_orders.specs.Stuck.{HasEnd}
+use Rattle.apex_log_orders.proofs.Common.{◌≡◌, ℕ, [], length, take, Some, Option, true, refl, sym, ap, ◌∙◌, subst, arith, unwrap_or, Destination, History, entries_of, accepted_on, received_on, message_accepted, is_source_of, port_of, at_index, log_in, HasEnd}
 use Rattle.apex_log_orders.proofs.EndCounts.{sent_on}
 use Rattle.apex_log_orders.proofs.NeverNexts.{soon_send, source_test, accepted_before}
 use Rattle.apex_log_orders.proofs.too_soon.sends_too_soon.Goals as goal

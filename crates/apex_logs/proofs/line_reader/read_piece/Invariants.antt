@@ -1,5 +1,4 @@
-use Rattle.std.proofs.Common.{◌≡◌, length}
-use Rattle.std.specs.Io.KnownBytes.{Keeps}
+use Rattle.apex_logs.proofs.Common.{◌≡◌, length, Keeps}
 use Rattle.apex_logs.proofs.line_reader.read_piece.Given as goal
 
 abbrev pub invariant-loop : goal.invariant-loop

@@ -1,6 +1,4 @@
-use Rattle.std.proofs.Common.{◌≡◌, ◌+◌, Ok, Err, Some, None, sym, ◌∙◌, arith}
-use Rattle.std.specs.Str.Lines.{lines}
-use Rattle.apex_logs.specs.LogLine.{entry_of_line}
+use Rattle.apex_logs.proofs.Common.{◌≡◌, ◌+◌, Ok, Err, Some, None, sym, ◌∙◌, arith, lines, entry_of_line}
 use Rattle.apex_logs.proofs.LogLemmas.{reads, ends, has_no_line}
 use Rattle.apex_logs.proofs.log.next_entry.Goals as goal
 

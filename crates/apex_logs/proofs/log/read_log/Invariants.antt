@@ -1,6 +1,4 @@
-use Rattle.std.proofs.Common.{◌≡◌, ◌+◌, ◌≤◌, length}
-use Rattle.std.specs.Str.Lines.{lines}
-use Rattle.apex_logs.specs.Log.{entries_from}
+use Rattle.apex_logs.proofs.Common.{◌≡◌, ◌+◌, ◌≤◌, length, lines, entries_from}
 use Rattle.apex_logs.proofs.LogLemmas.{with_front}
 use Rattle.apex_logs.proofs.log.read_log.Given as goal
 

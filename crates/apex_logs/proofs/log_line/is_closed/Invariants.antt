@@ -1,5 +1,4 @@
-use Rattle.std.proofs.Common.{◌≡◌, false, drop}
-use Rattle.apex_logs.specs.LogLine.{is_closed}
+use Rattle.apex_logs.proofs.Common.{◌≡◌, false, drop, is_closed}
 use Rattle.apex_logs.proofs.log_line.is_closed.Given as goal
 
 abbrev pub invariant-loop-byte : goal.invariant-loop-byte

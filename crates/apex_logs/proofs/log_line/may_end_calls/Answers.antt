@@ -1,6 +1,4 @@
-use Rattle.std.proofs.Common.{sym, ap, ◌∙◌}
-use Rattle.apex_texts.proofs.TextLemmas.{words_none}
-use Rattle.apex_logs.specs.LogLine.{begin_with_after}
+use Rattle.apex_logs.proofs.Common.{sym, ap, ◌∙◌, words_none, begin_with_after}
 use Rattle.apex_logs.proofs.EndLemmas.{goes_on}
 use Rattle.apex_logs.proofs.log_line.may_end_calls.Goals as goal
 

@@ -1,8 +1,5 @@
-use Rattle.std.proofs.Common.{◌+◌, ◌-◌, ◌++◌, take, length, ap, ◌∙◌, arith}
+use Rattle.apex_mistakes.proofs.Common.{◌+◌, ◌-◌, ◌++◌, take, length, ap, ◌∙◌, arith, lines, LinePlace, places_from, places_of}
 use Rattle.std.specs.Global.{Vec}
-use Rattle.std.specs.Str.Lines.{lines}
-use Rattle.apex_mistakes.specs.declared.line_place.LinePlace.{LinePlace}
-use Rattle.apex_mistakes.specs.FaultyLines.{places_from, places_of}
 use Rattle.apex_mistakes.proofs.FaultyLinesLemmas.{keeps, leaves_out}
 use Rattle.apex_mistakes.proofs.faulty_lines.find_faults.Goals.{then-count-most+in_ok-push, else-count-most}
 use Rattle.apex_mistakes.proofs.faulty_lines.find_faults.Goals as goal

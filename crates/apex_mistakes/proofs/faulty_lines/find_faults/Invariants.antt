@@ -1,6 +1,4 @@
-use Rattle.std.proofs.Common.{◌≡◌, ◌+◌, ◌-◌, ◌≤◌, ◌++◌, length, take}
-use Rattle.std.specs.Str.Lines.{lines}
-use Rattle.apex_mistakes.specs.FaultyLines.{places_from, places_of}
+use Rattle.apex_mistakes.proofs.Common.{◌≡◌, ◌+◌, ◌-◌, ◌≤◌, ◌++◌, length, take, lines, places_from, places_of}
 use Rattle.apex_mistakes.proofs.faulty_lines.find_faults.Given as goal
 
 abbrev pub invariant-loop-place : goal.invariant-loop-place

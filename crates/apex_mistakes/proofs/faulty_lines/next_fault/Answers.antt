@@ -1,8 +1,4 @@
-use Rattle.std.proofs.Common.{◌≡◌, ◌+◌, ◌∷◌, sym, ap, ◌∙◌, arith}
-use Rattle.std.specs.Str.Lines.{lines}
-use Rattle.apex_mistakes.specs.declared.line_place.LinePlace.{LinePlace}
-use Rattle.apex_texts.specs.Lines.{FaultyLine}
-use Rattle.apex_mistakes.specs.FaultyLines.{places_from}
+use Rattle.apex_mistakes.proofs.Common.{◌≡◌, ◌+◌, ◌∷◌, sym, ap, ◌∙◌, arith, lines, LinePlace, FaultyLine, places_from}
 use Rattle.apex_mistakes.proofs.PlaceLemmas.{place-faulty}
 use Rattle.apex_mistakes.proofs.FaultyLinesLemmas.{finds, passes, finds_nothing}
 use Rattle.apex_mistakes.proofs.faulty_lines.next_fault.Goals as goal

@@ -1,6 +1,4 @@
-use Rattle.std.proofs.Common.{◌≡◌, ◌+◌, ◌≤◌, length}
-use Rattle.std.specs.Str.Lines.{lines}
-use Rattle.apex_mistakes.specs.FaultyLines.{places_from}
+use Rattle.apex_mistakes.proofs.Common.{◌≡◌, ◌+◌, ◌≤◌, length, lines, places_from}
 use Rattle.apex_mistakes.proofs.faulty_lines.next_fault.Given as goal
 
 abbrev pub invariant-loop-line : goal.invariant-loop-line

@@ -1,9 +1,6 @@
-use Rattle.std.proofs.Common.{◌≡◌, ◌+◌, ◌-◌, ◌++◌, List, ◌∷◌, length, take, sym, ap, ◌∙◌, arith}
-use Rattle.std.specs.Prelude.{option_map}
+use Rattle.apex_mistakes.proofs.Common.{◌≡◌, ◌+◌, ◌-◌, ◌++◌, List, ◌∷◌, length, take, sym, ap, ◌∙◌, arith, option_map, lines, log_places_from}
 use Rattle.std.specs.Global.{Vec}
-use Rattle.std.specs.Str.Lines.{lines}
 use Rattle.apex_mistakes.specs.declared.log_place.LogPlace.{LogPlace}
-use Rattle.apex_mistakes.specs.LogFaults.{log_places_from}
 use Rattle.apex_mistakes.proofs.FaultyLinesLemmas.{keeps, leaves_out}
 use Rattle.apex_mistakes.proofs.LogFaultsLemmas.{finds, passes, ends, finds_nothing, none_left}
 use Rattle.apex_mistakes.proofs.faulty_log.find_log_faults.Goals.{then-count-most+in_ok-log_place_in+in_ok-push, else-count-most}

@@ -1,6 +1,4 @@
-use Rattle.std.proofs.Common.{◌≡◌, ◌+◌, ◌-◌, ◌≤◌, ◌++◌, length, take}
-use Rattle.std.specs.Str.Lines.{lines}
-use Rattle.apex_mistakes.specs.LogFaults.{log_places_from}
+use Rattle.apex_mistakes.proofs.Common.{◌≡◌, ◌+◌, ◌-◌, ◌≤◌, ◌++◌, length, take, lines, log_places_from}
 use Rattle.apex_mistakes.proofs.faulty_log.find_log_faults.Given as goal
 
 abbrev pub invariant-loop-line : goal.invariant-loop-line

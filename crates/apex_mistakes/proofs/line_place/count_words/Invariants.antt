@@ -1,5 +1,4 @@
-use Rattle.std.proofs.Common.{◌≡◌, ◌+◌, ◌≤◌, length}
-use Rattle.apex_texts.specs.Text.{words_of}
+use Rattle.apex_mistakes.proofs.Common.{◌≡◌, ◌+◌, ◌≤◌, length, words_of}
 use Rattle.apex_mistakes.proofs.line_place.count_words.Given as goal
 
 abbrev pub invariant-loop-after : goal.invariant-loop-after

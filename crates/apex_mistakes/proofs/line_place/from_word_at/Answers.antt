@@ -1,5 +1,4 @@
-use Rattle.std.proofs.Common.{◌≡◌, ◌+◌, ◌-◌, suc, sym, ap, ◌∙◌, arith}
-use Rattle.apex_mistakes.specs.LinePlace.{from_word_at}
+use Rattle.apex_mistakes.proofs.Common.{◌≡◌, ◌+◌, ◌-◌, suc, sym, ap, ◌∙◌, arith, from_word_at}
 use Rattle.apex_mistakes.proofs.line_place.from_word_at.Goals as goal
 
 pub loop-skipped-preserved : goal.loop-skipped-preserved

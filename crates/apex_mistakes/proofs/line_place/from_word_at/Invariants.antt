@@ -1,5 +1,4 @@
-use Rattle.std.proofs.Common.{◌≡◌, ◌-◌}
-use Rattle.apex_mistakes.specs.LinePlace.{from_word_at}
+use Rattle.apex_mistakes.proofs.Common.{◌≡◌, ◌-◌, from_word_at}
 use Rattle.apex_mistakes.proofs.line_place.from_word_at.Given as goal
 
 abbrev pub invariant-loop-skipped : goal.invariant-loop-skipped

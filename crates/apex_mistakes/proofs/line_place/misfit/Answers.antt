@@ -1,6 +1,4 @@
-use Rattle.std.proofs.Common.{◌≡◌, drop, ap, ◌∙◌, arith}
-use Rattle.apex_texts.specs.Text.{words_of}
-use Rattle.apex_mistakes.specs.LinePlace.{misfit}
+use Rattle.apex_mistakes.proofs.Common.{◌≡◌, drop, ap, ◌∙◌, arith, words_of, misfit}
 use Rattle.apex_mistakes.proofs.PlaceLemmas.{misfit-nothing}
 use Rattle.apex_mistakes.proofs.line_place.misfit.Goals as goal
 

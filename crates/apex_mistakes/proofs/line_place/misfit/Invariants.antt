@@ -1,6 +1,4 @@
-use Rattle.std.proofs.Common.{◌≡◌, ◌+◌, drop}
-use Rattle.apex_texts.specs.Text.{words_of}
-use Rattle.apex_mistakes.specs.LinePlace.{misfit}
+use Rattle.apex_mistakes.proofs.Common.{◌≡◌, ◌+◌, drop, words_of, misfit}
 use Rattle.apex_mistakes.proofs.line_place.misfit.Given as goal
 
 abbrev pub invariant-loop-before : goal.invariant-loop-before

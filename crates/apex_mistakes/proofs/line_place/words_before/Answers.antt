@@ -1,6 +1,4 @@
-use Rattle.std.proofs.Common.{◌+◌, length, drop, sym, ap, ◌∙◌}
-use Rattle.apex_texts.specs.Text.{words_of}
-use Rattle.apex_mistakes.specs.LinePlace.{parameters_at, misfit}
+use Rattle.apex_mistakes.proofs.Common.{◌+◌, length, drop, sym, ap, ◌∙◌, words_of, parameters_at, misfit}
 use Rattle.apex_texts.specs.declared.expected.Expected.TheVariants as kinds
 use Rattle.apex_mistakes.proofs.PlaceLemmas.{words_from, expected-count, argument-before}
 use Rattle.apex_mistakes.proofs.line_place.words_before.Goals as goal

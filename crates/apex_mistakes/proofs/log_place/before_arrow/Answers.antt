@@ -1,6 +1,4 @@
-use Rattle.std.proofs.Common.{◌≡◌, ◌<◌, length, drop, sym, ap, ◌∙◌}
-use Rattle.apex_texts.specs.Text.{words_of}
-use Rattle.apex_mistakes.specs.LinePlace.{parameters_at}
+use Rattle.apex_mistakes.proofs.Common.{◌≡◌, ◌<◌, length, drop, sym, ap, ◌∙◌, words_of, parameters_at}
 use Rattle.apex_mistakes.proofs.PlaceLemmas.{words_from}
 use Rattle.apex_mistakes.proofs.LogPlaceLemmas.{is-zero, not-zero, arrow-empty, arrow-some}
 use Rattle.apex_mistakes.proofs.log_place.before_arrow.Goals as goal

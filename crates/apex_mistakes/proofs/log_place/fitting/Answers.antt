@@ -1,7 +1,4 @@
-use Rattle.std.proofs.Common.{◌≡◌, ℕ, ◌+◌, ◌<◌, suc, true, List, take, refl, sym, ap, ◌∙◌, subst, arith}
-use Rattle.apex_texts.specs.Text.{words_of}
-use Rattle.apex_mistakes.specs.LinePlace.{behind_first_word}
-use Rattle.apex_mistakes.specs.LogPlace.{begins_reply}
+use Rattle.apex_mistakes.proofs.Common.{◌≡◌, ℕ, ◌+◌, ◌<◌, suc, true, List, take, refl, sym, ap, ◌∙◌, subst, arith, words_of, behind_first_word, begins_reply}
 use Rattle.apex_mistakes.proofs.LogPlaceLemmas.{behind_words, behind-step, fits-until, fits-more, begun}
 use Rattle.apex_mistakes.proofs.log_place.fitting.Goals as goal
 

@@ -1,6 +1,4 @@
-use Rattle.std.proofs.Common.{◌≡◌, ℕ, ◌+◌, ◌<◌, true, take}
-use Rattle.apex_texts.specs.Text.{words_of}
-use Rattle.apex_mistakes.specs.LogPlace.{begins_reply}
+use Rattle.apex_mistakes.proofs.Common.{◌≡◌, ℕ, ◌+◌, ◌<◌, true, take, words_of, begins_reply}
 use Rattle.apex_mistakes.proofs.LogPlaceLemmas.{behind_words}
 use Rattle.apex_mistakes.proofs.log_place.fitting.Given as goal
 

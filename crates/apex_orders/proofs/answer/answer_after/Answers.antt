@@ -1,9 +1,4 @@
-use Rattle.std.proofs.Common.{◌≡◌, ◌++◌, ◌∷◌, [], List, ℕ, true, Bor, Option, Some, slice_get, sym, ap, ◌∙◌, subst, arith}
-use Rattle.std.specs.Option.{option_copied}
-use Rattle.apex_orders.specs.declared.asked.Asked.{Asked}
-use Rattle.apex_orders.specs.Orders.{order_at}
-use Rattle.apex_orders.specs.Outcomes.{IsAnsweredByWith}
-use Rattle.apex_orders.specs.Searching.{IsAnswer}
+use Rattle.apex_orders.proofs.Common.{◌≡◌, ◌++◌, ◌∷◌, [], List, ℕ, true, Bor, Option, Some, slice_get, sym, ap, ◌∙◌, subst, arith, option_copied, Asked, order_at, IsAnsweredByWith, IsAnswer}
 use Rattle.apex_orders.proofs.GrowthLemmas.{order_here}
 use Rattle.apex_orders.proofs.WitnessLemmas.{longer_answers}
 use Rattle.apex_orders.proofs.answer.answer_after.Goals as goal

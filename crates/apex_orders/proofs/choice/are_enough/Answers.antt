@@ -1,6 +1,4 @@
-use Rattle.std.proofs.Common.{◌≡◌, true, sym, ◌∙◌, arith}
-use Rattle.std.proofs.lemmas.Bool.{false≢true}
-use Rattle.apex_orders.specs.Choices.{IsSafeToTry, is_tried}
+use Rattle.apex_orders.proofs.Common.{◌≡◌, true, sym, ◌∙◌, arith, false≢true, IsSafeToTry, is_tried}
 use Rattle.apex_orders.proofs.ChoiceLemmas.{enough_of, one_more}
 use Rattle.apex_orders.proofs.choice.are_enough.Goals.{then-is_tried+else-not-is_safe, else-is_tried}
 use Rattle.apex_orders.proofs.choice.are_enough.Goals as goal

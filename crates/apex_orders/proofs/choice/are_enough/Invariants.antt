@@ -1,6 +1,4 @@
-use Rattle.std.proofs.Common.{◌≡◌, ◌<◌, ℕ, true}
-use Rattle.apex_orders.specs.Choices.{IsSafeToTry, is_tried}
-use Rattle.apex_orders.specs.Enough.{HasNext}
+use Rattle.apex_orders.proofs.Common.{◌≡◌, ◌<◌, ℕ, true, IsSafeToTry, is_tried, HasNext}
 use Rattle.apex_orders.proofs.choice.are_enough.Given as goal
 
 abbrev pub invariant-loop-p : goal.invariant-loop-p

@@ -1,5 +1,4 @@
-use Rattle.std.proofs.Common.{◌≡◌, ◌↔◌, ⊎_elim, ◌∷◌, [], ℕ, Bool, List, true, length, length-append, slice_get, Some, ap, subst, arith}
-use Rattle.apex_orders.specs.Clock.{IsNextDue}
+use Rattle.apex_orders.proofs.Common.{◌≡◌, ◌↔◌, ⊎_elim, ◌∷◌, [], ℕ, Bool, List, true, length, length-append, slice_get, Some, ap, subst, arith, IsNextDue}
 use Rattle.apex_orders.proofs.ChoiceLemmas.{all_due, due_enough}
 use Rattle.apex_orders.proofs.Lists.{before_or_last}
 use Rattle.apex_orders.proofs.choice.due.Goals as goal

@@ -1,5 +1,4 @@
-use Rattle.std.proofs.Common.{◌≡◌, ◌↔◌, ℕ, Bool, true, length, slice_get, Some}
-use Rattle.apex_orders.specs.Clock.{IsNextDue}
+use Rattle.apex_orders.proofs.Common.{◌≡◌, ◌↔◌, ℕ, Bool, true, length, slice_get, Some, IsNextDue}
 use Rattle.apex_orders.proofs.choice.due.Given as goal
 
 abbrev pub invariant-loop-p : goal.invariant-loop-p

@@ -1,7 +1,4 @@
-use Rattle.std.proofs.Common.{false, true, Bool, List, length, get_or, ap, ◌∙◌}
-use Rattle.std.proofs.lemmas.List.{get_or-replicate}
-use Rattle.std.proofs.lemmas.Option.{unwrap_or-slice_get}
-use Rattle.apex_orders.specs.Choices.{is_tried}
+use Rattle.apex_orders.proofs.Common.{false, true, Bool, List, length, get_or, ap, ◌∙◌, get_or-replicate, unwrap_or-slice_get, is_tried}
 use Rattle.apex_orders.proofs.ChoiceLemmas.{all_enough}
 use Rattle.apex_orders.proofs.choice.enough.Goals as goal
 

@@ -1,8 +1,4 @@
-use Rattle.std.proofs.Common.{◌≡◌, ◌<◌, ◌≤◌, ℕ, length, slice_get, Some}
-use Rattle.apex_types.specs.declared.call.Call.{Call}
-use Rattle.apex_types.specs.declared.moment.Moment.{Moment}
-use Rattle.apex_ports.specs.History.{entries_of}
-use Rattle.apex_orders.specs.Orders.{script_of}
+use Rattle.apex_orders.proofs.Common.{◌≡◌, ◌<◌, ◌≤◌, ℕ, length, slice_get, Some, Call, Moment, entries_of, script_of}
 use Rattle.apex_orders.proofs.choice.is_due.Given as goal
 
 abbrev pub invariant-loop-q : goal.invariant-loop-q

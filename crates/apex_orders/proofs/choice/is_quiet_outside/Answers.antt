@@ -1,10 +1,4 @@
-use Rattle.std.proofs.Common.{◌≡◌, false, length, sym, ◌∙◌, arith}
-use Rattle.std.proofs.lemmas.Bool.{false≢true}
-use Rattle.apex_ports.proofs.Lookups.{at_index}
-use Rattle.apex_ports.specs.History.{entries_of}
-use Rattle.apex_orders.specs.Choices.{is_tried}
-use Rattle.apex_orders.specs.LastUses.{IsQuietFrom}
-use Rattle.apex_orders.specs.Orders.{script_of}
+use Rattle.apex_orders.proofs.Common.{◌≡◌, false, length, sym, ◌∙◌, arith, false≢true, at_index, entries_of, is_tried, IsQuietFrom, script_of}
 use Rattle.apex_orders.proofs.ChoiceLemmas.{has_script, one_more}
 use Rattle.apex_orders.proofs.choice.is_quiet_outside.Goals.{else-not-is_tried-via-then-not-is_tried+else-not-are_over, else-not-is_tried-via-else-not-is_tried}
 use Rattle.apex_orders.proofs.choice.is_quiet_outside.Goals as goal

@@ -1,8 +1,4 @@
-use Rattle.std.proofs.Common.{◌≡◌, ◌<◌, ℕ, false, length}
-use Rattle.apex_ports.specs.History.{entries_of}
-use Rattle.apex_orders.specs.Choices.{is_tried}
-use Rattle.apex_orders.specs.LastUses.{IsQuietFrom}
-use Rattle.apex_orders.specs.Orders.{script_of}
+use Rattle.apex_orders.proofs.Common.{◌≡◌, ◌<◌, ℕ, false, length, entries_of, is_tried, IsQuietFrom, script_of}
 use Rattle.apex_orders.proofs.choice.is_quiet_outside.Given as goal
 
 abbrev pub invariant-loop-q : goal.invariant-loop-q

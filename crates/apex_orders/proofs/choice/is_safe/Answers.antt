@@ -1,5 +1,4 @@
-use Rattle.std.proofs.Common.{subst}
-use Rattle.apex_orders.specs.Choices.{IsNextUse, is_tried}
+use Rattle.apex_orders.proofs.Common.{subst, IsNextUse, is_tried}
 use Rattle.apex_orders.proofs.ChoiceLemmas.{safe_alone, safe_on}
 use Rattle.apex_orders.proofs.choice.is_safe.Goals as goal
 

@@ -1,9 +1,4 @@
-use Rattle.std.proofs.Common.{inl, inr, sym, ap, ◌∙◌}
-use Rattle.apex_types.specs.declared.call.Call.{Call}
-use Rattle.apex_ports.specs.ReplyTable.{row_of}
-use Rattle.apex_ports.specs.Seen.{seen}
-use Rattle.apex_orders.specs.Commuting.{channel_named}
-use Rattle.apex_orders.specs.Enough.{is_early}
+use Rattle.apex_orders.proofs.Common.{inl, inr, sym, ap, ◌∙◌, Call, row_of, seen, channel_named, is_early}
 use Rattle.apex_orders.proofs.UseLemmas.{unnamed}
 use Rattle.apex_orders.proofs.choice.next_use.Goals as goal
 

@@ -1,7 +1,5 @@
-use Rattle.std.proofs.Common.{◌≡◌, ⊎_elim, ℕ, List, [], ◌∷◌, length, Some, ap, subst, arith, length-append}
-use Rattle.std.specs.List.{slice_get}
+use Rattle.apex_orders.proofs.Common.{◌≡◌, ⊎_elim, ℕ, List, [], ◌∷◌, length, Some, ap, subst, arith, length-append, slice_get, IsNextUse}
 use Rattle.apex_orders.specs.declared.choice.NextUse.{NextUse}
-use Rattle.apex_orders.specs.Choices.{IsNextUse}
 use Rattle.apex_orders.proofs.Lists.{before_or_last}
 use Rattle.apex_orders.proofs.choice.next_uses.Goals as goal
 

@@ -1,7 +1,5 @@
-use Rattle.std.proofs.Common.{◌≡◌, ℕ, length, Some}
-use Rattle.std.specs.List.{slice_get}
+use Rattle.apex_orders.proofs.Common.{◌≡◌, ℕ, length, Some, slice_get, IsNextUse}
 use Rattle.apex_orders.specs.declared.choice.NextUse.{NextUse}
-use Rattle.apex_orders.specs.Choices.{IsNextUse}
 use Rattle.apex_orders.proofs.choice.next_uses.Given as goal
 
 abbrev pub invariant-loop-p : goal.invariant-loop-p

@@ -1,5 +1,4 @@
-use Rattle.std.proofs.Common.{◌≡◌}
-use Rattle.apex_orders.specs.Hashes.{shown_hash, channels_below}
+use Rattle.apex_orders.proofs.Common.{◌≡◌, shown_hash, channels_below}
 use Rattle.apex_orders.proofs.hash.hash_of.Given as goal
 
 abbrev pub invariant-loop-c : goal.invariant-loop-c

@@ -1,5 +1,4 @@
-use Rattle.std.proofs.Common.{◌≡◌}
-use Rattle.apex_orders.specs.Hashes.{calls_below}
+use Rattle.apex_orders.proofs.Common.{◌≡◌, calls_below}
 use Rattle.apex_orders.proofs.hash.hash_of_calls.Given as goal
 
 abbrev pub invariant-loop-p : goal.invariant-loop-p

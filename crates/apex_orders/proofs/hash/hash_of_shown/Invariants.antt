@@ -1,5 +1,4 @@
-use Rattle.std.proofs.Common.{◌≡◌}
-use Rattle.apex_orders.specs.Hashes.{all_shown_below}
+use Rattle.apex_orders.proofs.Common.{◌≡◌, all_shown_below}
 use Rattle.apex_orders.proofs.hash.hash_of_shown.Given as goal
 
 abbrev pub invariant-loop-p : goal.invariant-loop-p

@@ -1,5 +1,4 @@
-use Rattle.std.proofs.Common.{◌≡◌, length}
-use Rattle.apex_orders.specs.Hashes.{mix, bytes_below}
+use Rattle.apex_orders.proofs.Common.{◌≡◌, length, mix, bytes_below}
 use Rattle.apex_orders.proofs.hash.hash_with_bytes.Given as goal
 
 abbrev pub invariant-loop-i : goal.invariant-loop-i

@@ -1,6 +1,4 @@
-use Rattle.std.proofs.Common.{◌≡◌}
-use Rattle.apex_ports.specs.Channels.{waiting_on}
-use Rattle.apex_orders.specs.Hashes.{messages_below}
+use Rattle.apex_orders.proofs.Common.{◌≡◌, waiting_on, messages_below}
 use Rattle.apex_orders.proofs.hash.hash_with_messages.Given as goal
 
 abbrev pub invariant-loop-i : goal.invariant-loop-i

@@ -1,5 +1,4 @@
-use Rattle.std.proofs.Common.{◌≡◌}
-use Rattle.apex_orders.specs.Hashes.{shown_below}
+use Rattle.apex_orders.proofs.Common.{◌≡◌, shown_below}
 use Rattle.apex_orders.proofs.hash.hash_with_shown.Given as goal
 
 abbrev pub invariant-loop-i : goal.invariant-loop-i

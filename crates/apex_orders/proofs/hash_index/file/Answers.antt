@@ -1,6 +1,4 @@
-use Rattle.std.proofs.Common.{◌≡◌, ◌<◌, ◌%◌, ℕ, length, get_or, ap, sym, ◌∙◌, arith, rules}
-use Rattle.std.proofs.lemmas.Option.{slice_get-get_or, get_or_from_slice_get}
-use Rattle.apex_ports.proofs.Lookups.{at_index}
+use Rattle.apex_orders.proofs.Common.{◌≡◌, ◌<◌, ◌%◌, ℕ, length, get_or, ap, sym, ◌∙◌, arith, rules, slice_get-get_or, get_or_from_slice_get, at_index}
 use Rattle.apex_orders.proofs.BucketLemmas.{filed_one}
 use Rattle.apex_orders.proofs.hash_index.file.Goals as goal
 

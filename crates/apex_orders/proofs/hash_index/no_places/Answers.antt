@@ -1,5 +1,4 @@
-use Rattle.std.proofs.Common.{List, ℕ, length, get_or, ap, ◌∙◌, arith}
-use Rattle.std.proofs.lemmas.List.{get_or-replicate, length-replicate}
+use Rattle.apex_orders.proofs.Common.{List, ℕ, length, get_or, ap, ◌∙◌, arith, get_or-replicate, length-replicate}
 use Rattle.apex_orders.proofs.hash_index.no_places.Goals as goal
 
 pub returns-clause-none : goal.returns-clause-none

@@ -1,11 +1,4 @@
-use Rattle.std.proofs.Common.{◌≡◌, ◌≤◌, ◌-◌, ◌^◌, ⊎_elim, ℕ, List, [], ◌∷◌, length, Some, sym, ap, subst, arith, length-append}
-use Rattle.std.specs.List.{slice_get}
-use Rattle.apex_types.specs.declared.call.Call.{Call}
-use Rattle.apex_types.specs.declared.moment.Moment.{Moment}
-use Rattle.apex_ports.proofs.Lookups.{at_index}
-use Rattle.apex_orders.specs.declared.last_uses.LastUses.{LastUses}
-use Rattle.apex_orders.specs.LastUses.{AreLastUses}
-use Rattle.apex_orders.specs.Orders.{script_of}
+use Rattle.apex_orders.proofs.Common.{◌≡◌, ◌≤◌, ◌-◌, ◌^◌, ⊎_elim, ℕ, List, [], ◌∷◌, length, Some, sym, ap, subst, arith, length-append, slice_get, Call, Moment, at_index, LastUses, AreLastUses, script_of}
 use Rattle.apex_orders.proofs.ChoiceLemmas.{one_more, script_here}
 use Rattle.apex_orders.proofs.Lists.{before_or_last}
 use Rattle.apex_orders.proofs.last_uses.last_uses.Goals as goal

@@ -1,8 +1,4 @@
-use Rattle.std.proofs.Common.{◌≡◌, ◌<◌, ◌≤◌, ◌-◌, ◌^◌, ℕ, length, Some}
-use Rattle.std.specs.List.{slice_get}
-use Rattle.apex_orders.specs.declared.last_uses.LastUses.{LastUses}
-use Rattle.apex_orders.specs.LastUses.{AreLastUses}
-use Rattle.apex_orders.specs.Orders.{script_of}
+use Rattle.apex_orders.proofs.Common.{◌≡◌, ◌<◌, ◌≤◌, ◌-◌, ◌^◌, ℕ, length, Some, slice_get, LastUses, AreLastUses, script_of}
 use Rattle.apex_orders.proofs.last_uses.last_uses.Given as goal
 
 abbrev pub invariant-loop-p : goal.invariant-loop-p

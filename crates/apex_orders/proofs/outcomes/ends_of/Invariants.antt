@@ -1,5 +1,4 @@
-use Rattle.std.proofs.Common.{take}
-use Rattle.apex_orders.specs.Searching.{AreEndsOf}
+use Rattle.apex_orders.proofs.Common.{take, AreEndsOf}
 use Rattle.apex_orders.proofs.outcomes.ends_of.Given as goal
 
 abbrev pub invariant-loop-k : goal.invariant-loop-k

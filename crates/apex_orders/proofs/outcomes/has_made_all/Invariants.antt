@@ -1,7 +1,4 @@
-use Rattle.std.proofs.Common.{ℕ, ◌<◌, ◌≤◌, length}
-use Rattle.apex_ports.specs.Counts.{count_of}
-use Rattle.apex_ports.specs.History.{entries_of}
-use Rattle.apex_orders.specs.Orders.{script_of}
+use Rattle.apex_orders.proofs.Common.{ℕ, ◌<◌, ◌≤◌, length, count_of, entries_of, script_of}
 use Rattle.apex_orders.proofs.outcomes.has_made_all.Given as goal
 
 abbrev pub invariant-loop-p : goal.invariant-loop-p

@@ -1,5 +1,4 @@
-use Rattle.std.proofs.Common.{ℕ, ◌<◌}
-use Rattle.apex_orders.specs.Points.{HasSameCounts}
+use Rattle.apex_orders.proofs.Common.{ℕ, ◌<◌, HasSameCounts}
 use Rattle.apex_orders.proofs.point.has_same_counts.Given as goal
 
 abbrev pub invariant-loop-c : goal.invariant-loop-c

@@ -1,12 +1,4 @@
-use Rattle.std.proofs.Common.{◌≡◌, ⊎_elim, ◌<◌, ◌≤◌, ◌-◌, ℕ, length, List, Some, arith, refl, ap, sym, ◌∙◌, subst}
-use Rattle.std.specs.List.{slice_get}
-use Rattle.std.proofs.lemmas.Bool.{cases_eq, cases_lt, false≢true}
-use Rattle.std.proofs.lemmas.Option.{slice_get_within}
-use Rattle.apex_module.specs.Configuration.{Configuration}
-use Rattle.apex_ports.specs.History.{History}
-use Rattle.apex_ports.specs.PortsView.{PortsView}
-use Rattle.apex_orders.specs.Orders.{history_of, order_at}
-use Rattle.apex_orders.specs.Points.{IsSamePoint}
+use Rattle.apex_orders.proofs.Common.{◌≡◌, ⊎_elim, ◌<◌, ◌≤◌, ◌-◌, ℕ, length, List, Some, arith, refl, ap, sym, ◌∙◌, subst, slice_get, cases_eq, cases_lt, false≢true, slice_get_within, Configuration, History, PortsView, history_of, order_at, IsSamePoint}
 use Rattle.apex_orders.proofs.GrowthLemmas.{order_here}
 use Rattle.apex_orders.proofs.KnownLemmas.{saved_here}
 use Rattle.apex_orders.proofs.HashLemmas.{known_hash}

@@ -1,8 +1,4 @@
-use Rattle.std.proofs.Common.{◌≡◌, ◌+◌, ℕ, ◌≤◌, List, Some}
-use Rattle.std.specs.List.{slice_get}
-use Rattle.apex_orders.specs.Orders.{history_of}
-use Rattle.apex_orders.specs.Known.{IsTrialOf}
-use Rattle.apex_orders.specs.Points.{IsSamePoint}
+use Rattle.apex_orders.proofs.Common.{◌≡◌, ◌+◌, ℕ, ◌≤◌, List, Some, slice_get, history_of, IsTrialOf, IsSamePoint}
 use Rattle.apex_orders.proofs.points.is_known.Given as goal
 
 abbrev pub invariant-loop-count : goal.invariant-loop-count

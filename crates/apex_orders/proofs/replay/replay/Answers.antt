@@ -1,9 +1,4 @@
-use Rattle.std.proofs.Common.{◌≡◌, ◌<◌, ◌++◌, ◌∷◌, [], length, take, List, ℕ, Some, slice_index_or, ap, sym, ◌∙◌, subst}
-use Rattle.std.specs.List.{slice_get}
-use Rattle.std.proofs.lemmas.List.{take_more, take_all}
-use Rattle.std.proofs.lemmas.Option.{slice_get-get_or}
-use Rattle.apex_module.specs.Configuration.{Configuration}
-use Rattle.apex_orders.specs.Orders.{history_of, next_entries}
+use Rattle.apex_orders.proofs.Common.{◌≡◌, ◌<◌, ◌++◌, ◌∷◌, [], length, take, List, ℕ, Some, slice_index_or, ap, sym, ◌∙◌, subst, slice_get, take_more, take_all, slice_get-get_or, Configuration, history_of, next_entries}
 use Rattle.apex_orders.proofs.Walks.{continued-append}
 use Rattle.apex_orders.proofs.replay.replay.Goals as goal
 

@@ -1,6 +1,4 @@
-use Rattle.std.proofs.Common.{◌≡◌, take}
-use Rattle.apex_ports.specs.Sound.{IsSound}
-use Rattle.apex_orders.specs.Orders.{history_of}
+use Rattle.apex_orders.proofs.Common.{◌≡◌, take, IsSound, history_of}
 use Rattle.apex_orders.proofs.replay.replay.Given as goal
 
 abbrev pub invariant-loop-p : goal.invariant-loop-p

@@ -1,5 +1,4 @@
-use Rattle.std.proofs.Common.{◌≡◌, length, refl, rules, arith}
-use Rattle.apex_ports.specs.Channels.{waiting_on}
+use Rattle.apex_orders.proofs.Common.{◌≡◌, length, refl, rules, arith, waiting_on}
 use Rattle.apex_orders.proofs.Lists.{same_items}
 use Rattle.apex_orders.proofs.same_state.has_same_messages.Goals as goal
 

@@ -1,6 +1,4 @@
-use Rattle.std.proofs.Common.{◌≡◌, ℕ, ◌<◌}
-use Rattle.std.specs.List.{slice_get}
-use Rattle.apex_ports.specs.Channels.{waiting_on}
+use Rattle.apex_orders.proofs.Common.{◌≡◌, ℕ, ◌<◌, slice_get, waiting_on}
 use Rattle.apex_orders.proofs.same_state.has_same_messages.Given as goal
 
 abbrev pub invariant-loop-i : goal.invariant-loop-i

@@ -1,8 +1,4 @@
-use Rattle.std.proofs.Common.{◌≡◌, ◌<◌, ◌+◌, ◌-◌, length, ℕ, subst, refl, arith}
-use Rattle.apex_module.specs.Configuration.{Configuration, ports_of}
-use Rattle.apex_ports.specs.History.{History}
-use Rattle.apex_ports.specs.Ports.{is_created}
-use Rattle.apex_orders.specs.States.{IsSamePorts, last_shown}
+use Rattle.apex_orders.proofs.Common.{◌≡◌, ◌<◌, ◌+◌, ◌-◌, length, ℕ, subst, refl, arith, Configuration, ports_of, History, is_created, IsSamePorts, last_shown}
 use Rattle.apex_orders.proofs.same_state.has_same_ports.Goals as goal
 
 -- what holds at each index, counted from 0, holds for each identifier

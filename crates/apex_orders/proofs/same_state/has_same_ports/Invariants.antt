@@ -1,6 +1,4 @@
-use Rattle.std.proofs.Common.{◌≡◌, ℕ, ◌+◌, ◌<◌}
-use Rattle.apex_ports.specs.Ports.{is_created}
-use Rattle.apex_orders.specs.States.{last_shown}
+use Rattle.apex_orders.proofs.Common.{◌≡◌, ℕ, ◌+◌, ◌<◌, is_created, last_shown}
 use Rattle.apex_orders.proofs.same_state.has_same_ports.Given as goal
 
 abbrev pub invariant-loop-i : goal.invariant-loop-i

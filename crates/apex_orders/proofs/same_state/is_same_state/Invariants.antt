@@ -1,5 +1,4 @@
-use Rattle.std.proofs.Common.{ℕ, ◌<◌, length}
-use Rattle.apex_orders.specs.States.{IsSamePartition, IsSameChannel}
+use Rattle.apex_orders.proofs.Common.{ℕ, ◌<◌, length, IsSamePartition, IsSameChannel}
 use Rattle.apex_orders.proofs.same_state.is_same_state.Given as goal
 
 abbrev pub invariant-loop-p : goal.invariant-loop-p

@@ -1,9 +1,4 @@
-use Rattle.std.proofs.Common.{◌≡◌, ⊎_elim, ◌<◌, ℕ, List, [], length, Option, Some, None, arith, refl, sym, ap, subst}
-use Rattle.std.proofs.lemmas.Bool.{cases_eq}
-use Rattle.std.specs.Option.{MatchOption, option_copied}
-use Rattle.apex_orders.specs.declared.asked.Asked.{Asked}
-use Rattle.apex_orders.specs.declared.replies.PossibleReply.{PossibleReply}
-use Rattle.apex_orders.specs.Searching.{HasEnded, HasTried, Includes, IsAnswer, IsSearchedInVain, IsUnansweredAt, Keeps}
+use Rattle.apex_orders.proofs.Common.{◌≡◌, ⊎_elim, ◌<◌, ℕ, List, [], length, Option, Some, None, arith, refl, sym, ap, subst, cases_eq, MatchOption, option_copied, Asked, PossibleReply, HasEnded, HasTried, Includes, IsAnswer, IsSearchedInVain, IsUnansweredAt, Keeps}
 use Rattle.apex_orders.proofs.EndLemmas.{given_up_none}
 use Rattle.apex_orders.proofs.SearchLemmas.{has_tried_kept, keeps_within, unanswered_kept}
 use Rattle.apex_orders.proofs.search.search_points.Goals as goal

@@ -1,7 +1,4 @@
-use Rattle.std.proofs.Common.{ℕ, ◌<◌, ◌≤◌, ◌+◌, ◌-◌, []}
-use Rattle.std.specs.Option.{option_copied}
-use Rattle.apex_orders.specs.Lists.{Has}
-use Rattle.apex_orders.specs.Searching.{IsSearch, HasTried, IsUnansweredAt}
+use Rattle.apex_orders.proofs.Common.{ℕ, ◌<◌, ◌≤◌, ◌+◌, ◌-◌, [], option_copied, Has, IsSearch, HasTried, IsUnansweredAt}
 use Rattle.apex_orders.proofs.search.search_points.Given as goal
 
 abbrev pub invariant-loop-i : goal.invariant-loop-i

@@ -1,12 +1,4 @@
-use Rattle.std.proofs.Common.{◌≡◌, ◌<◌, ◌≤◌, ◌-◌, ◌^◌, ◌++◌, ◌∷◌, [], length, List, Some, rules, arith, ap, sym, ◌∙◌, append-nil}
-use Rattle.std.specs.List.{slice_get}
-use Rattle.apex_types.specs.declared.call.Call.{Call}
-use Rattle.apex_types.specs.declared.moment.Moment.{Moment}
-use Rattle.apex_ports.specs.Counts.{count_of}
-use Rattle.apex_ports.specs.History.{History, entry_of, entries_of}
-use Rattle.apex_ports.specs.ReplyTable.{reply_to}
-use Rattle.apex_ports.proofs.Lookups.{at_index}
-use Rattle.apex_orders.specs.Orders.{next_entries}
+use Rattle.apex_orders.proofs.Common.{◌≡◌, ◌<◌, ◌≤◌, ◌-◌, ◌^◌, ◌++◌, ◌∷◌, [], length, List, Some, rules, arith, ap, sym, ◌∙◌, append-nil, slice_get, Call, Moment, count_of, History, entry_of, entries_of, reply_to, at_index, next_entries}
 use Rattle.apex_orders.proofs.StepLemmas.{makes_nothing, whole_count, makes_next}
 use Rattle.apex_orders.proofs.step.step_into.Goals as goal
 

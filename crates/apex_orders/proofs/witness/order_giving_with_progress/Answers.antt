@@ -1,5 +1,4 @@
-use Rattle.std.proofs.Common.{ℕ, List, Option, Some, subst}
-use Rattle.apex_orders.specs.Searching.{HasEnded, IsSearchedInVain}
+use Rattle.apex_orders.proofs.Common.{ℕ, List, Option, Some, subst, HasEnded, IsSearchedInVain}
 use Rattle.apex_orders.proofs.EndLemmas.{undecided_of}
 use Rattle.apex_orders.proofs.WitnessLemmas.{never_answered}
 use Rattle.apex_orders.proofs.witness.order_giving_with_progress.Goals as goal

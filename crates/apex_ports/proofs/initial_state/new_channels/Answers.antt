@@ -1,5 +1,4 @@
-use Rattle.std.proofs.Common.{[], length, ap, ◌∙◌}
-use Rattle.apex_ports.specs.Kept.{IsChannelKept}
+use Rattle.apex_ports.proofs.Common.{[], length, ap, ◌∙◌, IsChannelKept}
 use Rattle.apex_ports.proofs.Stays.{each_at_push, length_push}
 use Rattle.apex_ports.proofs.initial_state.new_channels.Goals as goal
 

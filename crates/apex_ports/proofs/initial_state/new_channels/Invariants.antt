@@ -1,5 +1,4 @@
-use Rattle.std.proofs.Common.{◌≡◌, [], length}
-use Rattle.apex_ports.specs.Kept.{EachAt, IsChannelKept}
+use Rattle.apex_ports.proofs.Common.{◌≡◌, [], length, EachAt, IsChannelKept}
 use Rattle.apex_ports.proofs.initial_state.new_channels.Given as goal
 
 abbrev pub invariant-loop-c : goal.invariant-loop-c

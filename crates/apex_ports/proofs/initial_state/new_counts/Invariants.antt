@@ -1,5 +1,4 @@
-use Rattle.std.proofs.Common.{◌≡◌, length}
-use Rattle.apex_ports.specs.Kept.{EachAt}
+use Rattle.apex_ports.proofs.Common.{◌≡◌, length, EachAt}
 use Rattle.apex_ports.proofs.initial_state.new_counts.Given as goal
 
 abbrev pub invariant-loop : goal.invariant-loop

@@ -1,5 +1,4 @@
-use Rattle.std.proofs.Common.{[], length, refl, ap, ◌∙◌}
-use Rattle.apex_ports.specs.Kept.{IsPartitionKept}
+use Rattle.apex_ports.proofs.Common.{[], length, refl, ap, ◌∙◌, IsPartitionKept}
 use Rattle.apex_ports.proofs.Stays.{each_at_push, length_push}
 use Rattle.apex_ports.proofs.initial_state.new_partitions.Goals as goal
 

@@ -1,5 +1,4 @@
-use Rattle.std.proofs.Common.{◌≡◌, [], length}
-use Rattle.apex_ports.specs.Kept.{EachAt, IsPartitionKept}
+use Rattle.apex_ports.proofs.Common.{◌≡◌, [], length, EachAt, IsPartitionKept}
 use Rattle.apex_ports.proofs.initial_state.new_partitions.Given as goal
 
 abbrev pub invariant-loop-p : goal.invariant-loop-p

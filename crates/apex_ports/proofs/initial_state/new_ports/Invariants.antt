@@ -1,7 +1,4 @@
-use Rattle.std.proofs.Common.{◌≡◌, ℕ, false, length}
-use Rattle.std.specs.List.{slice_get}
-use Rattle.apex_types.specs.declared.validity.Validity.TheVariants.{Invalid}
-use Rattle.apex_ports.specs.Kept.{created_in, last_in}
+use Rattle.apex_ports.proofs.Common.{◌≡◌, ℕ, false, length, slice_get, Invalid, created_in, last_in}
 use Rattle.apex_ports.proofs.initial_state.new_ports.Given as goal
 
 abbrev pub invariant-loop : goal.invariant-loop

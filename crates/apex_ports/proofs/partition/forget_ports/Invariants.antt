@@ -1,6 +1,4 @@
-use Rattle.std.proofs.Common.{◌≡◌, ℕ, ◌<◌, false}
-use Rattle.std.specs.List.{slice_get}
-use Rattle.apex_ports.specs.Kept.{created_in, last_in}
+use Rattle.apex_ports.proofs.Common.{◌≡◌, ℕ, ◌<◌, false, slice_get, created_in, last_in}
 use Rattle.apex_ports.proofs.partition.forget_ports.Given as goal
 
 abbrev pub invariant-loop-port : goal.invariant-loop-port

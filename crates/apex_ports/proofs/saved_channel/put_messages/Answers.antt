@@ -1,7 +1,4 @@
-use Rattle.std.proofs.Common.{◌≡◌, ◌++◌, ◌∷◌, [], List, ℕ, Some, sym, ap, ◌∙◌, arith}
-use Rattle.std.specs.List.{slice_get}
-use Rattle.std.specs.Option.{option_copied}
-use Rattle.apex_ports.specs.MessageRing.{messages, Messages}
+use Rattle.apex_ports.proofs.Common.{◌≡◌, ◌++◌, ◌∷◌, [], List, ℕ, Some, sym, ap, ◌∙◌, arith, slice_get, option_copied, messages, Messages}
 use Rattle.apex_ports.proofs.Saving.{one_more_at, part_at}
 use Rattle.apex_ports.proofs.saved_channel.put_messages.Goals as goal
 

@@ -1,6 +1,4 @@
-use Rattle.std.proofs.Common.{◌≡◌}
-use Rattle.apex_ports.specs.MessageRing.{messages}
-use Rattle.apex_ports.specs.Saved.{messages_from}
+use Rattle.apex_ports.proofs.Common.{◌≡◌, messages, messages_from}
 use Rattle.apex_ports.proofs.saved_channel.put_messages.Given as goal
 
 abbrev pub invariant-loop-index : goal.invariant-loop-index

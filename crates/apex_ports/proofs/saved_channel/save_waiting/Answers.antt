@@ -1,8 +1,4 @@
-use Rattle.std.proofs.Common.{◌≡◌, ◌++◌, ◌∷◌, [], List, ℕ, Some, take, sym, ap, ◌∙◌, append_assoc}
-use Rattle.std.specs.List.{slice_get}
-use Rattle.std.specs.Option.{option_copied}
-use Rattle.std.proofs.lemmas.List.{take_more}
-use Rattle.std.proofs.lemmas.Option.{slice_get_within, get_or_from_slice_get}
+use Rattle.apex_ports.proofs.Common.{◌≡◌, ◌++◌, ◌∷◌, [], List, ℕ, Some, take, sym, ap, ◌∙◌, append_assoc, slice_get, option_copied, take_more, slice_get_within, get_or_from_slice_get}
 use Rattle.apex_ports.proofs.saved_channel.save_waiting.Goals as goal
 
 pub loop-index-preserved : goal.loop-index-preserved

@@ -1,5 +1,4 @@
-use Rattle.std.proofs.Common.{◌≡◌, ◌*◌, ◌≤◌, length, take}
-use Rattle.std.specs.Prelude.{sum_by}
+use Rattle.apex_texts.proofs.Common.{◌≡◌, ◌*◌, ◌≤◌, length, take, sum_by}
 use Rattle.apex_texts.proofs.check.count_ports.Given as goal
 
 abbrev pub invariant-loop-p : goal.invariant-loop-p

@@ -1,6 +1,4 @@
-use Rattle.std.proofs.Common.{◌≡◌, ◌+◌, Ok, Some, None, sym, ap, ◌∙◌, arith}
-use Rattle.std.specs.Str.Lines.{lines}
-use Rattle.apex_texts.specs.Lines.{item_of_line, items_of}
+use Rattle.apex_texts.proofs.Common.{◌≡◌, ◌+◌, Ok, Some, None, sym, ap, ◌∙◌, arith, lines, item_of_line, items_of}
 use Rattle.apex_texts.proofs.LineLemmas.{goes_on, skips, refuses, ends}
 use Rattle.apex_texts.proofs.lines.read_lines.Goals as goal
 

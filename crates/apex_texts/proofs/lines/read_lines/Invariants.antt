@@ -1,6 +1,4 @@
-use Rattle.std.proofs.Common.{◌≡◌, ◌+◌, ◌≤◌, length}
-use Rattle.std.specs.Str.Lines.{lines}
-use Rattle.apex_texts.specs.Lines.{items_from, items_of}
+use Rattle.apex_texts.proofs.Common.{◌≡◌, ◌+◌, ◌≤◌, length, lines, items_from, items_of}
 use Rattle.apex_texts.proofs.LineLemmas.{with_front}
 use Rattle.apex_texts.proofs.lines.read_lines.Given as goal
 

@@ -1,11 +1,5 @@
-use Rattle.std.proofs.Common.{◌≡◌, ◌+◌, ◌++◌, ◌∷◌, [], length, Ok, Some, None, Err, refl, sym, ap, ◌∙◌, arith, string_bytes, length-append}
-use Rattle.std.specs.Str.Lines.{lines}
-use Rattle.apex_module.specs.Configuration.{Configuration}
-use Rattle.apex_ports.specs.History.{requests_of}
-use Rattle.apex_texts.specs.Lines.{item_of_line}
+use Rattle.apex_texts.proofs.Common.{◌≡◌, ◌+◌, ◌++◌, ◌∷◌, [], length, Ok, Some, None, Err, refl, sym, ap, ◌∙◌, arith, string_bytes, length-append, lines, Configuration, requests_of, item_of_line, line_of, request_at, trace_of}
 use Rattle.apex_texts.specs.Replay.{entry_after}
-use Rattle.apex_texts.specs.Report.{line_of}
-use Rattle.apex_texts.specs.Trace.{request_at, trace_of}
 use Rattle.apex_texts.proofs.LineLemmas.{goes_on, skips, refuses, ends}
 use Rattle.apex_texts.proofs.ReplayLemmas.{fresh_front, requests_of-push}
 use Rattle.apex_texts.proofs.ReportLemmas.{entry_pushed, no_entry}

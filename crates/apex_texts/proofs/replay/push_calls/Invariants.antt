@@ -1,10 +1,5 @@
-use Rattle.std.proofs.Common.{◌≡◌, ◌+◌, ◌≤◌, ◌++◌, length, string_bytes}
-use Rattle.std.specs.Str.Lines.{lines}
-use Rattle.apex_ports.specs.History.{requests_of}
+use Rattle.apex_texts.proofs.Common.{◌≡◌, ◌+◌, ◌≤◌, ◌++◌, length, string_bytes, lines, requests_of, items_from, entry_lines, request_at, trace_of}
 use Rattle.apex_ports.specs.Sound.{IsSound}
-use Rattle.apex_texts.specs.Lines.{items_from}
-use Rattle.apex_texts.specs.Report.{entry_lines}
-use Rattle.apex_texts.specs.Trace.{request_at, trace_of}
 use Rattle.apex_texts.proofs.LineLemmas.{with_front}
 use Rattle.apex_texts.proofs.replay.push_calls.Given as goal
 

@@ -1,6 +1,4 @@
-use Rattle.std.proofs.Common.{◌≡◌, ◌++◌, Some, append_assoc, codes, string_bytes}
-use Rattle.std.specs.Prelude.{slice_get}
-use Rattle.apex_texts.specs.Report.{channel_text}
+use Rattle.apex_texts.proofs.Common.{◌≡◌, ◌++◌, Some, append_assoc, codes, string_bytes, slice_get, channel_text}
 use Rattle.apex_texts.proofs.ReportLemmas.{grows, complete, channel_cut, channel_end}
 use Rattle.apex_texts.proofs.report_text.push_channels.Goals as goal
 

@@ -1,5 +1,4 @@
-use Rattle.std.proofs.Common.{◌≡◌, ◌++◌, drop, string_bytes}
-use Rattle.apex_texts.specs.Report.{channel_lines}
+use Rattle.apex_texts.proofs.Common.{◌≡◌, ◌++◌, drop, string_bytes, channel_lines}
 use Rattle.apex_texts.proofs.report_text.push_channels.Given as goal
 
 abbrev pub invariant-loop-c : goal.invariant-loop-c

@@ -1,6 +1,4 @@
-use Rattle.std.proofs.Common.{rules, append_assoc}
-use Rattle.std.proofs.lemmas.Result.{IfOk-equal}
-use Rattle.apex_texts.specs.Report.{entry_line}
+use Rattle.apex_texts.proofs.Common.{rules, append_assoc, IfOk-equal, entry_line}
 use Rattle.apex_texts.proofs.report_text.push_entry.Goals as goal
 
 pub returns : goal.returns

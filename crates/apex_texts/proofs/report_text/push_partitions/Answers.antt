@@ -1,5 +1,4 @@
-use Rattle.std.proofs.Common.{◌≡◌, Some, string_bytes}
-use Rattle.apex_module.specs.Configuration.{partition_name_of}
+use Rattle.apex_texts.proofs.Common.{◌≡◌, Some, string_bytes, partition_name_of}
 use Rattle.apex_texts.proofs.ReportLemmas.{grows, complete, partition_cut, partition_end}
 use Rattle.apex_texts.proofs.report_text.push_partitions.Goals as goal
 

@@ -1,5 +1,4 @@
-use Rattle.std.proofs.Common.{◌≡◌, ◌++◌, drop, string_bytes}
-use Rattle.apex_texts.specs.Report.{partition_lines}
+use Rattle.apex_texts.proofs.Common.{◌≡◌, ◌++◌, drop, string_bytes, partition_lines}
 use Rattle.apex_texts.proofs.report_text.push_partitions.Given as goal
 
 abbrev pub invariant-loop-p : goal.invariant-loop-p

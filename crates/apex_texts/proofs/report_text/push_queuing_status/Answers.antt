@@ -1,6 +1,4 @@
-use Rattle.std.proofs.Common.{◌++◌, append_assoc, codes, string_bytes}
-use Rattle.std.proofs.lemmas.Result.{IfOk-equal}
-use Rattle.apex_texts.specs.Report.{queuing_status_text}
+use Rattle.apex_texts.proofs.Common.{◌++◌, append_assoc, codes, string_bytes, IfOk-equal, queuing_status_text}
 use Rattle.apex_texts.proofs.report_text.push_queuing_status.Goals as goal
 
 pub returns : goal.returns

@@ -1,7 +1,4 @@
-use Rattle.std.proofs.Common.{◌++◌, append_assoc, codes, decimal, string_bytes}
-use Rattle.std.proofs.lemmas.Result.{IfOk-equal}
-use Rattle.apex_types.specs.Message.{hex_text_of}
-use Rattle.apex_texts.specs.Report.{reply_text}
+use Rattle.apex_texts.proofs.Common.{◌++◌, append_assoc, codes, decimal, string_bytes, IfOk-equal, hex_text_of, reply_text}
 use Rattle.apex_texts.proofs.report_text.push_reply.Goals as goal
 
 pub returns-in-Id : goal.returns-in-Id

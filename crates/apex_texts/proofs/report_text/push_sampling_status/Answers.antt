@@ -1,6 +1,4 @@
-use Rattle.std.proofs.Common.{◌++◌, append_assoc, string_bytes}
-use Rattle.std.proofs.lemmas.Result.{IfOk-equal}
-use Rattle.apex_texts.specs.Report.{sampling_status_text}
+use Rattle.apex_texts.proofs.Common.{◌++◌, append_assoc, string_bytes, IfOk-equal, sampling_status_text}
 use Rattle.apex_texts.proofs.report_text.push_sampling_status.Goals as goal
 
 pub returns : goal.returns

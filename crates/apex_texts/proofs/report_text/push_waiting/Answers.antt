@@ -1,8 +1,5 @@
-use Rattle.std.proofs.Common.{◌≡◌, ◌++◌, Some, sym, ap, ◌∙◌, append_assoc, codes, string_bytes}
-use Rattle.std.specs.Prelude.{slice_get}
+use Rattle.apex_texts.proofs.Common.{◌≡◌, ◌++◌, Some, sym, ap, ◌∙◌, append_assoc, codes, string_bytes, slice_get, hex_text_of, waiting_on}
 use Rattle.std.specs.Option.{option_copied}
-use Rattle.apex_types.specs.Message.{hex_text_of}
-use Rattle.apex_ports.specs.Channels.{waiting_on}
 use Rattle.apex_texts.proofs.ReportLemmas.{grows, complete, message_cut, message_end}
 use Rattle.apex_texts.proofs.report_text.push_waiting.Goals as goal
 

@@ -1,6 +1,4 @@
-use Rattle.std.proofs.Common.{◌≡◌, ◌++◌, drop, string_bytes}
-use Rattle.apex_ports.specs.Channels.{waiting_on}
-use Rattle.apex_texts.specs.Report.{messages_text}
+use Rattle.apex_texts.proofs.Common.{◌≡◌, ◌++◌, drop, string_bytes, waiting_on, messages_text}
 use Rattle.apex_texts.proofs.report_text.push_waiting.Given as goal
 
 abbrev pub invariant-loop-index : goal.invariant-loop-index

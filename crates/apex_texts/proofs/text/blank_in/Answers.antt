@@ -1,6 +1,4 @@
-use Rattle.std.proofs.Common.{◌≡◌, ◌++◌, Some, None, sym, ap, ◌∙◌, take-append-drop}
-use Rattle.std.specs.Prelude.{position}
-use Rattle.apex_texts.specs.Text.{is_blank}
+use Rattle.apex_texts.proofs.Common.{◌≡◌, ◌++◌, Some, None, sym, ap, ◌∙◌, take-append-drop, position, is_blank}
 use Rattle.apex_texts.proofs.PositionLemmas.{in_front, behind}
 use Rattle.apex_texts.proofs.text.blank_in.Goals as goal
 

@@ -1,6 +1,4 @@
-use Rattle.std.proofs.Common.{length, sym, ◌∙◌, arith}
-use Rattle.std.proofs.Math.Seq.{drop-length}
-use Rattle.std.proofs.lemmas.List.{take_all}
+use Rattle.apex_texts.proofs.Common.{length, sym, ◌∙◌, arith, drop-length, take_all}
 use Rattle.apex_texts.proofs.TextLemmas.{words_at, words_last, word_some}
 use Rattle.apex_texts.proofs.text.long_word.Goals as goal
 

@@ -1,7 +1,4 @@
-use Rattle.std.proofs.Common.{◌+◌, ◌∷◌, length, drop, sym, ap, ◌∙◌, rules}
-use Rattle.std.specs.Str.Lines.{lines}
-use Rattle.std.proofs.lemmas.List.{take_rest}
-use Rattle.std.proofs.Math.Seq.{drop-length}
+use Rattle.apex_texts.proofs.Common.{◌+◌, ◌∷◌, length, drop, sym, ap, ◌∙◌, rules, lines, take_rest, drop-length}
 use Rattle.apex_texts.proofs.TextLemmas.{lines_at, lines_last}
 use Rattle.apex_texts.proofs.text.next_line.Goals as goal
 

@@ -1,5 +1,4 @@
-use Rattle.std.proofs.Common.{arith}
-use Rattle.std.proofs.lemmas.List.{take_rest}
+use Rattle.apex_texts.proofs.Common.{arith, take_rest}
 use Rattle.apex_texts.proofs.text.next_word.Goals as goal
 
 pub returns-clause-word : goal.returns-clause-word

@@ -1,5 +1,4 @@
-use Rattle.std.proofs.Common.{◌≡◌, ◌<◌, ◌+◌, ◌*◌, ◌-◌, true, get_or, sym, ◌∙◌, rules, arith}
-use Rattle.apex_texts.specs.Text.{is_digit}
+use Rattle.apex_texts.proofs.Common.{◌≡◌, ◌<◌, ◌+◌, ◌*◌, ◌-◌, true, get_or, sym, ◌∙◌, rules, arith, is_digit}
 use Rattle.apex_texts.proofs.NumberLemmas.{grows_great}
 use Rattle.apex_texts.proofs.text.number_up_to.Goals as goal
 

@@ -1,5 +1,4 @@
-use Rattle.std.proofs.Common.{◌≡◌, drop}
-use Rattle.apex_texts.specs.Text.{digits_after}
+use Rattle.apex_texts.proofs.Common.{◌≡◌, drop, digits_after}
 use Rattle.apex_texts.proofs.text.number_up_to.Given as goal
 
 abbrev pub invariant-loop-byte : goal.invariant-loop-byte

@@ -1,5 +1,5 @@
-use Rattle.std.proofs.Common.{rules, arith}
-use Rattle.apex_texts.proofs.TextLemmas.{from_word, word_some, words_none, words_at, words_between}
+use Rattle.apex_texts.proofs.Common.{◌-◌, length, drop, [], ◌∷◌, sym, ap, ◌∙◌, rules, arith, drop-length, length-drop, take_all}
+use Rattle.apex_texts.proofs.TextLemmas.{from_word, word_some, words_none, words_at, words_last, words_between}
 use Rattle.apex_texts.proofs.text.word_bounds.Goals as goal
 
 pub returns-in_default-clause-none : goal.returns-in_default-clause-none
@@ -22,11 +22,14 @@ long_word-requires-clause-word c =
     let rest = from_word c.args.line.now c.split_at.result.1.now c.in-Some.start (search rules) c.split_at.ensures.back in
     rest.word
 
-pub returns-in-None-clause-none : goal.returns-in-None-clause-none
-returns-in-None-clause-none c same =
-    let some = c.long_word.ensures.some in
-    absurd (omega arith)
-
 pub returns-in-None-clause-word : goal.returns-in-None-clause-word
 returns-in-None-clause-word c lt =
+    let from = from_word c.args.line.now c.split_at.result.1.now c.in-Some.start (search rules) c.split_at.ensures.back in
+    let last = words_last c.split_at.result.1.now from.some from.word (c.in-None.ensures c.if-rest-le-NEAR_BYTES.true) in
+    let size = length-drop c.in-Some.start c.args.line.now in
+    rw (take_all (length c.args.line.now - c.in-Some.start) (drop c.in-Some.start c.args.line.now) (omega (arith, size)), drop-length c.args.line.now)
+    (sym from.same ∙ last ∙ ap (λ rest. rest ∷ []) c.split_at.ensures.back)
+
+pub returns-in-None-2-clause-word : goal.returns-in-None-2-clause-word
+returns-in-None-2-clause-word c lt =
     words_between c.args.line.now c.split_at.result.1.now c.in-Some.start c.long_word.result (search rules) c.split_at.ensures.back c.long_word.ensures.word

@@ -1,5 +1,4 @@
-use Rattle.std.proofs.Common.{Result, Ok, Err}
-use Rattle.std.specs.Prelude.{OnOk}
+use Rattle.apex_texts.proofs.Common.{Result, Ok, Err, OnOk}
 use Rattle.apex_texts.proofs.KnownLemmas.{index-known}
 use Rattle.apex_texts.proofs.trace.read_request.Goals as goal
 

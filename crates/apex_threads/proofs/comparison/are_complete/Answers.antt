@@ -1,7 +1,5 @@
-use Rattle.std.proofs.Common.{◌≡◌, ◌<◌, length, Some, refl, sym, ap, ◌∙◌, arith, below_more}
-use Rattle.std.specs.List.{slice_get}
+use Rattle.apex_threads.proofs.Common.{◌≡◌, ◌<◌, length, Some, refl, sym, ap, ◌∙◌, arith, below_more, slice_get, slice_get_read, slice_get_within}
 use Rattle.std.proofs.lemmas.Bool.{false≢true}
-use Rattle.std.proofs.lemmas.Option.{slice_get_read, slice_get_within}
 use Rattle.apex_threads.proofs.comparison.are_complete.Goals as goal
 
 pub returns-then-not-is_complete : goal.returns-then-not-is_complete

@@ -1,8 +1,4 @@
-use Rattle.std.proofs.Common.{◌≡◌, ℕ, ◌<◌, List, length, get_or, Some}
-use Rattle.std.specs.List.{slice_get}
-use Rattle.apex_types.specs.declared.call.Call.{Call}
-use Rattle.apex_types.specs.declared.moment.Moment.{Moment}
-use Rattle.apex_types.specs.declared.reply.Reply.{Reply}
+use Rattle.apex_threads.proofs.Common.{◌≡◌, ℕ, ◌<◌, List, length, get_or, Some, slice_get, Call, Moment, Reply}
 use Rattle.apex_threads.proofs.comparison.are_complete.Given as goal
 
 abbrev pub invariant-loop-p : goal.invariant-loop-p

@@ -1,6 +1,5 @@
-use Rattle.std.proofs.Common.{[], length, ap, ◌∙◌}
+use Rattle.apex_threads.proofs.Common.{[], length, ap, ◌∙◌, IsPublished, AddsChannel}
 use Rattle.apex_ports.proofs.Stays.{each_at_push, length_push}
-use Rattle.apex_threads.specs.OnChannels.{IsPublished, AddsChannel}
 use Rattle.apex_threads.proofs.publishing.new_publishers.Goals as goal
 
 pub loop-c-preserved : goal.loop-c-preserved

@@ -1,6 +1,5 @@
-use Rattle.std.proofs.Common.{◌≡◌, [], length}
+use Rattle.apex_threads.proofs.Common.{◌≡◌, [], length, IsPublished}
 use Rattle.apex_ports.specs.Kept.{EachAt}
-use Rattle.apex_threads.specs.OnChannels.{IsPublished}
 use Rattle.apex_threads.proofs.publishing.new_publishers.Given as goal
 
 abbrev pub invariant-loop-c : goal.invariant-loop-c

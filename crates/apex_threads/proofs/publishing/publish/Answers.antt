@@ -1,7 +1,5 @@
-use Rattle.std.proofs.Common.{◌++◌, ◌∷◌, []}
-use Rattle.apex_ports.specs.History.{entry_of}
+use Rattle.apex_threads.proofs.Common.{◌++◌, ◌∷◌, [], entry_of, ArePublished}
 use Rattle.apex_ports.specs.ReplyTable.{reply_to}
-use Rattle.apex_threads.specs.OnChannels.{ArePublished}
 use Rattle.apex_threads.proofs.PublishSteps.{sampling_entry, write_published, nothing_published, on_published, channels_stay}
 use Rattle.apex_threads.proofs.publishing.publish.Goals as goal
 

@@ -1,6 +1,4 @@
-use Rattle.std.proofs.Common.{◌<◌, List, length, sym, subst, arith}
-use Rattle.apex_types.specs.declared.reply.Reply.{Reply}
-use Rattle.apex_threads.specs.Room.{AreReady}
+use Rattle.apex_threads.proofs.Common.{◌<◌, List, length, sym, subst, arith, Reply, AreReady}
 use Rattle.apex_threads.proofs.Ready.{ready_more}
 use Rattle.apex_threads.proofs.run.lists_for.Goals as goal
 

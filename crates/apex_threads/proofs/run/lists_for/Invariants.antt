@@ -1,5 +1,4 @@
-use Rattle.std.proofs.Common.{◌≡◌, ◌≤◌, length, vec_len, vec_capacity}
-use Rattle.apex_threads.specs.Room.{AreReady}
+use Rattle.apex_threads.proofs.Common.{◌≡◌, ◌≤◌, length, vec_len, vec_capacity, AreReady}
 use Rattle.apex_threads.proofs.run.lists_for.Given as goal
 
 abbrev pub invariant-loop-script : goal.invariant-loop-script

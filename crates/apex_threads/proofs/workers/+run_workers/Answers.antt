@@ -1,7 +1,6 @@
-use Rattle.std.proofs.Common.{rules, ◌≡◌, ◌∙◌, ◌+◌, IfOk, IfErr, subst, sym, length, ◌<◌, vec_len, vec_capacity, arith}
+use Rattle.apex_threads.proofs.Common.{rules, ◌≡◌, ◌∙◌, ◌+◌, IfOk, IfErr, subst, sym, length, ◌<◌, vec_len, vec_capacity, arith, AreReady}
 use denote.Param.Send.{sendable}
 use Rattle.apex_threads.specs.Held.{NamesHeldCall}
-use Rattle.apex_threads.specs.Room.{AreReady}
 use Rattle.apex_threads.proofs.Ready.{ready_front, ready_last, partition_within, one_more_reply, same_room, first_of}
 use Rattle.apex_threads.proofs.workers.+run_workers.Goals as goal
 use Rattle.apex_threads.proofs.workers.+run_workers.Goals.{in-Ok, in-Err}

@@ -1,13 +1,5 @@
-use Rattle.std.proofs.Common.{◌≡◌, ◌<◌, ◌-◌, ◌^◌, ◌++◌, ℕ, List, Option, Some, length, take, arith, sym, ap, ◌∙◌, subst}
-use Rattle.std.specs.Prelude.{slice_get}
-use Rattle.std.proofs.lemmas.Option.{slice_get-get_or}
-use Rattle.std.proofs.lemmas.List.{length-take-le, take_all}
-use Rattle.apex_ports.specs.History.{History}
-use Rattle.dekarino_drawings.specs.declared.channel_calls.ChannelCalls.{ChannelCalls}
-use Rattle.dekarino_drawings.specs.Arrows.{origin_of, arrow_from}
-use Rattle.dekarino_drawings.specs.Following.{AreFollowed}
+use Rattle.dekarino_drawings.proofs.Common.{◌≡◌, ◌<◌, ◌-◌, ◌^◌, ◌++◌, ℕ, List, Option, Some, length, take, arith, sym, ap, ◌∙◌, subst, slice_get, slice_get-get_or, length-take-le, take_all, History, ChannelCalls, origin_of, arrow_from, AreFollowed, grows, complete}
 use Rattle.dekarino_drawings.proofs.ArrowLemmas.{take_at, arrow_cut, arrow_end}
-use Rattle.apex_texts.proofs.ReportLemmas.{grows, complete}
 use Rattle.dekarino_drawings.proofs.arrows.arrows_of.Goals as goal
 
 pub loop-index-preserved : goal.loop-index-preserved

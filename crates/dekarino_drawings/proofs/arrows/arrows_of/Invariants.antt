@@ -1,6 +1,4 @@
-use Rattle.std.proofs.Common.{◌≡◌, ◌++◌, drop, take}
-use Rattle.dekarino_drawings.specs.Arrows.{arrows_after, arrows_of}
-use Rattle.dekarino_drawings.specs.Following.{AreFollowed}
+use Rattle.dekarino_drawings.proofs.Common.{◌≡◌, ◌++◌, drop, take, arrows_after, arrows_of, AreFollowed}
 use Rattle.dekarino_drawings.proofs.arrows.arrows_of.Given as goal
 
 abbrev pub invariant-loop-index : goal.invariant-loop-index

@@ -1,7 +1,6 @@
-use Rattle.std.proofs.Common.{rules, ◌≡◌, ◌<◌, length, Some, sym, ◌∙◌, arith}
+use Rattle.dekarino_drawings.proofs.Common.{rules, ◌≡◌, ◌<◌, length, Some, sym, ◌∙◌, arith, channel_changed}
 use Rattle.std.proofs.lemmas.Result.{on_ok_weaker}
 use Rattle.apex_ports.proofs.Lookups.{at_index}
-use Rattle.dekarino_drawings.specs.Following.{channel_changed}
 use Rattle.dekarino_drawings.proofs.FollowingLemmas.{one_follows, none_follows}
 use Rattle.dekarino_drawings.proofs.channels.follow.Goals as goal
 

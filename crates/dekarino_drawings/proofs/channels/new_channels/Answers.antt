@@ -1,8 +1,6 @@
-use Rattle.std.proofs.Common.{[], List, length, sym, ap, ◌∙◌, subst}
+use Rattle.dekarino_drawings.proofs.Common.{[], List, length, sym, ap, ◌∙◌, subst, ChannelCalls, IsFollowed}
 use Rattle.apex_ports.specs.Kept.{EachAt}
 use Rattle.apex_ports.proofs.Stays.{length_push, each_at_push}
-use Rattle.dekarino_drawings.specs.declared.channel_calls.ChannelCalls.{ChannelCalls}
-use Rattle.dekarino_drawings.specs.Following.{IsFollowed}
 use Rattle.dekarino_drawings.proofs.channels.new_channels.Goals as goal
 
 pub loop-preserved : goal.loop-preserved

@@ -1,6 +1,5 @@
-use Rattle.std.proofs.Common.{◌≡◌, [], length}
+use Rattle.dekarino_drawings.proofs.Common.{◌≡◌, [], length, IsFollowed}
 use Rattle.apex_ports.specs.Kept.{EachAt}
-use Rattle.dekarino_drawings.specs.Following.{IsFollowed}
 use Rattle.dekarino_drawings.proofs.channels.new_channels.Given as goal
 
 abbrev pub invariant-loop : goal.invariant-loop

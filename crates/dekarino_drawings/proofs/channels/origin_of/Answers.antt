@@ -1,5 +1,4 @@
-use Rattle.std.proofs.Common.{◌≡◌, Some, sym, ◌∙◌}
-use Rattle.std.specs.Prelude.{slice_get}
+use Rattle.dekarino_drawings.proofs.Common.{◌≡◌, Some, sym, ◌∙◌, slice_get}
 use Rattle.apex_ports.proofs.Lookups.{at_index}
 use Rattle.dekarino_drawings.proofs.FollowingLemmas.{read_origin}
 use Rattle.dekarino_drawings.proofs.channels.origin_of.Goals as goal

@@ -1,9 +1,5 @@
-use Rattle.std.proofs.Common.{List, ap, ◌∙◌}
-use Rattle.std.specs.List.{flat_map}
+use Rattle.dekarino_drawings.proofs.Common.{List, ap, ◌∙◌, flat_map, complete, ChannelCalls, waits_in}
 use Rattle.std.proofs.Math.ListN.{drop_of_length-le}
-use Rattle.apex_texts.proofs.ReportLemmas.{complete}
-use Rattle.dekarino_drawings.specs.declared.channel_calls.ChannelCalls.{ChannelCalls}
-use Rattle.dekarino_drawings.specs.Following.{waits_in}
 use Rattle.dekarino_drawings.proofs.FollowingLemmas.{all_wait}
 use Rattle.dekarino_drawings.proofs.channels.waiting_of.Goals as goal
 

@@ -1,6 +1,4 @@
-use Rattle.std.proofs.Common.{◌≡◌, ◌++◌, drop}
-use Rattle.std.specs.List.{flat_map}
-use Rattle.dekarino_drawings.specs.Following.{waits_in}
+use Rattle.dekarino_drawings.proofs.Common.{◌≡◌, ◌++◌, drop, flat_map, waits_in}
 use Rattle.dekarino_drawings.proofs.channels.waiting_of.Given as goal
 
 abbrev pub invariant-loop-channel : goal.invariant-loop-channel

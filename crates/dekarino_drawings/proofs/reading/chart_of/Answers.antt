@@ -1,7 +1,5 @@
-use Rattle.std.proofs.Common.{◌≡◌, ◌∙◌, subst}
-use Rattle.apex_module.specs.Configuration.{Configuration}
+use Rattle.dekarino_drawings.proofs.Common.{◌≡◌, ◌∙◌, subst, Configuration, arrows_of, waiting_of}
 use Rattle.apex_ports.specs.Lawful.{Answers}
-use Rattle.dekarino_drawings.specs.Arrows.{arrows_of, waiting_of}
 use Rattle.dekarino_drawings.proofs.reading.chart_of.Goals as goal
 
 pub returns : goal.returns

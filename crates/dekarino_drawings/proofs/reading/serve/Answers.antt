@@ -1,8 +1,5 @@
-use Rattle.std.proofs.Common.{◌≡◌, take, ap, sym, ◌∙◌, subst}
-use Rattle.apex_module.specs.Configuration.{Configuration}
-use Rattle.apex_ports.specs.History.{History, requests_of}
+use Rattle.dekarino_drawings.proofs.Common.{◌≡◌, take, ap, sym, ◌∙◌, subst, Configuration, History, requests_of, take_all}
 use Rattle.apex_ports.specs.Lawful.{IsLawful}
-use Rattle.std.proofs.lemmas.List.{take_all}
 use Rattle.dekarino_drawings.proofs.reading.serve.Goals as goal
 
 pub returns-clause-served : goal.returns-clause-served

@@ -1,5 +1,4 @@
-use Rattle.std.proofs.Common.{◌≡◌, take}
-use Rattle.apex_ports.specs.History.{requests_of}
+use Rattle.dekarino_drawings.proofs.Common.{◌≡◌, take, requests_of}
 use Rattle.apex_ports.specs.Sound.{IsSound}
 use Rattle.dekarino_drawings.proofs.reading.serve.Given as goal
 

@@ -1,8 +1,6 @@
-use Rattle.std.proofs.Common.{ℕ, List, ap, sym, ◌∙◌}
+use Rattle.dekarino_drawings.proofs.Common.{ℕ, List, ap, sym, ◌∙◌, map-id, flat_map}
 use Rattle.std.proofs.lemmas.Iterator.{YieldsList-from_chars}
 use Rattle.std.proofs.lemmas.Iterator.Consumers.{YieldsList-end}
-use Rattle.std.proofs.lemmas.List.{map-id}
-use Rattle.std.specs.List.{flat_map}
 use Rattle.dekarino_drawings.specs.Escaping.{escaped_char}
 use Rattle.dekarino_drawings.proofs.svg.escaped.Goals as goal
 

@@ -1,5 +1,4 @@
-use Rattle.std.proofs.Common.{◌≡◌, string_bytes}
-use Rattle.std.specs.List.{flat_map}
+use Rattle.dekarino_drawings.proofs.Common.{◌≡◌, string_bytes, flat_map}
 use Rattle.dekarino_drawings.specs.Escaping.{escaped_char}
 use Rattle.dekarino_drawings.proofs.svg.escaped.Given as goal
 

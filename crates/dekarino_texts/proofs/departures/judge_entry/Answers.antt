@@ -1,10 +1,5 @@
-use Rattle.std.proofs.Common.{◌≡◌, List, OnOk, ◌∙◌, subst, rules}
-use Rattle.apex_judge.specs.Departures.{instead_of}
-use Rattle.apex_judge.specs.OwnIds.{entry_in_ours, replaced_in, restored}
+use Rattle.dekarino_texts.proofs.Common.{◌≡◌, List, OnOk, ◌∙◌, subst, rules, instead_of, entry_in_ours, replaced_in, restored, polled_entry, LoggedDeparture, departures_handed, place_with, IsHanded}
 use Rattle.apex_judge.proofs.OwnIdLemmas.{put_back}
-use Rattle.apex_logs.specs.Polled.{polled_entry}
-use Rattle.dekarino_texts.specs.Departures.{LoggedDeparture, departures_handed, place_with}
-use Rattle.dekarino_texts.specs.Handed.{IsHanded}
 use Rattle.dekarino_texts.proofs.departures.judge_entry.Goals as goal
 
 pub returns-clause-handed : goal.returns-clause-handed

@@ -1,15 +1,9 @@
-use Rattle.std.proofs.Common.{◌≡◌, ℕ, ◌++◌, ◌∷◌, [], List, Result, Ok, Err, OnOk, ap, ◌∙◌, subst}
+use Rattle.dekarino_texts.proofs.Common.{◌≡◌, ℕ, ◌++◌, ◌∷◌, [], List, Result, Ok, Err, OnOk, ap, ◌∙◌, subst, Configuration, entry_of, Notes, ExplainedLine, line_with, answered_after, AreNoted, LineEntry}
 use Rattle.apex_types.specs.declared.call.Call.{Call}
 use Rattle.apex_types.specs.declared.reply.Reply.{Reply}
-use Rattle.apex_module.specs.Configuration.{Configuration}
 use Rattle.apex_ports.specs.declared.history.Request.{Request}
-use Rattle.apex_ports.specs.History.{entry_of}
 use Rattle.apex_ports.specs.ReplyTable.{row_of}
 use Rattle.apex_ports.specs.Seen.{seen}
-use Rattle.dekarino_texts.specs.declared.notes.Notes.{Notes}
-use Rattle.dekarino_texts.specs.Explanation.{ExplainedLine, line_with, answered_after}
-use Rattle.dekarino_texts.specs.Notes.{AreNoted}
-use Rattle.dekarino_texts.specs.Remarks.{LineEntry}
 use Rattle.dekarino_texts.proofs.explanation.explain_call.Goals as goal
 
 on_ok : {T E : Type 0} (r : Result T E) (P : Type 0) → P → OnOk r P

@@ -1,13 +1,6 @@
-use Rattle.std.proofs.Common.{◌≡◌, ◌+◌, ◌++◌, [], ℕ, List, Ok, Some, None, Err, is_ok, refl, sym, ap, ◌∙◌, arith, subst}
-use Rattle.std.specs.Str.Lines.{lines}
-use Rattle.apex_module.specs.Configuration.{Configuration}
-use Rattle.apex_ports.specs.History.{requests_of}
-use Rattle.apex_texts.specs.Lines.{item_of_line}
-use Rattle.apex_texts.specs.Trace.{request_at, trace_of}
+use Rattle.dekarino_texts.proofs.Common.{◌≡◌, ◌+◌, ◌++◌, [], ℕ, List, Ok, Some, None, Err, is_ok, refl, sym, ap, ◌∙◌, arith, subst, lines, Configuration, requests_of, item_of_line, request_at, trace_of, line_faulty, explained, explanation_of, partition_remarks, channel_remarks}
 use Rattle.apex_texts.proofs.LineLemmas.{goes_on, skips, refuses, ends}
 use Rattle.apex_texts.proofs.ReplayLemmas.{fresh_front, requests_of-push}
-use Rattle.dekarino_texts.specs.Explanation.{line_faulty, explained, explanation_of}
-use Rattle.dekarino_texts.specs.Remarks.{partition_remarks, channel_remarks}
 use Rattle.dekarino_texts.proofs.ExplanationLemmas.{explains_line, explains_call, explains_fault, explains_all, serves_all, counts_all, remarks_all, ports_noted}
 use Rattle.dekarino_texts.proofs.explanation.explain_lines.Goals as goal
 

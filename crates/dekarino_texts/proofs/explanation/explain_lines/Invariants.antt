@@ -1,11 +1,6 @@
-use Rattle.std.proofs.Common.{◌≡◌, ◌+◌, ◌≤◌, length}
-use Rattle.std.specs.Str.Lines.{lines}
-use Rattle.apex_ports.specs.History.{requests_of}
+use Rattle.dekarino_texts.proofs.Common.{◌≡◌, ◌+◌, ◌≤◌, length, lines, requests_of, items_from, request_at, trace_of, explanation_of}
 use Rattle.apex_ports.specs.Sound.{IsSound}
-use Rattle.apex_texts.specs.Lines.{items_from}
-use Rattle.apex_texts.specs.Trace.{request_at, trace_of}
 use Rattle.apex_texts.proofs.LineLemmas.{with_front}
-use Rattle.dekarino_texts.specs.Explanation.{explanation_of}
 use Rattle.dekarino_texts.proofs.ExplanationLemmas.{IsUnderWay}
 use Rattle.dekarino_texts.proofs.explanation.explain_lines.Given as goal
 

@@ -1,13 +1,7 @@
-use Rattle.std.proofs.Common.{◌≡◌, ◌+◌, [], length, refl, ap, ◌∙◌, rules, arith}
-use Rattle.std.proofs.lemmas.List.{length-replicate}
-use Rattle.apex_judge.specs.Departures.{instead_of}
-use Rattle.apex_judge.specs.OwnIds.{entry_in_ours}
+use Rattle.dekarino_texts.proofs.Common.{◌≡◌, ◌+◌, [], length, refl, ap, ◌∙◌, rules, arith, length-replicate, instead_of, entry_in_ours, polled_entry, max_wait_of, DepartureCounts}
 use Rattle.apex_logs.specs.declared.line_source.LogStep.TheVariants as steps
 use Rattle.apex_logs.specs.LineSource.{IsFaultyStep, IsStep}
-use Rattle.apex_logs.specs.Polled.{polled_entry}
-use Rattle.apex_logs.specs.TimeOut.{max_wait_of}
 use Rattle.apex_logs.specs.TimedCall.{logged_request_at}
-use Rattle.dekarino_texts.specs.declared.departures.DepartureCounts.{DepartureCounts}
 use Rattle.dekarino_texts.proofs.DepartureLemmas.{one_call_more, as_many_at_most}
 use Rattle.dekarino_texts.proofs.JudgedLineLemmas.{AreRead, begins, at_end, at_most, at_calls_end, known_first, stops_at, passes, goes_on}
 use Rattle.dekarino_texts.proofs.judged_lines.judge_each.Goals as goal

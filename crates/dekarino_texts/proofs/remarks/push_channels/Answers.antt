@@ -1,8 +1,5 @@
-use Rattle.std.proofs.Common.{◌≡◌, ◌++◌, ◌≤◌, Some, length}
-use Rattle.std.specs.Prelude.{slice_get}
+use Rattle.dekarino_texts.proofs.Common.{◌≡◌, ◌++◌, ◌≤◌, Some, length, slice_get, grows, complete, waiting_remark}
 use Rattle.apex_ports.specs.Channels.{waiting_on}
-use Rattle.apex_texts.proofs.ReportLemmas.{grows, complete}
-use Rattle.dekarino_texts.specs.Remarks.{waiting_remark}
 use Rattle.dekarino_texts.proofs.RemarkLemmas.{channel_cut, channel_end}
 use Rattle.dekarino_texts.proofs.remarks.push_channels.Goals as goal
 

@@ -1,5 +1,4 @@
-use Rattle.std.proofs.Common.{◌≡◌, ◌++◌, drop}
-use Rattle.dekarino_texts.specs.Remarks.{channel_remarks}
+use Rattle.dekarino_texts.proofs.Common.{◌≡◌, ◌++◌, drop, channel_remarks}
 use Rattle.dekarino_texts.proofs.remarks.push_channels.Given as goal
 
 abbrev pub invariant-loop-c : goal.invariant-loop-c

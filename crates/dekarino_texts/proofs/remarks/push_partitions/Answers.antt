@@ -1,5 +1,4 @@
-use Rattle.std.proofs.Common.{◌<◌, ◌≤◌, length}
-use Rattle.apex_texts.proofs.ReportLemmas.{grows, complete}
+use Rattle.dekarino_texts.proofs.Common.{◌<◌, ◌≤◌, length, grows, complete}
 use Rattle.dekarino_texts.proofs.RemarkLemmas.{partition_cut, partition_end}
 use Rattle.dekarino_texts.proofs.remarks.push_partitions.Goals as goal
 

@@ -1,5 +1,4 @@
-use Rattle.std.proofs.Common.{◌≡◌, ◌++◌, drop}
-use Rattle.dekarino_texts.specs.Remarks.{partition_remarks}
+use Rattle.dekarino_texts.proofs.Common.{◌≡◌, ◌++◌, drop, partition_remarks}
 use Rattle.dekarino_texts.proofs.remarks.push_partitions.Given as goal
 
 abbrev pub invariant-loop-p : goal.invariant-loop-p

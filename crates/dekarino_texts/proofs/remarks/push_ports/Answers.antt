@@ -1,9 +1,4 @@
-use Rattle.std.proofs.Common.{◌≡◌, ◌+◌, ◌≤◌, Some, length, sym, ap, ◌∙◌}
-use Rattle.std.specs.Prelude.{slice_get}
-use Rattle.std.specs.Option.{option_copied}
-use Rattle.apex_module.specs.Configuration.{port_of, ports_of}
-use Rattle.apex_texts.specs.Report.{name_of_partition}
-use Rattle.apex_texts.proofs.ReportLemmas.{grows, complete}
+use Rattle.dekarino_texts.proofs.Common.{◌≡◌, ◌+◌, ◌≤◌, Some, length, sym, ap, ◌∙◌, slice_get, option_copied, port_of, ports_of, name_of_partition, grows, complete}
 use Rattle.dekarino_texts.proofs.RemarkLemmas.{linked_channel, port_cut, port_end}
 use Rattle.dekarino_texts.proofs.TableLemmas.{port_at_index}
 use Rattle.dekarino_texts.proofs.remarks.push_ports.Goals as goal

@@ -1,7 +1,4 @@
-use Rattle.std.proofs.Common.{◌≡◌, ◌+◌, ◌++◌, drop}
-use Rattle.apex_module.specs.Configuration.{ports_of}
-use Rattle.apex_texts.specs.Report.{name_of_partition}
-use Rattle.dekarino_texts.specs.Remarks.{port_remarks}
+use Rattle.dekarino_texts.proofs.Common.{◌≡◌, ◌+◌, ◌++◌, drop, ports_of, name_of_partition, port_remarks}
 use Rattle.dekarino_texts.proofs.remarks.push_ports.Given as goal
 
 abbrev pub invariant-loop-index : goal.invariant-loop-index

@@ -1,8 +1,5 @@
-use Rattle.std.proofs.Common.{◌+◌, ◌++◌, [], ◌∷◌, List, ◌∙◌, refl, arith, subst}
-use Rattle.apex_module.specs.Configuration.{Configuration}
+use Rattle.dekarino_texts.proofs.Common.{◌+◌, ◌++◌, [], ◌∷◌, List, ◌∙◌, refl, arith, subst, Configuration, AreNoted, LineEntry}
 use Rattle.apex_texts.specs.Replay.{entry_after}
-use Rattle.dekarino_texts.specs.Notes.{AreNoted}
-use Rattle.dekarino_texts.specs.Remarks.{LineEntry}
 use Rattle.dekarino_texts.proofs.NoteLemmas.{notes_before, notes_more}
 use Rattle.dekarino_texts.proofs.run_explanation.explain_order.Goals as goal
 

@@ -1,7 +1,5 @@
-use Rattle.std.proofs.Common.{◌≡◌, ◌+◌, List, ℕ, arith, sym, ◌∙◌, subst}
-use Rattle.std.specs.Str.Lines.{lines}
+use Rattle.dekarino_texts.proofs.Common.{◌≡◌, ◌+◌, List, ℕ, arith, sym, ◌∙◌, subst, lines, call_numbers, AreLinesOf}
 use Rattle.apex_texts.specs.Script.{script_of}
-use Rattle.dekarino_texts.specs.ScriptLines.{call_numbers, AreLinesOf}
 use Rattle.dekarino_texts.proofs.ScriptLineLemmas.{counted, passed, ended, are_lines}
 use Rattle.dekarino_texts.proofs.script_lines.call_lines.Goals as goal
 

@@ -1,6 +1,4 @@
-use Rattle.std.proofs.Common.{◌≡◌, ◌+◌, ◌≤◌, ◌++◌, length}
-use Rattle.std.specs.Str.Lines.{lines}
-use Rattle.dekarino_texts.specs.ScriptLines.{numbers_from, call_numbers}
+use Rattle.dekarino_texts.proofs.Common.{◌≡◌, ◌+◌, ◌≤◌, ◌++◌, length, lines, numbers_from, call_numbers}
 use Rattle.dekarino_texts.proofs.script_lines.call_lines.Given as goal
 
 abbrev pub invariant-loop-line : goal.invariant-loop-line

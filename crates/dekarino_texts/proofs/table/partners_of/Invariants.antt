@@ -1,5 +1,4 @@
-use Rattle.std.proofs.Common.{◌≡◌, ◌++◌, drop}
-use Rattle.dekarino_texts.specs.PortTable.{partners_of}
+use Rattle.dekarino_texts.proofs.Common.{◌≡◌, ◌++◌, drop, partners_of}
 use Rattle.dekarino_texts.proofs.table.partners_of.Given as goal
 
 abbrev pub invariant-loop-p : goal.invariant-loop-p

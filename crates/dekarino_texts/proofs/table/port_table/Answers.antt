@@ -1,10 +1,6 @@
-use Rattle.std.proofs.Common.{◌≡◌, ◌++◌, List, [], ◌∷◌, ap, ◌∙◌, map, append_assoc}
-use Rattle.std.proofs.lemmas.List.{map-append}
-use Rattle.apex_module.specs.Configuration.{ports_of}
-use Rattle.apex_texts.proofs.ReportLemmas.{grows, complete}
+use Rattle.dekarino_texts.proofs.Common.{◌≡◌, ◌++◌, List, [], ◌∷◌, ap, ◌∙◌, map, append_assoc, map-append, ports_of, grows, complete, RowData, row_data, port_rows}
 use Rattle.dekarino_texts.specs.declared.table.TableRow.{TableRow}
 use Rattle.dekarino_texts.specs.declared.table.TableRow.TheVariants as rows
-use Rattle.dekarino_texts.specs.PortTable.{RowData, row_data, port_rows}
 use Rattle.dekarino_texts.proofs.TableLemmas.{partition_cut, partition_end}
 use Rattle.dekarino_texts.proofs.table.port_table.Goals as goal
 

@@ -1,5 +1,4 @@
-use Rattle.std.proofs.Common.{◌≡◌, ◌++◌, drop, map}
-use Rattle.dekarino_texts.specs.PortTable.{row_data, partition_rows, table_rows}
+use Rattle.dekarino_texts.proofs.Common.{◌≡◌, ◌++◌, drop, map, row_data, partition_rows, table_rows}
 use Rattle.dekarino_texts.proofs.table.port_table.Given as goal
 
 abbrev pub invariant-loop-partition : goal.invariant-loop-partition

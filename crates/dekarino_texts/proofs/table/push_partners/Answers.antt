@@ -1,8 +1,4 @@
-use Rattle.std.proofs.Common.{◌≡◌, Some, sym, ap, ◌∙◌}
-use Rattle.std.specs.Prelude.{slice_get}
-use Rattle.std.specs.Option.{option_copied}
-use Rattle.apex_module.specs.Configuration.{ports_of}
-use Rattle.apex_texts.proofs.ReportLemmas.{grows, complete}
+use Rattle.dekarino_texts.proofs.Common.{◌≡◌, Some, sym, ap, ◌∙◌, slice_get, option_copied, ports_of, grows, complete}
 use Rattle.dekarino_texts.proofs.TableLemmas.{place_cut, place_end, port_at_index}
 use Rattle.dekarino_texts.proofs.table.push_partners.Goals as goal
 

@@ -1,6 +1,4 @@
-use Rattle.std.proofs.Common.{◌≡◌, ◌+◌, ◌++◌, drop}
-use Rattle.apex_module.specs.Configuration.{ports_of}
-use Rattle.dekarino_texts.specs.PortTable.{places_in}
+use Rattle.dekarino_texts.proofs.Common.{◌≡◌, ◌+◌, ◌++◌, drop, ports_of, places_in}
 use Rattle.dekarino_texts.proofs.table.push_partners.Given as goal
 
 abbrev pub invariant-loop-index : goal.invariant-loop-index

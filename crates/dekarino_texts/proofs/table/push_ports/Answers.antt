@@ -1,12 +1,6 @@
-use Rattle.std.proofs.Common.{◌≡◌, ◌+◌, ◌++◌, List, [], ◌∷◌, Some, sym, ap, ◌∙◌, map}
-use Rattle.std.specs.Prelude.{slice_get}
-use Rattle.std.specs.Option.{option_copied}
-use Rattle.std.proofs.lemmas.List.{map-append}
-use Rattle.apex_module.specs.Configuration.{ports_of}
-use Rattle.apex_texts.proofs.ReportLemmas.{grows, complete}
+use Rattle.dekarino_texts.proofs.Common.{◌≡◌, ◌+◌, ◌++◌, List, [], ◌∷◌, Some, sym, ap, ◌∙◌, map, slice_get, option_copied, map-append, ports_of, grows, complete, RowData, row_data, port_row}
 use Rattle.dekarino_texts.specs.declared.table.TableRow.{TableRow}
 use Rattle.dekarino_texts.specs.declared.table.TableRow.TheVariants as rows
-use Rattle.dekarino_texts.specs.PortTable.{RowData, row_data, port_row}
 use Rattle.dekarino_texts.proofs.TableLemmas.{port_cut, port_end, port_at_index}
 use Rattle.dekarino_texts.proofs.table.push_ports.Goals as goal
 

@@ -1,6 +1,4 @@
-use Rattle.std.proofs.Common.{◌≡◌, ◌+◌, ◌++◌, drop, map}
-use Rattle.apex_module.specs.Configuration.{ports_of}
-use Rattle.dekarino_texts.specs.PortTable.{row_data, port_rows}
+use Rattle.dekarino_texts.proofs.Common.{◌≡◌, ◌+◌, ◌++◌, drop, map, ports_of, row_data, port_rows}
 use Rattle.dekarino_texts.proofs.table.push_ports.Given as goal
 
 abbrev pub invariant-loop-index : goal.invariant-loop-index

@@ -1,17 +1,11 @@
-use Rattle.std.proofs.Common.{Result, Ok, Err, ◌≡◌, ◌≤◌, ◌<◌, ◌-◌, ◌+◌, ◌++◌, ◌∷◌, [], false, ap, sym, subst, ◌∙◌, arith}
-use Rattle.std.specs.Result.{is_ok, OnErr}
-use Rattle.std.specs.Vec.{vec_len, vec_capacity}
-use Rattle.apex_ports.specs.History.{History, entry_of}
+use Rattle.apex_board.proofs.Common.{Result, Ok, Err, ◌≡◌, ◌≤◌, ◌<◌, ◌-◌, ◌+◌, ◌++◌, ◌∷◌, [], false, ap, sym, subst, ◌∙◌, arith, is_ok, OnErr, vec_len, vec_capacity, History, entry_of, IsLawful, BoardView, KeepsRoom, room_of}
 use Rattle.apex_ports.specs.Idle.{StaysIdle}
-use Rattle.apex_ports.specs.Lawful.{IsLawful}
 use Rattle.apex_ports.specs.OneChannel.{ChangesOneChannel}
 use Rattle.apex_ports.specs.Refused.{SameChannels}
 use Rattle.apex_ports.specs.ReplyTable.{reply_to}
 use Rattle.apex_ports.proofs.Idle.{idle_stays}
 use Rattle.apex_ports.proofs.OneChannel.{one_channel}
 use Rattle.apex_ports.proofs.Refused.{refused_send_is_silent}
-use Rattle.apex_board.specs.BoardView.{BoardView}
-use Rattle.apex_board.specs.Room.{KeepsRoom, room_of}
 use Rattle.apex_board.specs.declared.records.Records.{Records}
 use Rattle.apex_board.proofs.LeastRoom.{room_means, room_kept, room_used}
 use Rattle.apex_board.proofs.board.Board.call.Goals as goal

@@ -1,8 +1,5 @@
-use Rattle.std.proofs.Common.{◌≡◌, ◌<◌, true, length, sym, subst, ◌∙◌, arith}
-use Rattle.apex_ports.specs.Ports.{is_queuing}
+use Rattle.apex_board.proofs.Common.{◌≡◌, ◌<◌, true, length, sym, subst, ◌∙◌, arith, is_queuing, at_index, nothing_lent, BoardView}
 use Rattle.apex_ports.proofs.Conserved.{always_conserved}
-use Rattle.apex_ports.proofs.Lookups.{at_index, nothing_lent}
-use Rattle.apex_board.specs.BoardView.{BoardView}
 use Rattle.apex_board.proofs.board.Board.last_sample.Goals as goal
 
 pub returns-clause-queuing : goal.returns-clause-queuing

@@ -1,8 +1,5 @@
-use Rattle.std.proofs.Common.{subst, sym}
-use Rattle.apex_ports.specs.History.{History}
-use Rattle.apex_ports.specs.Lawful.{IsLawful}
+use Rattle.apex_board.proofs.Common.{subst, sym, History, IsLawful, BoardView}
 use Rattle.apex_ports.proofs.Interference.{always_free}
-use Rattle.apex_board.specs.BoardView.{BoardView}
 use Rattle.apex_board.proofs.board.Board.log.Goals as goal
 
 pub returns-clause-lawful : goal.returns-clause-lawful

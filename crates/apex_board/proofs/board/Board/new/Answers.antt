@@ -1,6 +1,4 @@
-use Rattle.std.proofs.Common.{sym, subst, ◌∙◌}
-use Rattle.apex_module.specs.Configuration.{Configuration}
-use Rattle.apex_ports.specs.History.{History}
+use Rattle.apex_board.proofs.Common.{sym, subst, ◌∙◌, Configuration, History}
 use Rattle.apex_threads.specs.OnChannels.{ArePublished}
 use Rattle.apex_board.specs.Recorded.{AreRecords}
 use Rattle.apex_board.specs.Samples.{AreSamples}

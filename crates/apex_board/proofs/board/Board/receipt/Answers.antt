@@ -1,8 +1,4 @@
-use Rattle.std.proofs.Common.{◌≡◌, ◌<◌, false, length, subst, sym}
-use Rattle.apex_ports.specs.Channels.{writes_on}
-use Rattle.apex_ports.specs.History.{History}
-use Rattle.apex_ports.specs.Ports.{is_queuing}
-use Rattle.apex_board.specs.BoardView.{BoardView}
+use Rattle.apex_board.proofs.Common.{◌≡◌, ◌<◌, false, length, subst, sym, writes_on, History, is_queuing, BoardView}
 use Rattle.apex_threads.proofs.PublishSteps.{sampling_entry, published_writes}
 use Rattle.apex_board.proofs.board.Board.receipt.Goals as goal
 

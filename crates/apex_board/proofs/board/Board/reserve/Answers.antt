@@ -1,8 +1,4 @@
-use Rattle.std.proofs.Common.{◌≡◌, ◌≤◌, ◌-◌, false, ap, sym, subst, arith}
-use Rattle.std.specs.Result.{is_ok}
-use Rattle.std.specs.Vec.{vec_len, vec_capacity}
-use Rattle.apex_board.specs.BoardView.{BoardView}
-use Rattle.apex_board.specs.Room.{room_of}
+use Rattle.apex_board.proofs.Common.{◌≡◌, ◌≤◌, ◌-◌, false, ap, sym, subst, arith, is_ok, vec_len, vec_capacity, BoardView, room_of}
 use Rattle.apex_board.proofs.LeastRoom.{room_from, room_means, room_kept}
 use Rattle.apex_board.proofs.board.Board.reserve.Goals as goal
 

@@ -1,9 +1,4 @@
-use Rattle.std.proofs.Common.{◌≤◌, ◌-◌, sym, subst, ◌∙◌, arith}
-use Rattle.std.specs.Vec.{vec_len, vec_capacity}
-use Rattle.apex_ports.specs.History.{History}
-use Rattle.apex_ports.specs.Lawful.{IsLawful}
-use Rattle.apex_board.specs.BoardView.{BoardView}
-use Rattle.apex_board.specs.Room.{room_of}
+use Rattle.apex_board.proofs.Common.{◌≤◌, ◌-◌, sym, subst, ◌∙◌, arith, vec_len, vec_capacity, History, IsLawful, BoardView, room_of}
 use Rattle.apex_board.proofs.LeastRoom.{room_kept}
 use Rattle.apex_board.proofs.RoomSteps.{same_room}
 use Rattle.apex_board.proofs.board.Board.reserve_log.Goals as goal

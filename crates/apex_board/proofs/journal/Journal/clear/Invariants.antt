@@ -1,6 +1,4 @@
-use Rattle.std.proofs.Common.{◌≡◌, ◌++◌, ◌≤◌, length, drop, map}
-use Rattle.std.specs.Vec.{vec_len, vec_capacity}
-use Rattle.apex_ports.specs.Channels.{as_cleared}
+use Rattle.apex_board.proofs.Common.{◌≡◌, ◌++◌, ◌≤◌, length, drop, map, vec_len, vec_capacity, as_cleared}
 use Rattle.apex_board.proofs.journal.Journal.clear.Given as goal
 
 abbrev pub invariant-loop-index : goal.invariant-loop-index

@@ -1,7 +1,4 @@
-use Rattle.std.proofs.Common.{◌≡◌, length, sym, ap, subst, ◌∙◌, arith}
-use Rattle.apex_ports.proofs.Stays.{each_at_push, length_push}
-use Rattle.apex_ports.specs.History.{History}
-use Rattle.apex_board.specs.Journals.{AreJournals, IsFresh}
+use Rattle.apex_board.proofs.Common.{◌≡◌, length, sym, ap, subst, ◌∙◌, arith, each_at_push, length_push, History, AreJournals, IsFresh}
 use Rattle.apex_board.proofs.JournalSteps.{fresh_journals}
 use Rattle.apex_board.proofs.records.Records.new.Goals as goal
 

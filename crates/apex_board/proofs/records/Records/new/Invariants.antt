@@ -1,6 +1,4 @@
-use Rattle.std.proofs.Common.{◌≡◌, length}
-use Rattle.apex_ports.specs.Kept.{EachAt}
-use Rattle.apex_board.specs.Journals.{IsFresh}
+use Rattle.apex_board.proofs.Common.{◌≡◌, length, EachAt, IsFresh}
 use Rattle.apex_board.proofs.records.Records.new.Given as goal
 
 abbrev pub invariant-loop-c : goal.invariant-loop-c

@@ -1,5 +1,4 @@
-use Rattle.std.proofs.Common.{◌≡◌, ◌<◌, ◌++◌, ◌∷◌, [], Some, length, refl, sym, ◌∙◌, arith}
-use Rattle.apex_ports.specs.Channels.{message_accepted}
+use Rattle.apex_board.proofs.Common.{◌≡◌, ◌<◌, ◌++◌, ◌∷◌, [], Some, length, refl, sym, ◌∙◌, arith, message_accepted}
 use Rattle.apex_board.proofs.JournalSteps.{journal_here, journal_is, journal_set, accepts_nothing, accepts_queuing, accepted_is_sent, accepted-one, no_journal, only_accepted, found_here}
 use Rattle.apex_board.proofs.RoomSteps.{accept_room}
 use Rattle.apex_board.proofs.records.Records.push_accepted.Goals as goal

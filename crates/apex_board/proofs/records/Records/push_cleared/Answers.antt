@@ -1,8 +1,5 @@
-use Rattle.std.proofs.Common.{◌≡◌, ◌<◌, ◌++◌, ◌∷◌, [], ◌==◌, true, length, drop, map, set, refl, sym, ap, subst, ◌∙◌, arith}
-use Rattle.std.proofs.lemmas.Bool.Decides.{nat_tests}
+use Rattle.apex_board.proofs.Common.{◌≡◌, ◌<◌, ◌++◌, ◌∷◌, [], ◌==◌, true, length, drop, map, set, refl, sym, ap, subst, ◌∙◌, arith, nat_tests, as_cleared, AreJournals}
 use Rattle.std.proofs.lemmas.List.{set-get_or}
-use Rattle.apex_ports.specs.Channels.{as_cleared}
-use Rattle.apex_board.specs.Journals.{AreJournals}
 use Rattle.apex_board.proofs.JournalSteps.{journal_here, journal_is, journal_set, takes_nothing, clears_without_journal, taken-rest, clears_within, only_cleared}
 use Rattle.apex_board.proofs.RoomSteps.{kept_room}
 use Rattle.apex_board.proofs.records.Records.push_cleared.Goals as goal

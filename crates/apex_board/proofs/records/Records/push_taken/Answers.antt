@@ -1,5 +1,4 @@
-use Rattle.std.proofs.Common.{◌≡◌, ◌<◌, ◌++◌, ◌∷◌, [], Some, length, refl, sym, ap, ◌∙◌, arith}
-use Rattle.apex_ports.specs.Channels.{message_received, as_received}
+use Rattle.apex_board.proofs.Common.{◌≡◌, ◌<◌, ◌++◌, ◌∷◌, [], Some, length, refl, sym, ap, ◌∙◌, arith, message_received, as_received}
 use Rattle.apex_board.proofs.JournalSteps.{journal_here, journal_is, journal_set, receives_queuing, receives_within, taken-one, no_journal, only_received, found_here}
 use Rattle.apex_board.proofs.RoomSteps.{kept_room}
 use Rattle.apex_board.proofs.records.Records.push_taken.Goals as goal

@@ -1,6 +1,4 @@
-use Rattle.std.proofs.Common.{◌≡◌, ℕ, ◌<◌, false, ap, ◌∙◌, arith, below_more}
-use Rattle.std.specs.Result.{is_ok}
-use Rattle.apex_board.specs.Room.{HasRoomAt}
+use Rattle.apex_board.proofs.Common.{◌≡◌, ℕ, ◌<◌, false, ap, ◌∙◌, arith, below_more, is_ok, HasRoomAt}
 use Rattle.apex_board.proofs.JournalSteps.{journal_within}
 use Rattle.apex_board.proofs.records.Records.reserve.Goals as goal
 

@@ -1,6 +1,5 @@
-use Rattle.std.proofs.Common.{◌≡◌, ℕ, ◌<◌}
+use Rattle.apex_board.proofs.Common.{◌≡◌, ℕ, ◌<◌, HasRoomAt, KeepsRoom}
 use Rattle.apex_board.specs.Recorded.{AreRecords}
-use Rattle.apex_board.specs.Room.{HasRoomAt, KeepsRoom}
 use Rattle.apex_board.proofs.records.Records.reserve.Given as goal
 
 abbrev pub invariant-loop-c : goal.invariant-loop-c

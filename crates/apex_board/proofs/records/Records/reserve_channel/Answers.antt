@@ -1,6 +1,5 @@
-use Rattle.std.proofs.Common.{◌≡◌, ◌<◌, ◌≤◌, ◌+◌, length, refl, ap, ◌∙◌, arith}
+use Rattle.apex_board.proofs.Common.{◌≡◌, ◌<◌, ◌≤◌, ◌+◌, length, refl, ap, ◌∙◌, arith, vec_len, vec_capacity}
 use Rattle.std.proofs.lemmas.Result.{on_ok_weaker}
-use Rattle.std.specs.Vec.{vec_len, vec_capacity}
 use Rattle.apex_board.proofs.JournalSteps.{journal_here, journal_is, journal_set, taken_within, set_here}
 use Rattle.apex_board.proofs.RoomSteps.{kept_room, room_here}
 use Rattle.apex_board.proofs.records.Records.reserve_channel.Goals as goal

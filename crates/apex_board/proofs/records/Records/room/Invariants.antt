@@ -1,5 +1,4 @@
-use Rattle.std.proofs.Common.{◌≡◌, drop}
-use Rattle.apex_board.specs.Room.{room_of, least_room}
+use Rattle.apex_board.proofs.Common.{◌≡◌, drop, room_of, least_room}
 use Rattle.apex_board.proofs.records.Records.room.Given as goal
 
 abbrev pub invariant-loop-journal : goal.invariant-loop-journal

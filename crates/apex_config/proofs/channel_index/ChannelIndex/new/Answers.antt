@@ -1,11 +1,7 @@
-use Rattle.std.proofs.Common.{◌≡◌, ℕ, Bool, cond, Bor, List, Option, Some, sym, ap, ◌∙◌}
+use Rattle.apex_config.proofs.Common.{◌≡◌, ℕ, Bool, cond, Bor, List, Option, Some, sym, ap, ◌∙◌, slice_cmp, nat_cmp, bytes_eq, ChannelText}
 use Rattle.std.specs.BTreeMap.{get}
-use Rattle.std.specs.Cmp.Lexicographic.{slice_cmp}
 use Rattle.std.specs.Option.{is_some}
-use Rattle.std.specs.Ordering.{nat_cmp}
-use Rattle.std.specs.Str.{bytes_eq}
 use Rattle.std.proofs.lemmas.Map.Text.{is_eq-slice_cmp}
-use Rattle.apex_config.specs.Text.{ChannelText}
 use Rattle.apex_config.proofs.FirstNumbers.{known_at, new_at}
 use Rattle.apex_config.proofs.channel_index.ChannelIndex.new.Goals as goal
 use Rattle.apex_config.proofs.channel_index.ChannelIndex.new.Goals.{then-not-contains_key+in_ok-insert, else-not-contains_key}

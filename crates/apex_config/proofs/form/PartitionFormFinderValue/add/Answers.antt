@@ -1,10 +1,5 @@
-use Rattle.std.proofs.Common.{List, ◌++◌, ap, ◌∙◌, rules}
-use Rattle.toml.specs.View.{view}
+use Rattle.apex_config.proofs.Common.{List, ◌++◌, ap, ◌∙◌, rules, view, Place, at_each, items_at, wrong_partition_keys, wrong_port, wrong_partition}
 use Rattle.apex_config.specs.declared.key.Key.TheVariants as key
-use Rattle.apex_config.specs.declared.place.Place.{Place}
-use Rattle.apex_config.specs.Places.{at_each}
-use Rattle.apex_config.specs.Values.{items_at}
-use Rattle.apex_config.specs.Form.{wrong_partition_keys, wrong_port, wrong_partition}
 use Rattle.apex_config.proofs.EachEntry.{both}
 use Rattle.apex_config.proofs.Tails.{on_ok}
 use Rattle.apex_config.proofs.Views.{at_views}

@@ -1,5 +1,4 @@
-use Rattle.std.proofs.Common.{◌<◌, ℕ, length}
-use Rattle.apex_groups.specs.Groups.{HasItsChannels, group_of}
+use Rattle.apex_groups.proofs.Common.{◌<◌, ℕ, length, HasItsChannels, group_of}
 use Rattle.apex_groups.proofs.groups.Groups.are_apart.Given as goal
 
 abbrev pub invariant-loop-p : goal.invariant-loop-p

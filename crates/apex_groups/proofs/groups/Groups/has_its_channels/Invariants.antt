@@ -1,7 +1,4 @@
-use Rattle.std.proofs.Common.{◌≡◌, ◌≤◌, ℕ, Some}
-use Rattle.apex_module.specs.Configuration.{port_of}
-use Rattle.apex_module.specs.declared.port.Port.{Port}
-use Rattle.apex_groups.specs.Groups.{group_of}
+use Rattle.apex_groups.proofs.Common.{◌≡◌, ◌≤◌, ℕ, Some, port_of, Port, group_of}
 use Rattle.apex_groups.proofs.groups.Groups.has_its_channels.Given as goal
 
 abbrev pub invariant-loop-index : goal.invariant-loop-index

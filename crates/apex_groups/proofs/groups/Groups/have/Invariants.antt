@@ -1,5 +1,4 @@
-use Rattle.std.proofs.Common.{◌≢◌, ◌<◌, ℕ}
-use Rattle.apex_groups.specs.Groups.{group_of}
+use Rattle.apex_groups.proofs.Common.{◌≢◌, ◌<◌, ℕ, group_of}
 use Rattle.apex_groups.proofs.groups.Groups.have.Given as goal
 
 abbrev pub invariant-loop-p : goal.invariant-loop-p

@@ -1,9 +1,4 @@
-use Rattle.std.proofs.Common.{◌≡◌, sym, ap, ◌∙◌, subst}
-use Rattle.apex_types.specs.declared.reply.Reply.{Reply}
-use Rattle.apex_judge.specs.declared.departure.Expected.{Expected}
-use Rattle.apex_judge.specs.JudgeView.{JudgeView}
-use Rattle.apex_judge.specs.Replies.{agrees}
-use Rattle.apex_judge.specs.Shown.{reply_shown}
+use Rattle.apex_judge.proofs.Common.{◌≡◌, sym, ap, ◌∙◌, subst, Reply, Expected, JudgeView, agrees, reply_shown}
 use Rattle.apex_judge.proofs.judge.Judge.add_departing.Goals as goal
 
 pub add_departing-requires-clause-standard : goal.add_departing-requires-clause-standard

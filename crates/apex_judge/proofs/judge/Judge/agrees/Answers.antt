@@ -1,10 +1,5 @@
-use Rattle.std.proofs.Common.{◌≡◌, ◌↔◌, IsTrue, sym, ap, subst, ◌∙◌}
-use Rattle.apex_types.specs.declared.call.Call.{Call}
+use Rattle.apex_judge.proofs.Common.{◌≡◌, ◌↔◌, IsTrue, sym, ap, subst, ◌∙◌, Call, reply_of, row_of, JudgeView, agrees, shown, reply_shown}
 use Rattle.apex_ports.specs.declared.rows.Row.{Row}
-use Rattle.apex_ports.specs.ReplyTable.{reply_of, row_of}
-use Rattle.apex_judge.specs.JudgeView.{JudgeView}
-use Rattle.apex_judge.specs.Replies.{agrees}
-use Rattle.apex_judge.specs.Shown.{shown, reply_shown}
 use Rattle.apex_judge.proofs.ReplyTests.{agrees_is, agrees_from}
 use Rattle.apex_judge.proofs.judge.Judge.agrees.Goals as goal
 

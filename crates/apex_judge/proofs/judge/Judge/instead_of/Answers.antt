@@ -1,6 +1,4 @@
-use Rattle.std.proofs.Common.{◌≡◌, false, if◌then◌else◌, Some, None, sym, ◌∙◌}
-use Rattle.apex_judge.specs.Replies.{agrees}
-use Rattle.apex_judge.specs.Shown.{reply_shown}
+use Rattle.apex_judge.proofs.Common.{◌≡◌, false, if◌then◌else◌, Some, None, sym, ◌∙◌, agrees, reply_shown}
 use Rattle.apex_judge.proofs.judge.Judge.instead_of.Goals as goal
 
 pub returns : goal.returns

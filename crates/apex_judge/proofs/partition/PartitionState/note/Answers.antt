@@ -1,5 +1,4 @@
-use Rattle.std.proofs.Common.{ap}
-use Rattle.apex_ports.specs.Ports.{is_create}
+use Rattle.apex_judge.proofs.Common.{ap, is_create}
 use Rattle.apex_judge.proofs.PartitionSteps.{partition_stays, others_leave}
 use Rattle.apex_judge.proofs.partition.PartitionState.note.Goals as goal
 

@@ -1,5 +1,4 @@
-use Rattle.std.proofs.Common.{drop, ap, ◌∙◌}
-use Rattle.std.proofs.lemmas.List.{drop-drop}
+use Rattle.apex_judge.proofs.Common.{drop, ap, ◌∙◌, drop-drop}
 use Rattle.apex_judge.proofs.queue.Queue.discard.Goals as goal
 
 pub loop-preserved : goal.loop-preserved

@@ -1,7 +1,4 @@
-use Rattle.std.proofs.Common.{List, ℕ, drop, position, Option, ap, ◌∙◌}
-use Rattle.std.specs.Str.{bytes_eq}
-use Rattle.std.proofs.lemmas.List.{drop-drop}
-use Rattle.apex_judge.specs.Waiting.{behind}
+use Rattle.apex_judge.proofs.Common.{List, ℕ, drop, position, Option, ap, ◌∙◌, bytes_eq, drop-drop, behind}
 use Rattle.apex_judge.proofs.queue.Queue.receive.Goals as goal
 
 pub returns : goal.returns

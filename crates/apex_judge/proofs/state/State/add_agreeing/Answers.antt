@@ -1,10 +1,4 @@
-use Rattle.std.proofs.Common.{false, [], ◌∷◌, ◌++◌, sym, ap, subst, ◌∙◌}
-use Rattle.apex_ports.specs.History.{History, entry_of}
-use Rattle.apex_judge.specs.Kept.{Shows}
-use Rattle.apex_judge.specs.Picture.{Picture}
-use Rattle.apex_judge.specs.Steps.{picture_of, with_effects}
-use Rattle.apex_judge.specs.Subjects.{with_doubt}
-use Rattle.apex_judge.specs.declared.subject.Subject.{Subject}
+use Rattle.apex_judge.proofs.Common.{false, [], ◌∷◌, ◌++◌, sym, ap, subst, ◌∙◌, History, entry_of, Shows, Picture, picture_of, with_effects, with_doubt, Subject}
 use Rattle.apex_judge.proofs.EntrySteps.{after_agreeing}
 use Rattle.apex_judge.proofs.state.State.add_agreeing.Goals as goal
 

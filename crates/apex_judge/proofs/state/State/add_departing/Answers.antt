@@ -1,8 +1,4 @@
-use Rattle.std.proofs.Common.{[], ◌∷◌, ◌++◌, sym, ap, subst, ◌∙◌}
-use Rattle.apex_ports.specs.History.{History, entry_of}
-use Rattle.apex_judge.specs.Kept.{Shows}
-use Rattle.apex_judge.specs.Picture.{Picture}
-use Rattle.apex_judge.specs.Steps.{picture_of}
+use Rattle.apex_judge.proofs.Common.{[], ◌∷◌, ◌++◌, sym, ap, subst, ◌∙◌, History, entry_of, Shows, Picture, picture_of}
 use Rattle.apex_judge.proofs.EntrySteps.{after_departing}
 use Rattle.apex_judge.proofs.state.State.add_departing.Goals as goal
 

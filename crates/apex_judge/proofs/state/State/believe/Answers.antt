@@ -1,12 +1,4 @@
-use Rattle.std.proofs.Common.{◌≡◌, ℕ, true, List, set, Option, length, sym, ap, subst, ◌∙◌, arith, length-set}
-use Rattle.apex_judge.specs.declared.channel.ChannelState.{ChannelState}
-use Rattle.apex_ports.specs.Kept.{EachAt}
-use Rattle.apex_ports.specs.History.{entry_of}
-use Rattle.apex_judge.specs.Kept.{AreShown, IsChannelShown}
-use Rattle.apex_judge.specs.Steps.{picture_of, with_effects, named_reply}
-use Rattle.apex_judge.specs.Subjects.{port_about, with_doubt}
-use Rattle.apex_judge.specs.Evidence.{with_evidence}
-use Rattle.apex_types.specs.declared.reply.Reply.{Reply}
+use Rattle.apex_judge.proofs.Common.{◌≡◌, ℕ, true, List, set, Option, length, sym, ap, subst, ◌∙◌, arith, length-set, ChannelState, EachAt, entry_of, AreShown, IsChannelShown, picture_of, with_effects, named_reply, port_about, with_doubt, with_evidence, Reply}
 use Rattle.apex_judge.proofs.ChannelSteps.{doubt_stays}
 use Rattle.apex_judge.proofs.Results.{if_err}
 use Rattle.apex_judge.proofs.Lookups.{partition_at, whole}

@@ -1,10 +1,4 @@
-use Rattle.std.proofs.Common.{◌≡◌, ◌||◌, true, false, IfOk, sym, ap, subst, ◌∙◌}
-use Rattle.apex_ports.specs.History.{entry_of}
-use Rattle.apex_judge.specs.Kept.{Shows, doubted_of}
-use Rattle.apex_judge.specs.Picture.{Picture}
-use Rattle.apex_judge.specs.Steps.{picture_of, receives_later, is_believed, when_departing}
-use Rattle.apex_judge.specs.Subjects.{subject_of, is_doubted, with_doubt}
-use Rattle.apex_judge.specs.declared.subject.Subject.{Subject}
+use Rattle.apex_judge.proofs.Common.{◌≡◌, ◌||◌, true, false, IfOk, sym, ap, subst, ◌∙◌, entry_of, Shows, doubted_of, Picture, picture_of, receives_later, is_believed, when_departing, subject_of, is_doubted, with_doubt, Subject}
 use Rattle.apex_judge.proofs.EntrySteps.{doubts_alike}
 use Rattle.apex_judge.proofs.Lookups.{partition_at}
 use Rattle.apex_judge.proofs.state.State.depart.Goals as goal

@@ -1,10 +1,4 @@
-use Rattle.std.proofs.Common.{◌≡◌, List, length, sym, ap, subst, ◌∙◌, arith, length-set}
-use Rattle.apex_judge.specs.declared.channel.ChannelState.{ChannelState}
-use Rattle.apex_ports.specs.Kept.{EachAt}
-use Rattle.apex_ports.specs.History.{entry_of}
-use Rattle.apex_judge.specs.Kept.{AreShown, IsChannelShown}
-use Rattle.apex_judge.specs.Steps.{picture_of, with_effects}
-use Rattle.apex_judge.specs.Subjects.{with_doubt}
+use Rattle.apex_judge.proofs.Common.{◌≡◌, List, length, sym, ap, subst, ◌∙◌, arith, length-set, ChannelState, EachAt, entry_of, AreShown, IsChannelShown, picture_of, with_effects, with_doubt}
 use Rattle.apex_judge.proofs.ChannelSteps.{doubt_stays}
 use Rattle.apex_judge.proofs.Results.{if_err}
 use Rattle.apex_judge.proofs.Lookups.{partition_at, whole}

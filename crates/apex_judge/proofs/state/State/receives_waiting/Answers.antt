@@ -1,8 +1,4 @@
-use Rattle.std.proofs.Common.{◌<◌, ℕ, List, position, is_some, length, length-set, sym, ap, ◌∙◌, arith}
-use Rattle.std.specs.Str.{bytes_eq}
-use Rattle.apex_module.specs.Configuration.{port_of}
-use Rattle.apex_ports.proofs.Lookups.{at_index}
-use Rattle.apex_judge.specs.Steps.{picture_of, receives_waiting}
+use Rattle.apex_judge.proofs.Common.{◌<◌, ℕ, List, position, is_some, length, length-set, sym, ap, ◌∙◌, arith, bytes_eq, port_of, at_index, picture_of, receives_waiting}
 use Rattle.apex_judge.proofs.ChannelSteps.{one_same}
 use Rattle.apex_judge.proofs.EntrySteps.{among}
 use Rattle.apex_judge.proofs.Lookups.{channel_at}

@@ -1,10 +1,4 @@
-use Rattle.std.proofs.Common.{◌≡◌, ◌<◌, length, Some, option_copied, sym, ap, ◌∙◌, subst}
-use Rattle.apex_ports.specs.declared.history.Entry.{Entry}
-use Rattle.apex_ports.specs.ReplyTable.{reply_to}
-use Rattle.apex_ports.specs.Sound.{IsSound}
-use Rattle.apex_judge.proofs.JudgedLogs.{same_reply}
-use Rattle.apex_judge.specs.Shown.{reply_shown}
-use Rattle.apex_log_orders.specs.Walking.{next_of}
+use Rattle.apex_log_orders.proofs.Common.{◌≡◌, ◌<◌, length, Some, option_copied, sym, ap, ◌∙◌, subst, Entry, reply_to, IsSound, same_reply, reply_shown, next_of}
 use Rattle.apex_log_orders.proofs.walk.Walk.can_go_on.Goals as goal
 
 pub returns-then-entry-p : goal.returns-then-entry-p

@@ -1,16 +1,6 @@
-use Rattle.std.proofs.Common.{◌≡◌, ◌<◌, ◌+◌, ◌-◌, ◌++◌, ◌∷◌, [], suc, List, ℕ, length, set, get_or, slice_index_or, Some, sym, ap, ◌∙◌, subst, arith}
-use Rattle.std.specs.List.{slice_get}
-use Rattle.std.specs.Option.{MatchOption}
+use Rattle.apex_log_orders.proofs.Common.{◌≡◌, ◌<◌, ◌+◌, ◌-◌, ◌++◌, ◌∷◌, [], suc, List, ℕ, length, set, get_or, slice_index_or, Some, sym, ap, ◌∙◌, subst, arith, slice_get, MatchOption, nil_from_length, Configuration, History, entries_of, at_index, CallPlace, Choice, Logs, IsBeginning, IsOrder, entries_at, HasNoWay, IsMade, AreTried, IsWalk}
 use Rattle.std.specs.Vec.{vec_len}
-use Rattle.std.proofs.lemmas.List.{nil_from_length}
-use Rattle.apex_module.specs.Configuration.{Configuration}
-use Rattle.apex_ports.specs.History.{History, entries_of}
-use Rattle.apex_ports.proofs.Lookups.{at_index}
-use Rattle.apex_log_orders.specs.declared.answer.CallPlace.{CallPlace}
-use Rattle.apex_log_orders.specs.declared.choice.Choice.{Choice}
-use Rattle.apex_log_orders.specs.LogOrders.{Logs, IsBeginning, IsOrder, entries_at}
 use Rattle.apex_log_orders.specs.declared.walk.Walk.{Walk}
-use Rattle.apex_log_orders.specs.Walking.{HasNoWay, IsMade, AreTried, IsWalk}
 use Rattle.apex_log_orders.proofs.Back.{cut_by, own_last, own_before, begins_before, counted, made_before, no_way}
 use Rattle.apex_log_orders.proofs.Tries.{tried_back, made_last}
 use Rattle.apex_log_orders.proofs.walk.Walk.go_back.Goals as goal

@@ -1,20 +1,7 @@
-use Rattle.std.proofs.Common.{◌≡◌, ◌<◌, ◌+◌, ◌++◌, ◌∷◌, [], true, suc, List, ℕ, length, set, Option, Some, refl, sym, ap, ◌∙◌, subst, arith, rules}
-use Rattle.std.specs.List.{slice_get}
-use Rattle.std.specs.Option.{unwrap_or}
-use Rattle.apex_ports.specs.declared.history.Entry.{Entry}
-use Rattle.apex_ports.specs.History.{History, entries_of}
-use Rattle.apex_ports.proofs.Lookups.{at_index}
-use Rattle.apex_ports.specs.ReplyTable.{reply_to}
-use Rattle.apex_ports.specs.Sound.{IsSound}
+use Rattle.apex_log_orders.proofs.Common.{◌≡◌, ◌<◌, ◌+◌, ◌++◌, ◌∷◌, [], true, suc, List, ℕ, length, set, Option, Some, refl, sym, ap, ◌∙◌, subst, arith, rules, slice_get, unwrap_or, Entry, History, entries_of, at_index, reply_to, IsSound, reply_shown, same_reply, CallPlace, Choice, IsBeginning, log_in, entry_at, entries_at, GoesOn, IsMade, AreTried}
 use Rattle.apex_judge.specs.Replies.{agrees}
-use Rattle.apex_judge.specs.Shown.{reply_shown}
-use Rattle.apex_judge.proofs.JudgedLogs.{same_reply}
 use Rattle.apex_judge.proofs.ReplyTests.{agrees_from}
-use Rattle.apex_log_orders.specs.declared.answer.CallPlace.{CallPlace}
-use Rattle.apex_log_orders.specs.declared.choice.Choice.{Choice}
-use Rattle.apex_log_orders.specs.LogOrders.{IsBeginning, log_in, entry_at, entries_at}
 use Rattle.apex_log_orders.proofs.Places.{own_push}
-use Rattle.apex_log_orders.specs.Walking.{GoesOn, IsMade, AreTried}
 use Rattle.apex_log_orders.proofs.Beginnings.{begins_push, entries_at-push}
 use Rattle.apex_log_orders.proofs.Counts.{made_push}
 use Rattle.apex_log_orders.proofs.Tries.{tried_go}

@@ -1,6 +1,4 @@
-use Rattle.std.proofs.Common.{◌≡◌, ◌<◌, ℕ, length}
-use Rattle.apex_ports.specs.History.{entries_of}
-use Rattle.apex_log_orders.specs.LogOrders.{log_in}
+use Rattle.apex_log_orders.proofs.Common.{◌≡◌, ◌<◌, ℕ, length, entries_of, log_in}
 use Rattle.apex_log_orders.proofs.walk.Walk.has_made_all.Given as goal
 
 abbrev pub invariant-loop-p : goal.invariant-loop-p

@@ -1,10 +1,4 @@
-use Rattle.std.proofs.Common.{◌++◌, ◌∷◌, [], List, ℕ, replicate, refl, sym, ap, ◌∙◌, subst}
-use Rattle.std.specs.List.{slice_get}
-use Rattle.apex_ports.specs.History.{History}
-use Rattle.apex_log_orders.specs.declared.answer.CallPlace.{CallPlace}
-use Rattle.apex_log_orders.specs.declared.choice.Choice.{Choice}
-use Rattle.apex_log_orders.specs.LogOrders.{IsBeginning, entries_at}
-use Rattle.apex_log_orders.specs.Walking.{AreTried, IsMade}
+use Rattle.apex_log_orders.proofs.Common.{◌++◌, ◌∷◌, [], List, ℕ, replicate, refl, sym, ap, ◌∙◌, subst, slice_get, History, CallPlace, Choice, IsBeginning, entries_at, AreTried, IsMade}
 use Rattle.apex_log_orders.proofs.Beginnings.{begins_nil}
 use Rattle.apex_log_orders.proofs.Counts.{made_nil}
 use Rattle.apex_log_orders.proofs.Tries.{tried_nil}

@@ -1,9 +1,5 @@
-use Rattle.std.proofs.Common.{rules, arith, ◌≡◌, ◌-◌, true, false, not, length, take, drop, ap, ◌∙◌, subst, drop-drop}
+use Rattle.apex_logs.proofs.Common.{rules, arith, ◌≡◌, ◌-◌, true, false, not, length, take, drop, ap, ◌∙◌, subst, drop-drop, option_map, prepend_known, lines, strip_carriage_return, IsNextLine, IsPart, text_left}
 use Rattle.std.proofs.lemmas.List.{take_rest}
-use Rattle.std.specs.Prelude.{option_map}
-use Rattle.std.specs.Io.KnownBytes.{prepend_known}
-use Rattle.std.specs.Str.Lines.{lines, strip_carriage_return}
-use Rattle.apex_logs.specs.LineSource.{IsNextLine, IsPart, text_left}
 use Rattle.apex_logs.proofs.LineSourceLemmas.{kept, cut_line, ends_last, answered}
 use Rattle.apex_logs.proofs.line_reader.LineReaderLineSource.next.Goals as goal
 

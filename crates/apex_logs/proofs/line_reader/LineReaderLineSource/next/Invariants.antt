@@ -1,7 +1,5 @@
-use Rattle.std.proofs.Common.{◌+◌, ◌-◌, length}
-use Rattle.std.specs.Io.KnownBytes.{Consumes}
+use Rattle.apex_logs.proofs.Common.{◌+◌, ◌-◌, length, Consumes, text_left, HasNoLineFeed}
 use Rattle.apex_logs.specs.declared.line_reader.TheConstants.{LINE_LIMIT}
-use Rattle.apex_logs.specs.LineSource.{text_left, HasNoLineFeed}
 use Rattle.apex_logs.proofs.line_reader.LineReaderLineSource.next.Given as goal
 
 abbrev pub invariant-loop-self : goal.invariant-loop-self

@@ -1,5 +1,4 @@
-use Rattle.std.proofs.Common.{◌≡◌, ◌++◌, ◌∷◌, [], List, ℕ, length, sym, ◌∙◌, subst, rules}
-use Rattle.apex_orders.specs.Buckets.{AreFiled, AreFiledBelow}
+use Rattle.apex_orders.proofs.Common.{◌≡◌, ◌++◌, ◌∷◌, [], List, ℕ, length, sym, ◌∙◌, subst, rules, AreFiled, AreFiledBelow}
 use Rattle.apex_orders.proofs.BucketLemmas.{filed_more}
 use Rattle.apex_orders.proofs.hash_index.HashIndex.push.Goals as goal
 

@@ -1,11 +1,4 @@
-use Rattle.std.proofs.Common.{◌≡◌, ◌≢◌, ⊎_elim, ℕ, ◌+◌, ◌<◌, Bool, List, length, if◌then◌else◌, Some, refl, sym, ap, ◌∙◌, subst, arith}
-use Rattle.std.specs.List.{slice_get}
-use Rattle.std.proofs.lemmas.Bool.Decides.{nat_tests}
-use Rattle.std.proofs.lemmas.Option.{slice_get_read, slice_get_within}
-use Rattle.apex_ports.proofs.Stays.{slice_get-set_cases}
-use Rattle.apex_orders.specs.declared.last_uses.LastUse.{LastUse}
-use Rattle.apex_orders.specs.Commuting.{channel_named}
-use Rattle.apex_orders.specs.LastUses.{IsLastUseBelow}
+use Rattle.apex_orders.proofs.Common.{◌≡◌, ◌≢◌, ⊎_elim, ℕ, ◌+◌, ◌<◌, Bool, List, length, if◌then◌else◌, Some, refl, sym, ap, ◌∙◌, subst, arith, slice_get, nat_tests, slice_get_read, slice_get_within, slice_get-set_cases, LastUse, channel_named, IsLastUseBelow}
 use Rattle.apex_orders.proofs.UseLemmas.{last_now, still_last, unnamed}
 use Rattle.apex_orders.proofs.last_uses.LastUses.add.Goals as goal
 

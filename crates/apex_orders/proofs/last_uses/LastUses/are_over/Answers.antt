@@ -1,8 +1,4 @@
-use Rattle.std.proofs.Common.{◌≡◌, ℕ, ◌≤◌, ◌<◌, List, length, Some, refl, subst, arith}
-use Rattle.std.specs.List.{slice_get}
-use Rattle.std.proofs.lemmas.Bool.Decides.{nat_tests}
-use Rattle.std.proofs.lemmas.Option.{slice_get_read}
-use Rattle.apex_orders.specs.declared.last_uses.LastUse.{LastUse}
+use Rattle.apex_orders.proofs.Common.{◌≡◌, ℕ, ◌≤◌, ◌<◌, List, length, Some, refl, subst, arith, slice_get, nat_tests, slice_get_read, LastUse}
 use Rattle.apex_orders.proofs.UseLemmas.{quiet_from}
 use Rattle.apex_orders.proofs.last_uses.LastUses.are_over.Goals as goal
 

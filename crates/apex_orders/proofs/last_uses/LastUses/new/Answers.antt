@@ -1,8 +1,4 @@
-use Rattle.std.proofs.Common.{◌≡◌, ◌<◌, List, length, Some, subst, rules, arith}
-use Rattle.std.specs.List.{slice_get}
-use Rattle.apex_types.specs.declared.call.Call.{Call}
-use Rattle.apex_types.specs.declared.moment.Moment.{Moment}
-use Rattle.apex_ports.proofs.Lookups.{at_index}
+use Rattle.apex_orders.proofs.Common.{◌≡◌, ◌<◌, List, length, Some, subst, rules, arith, slice_get, Call, Moment, at_index}
 use Rattle.apex_orders.proofs.last_uses.LastUses.new.Goals as goal
 
 pub loop-k-init : goal.loop-k-init

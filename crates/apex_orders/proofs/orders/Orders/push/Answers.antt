@@ -1,7 +1,5 @@
-use Rattle.std.proofs.Common.{◌≤◌, ◌++◌, ◌∷◌, [], List, ℕ, length, ap, sym, ◌∙◌, subst, arith}
-use Rattle.apex_orders.specs.declared.orders.LastCall.{LastCall}
+use Rattle.apex_orders.proofs.Common.{◌≤◌, ◌++◌, ◌∷◌, [], List, ℕ, length, ap, sym, ◌∙◌, subst, arith, LastCall, order_at}
 use Rattle.apex_orders.specs.Growth.{orders_of, ContinueEarlier}
-use Rattle.apex_orders.specs.Orders.{order_at}
 use Rattle.apex_orders.proofs.GrowthLemmas.{continue_push, orders_count, orders_push}
 use Rattle.apex_orders.proofs.orders.Orders.push.Goals as goal
 

@@ -1,9 +1,4 @@
-use Rattle.std.proofs.Common.{◌≡◌, ◌<◌, ◌≤◌, ◌-◌, ◌++◌, ◌∷◌, [], List, ℕ, length, get_or, reverse, Some, ap, sym, ◌∙◌, subst, arith, append-nil, append_assoc}
-use Rattle.std.specs.List.{slice_get}
-use Rattle.std.proofs.lemmas.List.{reverse-append}
-use Rattle.apex_ports.proofs.Lookups.{at_index}
-use Rattle.apex_orders.specs.declared.orders.LastCall.{LastCall}
-use Rattle.apex_orders.specs.Orders.{order_at}
+use Rattle.apex_orders.proofs.Common.{◌≡◌, ◌<◌, ◌≤◌, ◌-◌, ◌++◌, ◌∷◌, [], List, ℕ, length, get_or, reverse, Some, ap, sym, ◌∙◌, subst, arith, append-nil, append_assoc, slice_get, reverse-append, at_index, LastCall, order_at}
 use Rattle.apex_orders.proofs.GrowthLemmas.{first_order, order_after, orders_count}
 use Rattle.apex_orders.proofs.orders.Orders.read.Goals as goal
 

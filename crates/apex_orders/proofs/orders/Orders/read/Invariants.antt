@@ -1,5 +1,4 @@
-use Rattle.std.proofs.Common.{◌≡◌, ◌≤◌, ◌++◌, reverse, length}
-use Rattle.apex_orders.specs.Orders.{order_at}
+use Rattle.apex_orders.proofs.Common.{◌≡◌, ◌≤◌, ◌++◌, reverse, length, order_at}
 use Rattle.apex_orders.proofs.orders.Orders.read.Given as goal
 
 abbrev pub invariant-loop-at : goal.invariant-loop-at

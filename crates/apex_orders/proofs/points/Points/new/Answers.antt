@@ -1,8 +1,5 @@
-use Rattle.std.proofs.Common.{◌≡◌, [], List, ℕ, length, refl, sym, ap, ◌∙◌, subst, arith}
-use Rattle.apex_ports.specs.PortsView.{PortsView}
+use Rattle.apex_orders.proofs.Common.{◌≡◌, [], List, ℕ, length, refl, sym, ap, ◌∙◌, subst, arith, PortsView, IsAfter, ArePoints, hash_of, AreHashes}
 use Rattle.apex_orders.specs.declared.points.Points.{Points}
-use Rattle.apex_orders.specs.Known.{IsAfter, ArePoints}
-use Rattle.apex_orders.specs.Hashes.{hash_of, AreHashes}
 use Rattle.apex_orders.proofs.KnownLemmas.{points_push}
 use Rattle.apex_orders.proofs.points.Points.new.Goals as goal
 
@@ -10,8 +7,8 @@ pub returns-clause-points : goal.returns-clause-points
 returns-clause-points c = λ scripts.
     let config = c.args.config.now in
     let ports = c.in_ok-save.field-0 in
-    let none : Points = record { hashes = c.in_ok-hashes.hashes; first = 0; saved = c.new-saved.result } in
-    let one : Points = record { hashes = c.push.new.self; first = 0; saved = c.push_back.new.self } in
+    let none : Points = record { hashes = c.in_ok-hashes.hashes; first = 0; saved = c.new-saved.result; spare = c.new-spare.result; bytes = 0 } in
+    let one : Points = record { hashes = c.push.new.self; first = 0; saved = c.push_back.new.self; spare = c.new-spare.result; bytes = 0 } in
     let unhashed : AreHashes config scripts [] [] = record { count = refl; each = λ k order at. absurd (cc) } in
     let known : ArePoints config scripts [] none = record {
       hashed = subst (λ (ms : List ℕ). AreHashes config scripts [] ms) (sym c.in_ok-hashes.ensures) unhashed;

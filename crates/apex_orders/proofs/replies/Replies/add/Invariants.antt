@@ -1,5 +1,4 @@
-use Rattle.std.proofs.Common.{◌≡◌, ◌+◌, ℕ, Some}
-use Rattle.std.specs.List.{slice_get}
+use Rattle.apex_orders.proofs.Common.{◌≡◌, ◌+◌, ℕ, Some, slice_get}
 use Rattle.apex_orders.proofs.replies.Replies.add.Given as goal
 
 abbrev pub invariant-loop-count : goal.invariant-loop-count

@@ -1,11 +1,4 @@
-use Rattle.std.proofs.Common.{◌≡◌, ◌++◌, ◌∷◌, [], List, ℕ, ap, sym, ◌∙◌, subst}
-use Rattle.std.proofs.lemmas.Bool.{false≢true}
-use Rattle.apex_ports.specs.PortsView.{PortsView}
-use Rattle.apex_orders.specs.Clock.{IsClocked}
-use Rattle.apex_orders.specs.Known.{IsAfter, ArePoints}
-use Rattle.apex_orders.specs.Hashes.{hash_of}
-use Rattle.apex_orders.specs.Orders.{IsOrder, history_of, order_at}
-use Rattle.apex_orders.specs.Searching.{Knows, AreOrders, AreApart, AreClocked, Keeps}
+use Rattle.apex_orders.proofs.Common.{◌≡◌, ◌++◌, ◌∷◌, [], List, ℕ, ap, sym, ◌∙◌, subst, false≢true, PortsView, IsClocked, IsAfter, ArePoints, hash_of, IsOrder, history_of, order_at, Knows, AreOrders, AreApart, AreClocked, Keeps}
 use Rattle.apex_orders.proofs.GrowthLemmas.{order_here}
 use Rattle.apex_orders.proofs.KnownLemmas.{points_push}
 use Rattle.apex_orders.proofs.SearchLemmas.{apart_push, clocked_push, keeps_push, knows_push, longer_is_order, orders_push}

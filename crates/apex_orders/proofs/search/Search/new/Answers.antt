@@ -1,7 +1,4 @@
-use Rattle.std.proofs.Common.{List, ℕ, [], refl, sym, subst}
-use Rattle.apex_orders.specs.Known.{ArePoints}
-use Rattle.apex_orders.specs.Lists.{Has}
-use Rattle.apex_orders.specs.Searching.{AreOrders, AreApart, AreClocked, AreFound}
+use Rattle.apex_orders.proofs.Common.{List, ℕ, [], refl, sym, subst, ArePoints, Has, AreOrders, AreApart, AreClocked, AreFound}
 use Rattle.apex_orders.proofs.SearchLemmas.{first_valid, first_clocked, first_apart, none_found}
 use Rattle.apex_orders.proofs.search.Search.new.Goals as goal
 

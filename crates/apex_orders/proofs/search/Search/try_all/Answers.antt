@@ -1,8 +1,6 @@
-use Rattle.std.proofs.Common.{◌≡◌, Some, sym, ◌∙◌, subst}
-use Rattle.apex_orders.specs.Orders.{order_at}
-use Rattle.apex_orders.specs.Searching.{HasTriedEnough}
+use Rattle.apex_orders.proofs.Common.{◌≡◌, Some, sym, ◌∙◌, subst, order_at, HasTriedEnough}
 use Rattle.apex_orders.proofs.GrowthLemmas.{order_here}
-use Rattle.apex_orders.proofs.KnownLemmas.{saved_after, points_after}
+use Rattle.apex_orders.proofs.KnownLemmas.{saved_after, points_after, points_left}
 use Rattle.apex_orders.proofs.search.Search.try_all.Goals as goal
 
 pub try_each-requires-clause-valid : goal.try_each-requires-clause-valid
@@ -24,6 +22,21 @@ try_each-requires-clause-saved c =
     let orders = c.args.self.now.orders in
     saved_after c.args.config.now c.args.scripts.now orders c.args.self.now.points c.take-saved.new.self c.requires.valid.points c.args.i (order_at orders c.args.i) c.take-saved.result c.as_ref.result
     (order_here orders c.args.i c.requires.within) c.take-saved.ensures c.as_ref.ensures.value
+
+pub returns-clause-valid : goal.returns-clause-valid
+returns-clause-valid c =
+    let is = c.in_ok-try_each.ensures.valid in
+    let tried = c.try_each.new.self in
+    record {
+      all = is.all;
+      orders = is.orders;
+      clocked = is.clocked;
+      apart = is.apart;
+      points = points_left c.args.config.now c.args.scripts.now tried.orders tried.points c.keep.new.self is.points c.keep.ensures;
+      found = is.found;
+      trial = is.trial;
+      uses = is.uses;
+    }
 
 pub returns-clause-later : goal.returns-clause-later
 returns-clause-later c = let later = c.in_ok-try_each.ensures.later in record { orders = later.orders; replies = later.replies }

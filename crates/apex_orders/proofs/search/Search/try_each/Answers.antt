@@ -1,11 +1,4 @@
-use Rattle.std.proofs.Common.{◌≡◌, true, Bool, List, length, sym, subst}
-use Rattle.apex_module.specs.Configuration.{Configuration}
-use Rattle.apex_ports.specs.History.{History}
-use Rattle.apex_orders.specs.declared.last_uses.LastUses.{LastUses}
-use Rattle.apex_orders.specs.Choices.{is_tried}
-use Rattle.apex_orders.specs.LastUses.{AreOfScripts}
-use Rattle.apex_orders.specs.Orders.{order_at}
-use Rattle.apex_orders.specs.Searching.{AreDue, IsEnoughWith}
+use Rattle.apex_orders.proofs.Common.{◌≡◌, true, Bool, List, length, sym, subst, Configuration, History, LastUses, is_tried, AreOfScripts, order_at, AreDue, IsEnoughWith}
 use Rattle.apex_orders.proofs.GrowthLemmas.{order_here}
 use Rattle.apex_orders.proofs.search.Search.try_each.Goals as goal
 

@@ -1,10 +1,4 @@
-use Rattle.std.proofs.Common.{inl, inr, ◌∙◌, refl, sym, subst}
-use Rattle.apex_module.specs.Configuration.{Configuration}
-use Rattle.apex_ports.specs.History.{History}
-use Rattle.apex_orders.specs.Clock.{IsClocked}
-use Rattle.apex_orders.specs.Orders.{history_of, order_at}
-use Rattle.apex_orders.specs.Searching.{Knows}
-use Rattle.apex_orders.specs.Steps.{MakesNothing}
+use Rattle.apex_orders.proofs.Common.{inl, inr, ◌∙◌, refl, sym, subst, Configuration, History, IsClocked, history_of, order_at, Knows, MakesNothing}
 use Rattle.apex_orders.proofs.ClockLemmas.{clocked_next}
 use Rattle.apex_orders.proofs.GrowthLemmas.{order_here}
 use Rattle.apex_orders.proofs.SearchLemmas.{behind, found_one, makes_after, steps_to, tried_nothing, tried_one}

@@ -1,12 +1,5 @@
-use Rattle.std.proofs.Common.{◌≡◌, ◌<◌, ◌+◌, ℕ, Bool, List, true, sym, ◌∙◌, subst, arith}
-use Rattle.std.specs.Option.{IfSome}
-use Rattle.std.proofs.lemmas.Bool.{false≢true}
+use Rattle.apex_orders.proofs.Common.{◌≡◌, ◌<◌, ◌+◌, ℕ, Bool, List, true, sym, ◌∙◌, subst, arith, IfSome, false≢true, is_tried, IsNextDue, IsAfter, IsReadyAfter, history_of, order_at, IsLater, IsSearch, IsTried}
 use Rattle.apex_orders.specs.declared.search.Search.{Search}
-use Rattle.apex_orders.specs.Choices.{is_tried}
-use Rattle.apex_orders.specs.Clock.{IsNextDue}
-use Rattle.apex_orders.specs.Known.{IsAfter, IsReadyAfter}
-use Rattle.apex_orders.specs.Orders.{history_of, order_at}
-use Rattle.apex_orders.specs.Searching.{IsLater, IsSearch, IsTried}
 use Rattle.apex_orders.proofs.ChoiceLemmas.{one_more}
 use Rattle.apex_orders.proofs.GrowthLemmas.{order_kept, still_within}
 use Rattle.apex_orders.proofs.SearchLemmas.{tried_kept, keeps_along, includes_along}

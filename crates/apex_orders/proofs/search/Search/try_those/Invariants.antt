@@ -1,8 +1,4 @@
-use Rattle.std.proofs.Common.{◌≡◌, ℕ, ◌<◌, true}
-use Rattle.apex_orders.specs.Choices.{is_tried}
-use Rattle.apex_orders.specs.Known.{IsReadyAfter}
-use Rattle.apex_orders.specs.Orders.{order_at}
-use Rattle.apex_orders.specs.Searching.{IsSearch, IsLater, IsTried}
+use Rattle.apex_orders.proofs.Common.{◌≡◌, ℕ, ◌<◌, true, is_tried, IsReadyAfter, order_at, IsSearch, IsLater, IsTried}
 use Rattle.apex_orders.proofs.search.Search.try_those.Given as goal
 
 abbrev pub invariant-loop-p : goal.invariant-loop-p

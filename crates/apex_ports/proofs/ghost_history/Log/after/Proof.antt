@@ -1,5 +1,5 @@
 -- `after` makes the log that its clause names. Assumes `Logic`.
-use Rattle.std.proofs.Common.{List, [], ◌∷◌, ◌++◌, refl}
+use Rattle.apex_ports.proofs.Common.{List, [], ◌∷◌, ◌++◌, refl, entry_by}
 use seplogic.Ra.Ura.{Ura}
 use mir.Syntax.{Fn}
 use mir.Val.{Val, vptr}
@@ -28,7 +28,6 @@ use denote.Triple.Walked.{says, Stays, stay_dropped, walk_of, ends_at, walk_Meet
 use Rattle.apex_ports.proofs.Walks.{none, none_made}
 use Rattle.apex_ports.specs.contracts.ghost_history.Log as Log
 use Rattle.apex_ports.specs.contracts.noted.Event as Event
-use Rattle.apex_ports.specs.Noted.{entry_by}
 use Rattle.apex_ports.specs.contracts.ghost_history.Log.after as F
 use Rattle.apex_ports.specs.contracts.ghost_history.Log.after.Key.{name as #self}
 use Rattle.apex_ports.proofs.ghost_history.Log.after.Statement as stated

@@ -1,8 +1,6 @@
-use Rattle.std.proofs.Common.{◌≡◌, ◌-◌, ◌*◌, ◌∷◌, ◌++◌, ◌<◌, ◌≤◌, [], List, ℕ, length, drop, ap, ◌∙◌, sym, arith, rules, length-append}
-use Rattle.std.proofs.lemmas.List.{with_items_is, length-map}
+use Rattle.apex_ports.proofs.Common.{◌≡◌, ◌-◌, ◌*◌, ◌∷◌, ◌++◌, ◌<◌, ◌≤◌, [], List, ℕ, length, drop, ap, ◌∙◌, sym, arith, rules, length-append, with_items_is, length-map, Messages, messages, message_at, messages_at, with_message}
 use Rattle.std.specs.Vec.{with_items}
 use Rattle.circular_buffer.specs.Buffer.{buffer}
-use Rattle.apex_ports.specs.MessageRing.{Messages, messages, message_at, messages_at, with_message}
 use Rattle.apex_ports.proofs.MessageRings.{ring-pushed, messages-pushed, length-with_message, place_of, slot_behind, fits}
 use Rattle.apex_ports.proofs.message_ring.MessageRing.push_back.Goals as goal
 

@@ -1,5 +1,4 @@
-use Rattle.std.proofs.Common.{subst}
-use Rattle.apex_ports.specs.MessageRing.{Messages, AreShort}
+use Rattle.apex_ports.proofs.Common.{subst, Messages, AreShort}
 use Rattle.apex_ports.proofs.MessageRings.{ring-short}
 use Rattle.apex_ports.proofs.message_ring.MessageRing.size.Goals as goal
 

@@ -1,7 +1,4 @@
-use Rattle.std.proofs.Common.{◌≡◌, ◌<◌, length, sym, subst, ◌∙◌}
-use Rattle.apex_ports.specs.Channels.{accepted_on}
-use Rattle.apex_ports.specs.Counts.{count_of}
-use Rattle.apex_ports.specs.PortsView.{PortsView}
+use Rattle.apex_ports.proofs.Common.{◌≡◌, ◌<◌, length, sym, subst, ◌∙◌, accepted_on, count_of, PortsView}
 use Rattle.apex_ports.proofs.Lookups.{channel_at}
 use Rattle.apex_ports.proofs.ports.Ports.accepted_count.Goals as goal
 

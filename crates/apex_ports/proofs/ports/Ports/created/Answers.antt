@@ -1,6 +1,4 @@
-use Rattle.std.proofs.Common.{◌≡◌, ◌<◌, length, sym, subst, ◌∙◌}
-use Rattle.apex_ports.specs.PortsView.{PortsView}
-use Rattle.apex_ports.specs.Ports.{is_created}
+use Rattle.apex_ports.proofs.Common.{◌≡◌, ◌<◌, length, sym, subst, ◌∙◌, PortsView, is_created}
 use Rattle.apex_ports.proofs.Lookups.{partition_at}
 use Rattle.apex_ports.proofs.ports.Ports.created.Goals as goal
 

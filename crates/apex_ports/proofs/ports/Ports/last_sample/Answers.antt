@@ -1,9 +1,4 @@
-use Rattle.std.proofs.Common.{◌≡◌, ◌<◌, true, length, Option, sym, subst, ◌∙◌}
-use Rattle.apex_types.specs.declared.sample.Sample.{Sample}
-use Rattle.apex_ports.specs.Channels.{last_write_on}
-use Rattle.apex_ports.specs.Noted.{IsSampleBy}
-use Rattle.apex_ports.specs.Ports.{is_queuing}
-use Rattle.apex_ports.specs.PortsView.{PortsView}
+use Rattle.apex_ports.proofs.Common.{◌≡◌, ◌<◌, true, length, Option, sym, subst, ◌∙◌, Sample, last_write_on, IsSampleBy, is_queuing, PortsView}
 use Rattle.apex_ports.proofs.Conserved.{always_conserved}
 use Rattle.apex_ports.proofs.Lookups.{channel_at, no_sample}
 use Rattle.apex_ports.proofs.ports.Ports.last_sample.Goals as goal

@@ -1,7 +1,4 @@
-use Rattle.std.proofs.Common.{sym, subst, ◌∙◌}
-use Rattle.apex_ports.specs.History.{History}
-use Rattle.apex_ports.specs.Kept.{AreKept, AreCounted}
-use Rattle.apex_ports.specs.Sound.{IsSound}
+use Rattle.apex_ports.proofs.Common.{sym, subst, ◌∙◌, History, AreKept, AreCounted, IsSound}
 use Rattle.apex_ports.proofs.LawfulSteps.{sound-nil}
 use Rattle.apex_ports.proofs.ports.Ports.new.Goals as goal
 

@@ -1,10 +1,4 @@
-use Rattle.std.proofs.Common.{◌≡◌, ◌<◌, false, List, ℕ, None, length, sym, ap, subst, ◌∙◌}
-use Rattle.std.specs.List.{slice_get}
-use Rattle.std.specs.Option.{option_copied}
-use Rattle.apex_ports.specs.ChannelStates.{waiting_in}
-use Rattle.apex_ports.specs.Channels.{waiting_on}
-use Rattle.apex_ports.specs.Ports.{is_queuing}
-use Rattle.apex_ports.specs.PortsView.{PortsView}
+use Rattle.apex_ports.proofs.Common.{◌≡◌, ◌<◌, false, List, ℕ, None, length, sym, ap, subst, ◌∙◌, slice_get, option_copied, waiting_in, waiting_on, is_queuing, PortsView}
 use Rattle.apex_ports.proofs.Conserved.{sampling_waits_nothing}
 use Rattle.apex_ports.proofs.Lookups.{channel_at, nothing_lent}
 use Rattle.apex_ports.proofs.ports.Ports.waiting.Goals as goal

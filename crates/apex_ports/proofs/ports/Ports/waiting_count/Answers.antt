@@ -1,8 +1,4 @@
-use Rattle.std.proofs.Common.{◌≡◌, ◌<◌, false, length, sym, subst, ◌∙◌}
-use Rattle.apex_ports.specs.Channels.{waiting_on}
-use Rattle.apex_ports.specs.Ports.{is_queuing}
-use Rattle.apex_ports.specs.PortsView.{PortsView}
-use Rattle.apex_ports.specs.Rules.{IsConserved}
+use Rattle.apex_ports.proofs.Common.{◌≡◌, ◌<◌, false, length, sym, subst, ◌∙◌, waiting_on, is_queuing, PortsView, IsConserved}
 use Rattle.apex_ports.proofs.Conserved.{always_conserved, sampling_waits_nothing}
 use Rattle.apex_ports.proofs.Lookups.{channel_at, waiting_count_is}
 use Rattle.apex_ports.proofs.ports.Ports.waiting_count.Goals as goal

@@ -1,11 +1,5 @@
-use Rattle.std.proofs.Common.{◌≡◌, ◌<◌, length, slice_index_or, Some, sym, ◌∙◌, arith}
-use Rattle.std.specs.List.{slice_get}
-use Rattle.std.proofs.lemmas.Option.{slice_get-get_or}
-use Rattle.apex_ports.specs.declared.channel.ChannelState.{ChannelState}
-use Rattle.apex_ports.specs.declared.saved_channel.SavedChannel.{SavedChannel}
+use Rattle.apex_ports.proofs.Common.{◌≡◌, ◌<◌, length, slice_index_or, Some, sym, ◌∙◌, arith, slice_get, slice_get-get_or, ChannelState, SavedChannel, message_size, ring_depth, restored}
 use Rattle.apex_ports.specs.declared.saved_channel.SavedChannel.TheVariants.{Queuing}
-use Rattle.apex_ports.specs.ChannelStates.{message_size, ring_depth}
-use Rattle.apex_ports.specs.Saved.{restored}
 use Rattle.apex_ports.proofs.InPlace.{one_done, all_done}
 use Rattle.apex_ports.proofs.ports.saved.restore_channels.Goals as goal
 

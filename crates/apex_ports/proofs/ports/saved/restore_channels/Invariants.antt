@@ -1,6 +1,4 @@
-use Rattle.std.proofs.Common.{◌≡◌}
-use Rattle.apex_ports.specs.ChannelStates.{message_size, ring_depth}
-use Rattle.apex_ports.specs.Saved.{restored}
+use Rattle.apex_ports.proofs.Common.{◌≡◌, message_size, ring_depth, restored}
 use Rattle.apex_ports.proofs.InPlace.{IsDone}
 use Rattle.apex_ports.proofs.ports.saved.restore_channels.Given as goal
 

@@ -1,7 +1,4 @@
-use Rattle.std.proofs.Common.{◌≡◌, false, sym, ap, ◌∙◌, arith}
-use Rattle.apex_module.specs.Configuration.{port_of}
-use Rattle.apex_ports.specs.Modes.{is_idle}
-use Rattle.apex_ports.specs.Seen.{seen}
+use Rattle.apex_ports.proofs.Common.{◌≡◌, false, sym, ap, ◌∙◌, arith, port_of, is_idle, seen}
 use Rattle.apex_ports.proofs.Sizes.{received_short}
 use Rattle.apex_ports.proofs.Stays.{quiet_keeps, not_made_is_quiet, refused_is_quiet}
 use Rattle.apex_ports.proofs.state.State.answer_receive.Goals as goal

@@ -1,6 +1,4 @@
-use Rattle.std.proofs.Common.{sym, ap, ◌∙◌}
-use Rattle.std.specs.Option.{option_copied}
-use Rattle.apex_ports.specs.Seen.{seen}
+use Rattle.apex_ports.proofs.Common.{sym, ap, ◌∙◌, option_copied, seen}
 use Rattle.apex_ports.proofs.ChannelSteps.{cleared_keeps}
 use Rattle.apex_ports.proofs.Conserved.{always_conserved}
 use Rattle.apex_ports.proofs.Lookups.{channel_at}

@@ -1,6 +1,4 @@
-use Rattle.std.proofs.Common.{arith}
-use Rattle.apex_ports.specs.Noted.{call_by}
-use Rattle.apex_ports.specs.Seen.{seen}
+use Rattle.apex_ports.proofs.Common.{arith, call_by, seen}
 use Rattle.apex_ports.proofs.Lookups.{partition_at}
 use Rattle.apex_ports.proofs.PartitionSteps.{created_keeps}
 use Rattle.apex_ports.proofs.RowFacts.{created_at}

@@ -1,6 +1,4 @@
-use Rattle.std.proofs.Common.{sym, ap, arith}
-use Rattle.apex_ports.specs.ReplyTable.{last_reply}
-use Rattle.apex_ports.specs.Seen.{seen}
+use Rattle.apex_ports.proofs.Common.{sym, ap, arith, last_reply, seen}
 use Rattle.apex_ports.proofs.Lookups.{is_identifier, partition_at}
 use Rattle.apex_ports.proofs.PartitionSteps.{read_keeps}
 use Rattle.apex_ports.proofs.RowFacts.{read_at}

@@ -1,10 +1,4 @@
-use Rattle.std.proofs.Common.{◌≡◌, ◌<◌, length, List, ℕ, sym, ap, ◌∙◌, arith}
-use Rattle.std.specs.Option.{option_copied}
-use Rattle.apex_types.specs.declared.reply.Reply.TheVariants.{Received}
-use Rattle.apex_ports.specs.ReplyTable.{oldest_reply}
-use Rattle.apex_ports.specs.Seen.{seen, waiting_of}
-use Rattle.apex_ports.specs.Channels.{waiting_on}
-use Rattle.apex_ports.specs.ChannelStates.{waiting_in}
+use Rattle.apex_ports.proofs.Common.{◌≡◌, ◌<◌, length, List, ℕ, sym, ap, ◌∙◌, arith, option_copied, Received, oldest_reply, seen, waiting_of, waiting_on, waiting_in}
 use Rattle.apex_ports.proofs.ChannelSteps.{received_keeps, oldest_of}
 use Rattle.apex_ports.proofs.Conserved.{always_conserved}
 use Rattle.apex_ports.proofs.Lookups.{channel_at}

@@ -1,13 +1,4 @@
-use Rattle.std.proofs.Common.{◌≡◌, ◌<◌, ◌≤◌, Some, length, refl, sym, ap, ◌∙◌, subst, arith}
-use Rattle.std.specs.Option.{option_copied}
-use Rattle.apex_types.specs.declared.reply.Reply.TheVariants.{Code}
-use Rattle.apex_types.specs.declared.return_code.ReturnCode.TheVariants.{NoError}
-use Rattle.apex_module.specs.declared.port.Port.{Port}
-use Rattle.apex_ports.specs.ChannelStates.{message_size}
-use Rattle.apex_ports.specs.ReplyTable.{size_of, depth_of, reply_of}
-use Rattle.apex_ports.specs.Seen.{seen}
-use Rattle.std.proofs.lemmas.Bool.Decides.{nat_tests}
-use Rattle.apex_ports.specs.Channels.{waiting_on}
+use Rattle.apex_ports.proofs.Common.{◌≡◌, ◌<◌, ◌≤◌, Some, length, refl, sym, ap, ◌∙◌, subst, arith, option_copied, Code, NoError, Port, message_size, size_of, depth_of, reply_of, seen, nat_tests, waiting_on}
 use Rattle.apex_ports.proofs.ChannelSteps.{sent_keeps}
 use Rattle.apex_ports.proofs.Conserved.{always_conserved, send_free}
 use Rattle.apex_ports.proofs.Lookups.{channel_at, waiting_count_is}

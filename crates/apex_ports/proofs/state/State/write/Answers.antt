@@ -1,10 +1,4 @@
-use Rattle.std.proofs.Common.{◌≡◌, ◌≤◌, Some, length, refl, sym, ap, ◌∙◌, subst, arith}
-use Rattle.std.specs.Option.{option_copied}
-use Rattle.apex_types.specs.declared.reply.Reply.TheVariants.{Code}
-use Rattle.apex_types.specs.declared.return_code.ReturnCode.TheVariants.{NoError}
-use Rattle.apex_module.specs.declared.port.Port.{Port}
-use Rattle.apex_ports.specs.ReplyTable.{reply_of, size_of}
-use Rattle.apex_ports.specs.Seen.{seen}
+use Rattle.apex_ports.proofs.Common.{◌≡◌, ◌≤◌, Some, length, refl, sym, ap, ◌∙◌, subst, arith, option_copied, Code, NoError, Port, reply_of, size_of, seen}
 use Rattle.apex_ports.proofs.ChannelSteps.{written_keeps}
 use Rattle.apex_ports.proofs.Conserved.{write_sampling}
 use Rattle.apex_ports.proofs.Lookups.{channel_at}

@@ -1,5 +1,4 @@
-use Rattle.std.proofs.Common.{List, ℕ, ap, ◌∙◌}
-use Rattle.std.specs.List.{slice_get}
+use Rattle.apex_ports.proofs.Common.{List, ℕ, ap, ◌∙◌, slice_get}
 use Rattle.apex_ports.proofs.Lookups.{channel_at}
 use Rattle.apex_ports.proofs.view.StateView.oldest.Goals as goal
 

@@ -1,6 +1,4 @@
-use Rattle.std.proofs.Common.{Option, subst}
-use Rattle.apex_types.specs.declared.sample.Sample.{Sample}
-use Rattle.apex_ports.specs.Noted.{IsSampleBy}
+use Rattle.apex_ports.proofs.Common.{Option, subst, Sample, IsSampleBy}
 use Rattle.apex_ports.proofs.Lookups.{channel_at}
 use Rattle.apex_ports.proofs.view.StateView.sample.Goals as goal
 

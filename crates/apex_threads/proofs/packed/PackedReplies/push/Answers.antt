@@ -1,5 +1,4 @@
-use Rattle.std.proofs.Common.{◌≡◌, ◌++◌, ◌∷◌, [], ℕ, List, length, ap, sym, subst, ◌∙◌, map, Result, Ok, Err, OnErr}
-use Rattle.apex_types.specs.declared.reply.Reply.{Reply}
+use Rattle.apex_threads.proofs.Common.{◌≡◌, ◌++◌, ◌∷◌, [], ℕ, List, length, ap, sym, subst, ◌∙◌, map, Result, Ok, Err, OnErr, Reply}
 use Rattle.apex_threads.specs.declared.packed.Packed.{Packed}
 use Rattle.apex_threads.specs.PackedReplies.{reply_in, ArePacked}
 use Rattle.apex_threads.proofs.PackedLemmas.{same_replies, still_packed, pushed, one_more_packed}

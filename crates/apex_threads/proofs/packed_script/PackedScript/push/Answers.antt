@@ -1,6 +1,4 @@
-use Rattle.std.proofs.Common.{◌≡◌, ◌++◌, ◌∷◌, [], ℕ, List, length, ap, sym, subst, ◌∙◌, map, Result, Ok, Err, OnErr}
-use Rattle.apex_types.specs.declared.call.Call.{Call}
-use Rattle.apex_types.specs.declared.moment.Moment.{Moment}
+use Rattle.apex_threads.proofs.Common.{◌≡◌, ◌++◌, ◌∷◌, [], ℕ, List, length, ap, sym, subst, ◌∙◌, map, Result, Ok, Err, OnErr, Call, Moment}
 use Rattle.apex_threads.specs.declared.packed_script.PackedCall.{PackedCall}
 use Rattle.apex_threads.specs.PackedCalls.{call_in, timed_in, ArePackedCalls}
 use Rattle.apex_threads.proofs.CallLemmas.{same_calls, still_packed_calls, pushed_call, one_more_packed_call}

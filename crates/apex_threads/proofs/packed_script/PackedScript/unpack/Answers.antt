@@ -1,7 +1,4 @@
-use Rattle.std.proofs.Common.{◌≡◌, ◌+◌, ◌++◌, ◌∷◌, [], suc, List, Some, take, ap, sym, ◌∙◌, arith}
-use Rattle.std.specs.List.{slice_get}
-use Rattle.apex_types.specs.declared.call.Call.{Call}
-use Rattle.apex_types.specs.declared.moment.Moment.{Moment}
+use Rattle.apex_threads.proofs.Common.{◌≡◌, ◌+◌, ◌++◌, ◌∷◌, [], suc, List, Some, take, ap, sym, ◌∙◌, arith, slice_get, Call, Moment}
 use Rattle.apex_threads.proofs.Counting.{take_one_more}
 use Rattle.apex_threads.proofs.packed_script.PackedScript.unpack.Goals as goal
 

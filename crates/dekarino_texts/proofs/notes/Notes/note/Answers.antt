@@ -1,6 +1,4 @@
-use Rattle.std.proofs.Common.{◌≡◌, ◌+◌, [], ◌∷◌, ◌++◌, length, length-append, sym, ◌∙◌, arith}
-use Rattle.apex_ports.specs.History.{entry_of}
-use Rattle.dekarino_texts.specs.Remarks.{LineEntry, history_of, start, earlier, not_made}
+use Rattle.dekarino_texts.proofs.Common.{◌≡◌, ◌+◌, [], ◌∷◌, ◌++◌, length, length-append, sym, ◌∙◌, arith, entry_of, LineEntry, history_of, start, earlier, not_made}
 use Rattle.dekarino_texts.proofs.NoteLemmas.{history_of-push, last_moment-push, moment_remarks-push, idle_remarks-push}
 use Rattle.dekarino_texts.proofs.notes.Notes.note.Goals as goal
 
