@@ -1,5 +1,6 @@
 -- The queuing port by which a call sends, receives or clears.
-use Rattle.apex_board.specs.Prelude.{ℕ, ◌≡◌, ◌<◌, Option, Some, None, option_map, option_and_then, Call, SendQueuing, ReceiveQueuing, ClearQueuing, Configuration, port_of}
+use Rattle.std.specs.Prelude.{ℕ, ◌≡◌, ◌<◌, Option, Some, None, option_map, option_and_then}
+use Rattle.apex_board.specs.Prelude.{Call, SendQueuing, ReceiveQueuing, ClearQueuing, Configuration, port_of}
 use Rattle.apex_module.specs.declared.port.Port.{Port}
 use Rattle.apex_ports.specs.declared.history.Entry.{Entry}
 use Rattle.apex_board.specs.declared.asked.AskedPort.{AskedPort}

@@ -1,5 +1,6 @@
 -- The journals of queuing channels.
-use Rattle.apex_board.specs.Prelude.{ℕ, Bool, true, false, ◌≡◌, ◌==◌, ◌≤◌, if◌then◌else◌, List, [], length, slice_get, Option, Some, None, vec_capacity, Configuration, History, is_queuing, accepted_on, taken_on}
+use Rattle.std.specs.Prelude.{ℕ, Bool, true, false, ◌≡◌, ◌==◌, ◌≤◌, if◌then◌else◌, List, [], length, slice_get, Option, Some, None}
+use Rattle.apex_board.specs.Prelude.{vec_capacity, Configuration, History, is_queuing, accepted_on, taken_on}
 use Rattle.std.specs.Borrow.{Bor}
 use Rattle.apex_types.specs.declared.taken.Taken.{Taken}
 use Rattle.apex_board.specs.declared.journal.Journal.{Journal}

@@ -1,5 +1,6 @@
 -- Requests that write samples.
-use Rattle.apex_board.specs.Prelude.{ℕ, ◌≡◌, Bool, true, false, List, slice_get, Some, Call, WriteSampling, Configuration, History, WritesNothing}
+use Rattle.std.specs.Prelude.{ℕ, ◌≡◌, Bool, true, false, List, slice_get, Some}
+use Rattle.apex_board.specs.Prelude.{Call, WriteSampling, Configuration, History, WritesNothing}
 use Rattle.apex_ports.specs.declared.history.Request.{Request}
 
 abbrev pub is_write : Call → Bool

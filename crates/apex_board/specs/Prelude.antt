@@ -1,5 +1,4 @@
 -- The words of std and of the crates below that several files of this crate cite.
-pub use Rattle.std.specs.Prelude.{ℕ, ◌≡◌, ◌<◌, Option, Some, None, option_map, option_and_then, Bool, true, false, ◌==◌, ◌≤◌, if◌then◌else◌, List, [], length, slice_get, ◌+◌, ◌-◌, min, ◌∷◌, ◌++◌, IsOk, OnOk, IfSome, drop, map, IfOk, take, All, IfErr}
 pub use Rattle.std.specs.Vec.{vec_capacity, vec_len}
 pub use Rattle.apex_types.specs.declared.call.Call.{Call}
 pub use Rattle.apex_types.specs.declared.call.Call.TheVariants.{SendQueuing, ReceiveQueuing, ClearQueuing, WriteSampling}

@@ -1,5 +1,6 @@
 -- What a board's records say about the history.
-use Rattle.apex_board.specs.Prelude.{◌≡◌, List, Option, Sample, Configuration, IsSound, ArePublished, Channels}
+use Rattle.std.specs.Prelude.{◌≡◌, List, Option}
+use Rattle.apex_board.specs.Prelude.{Sample, Configuration, IsSound, ArePublished, Channels}
 use Rattle.apex_ports.specs.PortsView.{PortsView}
 use Rattle.apex_board.specs.declared.records.Records.{Records}
 use Rattle.apex_board.specs.Journals.{AreJournals}

@@ -1,5 +1,6 @@
 -- The number of calls that can be served without allocating.
-use Rattle.apex_board.specs.Prelude.{ℕ, ◌≡◌, ◌+◌, ◌-◌, ◌≤◌, min, List, [], ◌∷◌, Option, Some, None, vec_len, vec_capacity, Call, Configuration, message_sent}
+use Rattle.std.specs.Prelude.{ℕ, ◌≡◌, ◌+◌, ◌-◌, ◌≤◌, min, List, [], ◌∷◌, Option, Some, None}
+use Rattle.apex_board.specs.Prelude.{vec_len, vec_capacity, Call, Configuration, message_sent}
 use Rattle.std.specs.declared.vec.Vec.{Vec}
 use Rattle.apex_board.specs.declared.journal.Journal.{Journal}
 use Rattle.apex_board.specs.declared.records.Records.{Records}

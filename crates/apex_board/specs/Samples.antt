@@ -1,5 +1,6 @@
 -- The samples that sampling channels hold.
-use Rattle.apex_board.specs.Prelude.{◌≡◌, List, length, Option, Sample, Configuration, last_write_on, History, EachAt}
+use Rattle.std.specs.Prelude.{◌≡◌, List, length, Option}
+use Rattle.apex_board.specs.Prelude.{Sample, Configuration, last_write_on, History, EachAt}
 
 -- each channel's sample is its last write in the history
 pub record AreSamples (config : Configuration) (history : History) (samples : List (Option Sample)) : Type 0 where

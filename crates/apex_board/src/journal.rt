@@ -1,5 +1,6 @@
 //! The journal of a queuing channel, and what an entry puts into it.
-ghost use Rattle.apex_board.specs.Prelude.{◌≡◌, ℕ, ◌+◌, ◌≤◌, [], ◌++◌, IsOk, OnOk, IfSome, ◌<◌, drop, length, map, vec_len, vec_capacity, as_cleared, clears, message_accepted, message_received, Configuration};
+ghost use Rattle.std.specs.Prelude.{◌≡◌, ℕ, ◌+◌, ◌≤◌, [], ◌++◌, IsOk, OnOk, IfSome, ◌<◌, drop, length, map};
+ghost use Rattle.apex_board.specs.Prelude.{vec_len, vec_capacity, as_cleared, clears, message_accepted, message_received, Configuration};
 ghost use Rattle.apex_board.specs.Asked.{IsAskedBy, IsBelow};
 ghost use Rattle.apex_board.specs.Journals.{IsFresh, is_for, message_for};
 

@@ -1,5 +1,6 @@
 //! What a board records of its calls: the log, and the journals that follow from it.
-ghost use Rattle.apex_board.specs.Prelude.{◌≡◌, ℕ, ◌+◌, ◌<◌, ◌≤◌, [], ◌∷◌, ◌++◌, true, length, None, IfOk, OnOk, IsOk, vec_len, vec_capacity, message_received, is_send, IsSound};
+ghost use Rattle.std.specs.Prelude.{◌≡◌, ℕ, ◌+◌, ◌<◌, ◌≤◌, [], ◌∷◌, ◌++◌, true, length, None, IfOk, OnOk, IsOk};
+ghost use Rattle.apex_board.specs.Prelude.{vec_len, vec_capacity, message_received, is_send, IsSound};
 
 use crate::asked::AskedPort;
 use crate::journal::{Journal, accepted_message, cleared_channel, new_journal, received_message};

@@ -1,5 +1,6 @@
 //! Lists of requests.
-ghost use Rattle.apex_board.specs.Prelude.{◌≡◌, ◌+◌, ◌<◌, ◌≤◌, ◌++◌, false, length, take, All, IfErr, OnOk, IsOk, books_of, requests_of, StaysIdle, Answers};
+ghost use Rattle.std.specs.Prelude.{◌≡◌, ◌+◌, ◌<◌, ◌≤◌, ◌++◌, false, length, take, All, IfErr, OnOk, IsOk};
+ghost use Rattle.apex_board.specs.Prelude.{books_of, requests_of, StaysIdle, Answers};
 ghost use Rattle.apex_board.specs.OnRequests.{WritesNothingAt, is_write};
 
 use crate::board::Board;

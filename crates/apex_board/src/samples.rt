@@ -1,5 +1,6 @@
 //! The samples that a board's sampling channels hold.
-ghost use Rattle.apex_board.specs.Prelude.{◌≡◌, ◌<◌, ◌∷◌, ◌++◌, [], length, IfOk, entry_of, reply_to};
+ghost use Rattle.std.specs.Prelude.{◌≡◌, ◌<◌, ◌∷◌, ◌++◌, [], length, IfOk};
+ghost use Rattle.apex_board.specs.Prelude.{entry_of, reply_to};
 ghost use Rattle.apex_board.specs.Samples.{AreSamples};
 
 use apex_module::Config;

@@ -1,5 +1,6 @@
 -- What an entry of a text has if no pass finds a place in it.
-use Rattle.apex_config.specs.Prelude.{Bool, ◌&&◌, list_all, SIZE_LIMIT, DEPTH_LIMIT}
+use Rattle.std.specs.Prelude.{Bool, ◌&&◌}
+use Rattle.apex_config.specs.Prelude.{list_all, SIZE_LIMIT, DEPTH_LIMIT}
 use Rattle.apex_config.specs.Text.{PartitionText, ChannelText}
 use Rattle.apex_config.specs.Passes.{is_name, is_from_one_to, is_from_one_to_if_any}
 

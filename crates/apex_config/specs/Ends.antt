@@ -1,5 +1,6 @@
 -- The ends of all channels, counted together.
-use Rattle.apex_config.specs.Prelude.{ℕ, ◌≡◌, ◌+◌, ◌-◌, ◌^◌, ◌<◌, List, length, min, count_by, slice_index, Option, option_map, Direction}
+use Rattle.std.specs.Prelude.{ℕ, ◌≡◌, ◌+◌, ◌-◌, ◌^◌, ◌<◌, List, length, min, count_by, slice_index, Option, option_map}
+use Rattle.apex_config.specs.Prelude.{Direction}
 use Rattle.apex_config.specs.Text.{PortText, PartitionText, ChannelText, ConfigText}
 use Rattle.apex_config.specs.Passes.{is_end, end_count, index_of_channel, channel_of_port}
 

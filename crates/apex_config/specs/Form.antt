@@ -1,5 +1,6 @@
 -- The pass over the form of a document: it finds all missing or unknown keys, values of a wrong type, and wrong words.
-use Rattle.apex_config.specs.Prelude.{ℕ, Bool, true, ◌||◌, ◌++◌, if◌then◌else◌, List, [], ◌∷◌, codes, is_some, Option, Some, None, list_any, bytes_eq, Data, Members, as_array, as_table}
+use Rattle.std.specs.Prelude.{ℕ, Bool, true, ◌||◌, ◌++◌, if◌then◌else◌, List, [], ◌∷◌, codes, is_some, Option, Some, None}
+use Rattle.apex_config.specs.Prelude.{list_any, bytes_eq, Data, Members, as_array, as_table}
 use Rattle.apex_config.specs.declared.key.Key.{Key}
 use Rattle.apex_config.specs.declared.key.Key.TheVariants as key
 use Rattle.apex_config.specs.declared.place.Part.{Part}

@@ -1,6 +1,7 @@
 -- What the bytes of a configuration mean: the configuration that they give, or the refusal by the first pass that finds
 -- places.
-use Rattle.apex_config.specs.Prelude.{ℕ, ℤ, pos, negsuc, if◌then◌else◌, List, [], ◌∷◌, map, Option, Some, None, option_map, Result, Ok, Err, ◌≡◌, ◌≢◌, is_utf8, Port, ConfigFault, NotToml, Shape, OutOfMemory, Data, table, PartitionData, Configuration}
+use Rattle.std.specs.Prelude.{ℕ, ℤ, pos, negsuc, if◌then◌else◌, List, [], ◌∷◌, map, Option, Some, None, option_map, Result, Ok, Err, ◌≡◌, ◌≢◌}
+use Rattle.apex_config.specs.Prelude.{is_utf8, Port, ConfigFault, NotToml, Shape, OutOfMemory, Data, table, PartitionData, Configuration}
 use Rattle.apex_module.specs.declared.port.PortKind.{PortKind}
 use Rattle.apex_module.specs.declared.port.PortKind.TheVariants as port_kind
 use Rattle.apex_module.specs.declared.channel.Channel.{Channel}

@@ -1,5 +1,6 @@
 -- The numbers of channels by their names.
-use Rattle.apex_config.specs.Prelude.{ℕ, ◌≡◌, List, position, bytes_eq}
+use Rattle.std.specs.Prelude.{ℕ, ◌≡◌, List, position}
+use Rattle.apex_config.specs.Prelude.{bytes_eq}
 use Rattle.std.specs.Borrow.{Bor}
 use Rattle.std.specs.BTreeMap.{BTreeMap, get}
 use Rattle.std.specs.Cmp.Lexicographic.{slice_cmp}

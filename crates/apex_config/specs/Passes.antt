@@ -1,5 +1,6 @@
 -- The passes over the text of a configuration whose form is right. Each finds all places that it refuses, in its order.
-use Rattle.apex_config.specs.Prelude.{ℕ, ℤ, pos, negsuc, Bool, true, false, ◌&&◌, ◌||◌, ◌++◌, ◌==◌, nat_le, not, if◌then◌else◌, List, [], ◌∷◌, length, map, take, slice_get, sum_by, count_by, position, unwrap_or, is_ok, is_some, is_none, Option, Some, None, list_any, bytes_eq, name_of, Direction, Source, Destination, ConfigFault, NotToml, Shape, BadName, NameTwice, OutOfRange, UnknownChannel, KindDiffers, Sources}
+use Rattle.std.specs.Prelude.{ℕ, ℤ, pos, negsuc, Bool, true, false, ◌&&◌, ◌||◌, ◌++◌, ◌==◌, nat_le, not, if◌then◌else◌, List, [], ◌∷◌, length, map, take, slice_get, sum_by, count_by, position, unwrap_or, is_ok, is_some, is_none, Option, Some, None}
+use Rattle.apex_config.specs.Prelude.{list_any, bytes_eq, name_of, Direction, Source, Destination, ConfigFault, NotToml, Shape, BadName, NameTwice, OutOfRange, UnknownChannel, KindDiffers, Sources}
 use Rattle.apex_config.specs.Prelude.{Destinations, Counts, OutOfMemory, PARTITION_LIMIT, PORT_LIMIT, CHANNEL_LIMIT, SIZE_LIMIT, DEPTH_LIMIT, REFRESH_LIMIT}
 use Rattle.apex_config.specs.declared.key.Key.TheVariants as key
 use Rattle.apex_config.specs.declared.place.Part.{Part}

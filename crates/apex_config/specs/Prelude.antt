@@ -1,6 +1,5 @@
 -- The words of std and of the crates below that several files of this crate cite.
 pub use Rattle.std.specs.List.{list_all, list_any}
-pub use Rattle.std.specs.Prelude.{Bool, ◌&&◌, ℕ, ◌≡◌, ◌+◌, ◌-◌, ◌^◌, ◌<◌, List, length, min, count_by, slice_index, Option, option_map, true, ◌||◌, ◌++◌, if◌then◌else◌, [], ◌∷◌, codes, is_some, Some, None, ℤ, pos, negsuc, map, Result, Ok, Err, ◌≢◌, position, false, ◌==◌, nat_le, not, take, slice_get, sum_by, unwrap_or, is_ok, is_none, option_and_then, IsTrue, IfOk, OnOk, IfErr}
 pub use Rattle.std.specs.Str.{bytes_eq, is_utf8}
 pub use Rattle.apex_types.specs.Name.{name_of}
 pub use Rattle.apex_types.specs.declared.direction.Direction.{Direction}

@@ -1,5 +1,6 @@
 -- What a document says about a configuration if its form is right. Names, numbers and links may be wrong.
-use Rattle.apex_config.specs.Prelude.{ℕ, ℤ, pos, Bool, if◌then◌else◌, List, [], map, codes, unwrap_or, Option, Some, None, bytes_eq, Source, Destination, Data}
+use Rattle.std.specs.Prelude.{ℕ, ℤ, pos, Bool, if◌then◌else◌, List, [], map, codes, unwrap_or, Option, Some, None}
+use Rattle.apex_config.specs.Prelude.{bytes_eq, Source, Destination, Data}
 use Rattle.apex_types.specs.declared.direction.Direction as direction
 use Rattle.apex_config.specs.declared.key.Key.{Key}
 use Rattle.apex_config.specs.declared.key.Key.TheVariants as key

@@ -1,5 +1,6 @@
 -- What a TOML value holds at the keys of a configuration.
-use Rattle.apex_config.specs.Prelude.{ℕ, ℤ, List, [], ◌∷◌, codes, Option, Some, None, option_and_then, Data, Items, no_items, item, Members, no_members, member, get, as_str, as_integer, as_array}
+use Rattle.std.specs.Prelude.{ℕ, ℤ, List, [], ◌∷◌, codes, Option, Some, None, option_and_then}
+use Rattle.apex_config.specs.Prelude.{Data, Items, no_items, item, Members, no_members, member, get, as_str, as_integer, as_array}
 use Rattle.apex_config.specs.declared.key.Key.{Key}
 use Rattle.apex_config.specs.declared.key.Key.TheVariants.{Partition, Port, Channel, Name, Kind, Direction, Size, Depth, Refresh}
 

@@ -1,5 +1,6 @@
 //! Makes the configuration of a text in which no pass finds a place.
-ghost use Rattle.apex_config.specs.Prelude.{◌≡◌, ◌&&◌, IsTrue, IfOk, None, map, list_all};
+ghost use Rattle.std.specs.Prelude.{◌≡◌, ◌&&◌, IsTrue, IfOk, None, map};
+ghost use Rattle.apex_config.specs.Prelude.{list_all};
 ghost use Rattle.apex_config.specs.Meaning.{natural, port_kind_of, channel_kind_of, port_of_text, partition_of_text, channel_of_text, configuration_of, first_refusal};
 ghost use Rattle.apex_config.specs.Passes.{is_name, passes};
 ghost use Rattle.apex_config.specs.Accepted.{has_names, is_acceptable};

@@ -1,5 +1,6 @@
 //! Reads the text of a configuration from a document whose form is right.
-ghost use Rattle.apex_config.specs.Prelude.{◌≡◌, map, IfOk, view};
+ghost use Rattle.std.specs.Prelude.{◌≡◌, map, IfOk};
+ghost use Rattle.apex_config.specs.Prelude.{view};
 ghost use Rattle.apex_config.specs.Text.{is_queuing, is_sampling, is_source, port_text_of, partition_text_of, channel_text_of, config_text_of};
 
 use crate::config_text::{ChannelText, ConfigText, PartitionText, PortText};

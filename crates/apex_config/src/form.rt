@@ -1,5 +1,6 @@
 //! The pass over the form of a document.
-ghost use Rattle.apex_config.specs.Prelude.{◌≡◌, map, OnOk, as_table, view, table_view};
+ghost use Rattle.std.specs.Prelude.{◌≡◌, map, OnOk};
+ghost use Rattle.apex_config.specs.Prelude.{as_table, view, table_view};
 ghost use Rattle.apex_config.specs.Places.{Adds};
 ghost use Rattle.apex_config.specs.Values.{value_at};
 ghost use Rattle.apex_config.specs.Form.{is_array_if_any, wants_text, wants_number, wants_array, wants_array_if_any, wants_kind, wants_direction, is_known, unknown_keys, wrong_channel, channel_keys, port_keys, wrong_port, wrong_partition_keys, wrong_partition, wrong_document_keys, wrong_form};

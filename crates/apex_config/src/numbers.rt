@@ -1,5 +1,6 @@
 //! The passes over numbers and counts: each is within its limits.
-ghost use Rattle.apex_config.specs.Prelude.{◌≡◌, OnOk, REFRESH_LIMIT};
+ghost use Rattle.std.specs.Prelude.{◌≡◌, OnOk};
+ghost use Rattle.apex_config.specs.Prelude.{REFRESH_LIMIT};
 ghost use Rattle.apex_config.specs.Places.{Adds};
 ghost use Rattle.apex_config.specs.Passes.{is_from_one_to, is_from_one_to_if_any, bad_channel_numbers, bad_numbers, too_many_ports, bad_counts};
 

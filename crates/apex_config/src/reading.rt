@@ -1,5 +1,6 @@
 //! Reads a configuration from bytes, pass after pass.
-ghost use Rattle.apex_config.specs.Prelude.{◌≡◌, ◌≢◌, [], Some, None, IfOk, IfErr, view};
+ghost use Rattle.std.specs.Prelude.{◌≡◌, ◌≢◌, [], Some, None, IfOk, IfErr};
+ghost use Rattle.apex_config.specs.Prelude.{view};
 ghost use Rattle.apex_config.specs.Meaning.{IsConfigRead, IsPlacedRead, config_of, read_of_value, not_toml, document_of, read_of};
 ghost use Rattle.apex_module.specs.declared.fault.ConfigFault.TheVariants as fault;
 

@@ -1,5 +1,6 @@
 //! The values at the keys of a TOML value.
-ghost use Rattle.apex_config.specs.Prelude.{◌≡◌, map, option_map, bytes_eq, as_array, view, items_view};
+ghost use Rattle.std.specs.Prelude.{◌≡◌, map, option_map};
+ghost use Rattle.apex_config.specs.Prelude.{bytes_eq, as_array, view, items_view};
 ghost use Rattle.std.specs.Option.{option_copied};
 ghost use Rattle.apex_config.specs.Values.{key_word, value_at, text_at, number_at, array_at, list_of, items_at};
 ghost use Rattle.apex_config.specs.Text.{text_in, number_in, has_word};

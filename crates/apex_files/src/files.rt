@@ -3,9 +3,10 @@ ghost use Rattle.std.specs.Prelude.{◌≡◌, ◌≤◌, List, ℕ, Option, Non
 ghost use Rattle.std.specs.Io.KnownBytes.{IsAtEnd};
 ghost use Rattle.std.specs.IoError.{error_kind, raw_os_error};
 ghost use Rattle.apex_files.specs.Files.{file_fault, IsFaultOf, IsReadUpTo};
+ghost use Rattle.apex_files.specs.declared.files.FileFault.TheVariants.{OutOfMemory};
 
-use std::alloc::Global;
-use std::fs::File;
+use std::alloc::{AllocError, Global};
+use std::fs::{File, OpenFile};
 use std::io;
 use std::io::{ErrorKind, Read};
 use std::rt::Files;
@@ -31,6 +32,11 @@ pub trait Opener {
         ensures { IfOk result
             (λ reader. IfSome (bytes_at self.now path.now)
             (λ bytes. Self.Reader.remaining reader ≡ Some bytes)) };
+
+    /// About how many bytes the reader gives, so that their memory is taken at once; 0 if that is not known.
+    fn expected_bytes(&self, _reader: &Self::Reader) -> usize {
+        0
+    }
 }
 
 /// The files of the system.
@@ -45,6 +51,15 @@ impl<R: Files> Opener for SystemFiles<'_, R> {
     fn open(&self, path: &str) -> io::Result<R::File> {
         File::open(self.rt, path)
     }
+
+    fn expected_bytes(&self, reader: &R::File) -> usize {
+        file_bytes(reader)
+    }
+}
+
+/// The number of bytes of a file by the system's account, which is 0 for a pipe.
+pub fn file_bytes<F: OpenFile>(file: &F) -> usize {
+    file.metadata().map_or(0, |known| known.len() as usize)
 }
 
 /// What kept a file from being read.
@@ -88,6 +103,14 @@ impl From<io::Error> for FileFault {
     }
 }
 
+impl From<AllocError> for FileFault {
+    ghost from_gives = { λ _ given. given ≡ OutOfMemory };
+
+    fn from(_error: AllocError) -> FileFault {
+        FileFault::OutOfMemory
+    }
+}
+
 /// The bytes of the file at a path.
 pub fn read_path<O: Opener>(alloc: Global, opener: &O, path: &str) -> Result<Vec<u8>, FileFault>
     ensures whole { IfOk result
@@ -97,11 +120,17 @@ pub fn read_path<O: Opener>(alloc: Global, opener: &O, path: &str) -> Result<Vec
         (λ fault. IfSome (O.bytes_at opener.now path.now) (IsFaultOf fault)) }
 {
     let mut reader = opener.open(path)?;
-    read_all(alloc, &mut reader)
+    let expected = opener.expected_bytes(&reader);
+    read_all(alloc, expected, &mut reader)
 }
 
-/// All bytes of a reader up to its end, if they are within the limits of bytes and reads.
-pub fn read_all<R: Read>(alloc: Global, reader: &mut R) -> Result<Vec<u8>, FileFault>
+/// All bytes of a reader up to its end, if they are within the limits of bytes and reads. The memory for as many as are
+/// expected is taken before the first read.
+pub fn read_all<R: Read>(
+    alloc: Global,
+    expected: usize,
+    reader: &mut R,
+) -> Result<Vec<u8>, FileFault>
     ensures whole { IfOk result
         (λ read. IfSome (R.remaining reader.old) (λ bytes. read.items ≡ bytes)) }
     ensures end { OnOk result (IsAtEnd (R.remaining reader.new)) }
@@ -109,7 +138,7 @@ pub fn read_all<R: Read>(alloc: Global, reader: &mut R) -> Result<Vec<u8>, FileF
     ensures fault { IfErr result
         (λ fault. IsReadUpTo fault (R.remaining reader.old) (R.remaining reader.new)) }
 {
-    let mut bytes = Vec::new(alloc);
+    let mut bytes = Vec::with_capacity(alloc, expected.min(FILE_LIMIT))?;
     let mut piece = [0; PIECE_BYTES];
     for _ in 0..READ_LIMIT {
         let count = match reader.read(&mut piece) {
@@ -123,9 +152,7 @@ pub fn read_all<R: Read>(alloc: Global, reader: &mut R) -> Result<Vec<u8>, FileF
         if bytes.len() + count > FILE_LIMIT {
             return Err(FileFault::Unreadable(Obstacle::TooLarge));
         }
-        if bytes.extend_from_slice(&piece[..count]).is_err() {
-            return Err(FileFault::OutOfMemory);
-        }
+        bytes.extend_from_slice(&piece[..count])?;
     }
     Err(FileFault::Unreadable(Obstacle::NotEnded))
 }

@@ -10,7 +10,7 @@ mod reading;
 pub mod refusal;
 mod terminal;
 
-pub use crate::files::{FILE_LIMIT, Obstacle, Opener, READ_LIMIT, SystemFiles};
+pub use crate::files::{FILE_LIMIT, Obstacle, Opener, READ_LIMIT, SystemFiles, file_bytes};
 pub use crate::named_scripts::{partition_and_path, scripts_named};
 pub use crate::outputs::{print, refuse};
 pub use crate::packed_scripts::read_packed_script;

@@ -1,7 +1,7 @@
 -- The words that several proofs of this crate cite.
 pub use Rattle.apex_groups.specs.Prelude.{Configuration, port_of, PartitionData, port_at, ports_of_partition, IsConfiguration, Port, History, entries_of, IsClosed, entries_inside, Has, Scripts, history_of, IsWay, times, next_entries, script_of, calls_of, IsBeginning, IsOrder, entries_for, continued, AreEnds, AreEndsWith, AreReplies, CanOccur, CanBeAnswered, HasMorePointsWith, IsAnsweredBy, IsUndecided, CanBeAnsweredWith, CanOccurWith}
 pub use Rattle.apex_groups.specs.Prelude.{IsAnsweredByWith, IsGivenByWith, IsUndecidedWith, EndsWith, IsGivenBy, AreRepliesWith, Asked, PossibleReply, Logs, log_in, HasNoOrder, entries_at, IsAnswer}
-pub use Rattle.std.proofs.Common.{◌≡◌, ℕ, ◌<◌, Bool, true, false, List, [], length, drop, Some, refl, sym, ap, ◌∙◌, slice_index_or, Option, None, subst, ◌≢◌, ⊎_elim, zero, suc, ◌+◌, ◌≤◌, ◌&&◌, ltb, cond, ◌∷◌, set, arith, Err, ◌==◌, if◌then◌else◌, ◌++◌, map, append_assoc, append-nil, ◌⊎◌, inl, inr, take, length-append}
+pub use Rattle.std.proofs.Common.{◌≡◌, ℕ, ◌<◌, Bool, true, false, List, [], length, drop, Some, refl, sym, ap, ◌∙◌, slice_index_or, Option, None, subst, ◌≢◌, ⊎_elim, zero, suc, ◌+◌, ◌-◌, ◌≤◌, ◌&&◌, ◌||◌, not, ltb, cond, ◌∷◌, set, arith, Err, ◌==◌, if◌then◌else◌, ◌++◌, map, append_assoc, append-nil, ◌⊎◌, inl, inr, take, length-append}
 pub use Rattle.std.proofs.lemmas.Bool.{cases_eq, cases_lt, false≢true}
 pub use Rattle.std.proofs.lemmas.Bool.Decides.{nat_tests}
 pub use Rattle.std.proofs.lemmas.List.{length-set, take_all, take_more}
@@ -16,5 +16,5 @@ pub use Rattle.apex_orders.proofs.Walks.{entries_of-append, IsGood, IsDone, IsNe
 pub use Rattle.apex_groups.specs.Counts.{HasSameTotals, ShowAllCounts, ShowsCounts}
 pub use Rattle.apex_groups.specs.Groups.{AreExchanged, IsPart, list_of, AreApart, HasItsChannels, group_of, HasNone, in_group}
 pub use Rattle.apex_groups.specs.LogParts.{AreWhole, IsOfGroups}
-pub use Rattle.apex_groups.specs.ScriptParts.{AreRepliesBelow, ShowGroups, ShowsPoint, made_whole, IsAnswerOf, IsFoundOf}
+pub use Rattle.apex_groups.specs.ScriptParts.{AreRepliesBelow, ShowCountsBelow, made_whole, IsAnswerOf, IsFoundOf}
 unfoldable pub use Rattle.apex_groups.specs.ScriptParts.{calls_outside}

@@ -1,14 +1,15 @@
 pub mod Common
-pub mod ChannelLemmas
+pub mod AlikeInside
 pub mod EndLemmas
 pub mod Exchanged
 pub mod GroupLemmas
-pub mod GroupSteps
 pub mod Inside
 pub mod Joined
 pub mod Lists
 pub mod LogGroupLemmas
 pub mod OrderLemmas
 pub mod PartLemmas
+pub mod PartSteps
+pub mod PartWays
 pub mod ReplyLemmas
 pub mod WholeLemmas

@@ -1,5 +1,5 @@
 -- Items of lists.
-use Rattle.apex_groups.proofs.Common.{◌≡◌, ◌⊎◌, inl, inr, ⊎_elim, ℕ, zero, suc, ◌+◌, ◌<◌, ◌==◌, Bool, true, false, cond, List, [], ◌∷◌, ◌++◌, length, map, Some, refl, ap, ◌∙◌, arith, replicate, slice_get, filter, option_map, nat_tests, slice_get-map, times, Has}
+use Rattle.apex_groups.proofs.Common.{◌≡◌, ◌⊎◌, inl, inr, ⊎_elim, ℕ, zero, suc, ◌+◌, ◌<◌, ◌==◌, Bool, true, false, cond, List, [], ◌∷◌, ◌++◌, length, map, Some, refl, sym, ap, subst, ◌∙◌, arith, replicate, slice_get, filter, option_map, nat_tests, slice_get-map, times, Has}
 use Rattle.std.proofs.lemmas.List.Sums.{sum_by-append, sum_by-cons}
 use Rattle.apex_orders.proofs.Lists.{stays_before}
 
@@ -52,6 +52,31 @@ module _ {X : Type 0} where
           (λ (later : Has (filter f xs) x). has_rest y xs x (rest later))
           (first_or_rest y (filter f xs) x here)
       by_test false here rest = has_rest y xs x (rest here)
+
+  -- the kept items are those for which the test holds
+  pub is_kept : (f : X → Bool) (xs : List X) (x : X) → Has (filter f xs) x → f x ≡ true
+  is_kept f [] x has = absurd (has_none x has)
+  is_kept f (y ∷ xs) x has = by_test (f y) refl has (is_kept f xs x)
+    where
+      by_test : (b : Bool) → f y ≡ b → Has (cond b (y ∷ filter f xs) (filter f xs)) x → (Has (filter f xs) x → f x ≡ true) → f x ≡ true
+      by_test true here some rest =
+          ⊎_elim
+          (λ (first : y ≡ x). ap f (sym first) ∙ here)
+          (λ (later : Has (filter f xs) x). rest later)
+          (first_or_rest y (filter f xs) x some)
+      by_test false out some rest = rest some
+
+  pub has_kept : (f : X → Bool) (xs : List X) (x : X) → Has xs x → f x ≡ true → Has (filter f xs) x
+  has_kept f [] x has test = has
+  has_kept f (y ∷ xs) x has test =
+      ⊎_elim
+      (λ (first : y ≡ x). subst (λ (b : Bool). Has (cond b (y ∷ filter f xs) (filter f xs)) x) (sym (ap f first ∙ test)) (0, ap Some first))
+      (λ (rest : Has xs x). by_test (f y) (has_kept f xs x rest test))
+      (first_or_rest y xs x has)
+    where
+      by_test : (b : Bool) → Has (filter f xs) x → Has (cond b (y ∷ filter f xs) (filter f xs)) x
+      by_test true some = has_rest y (filter f xs) x some
+      by_test false some = some
 
   pub has_repeated : (n : ℕ) (y x : X) → Has (replicate n y) x → y ≡ x
   has_repeated zero y x has = absurd (has_none x has)

@@ -1,5 +1,5 @@
 -- Groups searched one after the other.
-use Rattle.apex_groups.proofs.Common.{◌≡◌, ◌≢◌, ⊎_elim, ℕ, ◌+◌, ◌<◌, ◌≤◌, Bool, true, false, cond, List, [], ◌∷◌, ◌++◌, length, take, refl, sym, ap, ◌∙◌, subst, arith, append-nil, slice_get, filter, option_to_list, cases_lt, nat_tests, take_all, Configuration, History, entries_of, entries_of-append, Logs, log_in, entries_at, AreApart, HasNone, IsPart, group_of, in_group, AreWhole, IsOfGroups}
+use Rattle.apex_groups.proofs.Common.{◌≡◌, ⊎_elim, ℕ, ◌+◌, ◌<◌, ◌≤◌, Bool, true, false, cond, List, [], ◌∷◌, ◌++◌, length, take, refl, sym, ap, ◌∙◌, subst, arith, append-nil, slice_get, filter, option_to_list, cases_lt, nat_tests, take_all, Configuration, History, entries_of, entries_of-append, Logs, log_in, entries_at, AreApart, IsPart, group_of, in_group, AreWhole, IsOfGroups}
 use Rattle.apex_log_orders.specs.declared.answer.CallPlace.{CallPlace}
 use Rattle.apex_log_orders.specs.LogOrders.{IsOrder, IsBeginning}
 use Rattle.apex_log_orders.proofs.Beginnings.{begins_nil, entries_at-append}

@@ -1,10 +1,9 @@
 -- The scripts of the partitions inside lead to what all scripts lead to inside.
-use Rattle.apex_groups.proofs.Common.{◌≡◌, ⊎_elim, ℕ, ◌<◌, ◌≤◌, Bool, true, false, List, [], length, map, take, Ok, Err, Result, Option, refl, sym, ap, ◌∙◌, subst, arith, IfOk, IfSome, IfNone, slice_get, cases_lt, take_all, Configuration, IsConfiguration, Entry, History, entries_of, IsClosed, entries_inside, independent, IsPart, Asked, PossibleReply, Scripts, script_of, calls_of, IsBeginning, IsWay, AreEnds}
+use Rattle.apex_groups.proofs.Common.{◌≡◌, ⊎_elim, ℕ, ◌<◌, ◌≤◌, Bool, true, false, List, [], length, map, take, Ok, Err, Result, Option, refl, sym, ap, ◌∙◌, subst, arith, IfOk, IfSome, IfNone, slice_get, cases_lt, take_all, Configuration, IsConfiguration, Entry, History, entries_of, IsPart, Asked, PossibleReply, Scripts, script_of, calls_of, IsBeginning, IsWay, AreEnds}
 use Rattle.apex_groups.proofs.Common.{AreReplies, CanBeAnswered, CanOccur, HasMorePointsWith, IsAnsweredBy, IsUndecided, unclocked, IsGood, IsAnswerOf, IsFoundOf}
 use Rattle.apex_types.specs.declared.call.Call.{Call}
 use Rattle.apex_types.specs.declared.moment.Moment.{Moment}
 use Rattle.apex_groups.proofs.Exchanged.{here_inside, no_list, none_outside}
-use Rattle.apex_groups.proofs.Inside.{all_inside, entries_go, entries_stay}
 use Rattle.apex_orders.specs.declared.orders_fault.OrdersFault.{OrdersFault}
 use Rattle.apex_orders.specs.declared.orders_fault.OrdersFault.TheVariants.{TooManyStates, OutOfMemory, Stopped}
 use Rattle.apex_orders.specs.declared.outcomes.Outcomes.{Outcomes}
@@ -55,10 +54,6 @@ module _ (config : Configuration) (inside : ℕ → Bool) (scripts part : Script
           let none : calls_of p h ≡ [] = begins.calls p ∙ (ap (take (length (calls_of p h))) (none_outside inside scripts part is p out) ∙ take_all (length (calls_of p h)) [] (omega arith)) in
           subst (λ (calls : List (Moment × Call)). calls ≡ take (length calls) (script_of scripts p)) (sym none) refl
 
-  -- a way of the part has only entries of the partitions inside
-  pub part_inside : (way : History) → IsWay config part way → entries_inside inside way ≡ way
-  part_inside way is_way = all_inside inside way (λ p out. no_entries part p way (none_outside inside scripts part is p out) (is_way.calls p))
-
   pub good_part : IsConfiguration config → (way : History) → IsWay config part way → IsGood config scripts way
   good_part valid way is_way = record {
     sound = record { valid = valid; lawful = is_way.lawful };
@@ -82,32 +77,7 @@ module _ (config : Configuration) (inside : ℕ → Bool) (scripts part : Script
   undecided_part can_stop bound (Err Stopped) undecided = undecided
   undecided_part can_stop bound (Err OutOfMemory) undecided = tt
 
-  -- ---- ways and replies
-
-  pub way_inside : IsClosed config inside → (way : History) → IsWay config scripts way → IsWay config part (entries_inside inside way)
-  way_inside closed way is_way = record {
-    lawful = (independent config inside closed way is_way.lawful).alone;
-    calls = λ p. by_test p (inside p) refl;
-  }
-    where
-      by_test : (p : ℕ) (b : Bool) → inside p ≡ b → calls_of p (entries_inside inside way) ≡ script_of part p
-      by_test p true here = ap (map timed_of) (entries_stay inside p here way) ∙ (is_way.calls p ∙ sym (here_inside inside scripts part is p here))
-      by_test p false out = ap (map timed_of) (entries_go inside p out way) ∙ sym (none_outside inside scripts part is p out)
-
-  pub occurs_in_part : IsClosed config inside → (one : PossibleReply) → inside one.partition ≡ true → CanOccur config scripts one → CanOccur config part one
-  occurs_in_part closed one here can = record {
-    way = entries_inside inside can.way;
-    is_way = way_inside closed can.way can.is_way;
-    clocked = unclocked part (entries_inside inside can.way);
-    reply = ap (λ (es : History). slice_get (map (λ (entry : Entry). entry.reply) es) one.index) (entries_stay inside one.partition here can.way) ∙ can.reply;
-  }
-
-  pub answered_in_part : IsClosed config inside → (asked : Asked) → inside asked.partition ≡ true → CanBeAnswered config scripts asked → CanBeAnswered config part asked
-  answered_in_part closed asked here can = record {
-    one = can.one;
-    answers = can.answers;
-    occurs = occurs_in_part closed can.one (ap inside can.answers.partition ∙ here) can.occurs;
-  }
+  -- ---- replies
 
   pub occurs_in_all : IsConfiguration config → length scripts ≡ length config.partitions → (one : PossibleReply) → CanOccur config part one → CanOccur config scripts one
   occurs_in_all valid count one can =
@@ -118,10 +88,3 @@ module _ (config : Configuration) (inside : ℕ → Bool) (scripts part : Script
         clocked = ended.finished.1;
         reply = answered_on config scripts valid can.way ended.order one can.reply;
       }
-
-  pub occurs_inside : (one : PossibleReply) → CanOccur config part one → inside one.partition ≡ true
-  occurs_inside one can = by_test (inside one.partition) refl
-    where
-      by_test : (b : Bool) → inside one.partition ≡ b → b ≡ true
-      by_test true here = refl
-      by_test false out = absurd (no_reply config part one (none_outside inside scripts part is one.partition out) can)

@@ -1,19 +1,18 @@
 -- Orders of the calls inside, extended to orders of all calls.
-use Rattle.apex_groups.proofs.Common.{◌≡◌, ◌⊎◌, inl, inr, ⊎_elim, ℕ, zero, suc, ◌+◌, ◌<◌, ◌≤◌, Bool, true, false, cond, List, [], ◌∷◌, ◌++◌, length, refl, sym, ap, ◌∙◌, subst, arith, append-nil, length-append, replicate, slice_get, filter, cases_eq, Configuration, IsConfiguration, Entry, History, entries_of, entries_inside, IsPart, Asked, PossibleReply, Scripts, script_of, calls_of, IsBeginning, IsOrder, IsWay}
+use Rattle.apex_groups.proofs.Common.{◌≡◌, ◌⊎◌, inl, inr, ⊎_elim, ℕ, zero, suc, ◌+◌, ◌<◌, ◌≤◌, Bool, true, false, cond, List, [], ◌∷◌, ◌++◌, length, refl, sym, ap, ◌∙◌, subst, arith, append-nil, length-append, replicate, slice_get, filter, cases_eq, Configuration, IsConfiguration, History, entries_of, IsPart, Asked, PossibleReply, Scripts, script_of, calls_of, IsBeginning, IsOrder, IsWay}
 use Rattle.apex_groups.proofs.Common.{entries_for, next_entries, continued, history_of, times, EndsWith, IsAnsweredBy, IsGivenBy, Has, unclocked, IsDone, IsNext, answered, calls_count, calls_of-append, continued-append, good_walk, next_cases, one_longer, own_entry, calls_outside, made_whole}
-use Rattle.std.proofs.lemmas.List.Elements.{filter-append}
 use Rattle.apex_types.specs.declared.call.Call.{Call}
 use Rattle.apex_types.specs.declared.moment.Moment.{Moment}
 use Rattle.apex_groups.proofs.Exchanged.{here_inside, none_outside}
 use Rattle.apex_orders.proofs.Completing.{IsAnswered, grows, way_of}
 use Rattle.apex_orders.proofs.Lists.{none_past}
 use Rattle.apex_groups.proofs.Lists.{has_either, has_filtered, has_none, has_repeated, times_append, times_more, times_other, times_repeated}
-use Rattle.apex_groups.proofs.PartLemmas.{good_part, part_begins, part_inside}
+use Rattle.apex_groups.proofs.PartLemmas.{good_part, part_begins}
 
 -- ---- the calls of the partitions outside
 
 module _ (inside : ℕ → Bool) where
-  outside_each : (p : ℕ) (scripts : Scripts) (q : ℕ) → Has (calls_outside inside p scripts) q → (inside q ≡ false) × (q < p + length scripts)
+  pub outside_each : (p : ℕ) (scripts : Scripts) (q : ℕ) → Has (calls_outside inside p scripts) q → (inside q ≡ false) × (q < p + length scripts)
   unfolding calls_outside
   outside_each p [] q has = absurd (has_none q has)
   outside_each p (script ∷ rest) q has = ⊎_elim
@@ -95,23 +94,6 @@ module _ (config : Configuration) (scripts : Scripts) where
           rest)
           (next_cases config scripts h p)
 
-  -- ---- calls of partitions outside add no entries inside
-
-  others_stay : (inside : ℕ → Bool) (h : History) (order : List ℕ) → ((q : ℕ) → Has order q → inside q ≡ false)
-      → entries_inside inside (continued config scripts h order) ≡ entries_inside inside h
-  others_stay inside h [] out = refl
-  others_stay inside h (p ∷ order) out =
-      let next = next_entries config scripts h p in
-      others_stay inside (h ++ next) order (λ q has. out q (suc has.0, has.1))
-      ∙ (filter-append (λ (entry : Entry). inside entry.partition) h next
-      ∙ (ap (λ (es : History). entries_inside inside h ++ es) nothing ∙ append-nil (entries_inside inside h)))
-    where
-      nothing : entries_inside inside (next_entries config scripts h p) ≡ []
-      nothing = ⊎_elim
-          (λ (done : IsDone config scripts h p). ap (entries_inside inside) done.entry)
-          (λ (more : IsNext config scripts h p). ap (entries_inside inside) more.entry ∙ ap (λ (b : Bool). cond b (answered config scripts h p more.timed ∷ []) []) (out p (0, refl)))
-          (next_cases config scripts h p)
-
 module _ (config : Configuration) (inside : ℕ → Bool) (scripts part : Scripts) (is : IsPart inside scripts part) where
   -- ---- only the calls inside
 
@@ -154,18 +136,12 @@ module _ (config : Configuration) (inside : ℕ → Bool) (scripts part : Script
 
   -- ---- followed by all other calls
 
-  whole_history : (order : List ℕ) → history_of config scripts (made_whole inside scripts order) ≡ continued config scripts (history_of config part order) (calls_outside inside 0 scripts)
+  pub whole_history : (order : List ℕ) → history_of config scripts (made_whole inside scripts order) ≡ continued config scripts (history_of config part order) (calls_outside inside 0 scripts)
   whole_history order =
       continued-append config scripts [] (filter inside order) (calls_outside inside 0 scripts)
       ∙ ap (λ (h : History). continued config scripts h (calls_outside inside 0 scripts)) (same_walk [] order)
 
   module _ (order : List ℕ) (way : IsWay config part (history_of config part order)) where
-    pub whole_inside : entries_inside inside (history_of config scripts (made_whole inside scripts order)) ≡ history_of config part order
-    whole_inside =
-        ap (entries_inside inside) (whole_history order)
-        ∙ (others_stay config scripts inside (history_of config part order) (calls_outside inside 0 scripts) (λ q has. (outside_each inside 0 scripts q has).0)
-        ∙ part_inside config inside scripts part is (history_of config part order) way)
-
     pub whole_way : IsConfiguration config → length scripts ≡ length config.partitions → IsWay config scripts (history_of config scripts (made_whole inside scripts order))
     whole_way valid count = subst (IsWay config scripts) (sym (whole_history order)) (way_of config scripts valid count end (good_walk config scripts h others (good_part config inside scripts part is valid h way) ordered) full)
       where

@@ -1,5 +1,6 @@
 -- Orders of all calls that show each channel's counts.
-use Rattle.apex_groups.specs.Prelude.{ℕ, Bool, ◌≡◌, ◌<◌, List, length, Configuration, waiting_on, History, Scripts, IsWay, history_of, HasSameCounts, Has}
+use Rattle.std.specs.Prelude.{ℕ, Bool, ◌≡◌, ◌<◌, List, length}
+use Rattle.apex_groups.specs.Prelude.{Configuration, waiting_on, History, Scripts, IsWay, history_of, HasSameCounts, Has}
 use Rattle.apex_orders.specs.Clock.{IsClocked}
 
 -- the channel has the same counts of messages after both, and the same number wait

@@ -1,5 +1,6 @@
 -- Questions about what a channel counts after all calls.
-use Rattle.apex_groups.specs.Prelude.{ℕ, Bool, ◌≡◌, ◌<◌, ◌≤◌, List, length, slice_get, Option, Some, None, Configuration, accepted_on, received_on, cleared_on, waiting_on, History, Has, Scripts, IsWay, history_of}
+use Rattle.std.specs.Prelude.{ℕ, Bool, ◌≡◌, ◌<◌, ◌≤◌, List, length, slice_get, Option, Some, None}
+use Rattle.apex_groups.specs.Prelude.{Configuration, accepted_on, received_on, cleared_on, waiting_on, History, Has, Scripts, IsWay, history_of}
 use Rattle.apex_ports.specs.Counts.{count_of}
 use Rattle.apex_orders.specs.Clock.{IsClocked}
 use Rattle.apex_groups.specs.declared.asked_end.AskedEnd.{AskedEnd}

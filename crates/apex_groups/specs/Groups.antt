@@ -1,5 +1,6 @@
 -- Groups of partitions that share no channel with the others, and lists with an item for each partition.
-use Rattle.apex_groups.specs.Prelude.{ℕ, ◌≡◌, ◌≢◌, ◌<◌, ◌==◌, if◌then◌else◌, Bool, List, [], length, slice_get, unwrap_or, Some, Configuration, port_of, Port, IsClosed}
+use Rattle.std.specs.Prelude.{ℕ, ◌≡◌, ◌≢◌, ◌<◌, ◌==◌, if◌then◌else◌, Bool, List, [], length, slice_get, unwrap_or, Some}
+use Rattle.apex_groups.specs.Prelude.{Configuration, port_of, Port, IsClosed}
 
 -- ---- groups
 

@@ -3,4 +3,5 @@ pub mod Counts
 pub mod Ends
 pub mod Groups
 pub mod LogParts
+pub mod Parts
 pub mod ScriptParts

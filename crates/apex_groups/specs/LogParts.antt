@@ -1,5 +1,6 @@
 -- What is found for the logs of each group of partitions.
-use Rattle.apex_groups.specs.Prelude.{ℕ, ◌≡◌, ◌≤◌, ◌<◌, Bool, List, [], length, Configuration, History, entries_of, Logs, log_in, IsAnswer}
+use Rattle.std.specs.Prelude.{ℕ, ◌≡◌, ◌≤◌, ◌<◌, Bool, List, [], length}
+use Rattle.apex_groups.specs.Prelude.{Configuration, History, entries_of, Logs, log_in, IsAnswer}
 use Rattle.apex_log_orders.specs.declared.answer.Answer.{Answer}
 use Rattle.apex_log_orders.specs.LogOrders.{IsBeginning}
 use Rattle.apex_groups.specs.Groups.{IsPart, group_of}

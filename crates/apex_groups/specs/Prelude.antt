@@ -1,5 +1,4 @@
 -- The words of std and of the crates below that several files of this crate cite.
-pub use Rattle.std.specs.Prelude.{ℕ, Bool, ◌≡◌, ◌<◌, List, length, ◌≤◌, slice_get, Option, Some, None, ◌≢◌, ◌==◌, if◌then◌else◌, [], unwrap_or, ◌↔◌, ◌+◌, ◌∷◌, ◌++◌, filter, replicate, IfSome, IfNone, IfOk, IsTrue, false, map, OnOk}
 pub use Rattle.apex_module.specs.Configuration.{Configuration, port_of, PartitionData, port_at, ports_of_partition, IsConfiguration}
 pub use Rattle.apex_module.specs.declared.port.Port.{Port}
 pub use Rattle.apex_ports.specs.Channels.{waiting_on, accepted_on, received_on, cleared_on}

@@ -1,6 +1,9 @@
--- What is found for the scripts of each group of partitions.
-use Rattle.apex_groups.specs.Prelude.{ℕ, ◌<◌, ◌↔◌, ◌+◌, if◌then◌else◌, Bool, List, [], ◌∷◌, ◌++◌, length, filter, replicate, Option, IfSome, IfNone, Configuration, History, entries_inside, Scripts, IsWay, history_of, AreEnds, AreReplies, CanBeAnswered, CanOccur, IsAnsweredBy, IsSamePoint, Has, Asked, PossibleReply}
-use Rattle.apex_groups.specs.Groups.{IsPart, group_of, in_group}
+-- What is found for the scripts of each part.
+use Rattle.std.specs.Prelude.{ℕ, ◌<◌, ◌↔◌, ◌+◌, if◌then◌else◌, Bool, List, [], ◌∷◌, ◌++◌, length, filter, replicate, Option, IfSome, IfNone}
+use Rattle.apex_groups.specs.Prelude.{Configuration, History, Scripts, IsWay, history_of, AreEnds, AreReplies, CanBeAnswered, CanOccur, IsAnsweredBy, Has, Asked, PossibleReply}
+use Rattle.apex_groups.specs.Counts.{ShowsCounts}
+use Rattle.apex_groups.specs.Groups.{IsPart, group_of}
+use Rattle.apex_groups.specs.Parts.{part_of_index}
 use Rattle.apex_orders.specs.declared.outcomes.Outcomes.{Outcomes}
 
 -- ---- orders
@@ -15,7 +18,7 @@ calls_outside inside p (script ∷ rest) =
 abbrev pub made_whole : (ℕ → Bool) → Scripts → List ℕ → List ℕ
 made_whole inside scripts order = filter inside order ++ calls_outside inside 0 scripts
 
--- ---- one group
+-- ---- one part
 
 -- what is found says everything about the scripts of the partitions inside
 pub record IsFoundOf (config : Configuration) (inside : ℕ → Bool) (scripts : Scripts) (found : Outcomes) : Type 0 where
@@ -31,22 +34,17 @@ pub record IsAnswerOf (config : Configuration) (inside : ℕ → Bool) (scripts 
   pub found : IfSome answer (λ order. IsAnsweredBy config part asked order)
   pub never : IfNone answer (¬ CanBeAnswered config part asked)
 
--- ---- the groups searched so far
+-- ---- the parts searched so far
 
--- these are the replies that calls of the first groups can get
-abbrev pub AreRepliesBelow : Configuration → Scripts → List ℕ → ℕ → List PossibleReply → Type 0
-AreRepliesBelow config scripts groups count replies =
-    (one : PossibleReply) → Has replies one ↔ (CanOccur config scripts one × (group_of groups one.partition < count))
+-- these are the replies that calls of the first parts can get
+abbrev pub AreRepliesBelow : Configuration → Scripts → List ℕ → List ℕ → ℕ → List PossibleReply → Type 0
+AreRepliesBelow config scripts channels partitions count replies =
+    (one : PossibleReply) → Has replies one
+    ↔ (CanOccur config scripts one × (part_of_index config channels partitions scripts one.partition one.index < count))
 
--- the calls inside lead to the same point after one of the orders
-pub record ShowsPoint (config : Configuration) (scripts : Scripts) (inside : ℕ → Bool) (ends : List (List ℕ)) (way : History) : Type 0 where
-  pub order : List ℕ
-  pub here : Has ends order
-  pub same : IsSamePoint config (entries_inside inside way) (entries_inside inside (history_of config scripts order))
-
--- each listed order makes all calls, and each way's calls of one of the first groups lead to the same point after one
--- of them
-pub record ShowGroups (config : Configuration) (scripts : Scripts) (groups : List ℕ) (count : ℕ) (ends : List (List ℕ)) : Type 0 where
+-- each listed order makes all calls, and whatever a channel of the first parts counts after a way, it counts after one of
+-- them
+pub record ShowCountsBelow (config : Configuration) (scripts : Scripts) (channels : List ℕ) (count : ℕ) (ends : List (List ℕ)) : Type 0 where
   pub ways : (order : List ℕ) → Has ends order → IsWay config scripts (history_of config scripts order)
-  pub points : (p : ℕ) → p < length config.partitions → group_of groups p < count → (way : History) → IsWay config scripts way
-      → ShowsPoint config scripts (in_group groups (group_of groups p)) ends way
+  pub counts : (c : ℕ) → c < length config.channels → group_of channels c < count
+      → (way : History) → IsWay config scripts way → ShowsCounts config scripts ends way c

@@ -1,5 +1,6 @@
 //! Ports after an order of scripts' calls.
-ghost use Rattle.apex_groups.specs.Prelude.{◌≡◌, length, IfOk, history_of};
+ghost use Rattle.std.specs.Prelude.{◌≡◌, length, IfOk};
+ghost use Rattle.apex_groups.specs.Prelude.{history_of};
 
 use apex_module::Config;
 use apex_orders::Order;

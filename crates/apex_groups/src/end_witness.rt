@@ -1,5 +1,6 @@
 //! An order of all calls that leads to an end.
-ghost use Rattle.apex_groups.specs.Prelude.{◌≡◌, ◌<◌, ◌↔◌, length, IfOk, IfSome, IfNone, IsTrue, history_of, IsUndecidedWith};
+ghost use Rattle.std.specs.Prelude.{◌≡◌, ◌<◌, ◌↔◌, length, IfOk, IfSome, IfNone, IsTrue};
+ghost use Rattle.apex_groups.specs.Prelude.{history_of, IsUndecidedWith};
 ghost use Rattle.apex_groups.specs.Ends.{FindsEnd, HasSuchEnd, IsSuchEnd, LeadsToEnd};
 
 use crate::after::ports_after;

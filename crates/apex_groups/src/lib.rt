@@ -10,6 +10,7 @@ pub mod groups;
 mod log_orders;
 mod log_parts;
 pub mod outcomes;
+mod parts;
 mod script_parts;
 pub mod witness;
 

@@ -1,5 +1,6 @@
 //! The search for an order, group by group.
-ghost use Rattle.apex_groups.specs.Prelude.{◌≡◌, length, IfOk, IsAnswer};
+ghost use Rattle.std.specs.Prelude.{◌≡◌, length, IfOk};
+ghost use Rattle.apex_groups.specs.Prelude.{IsAnswer};
 ghost use Rattle.apex_groups.specs.Groups.{AreApart};
 
 use crate::groups::Groups;

@@ -1,11 +1,14 @@
-//! All that can happen to scripts, group by group.
-ghost use Rattle.apex_groups.specs.Prelude.{◌≡◌, ◌++◌, false, length, map, IfOk, OnOk, AreReplies, AreRepliesWith, IsUndecided, IsUndecidedWith};
-ghost use Rattle.apex_groups.specs.Groups.{AreApart, in_group};
+//! All that can happen to scripts, part by part.
+ghost use Rattle.std.specs.Prelude.{◌≡◌, ◌++◌, false, length, filter, map, IfOk, OnOk};
+ghost use Rattle.apex_groups.specs.Prelude.{AreReplies, AreRepliesWith, IsUndecided, IsUndecidedWith};
+ghost use Rattle.apex_groups.specs.Groups.{in_group};
+ghost use Rattle.apex_groups.specs.Parts.{AreBelow, is_of_part};
 ghost use Rattle.apex_groups.specs.Counts.{ShowAllCounts};
 ghost use Rattle.apex_groups.specs.ScriptParts.{made_whole};
 
 use crate::ends::add_ends;
 use crate::groups::Groups;
+use crate::parts::Parts;
 use crate::script_parts::outcomes_of;
 use apex_module::Config;
 use apex_orders::{
@@ -14,10 +17,10 @@ use apex_orders::{
 use apex_ports::Script;
 use std::alloc::{AllocError, Global};
 
-/// What can happen to a group of partitions by itself.
+/// What can happen to a part of the scripts by itself: to the partitions at the ends of a channel.
 #[derive(Debug, Drop)]
 pub struct GroupCounts {
-    /// The group's partitions, ascending.
+    /// The part's partitions, ascending.
     pub partitions: Vec<usize>,
     /// The number of states that its calls can lead to, including those on the way.
     pub states: usize,
@@ -25,22 +28,22 @@ pub struct GroupCounts {
     pub ends: usize,
 }
 
-/// All that can happen to scripts, with each group of partitions searched by itself.
+/// All that can happen to scripts, with each part searched by itself.
 #[derive(Debug, Drop)]
 pub struct OutcomesApart {
     /// The replies that the calls can get, each once.
     pub replies: Vec<PossibleReply>,
     /// Orders of all calls: whatever counts of a channel some order leads to, one of these does.
     pub ends: Vec<Order>,
-    /// The groups whose partitions have calls, or one group of all if no partition has any.
+    /// The parts whose partitions have calls, or one of all partitions if all are searched together.
     pub groups: Vec<GroupCounts>,
 }
 
-/// All that can happen to the partitions' scripts, as `all_outcomes` of `apex_orders` finds it, but each group of
-/// partitions that share no channel with the others is searched by itself. With `clock`, the moments of all partitions
-/// are of one clock, and all are searched together. It is undecided if a group leads to more states than the bound, or
-/// `progress` ends a search. The scripts change only while a group is searched. `progress`
-/// receives from time to time how far the search of a group is.
+/// All that can happen to the partitions' scripts, as `all_outcomes` of `apex_orders` finds it, but the partitions at the
+/// ends of each channel are searched by themselves: what the others call makes no difference to the channel. With `clock`,
+/// the moments of all partitions are of one clock, and all are searched together. It is undecided if a part leads to more
+/// states than the bound, or `progress` ends a search. The scripts change only while a part is searched. `progress`
+/// receives from time to time how far the search of a part is.
 pub fn all_outcomes_apart<P: Progress>(
     alloc: Global,
     config: &Config,
@@ -63,7 +66,7 @@ pub fn all_outcomes_apart<P: Progress>(
     unclocked_outcomes(alloc, config, scripts, bound, progress)
 }
 
-/// Searches each group by itself, if there are groups, without a clock.
+/// Searches each part by itself, without a clock.
 fn unclocked_outcomes<P: Progress>(
     alloc: Global,
     config: &Config,
@@ -79,9 +82,9 @@ fn unclocked_outcomes<P: Progress>(
         (λ found. ShowAllCounts false config.now scripts.old found.ends.items) }
     ensures undecided { IsUndecided P.CanStop config.now scripts.old bound result }
 {
-    let groups = Groups::new(alloc, config)?;
-    if have_calls(scripts) && !groups.are_one() && groups.are_apart(config) {
-        return outcomes_by_groups(alloc, config, &groups, scripts, bound, progress);
+    let parts = Parts::new(alloc, config)?;
+    if have_calls(scripts) && parts.are_below() {
+        return outcomes_by_parts(alloc, config, &parts, scripts, bound, progress);
     }
     outcomes_together(alloc, config, scripts, false, bound, progress)
 }
@@ -92,7 +95,7 @@ fn have_calls(scripts: &[Script]) -> bool {
 }
 
 /// Searches all partitions together.
-#[tactic(auto, using(crate::proofs::GroupSteps::together))]
+#[tactic(auto, using(crate::proofs::PartSteps::together))]
 fn outcomes_together<P: Progress>(
     alloc: Global,
     config: &Config,
@@ -140,17 +143,18 @@ fn one_group(
     Ok(groups)
 }
 
-/// Searches one group after the other.
-fn outcomes_by_groups<P: Progress>(
+/// Searches one part after the other.
+fn outcomes_by_parts<P: Progress>(
     alloc: Global,
     config: &Config,
-    groups: &Groups,
+    parts: &Parts,
     scripts: &mut [Script],
     bound: usize,
     progress: &mut P,
 ) -> Result<OutcomesApart, OrdersFault>
     requires count { length scripts.old ≡ length config.now.partitions }
-    requires apart { AreApart config.now groups.now.of_partitions.items }
+    requires below { AreBelow parts.now.of_channels.items
+        parts.now.of_partitions.items parts.now.count }
     ensures same { scripts.new ≡ scripts.old }
     ensures replies { IfOk result
         (λ found. AreReplies config.now scripts.old found.replies.items) }
@@ -163,49 +167,79 @@ fn outcomes_by_groups<P: Progress>(
         ends: Vec::new(alloc),
         groups: Vec::new(alloc),
     };
-    for group in 0..config.partitions() {
-        if !groups.have(config, group) {
+    for part in 0..parts.count {
+        let members = parts.members(alloc, config, part)?;
+        if !members.have(config, 1) {
             continue;
         }
-        let found = match outcomes_of(alloc, config, groups, group, scripts, bound, progress) {
+        let found = match outcomes_of(alloc, config, &members, 1, scripts, bound, progress) {
             Err(fault) => return Err(fault),
             Ok(found) => found,
         };
-        add_group(alloc, config, groups, group, scripts, &mut all, found)?;
+        add_part(
+            alloc, config, parts, part, &members, scripts, &mut all, found,
+        )?;
     }
     Ok(all)
 }
 
-/// Adds what was found for the group.
-fn add_group(
+/// Adds what was found for the part: the replies to its calls, and its ends.
+fn add_part(
     alloc: Global,
     config: &Config,
-    groups: &Groups,
-    group: usize,
+    parts: &Parts,
+    part: usize,
+    members: &Groups,
     scripts: &[Script],
     all: &mut OutcomesApart,
     found: Outcomes,
 ) -> Result<(), AllocError>
-    ensures replies { OnOk result
-        (all.new.replies.items ≡ all.old.replies.items ++ found.replies.items) }
-    ensures ends { let inside = in_group groups.now.of_partitions.items group in
+    ensures replies { OnOk result (all.new.replies.items ≡ all.old.replies.items
+        ++ filter (is_of_part config.now parts.now.of_channels.items
+        parts.now.of_partitions.items scripts.now part) found.replies.items) }
+    ensures ends { let inside = in_group members.now.of_partitions.items 1 in
         OnOk result (all.new.ends.items
         ≡ all.old.ends.items ++ map (made_whole inside scripts.now) found.ends.items) }
 {
-    let mut replies = found.replies;
     let ends = found.ends.as_slice();
-    if let Some(partitions) = partitions_with_calls(alloc, config, groups, group, scripts)? {
+    if let Some(partitions) = partitions_with_calls(alloc, config, members, 1, scripts)? {
         all.groups.push(GroupCounts {
             partitions,
             states: found.states,
             ends: ends.len(),
         })?;
     }
-    all.replies.append(&mut replies)?;
-    add_ends(alloc, groups, group, scripts, &mut all.ends, ends)
+    let replies = found.replies.as_slice();
+    add_replies(config, parts, part, scripts, &mut all.replies, replies)?;
+    add_ends(alloc, members, 1, scripts, &mut all.ends, ends)
 }
 
-/// The group's partitions, if one of them has a call to make.
+/// Adds those of the replies that are to calls of the part.
+fn add_replies(
+    config: &Config,
+    parts: &Parts,
+    part: usize,
+    scripts: &[Script],
+    all: &mut Vec<PossibleReply>,
+    found: &[PossibleReply],
+) -> Result<(), AllocError>
+    ensures { OnOk result (all.new.items ≡ all.old.items
+        ++ filter (is_of_part config.now parts.now.of_channels.items
+        parts.now.of_partitions.items scripts.now part) found.now) }
+{
+    for one in found {
+        if parts.of_index(config, scripts, one.partition, one.index) == part {
+            all.push(PossibleReply {
+                partition: one.partition,
+                index: one.index,
+                reply: one.reply.copy(),
+            })?;
+        }
+    }
+    Ok(())
+}
+
+/// The part's partitions, if one of them has a call to make.
 fn partitions_with_calls(
     alloc: Global,
     config: &Config,

@@ -1,5 +1,6 @@
 //! The scripts of one group.
-ghost use Rattle.apex_groups.specs.Prelude.{◌≡◌, [], length, replicate, IfOk, IsUndecided};
+ghost use Rattle.std.specs.Prelude.{◌≡◌, [], length, replicate, IfOk};
+ghost use Rattle.apex_groups.specs.Prelude.{IsUndecided};
 ghost use Rattle.apex_groups.specs.Groups.{in_group};
 ghost use Rattle.apex_groups.specs.ScriptParts.{IsAnswerOf, IsFoundOf};
 

@@ -1,9 +1,9 @@
-//! An order in which a call gets a reply, searched for in the group of its partition.
-ghost use Rattle.apex_groups.specs.Prelude.{◌≡◌, length, IfOk, IfSome, IfNone, CanBeAnswered, CanBeAnsweredWith, CanOccurWith, IsAnsweredBy, IsAnsweredByWith, IsGivenByWith, IsUndecided, IsUndecidedWith};
-ghost use Rattle.apex_groups.specs.Groups.{AreApart};
+//! An order in which a call gets a reply, searched for in the part of the call.
+ghost use Rattle.std.specs.Prelude.{◌≡◌, length, IfOk, IfSome, IfNone};
+ghost use Rattle.apex_groups.specs.Prelude.{CanBeAnswered, CanBeAnsweredWith, CanOccurWith, IsAnsweredBy, IsAnsweredByWith, IsGivenByWith, IsUndecided, IsUndecidedWith};
 
 use crate::ends::calls_inside;
-use crate::groups::Groups;
+use crate::parts::Parts;
 use crate::script_parts::order_of;
 use apex_module::Config;
 use apex_orders::{
@@ -12,8 +12,8 @@ use apex_orders::{
 use apex_ports::Script;
 use std::alloc::Global;
 
-/// An order in which the asked call gets an admitted reply, like `order_giving` of `apex_orders`, but only the calls of
-/// the group of the call's partition are searched. With `clock`, the moments of all partitions are of one clock, and all
+/// An order in which the asked call gets an admitted reply, like `order_giving` of `apex_orders`, but only the partitions
+/// at the ends of the call's channel are searched. With `clock`, the moments of all partitions are of one clock, and all
 /// calls are searched. The scripts change only during the search.
 pub fn order_giving_apart<P: Progress>(
     alloc: Global,
@@ -38,7 +38,7 @@ pub fn order_giving_apart<P: Progress>(
     unclocked_order(alloc, config, scripts, asked, bound, progress)
 }
 
-/// Searches the group of the call's partition, if there are groups, without a clock.
+/// Searches the part of the call, without a clock.
 fn unclocked_order<P: Progress>(
     alloc: Global,
     config: &Config,
@@ -55,11 +55,17 @@ fn unclocked_order<P: Progress>(
         (λ answer. IfNone answer (¬ CanBeAnswered config.now scripts.old asked.now)) }
     ensures undecided { IsUndecided P.CanStop config.now scripts.old bound result }
 {
-    let groups = Groups::new(alloc, config)?;
-    if !groups.are_one() && groups.are_apart(config) {
-        return order_in_group(alloc, config, &groups, scripts, asked, bound, progress);
+    let parts = Parts::new(alloc, config)?;
+    let part = parts.of_index(config, scripts, asked.partition, asked.index);
+    let members = parts.members(alloc, config, part)?;
+    match order_of(alloc, config, &members, 1, scripts, asked, bound, progress) {
+        Err(fault) => Err(fault),
+        Ok(None) => Ok(None),
+        Ok(Some(order)) => {
+            let own = calls_inside(alloc, &members, 1, &order)?;
+            Ok(Some(Order::new(own)))
+        }
     }
-    order_giving_with_progress(alloc, config, scripts, false, asked, bound, progress)
 }
 
 /// An order that ends with the call and gives it this reply, which some order of all calls does. It searches like
@@ -89,37 +95,5 @@ pub fn order_of_reply<P: Progress>(
         Err(fault) => Err(fault),
         Ok(Some(order)) => Ok(order),
         Ok(None) => unreachable!(),
-    }
-}
-
-/// Searches the calls of the group of the call's partition.
-fn order_in_group<P: Progress>(
-    alloc: Global,
-    config: &Config,
-    groups: &Groups,
-    scripts: &mut [Script],
-    asked: &Asked,
-    bound: usize,
-    progress: &mut P,
-) -> Result<Option<Order>, OrdersFault>
-    requires count { length scripts.old ≡ length config.now.partitions }
-    requires apart { AreApart config.now groups.now.of_partitions.items }
-    ensures same { scripts.new ≡ scripts.old }
-    ensures found { IfOk result
-        (λ answer. IfSome answer (λ order. IsAnsweredBy config.now scripts.old asked.now order)) }
-    ensures never { IfOk result
-        (λ answer. IfNone answer (¬ CanBeAnswered config.now scripts.old asked.now)) }
-    ensures undecided { IsUndecided P.CanStop config.now scripts.old bound result }
-{
-    let group = groups.of_partition(asked.partition);
-    match order_of(
-        alloc, config, groups, group, scripts, asked, bound, progress,
-    ) {
-        Err(fault) => Err(fault),
-        Ok(None) => Ok(None),
-        Ok(Some(order)) => {
-            let own = calls_inside(alloc, groups, group, &order)?;
-            Ok(Some(Order::new(own)))
-        }
     }
 }

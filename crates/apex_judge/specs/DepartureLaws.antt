@@ -1,5 +1,6 @@
 -- What departures say of a log.
-use Rattle.apex_judge.specs.Prelude.{ℕ, ◌≡◌, ◌≢◌, ◌<◌, List, [], ◌∷◌, length, take, slice_get, Some, Configuration, IsConfiguration, Entry, History, reply_to, seen, IsSound}
+use Rattle.std.specs.Prelude.{ℕ, ◌≡◌, ◌≢◌, ◌<◌, List, [], ◌∷◌, length, take, slice_get, Some}
+use Rattle.apex_judge.specs.Prelude.{Configuration, IsConfiguration, Entry, History, reply_to, seen, IsSound}
 use Rattle.apex_ports.specs.Lawful.{IsLawful}
 use Rattle.apex_judge.specs.declared.departure.Departure.{Departure}
 use Rattle.apex_judge.specs.Departures.{departures_of}

@@ -1,5 +1,6 @@
 -- Where a log departs from the standard: every entry is judged after what the entries before it show.
-use Rattle.apex_judge.specs.Prelude.{ℕ, if◌then◌else◌, List, [], ◌∷◌, ◌++◌, length, Option, Some, None, Configuration, Entry, History}
+use Rattle.std.specs.Prelude.{ℕ, if◌then◌else◌, List, [], ◌∷◌, ◌++◌, length, Option, Some, None}
+use Rattle.apex_judge.specs.Prelude.{Configuration, Entry, History}
 use Rattle.apex_judge.specs.declared.departure.Departure.{Departure}
 use Rattle.apex_judge.specs.declared.departure.Expected.{Expected}
 use Rattle.apex_judge.specs.Replies.{agrees}

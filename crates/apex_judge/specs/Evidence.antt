@@ -1,5 +1,6 @@
 -- What a logged reply shows if the log is believed.
-use Rattle.apex_judge.specs.Prelude.{ℕ, Bool, true, false, ◌&&◌, ◌==◌, if◌then◌else◌, List, length, Option, Some, None, unwrap_or, Call, Mode, Moment, Reply, ReturnCode, NoError, NoAction, InvalidParam, InvalidConfig, InvalidMode, Sample, Validity, Invalid, Valid, Configuration, port_of, Entry, is_destination_of}
+use Rattle.std.specs.Prelude.{ℕ, Bool, true, false, ◌&&◌, ◌==◌, if◌then◌else◌, List, length, Option, Some, None, unwrap_or}
+use Rattle.apex_judge.specs.Prelude.{Call, Mode, Moment, Reply, ReturnCode, NoError, NoAction, InvalidParam, InvalidConfig, InvalidMode, Sample, Validity, Invalid, Valid, Configuration, port_of, Entry, is_destination_of}
 use Rattle.apex_types.specs.Mode.{mode_numbered}
 use Rattle.apex_types.specs.declared.call.Call.TheVariants as calls
 use Rattle.apex_types.specs.declared.mode.Mode.TheVariants.{Idle, ColdStart, WarmStart, Normal}

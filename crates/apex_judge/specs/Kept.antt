@@ -1,5 +1,6 @@
 -- What the state of a judge says about the log: the picture that the log gives.
-use Rattle.apex_judge.specs.Prelude.{ℕ, ◌≡◌, ◌≤◌, ◌-◌, ◌^◌, ◌==◌, Bool, false, if◌then◌else◌, List, length, slice_get, Option, Some, None, Call, Moment, Reply, Validity, Invalid, Configuration, ports_of, Entry, History, entry_of, EachAt, IsIdentifier}
+use Rattle.std.specs.Prelude.{ℕ, ◌≡◌, ◌≤◌, ◌-◌, ◌^◌, ◌==◌, Bool, false, if◌then◌else◌, List, length, slice_get, Option, Some, None}
+use Rattle.apex_judge.specs.Prelude.{Call, Moment, Reply, Validity, Invalid, Configuration, ports_of, Entry, History, entry_of, EachAt, IsIdentifier}
 use Rattle.apex_judge.specs.declared.partition.PortState.{PortState}
 use Rattle.apex_judge.specs.declared.partition.PartitionState.{PartitionState}
 use Rattle.apex_judge.specs.declared.channel.ChannelState.{ChannelState}

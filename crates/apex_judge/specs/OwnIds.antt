@@ -1,6 +1,7 @@
 -- A system's own identifiers. The reply to a call that creates a port, or that asks for its identifier, shows which
 -- identifier the system gave it, until the partition restarts. The log is judged with our identifiers instead.
-use Rattle.apex_judge.specs.Prelude.{ℕ, Bool, true, ◌&&◌, ◌||◌, ◌==◌, if◌then◌else◌, List, [], ◌∷◌, ◌++◌, find, get_or, set, replicate, length, Option, Some, None, is_none, option_map, unwrap_or, Call, Reply, Configuration, id_named, Entry, is_code_no_error, is_restart, mode_asked}
+use Rattle.std.specs.Prelude.{ℕ, Bool, true, ◌&&◌, ◌||◌, ◌==◌, if◌then◌else◌, List, [], ◌∷◌, ◌++◌, find, get_or, set, replicate, length, Option, Some, None, is_none, option_map, unwrap_or}
+use Rattle.apex_judge.specs.Prelude.{Call, Reply, Configuration, id_named, Entry, is_code_no_error, is_restart, mode_asked}
 use Rattle.apex_types.specs.declared.call.Call.TheVariants as calls
 use Rattle.apex_types.specs.declared.reply.Reply.TheVariants as replies
 use Rattle.apex_judge.specs.declared.port_ids.KnownIds.{KnownIds}

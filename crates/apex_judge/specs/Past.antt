@@ -1,5 +1,6 @@
 -- The log that a contract sees of a `Past`.
-use Rattle.apex_judge.specs.Prelude.{[], ◌∷◌, ◌++◌, History, entry_of}
+use Rattle.std.specs.Prelude.{[], ◌∷◌, ◌++◌}
+use Rattle.apex_judge.specs.Prelude.{History, entry_of}
 use Rattle.apex_judge.specs.declared.past.Latest.{Latest}
 use Rattle.apex_judge.specs.declared.past.Latest.TheVariants.{Nothing, Entry}
 

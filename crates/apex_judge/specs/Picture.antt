@@ -1,5 +1,6 @@
 -- The picture that a log gives of a system, and what a partition sees in it.
-use Rattle.apex_judge.specs.Prelude.{ℕ, Bool, false, List, [], Option, Some, None, Mode, Moment, Call, Reply, Sample, Validity, Invalid, Configuration, port_of, Port, Row, row_of, reply_of, Seen}
+use Rattle.std.specs.Prelude.{ℕ, Bool, false, List, [], Option, Some, None}
+use Rattle.apex_judge.specs.Prelude.{Mode, Moment, Call, Reply, Sample, Validity, Invalid, Configuration, port_of, Port, Row, row_of, reply_of, Seen}
 use Rattle.apex_types.specs.declared.mode.Mode.TheVariants.{ColdStart}
 
 -- of each partition its mode; of each of its ports, by identifier, whether it is created and what its last read showed;

@@ -1,6 +1,6 @@
 -- The words of std and of the crates below that several files of this crate cite.
 pub use Rattle.std.specs.Option.{option_to_list, option_copied}
-pub use Rattle.std.specs.Prelude.{ℕ, ◌≡◌, ◌≢◌, ◌<◌, List, [], ◌∷◌, length, take, slice_get, Some, if◌then◌else◌, ◌++◌, Option, None, Bool, true, false, ◌&&◌, ◌==◌, unwrap_or, ◌≤◌, ◌-◌, ◌^◌, ◌||◌, find, get_or, set, replicate, is_none, option_map, not, position, is_some, fold, Vec, ◌+◌, drop, IfOk, IfErr, IfSome, IsTrue}
+pub use Rattle.std.specs.Prelude.{List, length}
 pub use Rattle.std.specs.Str.{bytes_eq}
 pub use Rattle.apex_types.specs.declared.call.Call.{Call}
 pub use Rattle.apex_types.specs.declared.call.Call.TheVariants.{ReceiveQueuing, SendQueuing, ClearQueuing, WriteSampling, ReadSampling, CreateSampling, CreateQueuing, SetMode}

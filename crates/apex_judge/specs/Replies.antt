@@ -1,5 +1,6 @@
 -- Whether a logged reply is the standard's.
-use Rattle.apex_judge.specs.Prelude.{ℕ, Bool, true, false, ◌&&◌, ◌==◌, List, bytes_eq, Reply, NotMade, Code, Id, Received, Read, QueuingStatus, SamplingStatus, ReturnCode, Validity, is_id}
+use Rattle.std.specs.Prelude.{ℕ, Bool, true, false, ◌&&◌, ◌==◌, List}
+use Rattle.apex_judge.specs.Prelude.{bytes_eq, Reply, NotMade, Code, Id, Received, Read, QueuingStatus, SamplingStatus, ReturnCode, Validity, is_id}
 use Rattle.apex_types.specs.Direction.{number_of as number_of_direction}
 use Rattle.apex_types.specs.ReturnCode.{number_of as number_of_code}
 use Rattle.apex_types.specs.Validity.{number_of as number_of_validity}

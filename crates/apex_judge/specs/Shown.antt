@@ -1,5 +1,6 @@
 -- What a log shows to each partition, lawful or not, and what the standard then has for a call.
-use Rattle.apex_judge.specs.Prelude.{ℕ, List, Call, Moment, Reply, Configuration, Row, History, Seen}
+use Rattle.std.specs.Prelude.{ℕ, List}
+use Rattle.apex_judge.specs.Prelude.{Call, Moment, Reply, Configuration, Row, History, Seen}
 use Rattle.apex_judge.specs.Picture.{seen_in, row_in, reply_in}
 use Rattle.apex_judge.specs.Steps.{picture_of}
 

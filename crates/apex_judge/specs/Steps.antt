@@ -1,7 +1,8 @@
 -- What one entry more changes in the picture that a log gives. A single reply that isn't the standard's is taken for a mistake
 -- of the log; where what it is about departs again, the log is believed. A message that is received and waits is believed at
 -- once.
-use Rattle.apex_judge.specs.Prelude.{ℕ, Bool, true, false, ◌&&◌, ◌||◌, not, if◌then◌else◌, List, position, Option, None, is_some, unwrap_or, fold, bytes_eq, Call, ReceiveQueuing, Reply, Id, Received, Sample, Invalid, Configuration, port_of, Entry, sample_written, validity_read, History, mode_set, restarts, creates}
+use Rattle.std.specs.Prelude.{ℕ, Bool, true, false, ◌&&◌, ◌||◌, not, if◌then◌else◌, List, position, Option, None, is_some, unwrap_or, fold}
+use Rattle.apex_judge.specs.Prelude.{bytes_eq, Call, ReceiveQueuing, Reply, Id, Received, Sample, Invalid, Configuration, port_of, Entry, sample_written, validity_read, History, mode_set, restarts, creates}
 use Rattle.apex_judge.specs.declared.subject.Subject.{Subject}
 use Rattle.apex_judge.specs.Evidence.{with_evidence}
 use Rattle.apex_judge.specs.Picture.{Picture, opening, waiting_at, reply_in}

@@ -1,5 +1,6 @@
 -- What an entry of a log is about, which is doubted after it departs, until an entry about the same agrees.
-use Rattle.apex_judge.specs.Prelude.{ℕ, Bool, true, false, ◌&&◌, ◌||◌, ◌==◌, if◌then◌else◌, Option, Some, None, Call, Reply, InvalidMode, Configuration, Entry, is_create, NamedPort, queuing_of_id, queuing_named, sampling_of_id, sampling_named}
+use Rattle.std.specs.Prelude.{ℕ, Bool, true, false, ◌&&◌, ◌||◌, ◌==◌, if◌then◌else◌, Option, Some, None}
+use Rattle.apex_judge.specs.Prelude.{Call, Reply, InvalidMode, Configuration, Entry, is_create, NamedPort, queuing_of_id, queuing_named, sampling_of_id, sampling_named}
 use Rattle.apex_types.specs.declared.call.Call.TheVariants as calls
 use Rattle.apex_judge.specs.declared.subject.Subject.{Subject}
 use Rattle.apex_judge.specs.declared.subject.Subject.TheVariants.{Mode, Port, Nothing}

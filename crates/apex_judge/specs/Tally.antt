@@ -1,5 +1,6 @@
 -- What a tally of messages says about the messages that wait.
-use Rattle.apex_judge.specs.Prelude.{ℕ, ◌≤◌, List, Vec, length, take, unwrap_or, bytes_eq}
+use Rattle.std.specs.Prelude.{ℕ, ◌≤◌, List, Vec, length, take, unwrap_or}
+use Rattle.apex_judge.specs.Prelude.{bytes_eq}
 use Rattle.std.specs.BTreeMap.{BTreeMap, get_by}
 use Rattle.std.specs.Cmp.Lexicographic.{slice_cmp}
 use Rattle.std.specs.List.{count_by}

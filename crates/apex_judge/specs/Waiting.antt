@@ -1,5 +1,6 @@
 -- What waits on a queuing channel after an entry, lawful or not.
-use Rattle.apex_judge.specs.Prelude.{ℕ, Bool, true, false, ◌&&◌, ◌||◌, ◌+◌, if◌then◌else◌, List, [], ◌++◌, drop, position, Option, Some, None, option_to_list, bytes_eq, Reply, Code, ReturnCode, NotAvailable, Configuration, Entry, message_accepted, message_received, is_receive, clears}
+use Rattle.std.specs.Prelude.{ℕ, Bool, true, false, ◌&&◌, ◌||◌, ◌+◌, if◌then◌else◌, List, [], ◌++◌, drop, position, Option, Some, None}
+use Rattle.apex_judge.specs.Prelude.{option_to_list, bytes_eq, Reply, Code, ReturnCode, NotAvailable, Configuration, Entry, message_accepted, message_received, is_receive, clears}
 
 abbrev pub is_not_available : ReturnCode → Bool
 is_not_available NotAvailable = true

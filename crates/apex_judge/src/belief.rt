@@ -1,5 +1,6 @@
 //! Following a log that is believed, where what an entry is about departs again.
-ghost use Rattle.apex_judge.specs.Prelude.{◌≡◌, ℕ, ◌<◌, true, length, IfOk, IfErr, Moment, Configuration, entry_of};
+ghost use Rattle.std.specs.Prelude.{◌≡◌, ℕ, ◌<◌, true, length, IfOk, IfErr};
+ghost use Rattle.apex_judge.specs.Prelude.{Moment, Configuration, entry_of};
 ghost use Rattle.apex_judge.specs.Evidence.{sample_shown, with_evidence};
 ghost use Rattle.apex_judge.specs.Kept.{IsShown, Shows, IsPartitionShown, ChannelsBelieve, ChannelsGo, ChannelsStay};
 ghost use Rattle.apex_judge.specs.Picture.{Picture};

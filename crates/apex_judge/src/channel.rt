@@ -1,5 +1,6 @@
 //! The state of a channel: the messages that wait, and the last sample.
-ghost use Rattle.apex_judge.specs.Prelude.{◌≡◌, ◌≤◌, ◌^◌, ◌-◌, ◌∷◌, ◌++◌, [], length, slice_get, position, is_some, Some, None, IfSome, IfErr, IfOk, option_copied, bytes_eq};
+ghost use Rattle.std.specs.Prelude.{◌≡◌, ◌≤◌, ◌^◌, ◌-◌, ◌∷◌, ◌++◌, [], length, slice_get, position, is_some, Some, None, IfSome, IfErr, IfOk};
+ghost use Rattle.apex_judge.specs.Prelude.{option_copied, bytes_eq};
 ghost use Rattle.apex_judge.specs.Waiting.{left_after};
 
 use crate::queue::Queue;

@@ -1,5 +1,6 @@
 //! The log gains an entry.
-ghost use Rattle.apex_judge.specs.Prelude.{◌≡◌, ℕ, ◌<◌, ◌++◌, ◌∷◌, [], true, false, length, option_map, IfSome, IfOk, IfErr, port_of, entry_of};
+ghost use Rattle.std.specs.Prelude.{◌≡◌, ℕ, ◌<◌, ◌++◌, ◌∷◌, [], true, false, length, option_map, IfSome, IfOk, IfErr};
+ghost use Rattle.apex_judge.specs.Prelude.{port_of, entry_of};
 ghost use Rattle.apex_judge.specs.Kept.{IsShown, Shows, doubted_of};
 ghost use Rattle.apex_judge.specs.Replies.{agrees};
 ghost use Rattle.apex_judge.specs.Shown.{reply_shown};

@@ -1,5 +1,6 @@
 //! The state before the first entry.
-ghost use Rattle.apex_judge.specs.Prelude.{◌≡◌, ℕ, [], false, length, IfOk, Invalid, EachAt};
+ghost use Rattle.std.specs.Prelude.{◌≡◌, ℕ, [], false, length, IfOk};
+ghost use Rattle.apex_judge.specs.Prelude.{Invalid, EachAt};
 ghost use Rattle.apex_judge.specs.Kept.{IsPartitionShown, IsChannelShown, IsShown, created_in, last_in, doubted_in, state_at};
 ghost use Rattle.apex_judge.specs.Picture.{opening};
 

@@ -1,5 +1,6 @@
 //! Logs with a system's own identifiers, which are judged with ours in their place.
-ghost use Rattle.apex_judge.specs.Prelude.{◌≡◌, ◌<◌, length, Some, IfOk, is_code_no_error};
+ghost use Rattle.std.specs.Prelude.{◌≡◌, ◌<◌, length, Some, IfOk};
+ghost use Rattle.apex_judge.specs.Prelude.{is_code_no_error};
 ghost use Rattle.apex_judge.specs.OwnIds.{id_asked, asked_of, id_replied, replied_of, port_asked, restarted, in_ours, known_after, replaced_by, none_known, entry_in_ours, own_after, replaced_in, restored};
 
 use crate::port_ids::{KnownIds, PortIds};

@@ -1,5 +1,6 @@
 //! The state of a partition: its mode, its table of ports, and which of these are doubted.
-ghost use Rattle.apex_judge.specs.Prelude.{◌≡◌, ℕ, ◌-◌, ◌<◌, ◌≤◌, ◌==◌, if◌then◌else◌, true, false, length, Some, Invalid, is_start};
+ghost use Rattle.std.specs.Prelude.{◌≡◌, ℕ, ◌-◌, ◌<◌, ◌≤◌, ◌==◌, if◌then◌else◌, true, false, length, Some};
+ghost use Rattle.apex_judge.specs.Prelude.{Invalid, is_start};
 ghost use Rattle.apex_judge.specs.Kept.{state_at, created_in, last_in, doubted_in};
 
 use apex_types::{Mode, Validity};

@@ -1,5 +1,6 @@
 //! The messages that wait on a channel.
-ghost use Rattle.apex_judge.specs.Prelude.{◌≡◌, ◌≤◌, ◌∷◌, ◌++◌, [], length, drop, slice_get, position, Some, IfErr, IfOk, IfSome, IsTrue, option_copied, bytes_eq};
+ghost use Rattle.std.specs.Prelude.{◌≡◌, ◌≤◌, ◌∷◌, ◌++◌, [], length, drop, slice_get, position, Some, IfErr, IfOk, IfSome, IsTrue};
+ghost use Rattle.apex_judge.specs.Prelude.{option_copied, bytes_eq};
 ghost use Rattle.apex_judge.specs.Tally.{IsCounted};
 ghost use Rattle.apex_judge.specs.Waiting.{left_after};
 

@@ -1,5 +1,6 @@
 //! Whether a logged reply is that of a row.
-ghost use Rattle.apex_judge.specs.Prelude.{◌≡◌, ◌<◌, length, is_id as is_id_reply, reply_of, queuing_status_reply, sampling_status_reply, queuing_port, sampling_port};
+ghost use Rattle.std.specs.Prelude.{◌≡◌, ◌<◌, length};
+ghost use Rattle.apex_judge.specs.Prelude.{is_id as is_id_reply, reply_of, queuing_status_reply, sampling_status_reply, queuing_port, sampling_port};
 ghost use Rattle.apex_judge.specs.Kept.{IsShown};
 ghost use Rattle.apex_judge.specs.Replies.{agrees, is_code as is_code_reply, is_received as is_received_reply, is_read_as};
 ghost use Rattle.apex_judge.specs.Shown.{shown};

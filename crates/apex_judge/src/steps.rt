@@ -1,5 +1,6 @@
 //! The effects of an entry of the log.
-ghost use Rattle.apex_judge.specs.Prelude.{◌≡◌, ℕ, ◌<◌, true, false, length, IfOk, IfErr, IfSome, option_copied, Call, Moment, Configuration, port_of, message_in as message_in_reply, validity_in as validity_in_reply, entry_of, is_code_no_error, is_create, is_id, is_source_of, is_destination_of};
+ghost use Rattle.std.specs.Prelude.{◌≡◌, ℕ, ◌<◌, true, false, length, IfOk, IfErr, IfSome};
+ghost use Rattle.apex_judge.specs.Prelude.{option_copied, Call, Moment, Configuration, port_of, message_in as message_in_reply, validity_in as validity_in_reply, entry_of, is_code_no_error, is_create, is_id, is_source_of, is_destination_of};
 ghost use Rattle.apex_types.specs.declared.call.Call.TheVariants as call;
 ghost use Rattle.apex_judge.specs.Kept.{IsShown, Shows, IsPartitionShown, PartitionNotes, ChannelsNote, ChannelsStay};
 ghost use Rattle.apex_judge.specs.Picture.{Picture};

@@ -1,5 +1,6 @@
 //! What an entry of a log is about, which is doubted after it departs.
-ghost use Rattle.apex_judge.specs.Prelude.{◌≡◌, ◌<◌, length, Moment, entry_of, queuing_of_id, sampling_of_id};
+ghost use Rattle.std.specs.Prelude.{◌≡◌, ◌<◌, length};
+ghost use Rattle.apex_judge.specs.Prelude.{Moment, entry_of, queuing_of_id, sampling_of_id};
 ghost use Rattle.apex_judge.specs.Subjects.{id_in, port_about, is_of_mode, subject_of};
 
 use apex_module::{Config, PortKind};

@@ -1,5 +1,6 @@
 //! How often each message is counted, by its bytes.
-ghost use Rattle.apex_judge.specs.Prelude.{◌≡◌, ℕ, ◌+◌, ◌-◌, if◌then◌else◌, List, IfErr, IfOk, bytes_eq};
+ghost use Rattle.std.specs.Prelude.{◌≡◌, ℕ, ◌+◌, ◌-◌, if◌then◌else◌, List, IfErr, IfOk};
+ghost use Rattle.apex_judge.specs.Prelude.{bytes_eq};
 ghost use Rattle.apex_judge.specs.Tally.{times};
 
 use apex_types::OutOfMemory;

@@ -1,5 +1,6 @@
 -- What histories and logs have about one channel.
-use Rattle.apex_log_orders.specs.Prelude.{ℕ, Bool, false, not, ◌==◌, ◌&&◌, map, filter, Option, Some, None, Call, SamplingStatus, Configuration, ports_of, Port, Entry, History}
+use Rattle.std.specs.Prelude.{ℕ, Bool, false, not, ◌==◌, ◌&&◌, map, filter, Option, Some, None}
+use Rattle.apex_log_orders.specs.Prelude.{Call, SamplingStatus, Configuration, ports_of, Port, Entry, History}
 use Rattle.std.specs.List.{list_any}
 use Rattle.apex_orders.specs.Commuting.{id_in, port_in}
 use Rattle.apex_log_orders.specs.LogOrders.{Logs}

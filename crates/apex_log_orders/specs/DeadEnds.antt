@@ -1,5 +1,6 @@
 -- Dead ends of a search: what is kept of a history that no order begins with, so that none with its state is searched.
-use Rattle.apex_log_orders.specs.Prelude.{ℕ, ◌≡◌, ◌<◌, ◌+◌, Bool, true, List, Vec, length, slice_get, Some, Configuration, waiting_on, History, entries_of}
+use Rattle.std.specs.Prelude.{ℕ, ◌≡◌, ◌<◌, ◌+◌, Bool, true, List, Vec, length, slice_get, Some}
+use Rattle.apex_log_orders.specs.Prelude.{Configuration, waiting_on, History, entries_of}
 use Rattle.std.specs.BTreeSet.{BTreeSet, contains_by}
 use Rattle.std.specs.Cmp.Lexicographic.{slice_cmp}
 use Rattle.std.specs.Ordering.{nat_cmp}

@@ -1,5 +1,6 @@
 -- Logs that partitions kept separately, and the orders of all their entries.
-use Rattle.apex_log_orders.specs.Prelude.{ℕ, ◌≡◌, List, [], ◌∷◌, ◌++◌, length, take, slice_get, unwrap_or, Option, option_to_list, Configuration, Entry, History, entries_of, IsLawful}
+use Rattle.std.specs.Prelude.{ℕ, ◌≡◌, List, [], ◌∷◌, ◌++◌, length, take, slice_get, unwrap_or, Option}
+use Rattle.apex_log_orders.specs.Prelude.{option_to_list, Configuration, Entry, History, entries_of, IsLawful}
 use Rattle.apex_log_orders.specs.declared.answer.Answer.{Answer}
 use Rattle.apex_log_orders.specs.declared.answer.Answer.TheVariants.{Order, NoOrder, Undecided}
 use Rattle.apex_log_orders.specs.declared.answer.CallPlace.{CallPlace}

@@ -1,6 +1,6 @@
 -- The words of std and of the crates below that several files of this crate cite.
 pub use Rattle.std.specs.Option.{option_to_list, option_copied}
-pub use Rattle.std.specs.Prelude.{ℕ, Bool, false, not, ◌==◌, ◌&&◌, map, filter, Option, Some, None, ◌≡◌, ◌<◌, ◌+◌, true, List, Vec, length, slice_get, [], ◌∷◌, ◌++◌, take, unwrap_or, ◌≤◌, ◌⊎◌, ◌-◌, suc, if◌then◌else◌, ltb, IfSome, IsTrue, ◌↔◌, replicate, IfOk, OnOk}
+pub use Rattle.std.specs.Prelude.{List}
 pub use Rattle.apex_types.specs.declared.call.Call.{Call}
 pub use Rattle.apex_types.specs.declared.call.Call.TheVariants.{SamplingStatus, SendQueuing, ReceiveQueuing, QueuingStatus, ReadSampling, WriteSampling}
 pub use Rattle.apex_types.specs.declared.direction.Direction.{Direction}

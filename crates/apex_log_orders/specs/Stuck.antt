@@ -1,6 +1,7 @@
 -- Beginnings that no order continues or leads past: whatever was called before, none of the calls that are next in
 -- their logs can be made without one of the others.
-use Rattle.apex_log_orders.specs.Prelude.{ℕ, ◌≡◌, ◌≤◌, ◌<◌, Bool, true, false, List, length, slice_get, Some, Call, SendQueuing, ReceiveQueuing, QueuingStatus, ReadSampling, Direction, Configuration, port_of, is_queuing_port, Port, Entry, message_written, History, entries_of, HasNoClear, is_code_not_available}
+use Rattle.std.specs.Prelude.{ℕ, ◌≡◌, ◌≤◌, ◌<◌, Bool, true, false, List, length, slice_get, Some}
+use Rattle.apex_log_orders.specs.Prelude.{Call, SendQueuing, ReceiveQueuing, QueuingStatus, ReadSampling, Direction, Configuration, port_of, is_queuing_port, Port, Entry, message_written, History, entries_of, HasNoClear, is_code_not_available}
 use Rattle.apex_log_orders.specs.declared.answer.CallPlace.{CallPlace}
 use Rattle.apex_log_orders.specs.LogOrders.{Logs, log_in, IsBeginning, entry_at}
 use Rattle.apex_log_orders.specs.Walking.{HasNoWay, next_of}

@@ -1,5 +1,6 @@
 -- A search that goes forward call by call, and goes back if no partition can go on.
-use Rattle.apex_log_orders.specs.Prelude.{ℕ, ◌≡◌, ◌⊎◌, ◌<◌, ◌+◌, ◌-◌, suc, if◌then◌else◌, ltb, List, [], ◌∷◌, ◌++◌, length, take, slice_get, Option, Some, None, Configuration, IsConfiguration, Entry, History, entries_of, IsLawfulEntry}
+use Rattle.std.specs.Prelude.{ℕ, ◌≡◌, ◌⊎◌, ◌<◌, ◌+◌, ◌-◌, suc, if◌then◌else◌, ltb, List, [], ◌∷◌, ◌++◌, length, take, slice_get, Option, Some, None}
+use Rattle.apex_log_orders.specs.Prelude.{Configuration, IsConfiguration, Entry, History, entries_of, IsLawfulEntry}
 use Rattle.apex_log_orders.specs.declared.search.Step.{Step}
 use Rattle.apex_log_orders.specs.declared.search.Step.TheVariants.{On, Whole, Back}
 use Rattle.apex_log_orders.specs.declared.walk.Walk.{Walk}

@@ -1,5 +1,6 @@
 //! The ends of queuing channels, and how far the first calls of a log advance them.
-ghost use Rattle.apex_log_orders.specs.Prelude.{◌≡◌, ◌≤◌, if◌then◌else◌, length, take, IfSome, option_to_list, accepted_on, received_on, message_accepted, message_received, is_code_no_error, is_source_of, is_destination_of, port_of};
+ghost use Rattle.std.specs.Prelude.{◌≡◌, ◌≤◌, if◌then◌else◌, length, take, IfSome};
+ghost use Rattle.apex_log_orders.specs.Prelude.{option_to_list, accepted_on, received_on, message_accepted, message_received, is_code_no_error, is_source_of, is_destination_of, port_of};
 ghost use Rattle.apex_log_orders.specs.Stuck.{HasEnd};
 
 use crate::answer::OwnLog;

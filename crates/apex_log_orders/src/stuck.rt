@@ -1,6 +1,7 @@
 //! Whether no order continues the calls made so far, nor leads past them. This needs no trying: it follows from what a
 //! call gets while others made fewer calls, and from what a call to come shows of the other end of its channel.
-ghost use Rattle.apex_log_orders.specs.Prelude.{◌≡◌, ◌<◌, length, Some, IsTrue, HasNoClear, asks_clear, is_code_not_available};
+ghost use Rattle.std.specs.Prelude.{◌≡◌, ◌<◌, length, Some, IsTrue};
+ghost use Rattle.apex_log_orders.specs.Prelude.{HasNoClear, asks_clear, is_code_not_available};
 ghost use Rattle.apex_log_orders.specs.LogOrders.{HasNoOrder};
 ghost use Rattle.apex_log_orders.specs.Stuck.{HaveNoClear, NeverNext, is_own, is_transfer};
 ghost use Rattle.apex_log_orders.specs.Walking.{IsWalk, next_of};

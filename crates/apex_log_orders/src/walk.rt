@@ -1,5 +1,6 @@
 //! A search call by call: the calls made so far, and the partitions tried at each of them.
-ghost use Rattle.apex_log_orders.specs.Prelude.{◌≡◌, ◌<◌, ◌↔◌, length, replicate, Some, IfOk, OnOk, IfSome, IsTrue, option_copied};
+ghost use Rattle.std.specs.Prelude.{◌≡◌, ◌<◌, ◌↔◌, length, replicate, Some, IfOk, OnOk, IfSome, IsTrue};
+ghost use Rattle.apex_log_orders.specs.Prelude.{option_copied};
 ghost use Rattle.apex_log_orders.specs.LogOrders.{HasNoOrder, IsOrder};
 ghost use Rattle.apex_log_orders.specs.Walking.{CanGoOn, Ends, HasNoWayNext, IsWalk, candidate_of, next_of};
 

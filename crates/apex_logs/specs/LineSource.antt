@@ -1,5 +1,6 @@
 -- Lines of a log that come one after another: what is left of them, and what the next one is.
-use Rattle.apex_logs.specs.Prelude.{◌≡◌, ℕ, Bool, true, false, List, [], ◌∷◌, ◌++◌, drop, Option, Some, None, option_map, Result, Ok, Err, IfSome, All, length, lines, Entry, Request, LineFault, is_line_feed}
+use Rattle.std.specs.Prelude.{◌≡◌, ℕ, Bool, true, false, List, [], ◌∷◌, ◌++◌, drop, Option, Some, None, option_map, Result, Ok, Err, IfSome, All, length}
+use Rattle.apex_logs.specs.Prelude.{lines, Entry, Request, LineFault, is_line_feed}
 use Rattle.std.specs.Io.KnownBytes.{prepend_known}
 use Rattle.apex_logs.specs.declared.line_reader.LineReader.{LineReader}
 use Rattle.apex_logs.specs.declared.line_source.LogStep.{LogStep}

@@ -1,6 +1,7 @@
 -- What a log means: the entries of its lines in order, or its first faulty line. A parameter says whose log it is, and so
 -- how its lines are read.
-use Rattle.apex_logs.specs.Prelude.{◌≡◌, ℕ, ◌+◌, if◌then◌else◌, List, [], ◌∷◌, ◌++◌, codes, decimal, Option, Some, None, Result, Ok, Err, lines, Configuration, Entry, Request, LineFault, ◌>>=◌}
+use Rattle.std.specs.Prelude.{◌≡◌, ℕ, ◌+◌, if◌then◌else◌, List, [], ◌∷◌, ◌++◌, codes, decimal, Option, Some, None, Result, Ok, Err}
+use Rattle.apex_logs.specs.Prelude.{lines, Configuration, Entry, Request, LineFault, ◌>>=◌}
 use Rattle.std.specs.Global.{Vec}
 use Rattle.apex_logs.specs.declared.log.FaultyLine.{FaultyLine}
 use Rattle.apex_logs.specs.declared.log.LogError.{LogError}

@@ -1,7 +1,8 @@
 -- What a line of a log means: the entry of its call and its logged reply.
 --     MOMENT PARTITION CALL ARGUMENTS timeout TIME -> REPLY (NOTE)
 -- A log of one partition has no PARTITION. A time-out and a note may be left out, and a note is passed over.
-use Rattle.apex_logs.specs.Prelude.{ℕ, Bool, false, ◌+◌, ◌==◌, if◌then◌else◌, List, [], ◌∷◌, take, drop, codes, bytes_eq, position, Option, Some, None, Result, Ok, Err, Configuration, Reply, Entry, Request, LineFault, ◌>>=◌, is_blank, words_of}
+use Rattle.std.specs.Prelude.{ℕ, Bool, false, ◌+◌, ◌==◌, if◌then◌else◌, List, [], ◌∷◌, take, drop, codes, bytes_eq, position, Option, Some, None, Result, Ok, Err}
+use Rattle.apex_logs.specs.Prelude.{Configuration, Reply, Entry, Request, LineFault, ◌>>=◌, is_blank, words_of}
 use Rattle.memchr.specs.Find.{matches, first_of}
 use Rattle.apex_texts.specs.Lines.{line_words}
 use Rattle.apex_logs.specs.declared.log_fault.LogFault.{LogFault}

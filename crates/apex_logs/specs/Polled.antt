@@ -1,5 +1,6 @@
 -- An entry as in a log without time-outs: the reply that its call would have got without one when it returned.
-use Rattle.apex_logs.specs.Prelude.{Bool, Entry}
+use Rattle.std.specs.Prelude.{Bool}
+use Rattle.apex_logs.specs.Prelude.{Entry}
 use Rattle.apex_logs.specs.declared.log.LoggedEntry.{LoggedEntry}
 use Rattle.apex_logs.specs.declared.time_out.MaxWait.{MaxWait}
 use Rattle.apex_logs.specs.TimeOut.{max_wait_of, as_polled}

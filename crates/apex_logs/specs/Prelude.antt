@@ -1,5 +1,5 @@
 -- The words of std and of the crates below that several files of this crate cite.
-pub use Rattle.std.specs.Prelude.{◌≡◌, ℕ, Bool, true, false, List, [], ◌∷◌, ◌++◌, drop, Option, Some, None, option_map, Result, Ok, Err, IfSome, All, length, ◌+◌, if◌then◌else◌, codes, decimal, ◌==◌, take, bytes_eq, position, find, ◌&&◌, ◌<◌, ◌≤◌, IfOk, OnOk, IfErr, ◌^◌}
+pub use Rattle.std.specs.Prelude.{ℕ, List, Result}
 pub use Rattle.std.specs.Str.Lines.{lines, strip_carriage_return}
 pub use Rattle.apex_types.specs.declared.reply.Reply.{Reply}
 pub use Rattle.apex_types.specs.declared.return_code.ReturnCode.{ReturnCode}

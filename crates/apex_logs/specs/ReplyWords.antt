@@ -1,5 +1,6 @@
 -- The reply that words say, in the words of a report: they are read from left to right, and the first fault counts.
-use Rattle.apex_logs.specs.Prelude.{◌≡◌, ℕ, if◌then◌else◌, List, [], ◌∷◌, find, codes, bytes_eq, Option, Some, None, Result, Ok, Err, Reply, ReturnCode, NoError, NoAction, NotAvailable, InvalidParam, InvalidConfig, InvalidMode, TimedOut, NUMBER_LIMIT, LineFault, ◌>>=◌, or_fault, word_at, argument_at, message_in, exactly, number_up_to}
+use Rattle.std.specs.Prelude.{◌≡◌, ℕ, if◌then◌else◌, List, [], ◌∷◌, find, codes, bytes_eq, Option, Some, None, Result, Ok, Err}
+use Rattle.apex_logs.specs.Prelude.{Reply, ReturnCode, NoError, NoAction, NotAvailable, InvalidParam, InvalidConfig, InvalidMode, TimedOut, NUMBER_LIMIT, LineFault, ◌>>=◌, or_fault, word_at, argument_at, message_in, exactly, number_up_to}
 use Rattle.apex_types.specs.Direction.{word_of as direction_word}
 use Rattle.apex_types.specs.ReturnCode.{word_of as code_word}
 use Rattle.apex_types.specs.Validity.{word_of as validity_word}

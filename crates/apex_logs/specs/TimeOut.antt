@@ -1,6 +1,7 @@
 -- Time-outs of logged calls. The line of a call with a time-out is at the place where the call returned. So it got the
 -- reply that a call without one would have got there, except that TIMED_OUT replaces NOT_AVAILABLE.
-use Rattle.apex_logs.specs.Prelude.{Bool, true, false, ◌&&◌, ◌==◌, if◌then◌else◌, Reply, ReturnCode, NotAvailable, TimedOut}
+use Rattle.std.specs.Prelude.{Bool, true, false, ◌&&◌, ◌==◌, if◌then◌else◌}
+use Rattle.apex_logs.specs.Prelude.{Reply, ReturnCode, NotAvailable, TimedOut}
 use Rattle.apex_types.specs.declared.call.Call.{Call}
 use Rattle.apex_types.specs.declared.call.Call.TheVariants.{SendQueuing, ReceiveQueuing}
 use Rattle.apex_types.specs.declared.reply.Reply.TheVariants.{Code}

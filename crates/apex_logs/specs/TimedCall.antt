@@ -1,7 +1,8 @@
 -- The call of a log's line: that of a trace's line, and after the arguments of a send or a receive its time-out.
 --     SERVICE ARGUMENTS timeout NANOSECONDS
 --     SERVICE ARGUMENTS timeout infinite
-use Rattle.apex_logs.specs.Prelude.{ℕ, if◌then◌else◌, List, [], ◌∷◌, codes, bytes_eq, Option, Some, None, option_map, Result, Ok, Err, Configuration, Request, MOMENT_LIMIT, LineFault, ◌>>=◌, or_fault, word_at, exactly, call_at, call_with, moment_of, number_up_to}
+use Rattle.std.specs.Prelude.{ℕ, if◌then◌else◌, List, [], ◌∷◌, codes, bytes_eq, Option, Some, None, option_map, Result, Ok, Err}
+use Rattle.apex_logs.specs.Prelude.{Configuration, Request, MOMENT_LIMIT, LineFault, ◌>>=◌, or_fault, word_at, exactly, call_at, call_with, moment_of, number_up_to}
 use Rattle.apex_types.specs.declared.call.Call.{Call}
 use Rattle.apex_texts.specs.declared.line_fault.LineFault.TheVariants.{TooManyWords, UnknownCall, Number}
 use Rattle.apex_texts.specs.declared.service.Service.{Service}

@@ -1,5 +1,6 @@
 //! The lines of what a reader gives piece by piece, in constant memory.
-ghost use Rattle.apex_logs.specs.Prelude.{◌≡◌, ◌<◌, ◌≤◌, true, false, length, option_map, position, IfOk, OnOk, lines, strip_carriage_return, is_line_feed};
+ghost use Rattle.std.specs.Prelude.{◌≡◌, ◌<◌, ◌≤◌, true, false, length, option_map, position, IfOk, OnOk};
+ghost use Rattle.apex_logs.specs.Prelude.{lines, strip_carriage_return, is_line_feed};
 ghost use Rattle.std.specs.Io.KnownBytes.{Consumes, IsAtEnd, Keeps};
 ghost use Rattle.apex_logs.specs.LineSource.{IsNextLine, text_left, lines_left, IsPart};
 

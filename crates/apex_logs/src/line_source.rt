@@ -1,5 +1,6 @@
 //! Lines of a log that come one after another, and the entry of the next of them.
-ghost use Rattle.apex_logs.specs.Prelude.{◌≡◌, false, IfOk, IfErr, Some, Err, lines};
+ghost use Rattle.std.specs.Prelude.{◌≡◌, false, IfOk, IfErr, Some, Err};
+ghost use Rattle.apex_logs.specs.Prelude.{lines};
 ghost use Rattle.apex_logs.specs.LogLine.{entry_of_line, ends_calls};
 ghost use Rattle.apex_logs.specs.LineSource.{IsNextLine, IsStep, IsFaultyStep, IsMeaning, IfEntry};
 

@@ -1,5 +1,6 @@
 //! Reading a log line by line: the entries of its lines, each with the number of its line, or its first faulty line.
-ghost use Rattle.apex_logs.specs.Prelude.{◌≡◌, ◌+◌, ◌<◌, ◌≤◌, ◌^◌, length, option_map, Some, Ok, Err, IfOk, IfErr, IfSome, lines};
+ghost use Rattle.std.specs.Prelude.{◌≡◌, ◌+◌, ◌<◌, ◌≤◌, ◌^◌, length, option_map, Some, Ok, Err, IfOk, IfErr, IfSome};
+ghost use Rattle.apex_logs.specs.Prelude.{lines};
 ghost use Rattle.apex_logs.specs.ReplyWords.{Gives};
 ghost use Rattle.apex_logs.specs.LogLine.{entry_of_line};
 ghost use Rattle.apex_logs.specs.TimedCall.{logged_request_at, own_request_at};

@@ -1,5 +1,6 @@
 //! The lines of a log: each has the entry of its call and its logged reply, or is passed over.
-ghost use Rattle.apex_logs.specs.Prelude.{◌≡◌, ◌+◌, ◌<◌, ◌≤◌, length, position, option_map, false, IfOk, IfSome, OnOk, words_of, is_blank};
+ghost use Rattle.std.specs.Prelude.{◌≡◌, ◌+◌, ◌<◌, ◌≤◌, length, position, option_map, false, IfOk, IfSome, OnOk};
+ghost use Rattle.apex_logs.specs.Prelude.{words_of, is_blank};
 ghost use Rattle.apex_texts.specs.Arguments as of_trace;
 ghost use Rattle.apex_texts.specs.Trace.{partition_of};
 ghost use Rattle.apex_logs.specs.ReplyWords.{Gives};

@@ -1,5 +1,6 @@
 //! The reply that words say, in the words of a report.
-ghost use Rattle.apex_logs.specs.Prelude.{◌≡◌, [], ◌∷◌, words_of};
+ghost use Rattle.std.specs.Prelude.{◌≡◌, [], ◌∷◌};
+ghost use Rattle.apex_logs.specs.Prelude.{words_of};
 ghost use Rattle.apex_types.specs.declared.reply.Reply.TheVariants as replies;
 ghost use Rattle.apex_logs.specs.ReplyWords.{Gives, first_word, after_word, named_at, number_at, number_after, no_word, code_named, direction_named, validity_named, not_made_at, id_at, message_of, shown_by, message_reply_at, queuing_status_at, sampling_status_at, data_at, behind_no_error, behind_code, reply_by, reply_of};
 

@@ -1,5 +1,6 @@
 //! The law that the words of a report for a reply are read as the reply.
-ghost use Rattle.apex_logs.specs.Prelude.{◌≡◌, Ok, words_of};
+ghost use Rattle.std.specs.Prelude.{◌≡◌, Ok};
+ghost use Rattle.apex_logs.specs.Prelude.{words_of};
 ghost use Rattle.apex_texts.specs.Report.{reply_text};
 ghost use Rattle.apex_logs.specs.ReplyWords.{reply_of};
 

@@ -1,5 +1,6 @@
 //! The call of a log's line: that of a trace's line, and after the arguments of a send or a receive its time-out.
-ghost use Rattle.apex_logs.specs.Prelude.{◌≡◌, option_map, Gives, or_fault, message_in, words_of, number_up_to};
+ghost use Rattle.std.specs.Prelude.{◌≡◌, option_map};
+ghost use Rattle.apex_logs.specs.Prelude.{Gives, or_fault, message_in, words_of, number_up_to};
 ghost use Rattle.apex_logs.specs.TimedCall.{time_out_in, time_out_word, time_out_of, timed_call_with};
 
 use crate::time_out::TimeOut;

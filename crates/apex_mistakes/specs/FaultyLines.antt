@@ -1,5 +1,6 @@
 -- All faulty lines of a text, with the places of their faults.
-use Rattle.apex_mistakes.specs.Prelude.{◌≡◌, ℕ, ◌+◌, List, [], ◌∷◌, ◌++◌, length, take, Option, Result, option_map, option_to_list, result_err, lines, Configuration, Expected, LineFault, FaultyLine, item_of_line, timed_call_at, request_at}
+use Rattle.std.specs.Prelude.{◌≡◌, ℕ, ◌+◌, List, [], ◌∷◌, ◌++◌, length, take, Option, Result, option_map, option_to_list}
+use Rattle.apex_mistakes.specs.Prelude.{result_err, lines, Configuration, Expected, LineFault, FaultyLine, item_of_line, timed_call_at, request_at}
 use Rattle.apex_texts.specs.declared.expected.Expected.TheVariants as kinds
 use Rattle.apex_mistakes.specs.declared.faulty_lines.FaultyLines.{FaultyLines}
 use Rattle.apex_mistakes.specs.declared.line_place.LinePlace.{LinePlace}

@@ -1,6 +1,7 @@
 -- The place of a line's fault: the number of its word, and its column. The words before the call word, which differ
 -- between traces and scripts, are a parameter.
-use Rattle.apex_mistakes.specs.Prelude.{ℕ, zero, suc, ◌+◌, ◌-◌, not, if◌then◌else◌, List, [], ◌∷◌, ◌++◌, length, take, drop, slice_index_or, position, unwrap_or, Option, Some, None, Expected, LineFault, is_blank, words_of, is_ascii}
+use Rattle.std.specs.Prelude.{ℕ, zero, suc, ◌+◌, ◌-◌, not, if◌then◌else◌, List, [], ◌∷◌, ◌++◌, length, take, drop, slice_index_or, position, unwrap_or, Option, Some, None}
+use Rattle.apex_mistakes.specs.Prelude.{Expected, LineFault, is_blank, words_of, is_ascii}
 use Rattle.std.specs.List.{position_or_len}
 use Rattle.apex_texts.specs.declared.expected.Expected.TheVariants as kinds
 use Rattle.apex_texts.specs.declared.line_fault.LineFault.TheVariants as faults

@@ -1,5 +1,6 @@
 -- All faulty lines of a log, with the places of their faults.
-use Rattle.apex_mistakes.specs.Prelude.{◌≡◌, ℕ, ◌+◌, if◌then◌else◌, List, [], ◌∷◌, ◌++◌, length, take, Option, Result, option_map, option_to_list, result_err, lines, Configuration, Request, Expected, LineFault, TimeOut, entry_of_line, ends_calls}
+use Rattle.std.specs.Prelude.{◌≡◌, ℕ, ◌+◌, if◌then◌else◌, List, [], ◌∷◌, ◌++◌, length, take, Option, Result, option_map, option_to_list}
+use Rattle.apex_mistakes.specs.Prelude.{result_err, lines, Configuration, Request, Expected, LineFault, TimeOut, entry_of_line, ends_calls}
 use Rattle.apex_texts.specs.declared.expected.Expected.TheVariants as kinds
 use Rattle.apex_logs.specs.declared.log.FaultyLine.{FaultyLine}
 use Rattle.apex_logs.specs.TimedCall.{logged_request_at, own_request_at}

@@ -1,5 +1,6 @@
 -- The place of the fault of a log's line: its part, the number of its word there, and its column.
-use Rattle.apex_mistakes.specs.Prelude.{ℕ, ◌+◌, ◌-◌, Bool, true, false, not, if◌then◌else◌, List, [], ◌++◌, codes, length, take, drop, position, unwrap_or, is_err, Result, Ok, Err, Request, Expected, LineFault, words_of, TimeOut, sides_of, is_bracket, before_note, entry_of_line}
+use Rattle.std.specs.Prelude.{ℕ, ◌+◌, ◌-◌, Bool, true, false, not, if◌then◌else◌, List, [], ◌++◌, codes, length, take, drop, position, unwrap_or, is_err, Result, Ok, Err}
+use Rattle.apex_mistakes.specs.Prelude.{Request, Expected, LineFault, words_of, TimeOut, sides_of, is_bracket, before_note, entry_of_line}
 use Rattle.std.specs.List.{position_or_len, range_with_len}
 use Rattle.apex_types.specs.declared.reply.Reply.{Reply}
 use Rattle.apex_texts.specs.declared.line_fault.LineFault.TheVariants as faults

@@ -1,11 +1,10 @@
 -- The words of std and of the crates below that several files of this crate cite.
-pub use Rattle.std.specs.Prelude.{◌≡◌, ℕ, ◌+◌, List, [], ◌∷◌, ◌++◌, length, take, Option, Result, option_map, option_to_list, zero, suc, ◌-◌, not, if◌then◌else◌, drop, slice_index_or, position, unwrap_or, Some, None, Bool, true, false, codes, is_err, Ok, Err, ◌<◌, ◌≤◌, ◌^◌, slice_get, MatchOption, IfSome, IfOk}
 pub use Rattle.std.specs.Result.{result_err}
 pub use Rattle.std.specs.Str.Lines.{lines}
 pub use Rattle.apex_module.specs.Configuration.{Configuration}
 pub use Rattle.apex_ports.specs.declared.history.Request.{Request}
 pub use Rattle.apex_texts.specs.Lines.{FaultyLine, is_ascii, before}
-unfoldable pub use Rattle.apex_texts.specs.Lines.{item_of_line, items_from}
+unfoldable pub use Rattle.apex_texts.specs.Lines.{item_of_line}
 pub use Rattle.apex_texts.specs.Script.{script_of}
 unfoldable pub use Rattle.apex_texts.specs.Script.{timed_call_at}
 pub use Rattle.apex_texts.specs.Text.{is_blank, words_of}

@@ -1,5 +1,6 @@
 //! The faulty lines of a text, with the places of their faults.
-ghost use Rattle.apex_mistakes.specs.Prelude.{◌≡◌, ◌+◌, ◌<◌, ◌≤◌, ◌^◌, ◌∷◌, [], length, MatchOption, IfSome, IfOk, lines};
+ghost use Rattle.std.specs.Prelude.{◌≡◌, ◌+◌, ◌<◌, ◌≤◌, ◌^◌, ◌∷◌, [], length, MatchOption, IfSome, IfOk};
+ghost use Rattle.apex_mistakes.specs.Prelude.{lines};
 ghost use Rattle.apex_mistakes.specs.FaultyLines.{places_from, places_of, trace_places, script_places, AreFirst};
 
 use crate::line_place::{LinePlace, place_in};

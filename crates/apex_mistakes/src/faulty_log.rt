@@ -1,5 +1,6 @@
 //! The faulty lines of a log, with the places of their faults.
-ghost use Rattle.apex_mistakes.specs.Prelude.{◌≡◌, ◌≤◌, ℕ, List, length, slice_get, option_map, IfOk, result_err, lines, Configuration, script_of, trace_of};
+ghost use Rattle.std.specs.Prelude.{◌≡◌, ◌≤◌, ℕ, List, length, slice_get, option_map, IfOk};
+ghost use Rattle.apex_mistakes.specs.Prelude.{result_err, lines, Configuration, script_of, trace_of};
 ghost use Rattle.apex_logs.specs.Log.{log_of, own_log_of};
 ghost use Rattle.apex_mistakes.specs.FaultyLines.{faulty_line, script_places, trace_places};
 ghost use Rattle.apex_mistakes.specs.LogFaults.{log_places_from, log_places, own_log_places, faulty_log_line, AreFirstOfLog};

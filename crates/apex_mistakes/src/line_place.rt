@@ -1,5 +1,6 @@
 //! The place of a line's fault, and what was expected there.
-ghost use Rattle.apex_mistakes.specs.Prelude.{◌≡◌, ◌+◌, ◌<◌, ◌≤◌, ◌^◌, not, take, drop, length, [], position, slice_index_or, unwrap_or, words_of, is_ascii};
+ghost use Rattle.std.specs.Prelude.{◌≡◌, ◌+◌, ◌<◌, ◌≤◌, ◌^◌, not, take, drop, length, [], position, slice_index_or, unwrap_or};
+ghost use Rattle.apex_mistakes.specs.Prelude.{words_of, is_ascii};
 ghost use Rattle.apex_texts.specs.declared.expected.Expected.TheVariants as kinds;
 ghost use Rattle.apex_mistakes.specs.LinePlace.{behind_first_word, from_first_word, from_word_at, column_of, parameters_at, words_expected, misfit, words_before, place_in};
 

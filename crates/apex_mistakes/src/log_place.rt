@@ -1,5 +1,6 @@
 //! The place of the fault of a log's line.
-ghost use Rattle.apex_mistakes.specs.Prelude.{◌≡◌, ◌+◌, ◌<◌, ◌≤◌, ◌^◌, length, position, IfOk, words_of, is_bracket};
+ghost use Rattle.std.specs.Prelude.{◌≡◌, ◌+◌, ◌<◌, ◌≤◌, ◌^◌, length, position, IfOk};
+ghost use Rattle.apex_mistakes.specs.Prelude.{words_of, is_bracket};
 ghost use Rattle.apex_mistakes.specs.LogPlace.{call_side, reply_side, reply_text, call_alone, is_in_call, before_arrow, begins_reply, fitting, bracket_column, reply_column, log_place_in};
 
 use crate::line_place::{

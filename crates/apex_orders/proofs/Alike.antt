@@ -16,10 +16,10 @@ pub record IsChannelAlike (config : Configuration) (g h : History) (c : ℕ) : T
   pub writes : writes_on config c g ≡ writes_on config c h
 
 module _ (config : Configuration) (c : ℕ) where
-  channel_back : (g h : History) → IsChannelAlike config g h c → IsChannelAlike config h g c
+  pub channel_back : (g h : History) → IsChannelAlike config g h c → IsChannelAlike config h g c
   channel_back g h alike = record { accepted = sym alike.accepted; received = sym alike.received; taken = sym alike.taken; writes = sym alike.writes }
 
-  channel_along : (f g h : History) → IsChannelAlike config f g c → IsChannelAlike config g h c → IsChannelAlike config f h c
+  pub channel_along : (f g h : History) → IsChannelAlike config f g c → IsChannelAlike config g h c → IsChannelAlike config f h c
   channel_along f g h one two = record {
     accepted = one.accepted ∙ two.accepted;
     received = one.received ∙ two.received;
@@ -27,7 +27,7 @@ module _ (config : Configuration) (c : ℕ) where
     writes = one.writes ∙ two.writes;
   }
 
-  channel_more : (g h : History) (x : Entry) → IsChannelAlike config g h c → IsChannelAlike config (g ++ x ∷ []) (h ++ x ∷ []) c
+  pub channel_more : (g h : History) (x : Entry) → IsChannelAlike config g h c → IsChannelAlike config (g ++ x ∷ []) (h ++ x ∷ []) c
   channel_more g h x alike = record {
     accepted = accepted_on-append config c g x ∙ (ap (λ (ms : List (List ℕ)). ms ++ option_to_list (message_accepted config c x)) alike.accepted ∙ sym (accepted_on-append config c h x));
     received = received_on-append config c g x ∙ (ap (λ (ms : List (List ℕ)). ms ++ option_to_list (message_received config c x)) alike.received ∙ sym (received_on-append config c h x));
@@ -35,7 +35,7 @@ module _ (config : Configuration) (c : ℕ) where
     writes = writes_on-append config c g x ∙ (ap (λ (ws : List Sample). ws ++ option_to_list (sample_written config c x)) alike.writes ∙ sym (writes_on-append config c h x));
   }
 
-  channel_left : (h : History) (x : Entry) → LeavesChannel config c x → IsChannelAlike config (h ++ x ∷ []) h c
+  pub channel_left : (h : History) (x : Entry) → LeavesChannel config c x → IsChannelAlike config (h ++ x ∷ []) h c
   channel_left h x left = record {
     accepted = accepted_stays config c h x left.accepted;
     received = received_stays config c h x left.received;

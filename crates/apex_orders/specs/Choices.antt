@@ -1,5 +1,6 @@
 -- Partitions whose next calls are tried.
-use Rattle.apex_orders.specs.Prelude.{ℕ, Bool, false, ◌≡◌, ◌⊎◌, List, length, slice_get, Some, unwrap_or, Call, Moment, Configuration, History, entries_of}
+use Rattle.std.specs.Prelude.{ℕ, Bool, false, ◌≡◌, ◌⊎◌, List, length, slice_get, Some, unwrap_or}
+use Rattle.apex_orders.specs.Prelude.{Call, Moment, Configuration, History, entries_of}
 use Rattle.apex_orders.specs.declared.choice.NextUse.{NextUse}
 use Rattle.apex_orders.specs.declared.choice.NextUse.TheVariants.{NoCall, NoChannel, Channel}
 use Rattle.apex_orders.specs.Commuting.{channel_named, is_change, names}

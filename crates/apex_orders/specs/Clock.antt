@@ -1,5 +1,6 @@
 -- Moments of one clock.
-use Rattle.apex_orders.specs.Prelude.{ℕ, Bool, true, ◌≡◌, ◌≤◌, ◌+◌, List, ◌∷◌, ◌++◌, length, take, slice_get, Some, Call, Moment, Configuration, Entry, History, entries_of}
+use Rattle.std.specs.Prelude.{ℕ, Bool, true, ◌≡◌, ◌≤◌, ◌+◌, List, ◌∷◌, ◌++◌, length, take, slice_get, Some}
+use Rattle.apex_orders.specs.Prelude.{Call, Moment, Configuration, Entry, History, entries_of}
 use Rattle.apex_orders.specs.Orders.{Scripts, script_of, IsWay}
 
 -- with the clock, no partition's next call after the history has a smaller moment

@@ -1,5 +1,6 @@
 -- Calls of two partitions that may be swapped.
-use Rattle.apex_orders.specs.Prelude.{ℕ, Bool, true, false, ◌≡◌, ◌≢◌, ◌==◌, ◌&&◌, List, ◌∷◌, ◌++◌, Option, Some, None, Call, Configuration, port_of, Port, Entry, History, entries_of, IsLawful}
+use Rattle.std.specs.Prelude.{ℕ, Bool, true, false, ◌≡◌, ◌≢◌, ◌==◌, ◌&&◌, List, ◌∷◌, ◌++◌, Option, Some, None}
+use Rattle.apex_orders.specs.Prelude.{Call, Configuration, port_of, Port, Entry, History, entries_of, IsLawful}
 use Rattle.apex_types.specs.declared.call.Call.TheVariants.{WriteSampling, ReadSampling, SendQueuing, ReceiveQueuing, QueuingStatus, ClearQueuing}
 use Rattle.apex_orders.specs.Points.{IsSamePoint}
 

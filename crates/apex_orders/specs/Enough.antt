@@ -1,5 +1,6 @@
 -- After which histories it is enough to try the next calls of some partitions.
-use Rattle.apex_orders.specs.Prelude.{ℕ, Bool, true, false, not, ◌≡◌, ◌<◌, ◌≤◌, ◌⊎◌, List, [], ◌∷◌, ◌++◌, length, slice_get, Some, Call, Moment, Configuration, Entry, Row, History, entries_of, row_of, seen}
+use Rattle.std.specs.Prelude.{ℕ, Bool, true, false, not, ◌≡◌, ◌<◌, ◌≤◌, ◌⊎◌, List, [], ◌∷◌, ◌++◌, length, slice_get, Some}
+use Rattle.apex_orders.specs.Prelude.{Call, Moment, Configuration, Entry, Row, History, entries_of, row_of, seen}
 use Rattle.apex_ports.specs.declared.rows.Refusal.{Refusal}
 use Rattle.apex_ports.specs.declared.rows.Refusal.TheVariants.{QueueFull, QueueEmpty, NeverWritten}
 use Rattle.apex_ports.specs.declared.rows.Row.TheVariants.{Idle, Refused}

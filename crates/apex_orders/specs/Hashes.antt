@@ -1,5 +1,6 @@
 -- Hashes of points, made only of counts.
-use Rattle.apex_orders.specs.Prelude.{ℕ, ◌≡◌, zero, suc, ◌+◌, ◌*◌, ◌%◌, ◌^◌, List, length, slice_get, slice_index_or, Option, Some, None, Configuration, ports_of, accepted_on, received_on, waiting_on, count_of, History, entries_of}
+use Rattle.std.specs.Prelude.{ℕ, ◌≡◌, zero, suc, ◌+◌, ◌*◌, ◌%◌, ◌^◌, List, length, slice_get, slice_index_or, Option, Some, None}
+use Rattle.apex_orders.specs.Prelude.{Configuration, ports_of, accepted_on, received_on, waiting_on, count_of, History, entries_of}
 use Rattle.apex_types.specs.Validity.{number_of}
 use Rattle.apex_orders.specs.States.{last_shown}
 use Rattle.apex_orders.specs.Orders.{Scripts, history_of}

@@ -1,5 +1,6 @@
 -- The points that a search knows.
-use Rattle.apex_orders.specs.Prelude.{ℕ, ◌≡◌, ◌+◌, List, ◌∷◌, length, slice_get, Some, Configuration, PortsView, IsSound}
+use Rattle.std.specs.Prelude.{ℕ, ◌≡◌, ◌+◌, List, ◌∷◌, length, slice_get, Some}
+use Rattle.apex_orders.specs.Prelude.{Configuration, PortsView, IsSound}
 use Rattle.apex_orders.specs.declared.trial.Trial.{Trial}
 use Rattle.apex_orders.specs.declared.points.Points.{Points}
 use Rattle.apex_orders.specs.Hashes.{AreHashes}

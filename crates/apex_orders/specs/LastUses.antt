@@ -1,5 +1,6 @@
 -- The last calls of scripts that name channels.
-use Rattle.apex_orders.specs.Prelude.{ℕ, Bool, true, false, ◌≡◌, ◌<◌, ◌≤◌, ◌-◌, ◌^◌, List, length, slice_get, Some, Call, Moment, Configuration}
+use Rattle.std.specs.Prelude.{ℕ, Bool, true, false, ◌≡◌, ◌<◌, ◌≤◌, ◌-◌, ◌^◌, List, length, slice_get, Some}
+use Rattle.apex_orders.specs.Prelude.{Call, Moment, Configuration}
 use Rattle.apex_orders.specs.declared.last_uses.LastUse.{LastUse}
 use Rattle.apex_orders.specs.declared.last_uses.LastUses.{LastUses}
 use Rattle.apex_orders.specs.Commuting.{names, changes}

@@ -1,5 +1,6 @@
 -- Orders of the calls of scripts, and the histories that they lead to.
-use Rattle.apex_orders.specs.Prelude.{ℕ, ◌≡◌, ◌<◌, ◌≤◌, ◌-◌, ◌^◌, List, [], ◌∷◌, ◌++◌, length, map, take, count_by, ◌==◌, slice_get, slice_index_or, unwrap_or, Option, Some, None, Call, Moment, Reply, Configuration, Entry, History, entry_of, entries_of, IsLawful, reply_to}
+use Rattle.std.specs.Prelude.{ℕ, ◌≡◌, ◌<◌, ◌≤◌, ◌-◌, ◌^◌, List, [], ◌∷◌, ◌++◌, length, map, take, count_by, ◌==◌, slice_get, slice_index_or, unwrap_or, Option, Some, None}
+use Rattle.apex_orders.specs.Prelude.{Call, Moment, Reply, Configuration, Entry, History, entry_of, entries_of, IsLawful, reply_to}
 
 -- ---- merges
 

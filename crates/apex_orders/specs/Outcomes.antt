@@ -1,5 +1,6 @@
 -- All that can happen to scripts, over every order of their calls.
-use Rattle.apex_orders.specs.Prelude.{ℕ, Bool, false, ◌≡◌, ◌<◌, ◌↔◌, List, [], ◌∷◌, ◌++◌, length, slice_get, Some, Result, Err, Reply, Configuration, Entry, History, entries_of}
+use Rattle.std.specs.Prelude.{ℕ, Bool, false, ◌≡◌, ◌<◌, ◌↔◌, List, [], ◌∷◌, ◌++◌, length, slice_get, Some, Result, Err}
+use Rattle.apex_orders.specs.Prelude.{Reply, Configuration, Entry, History, entries_of}
 use Rattle.apex_types.specs.Reply.{code_of}
 use Rattle.apex_types.specs.declared.reply.Reply.TheVariants as reply
 use Rattle.apex_orders.specs.declared.asked.Admitted.{Admitted}

@@ -1,5 +1,6 @@
 -- The points that orders lead to.
-use Rattle.apex_orders.specs.Prelude.{ℕ, ◌≡◌, ◌<◌, length, Configuration, accepted_on, received_on, cleared_on, count_of, History, entries_of}
+use Rattle.std.specs.Prelude.{ℕ, ◌≡◌, ◌<◌, length}
+use Rattle.apex_orders.specs.Prelude.{Configuration, accepted_on, received_on, cleared_on, count_of, History, entries_of}
 use Rattle.apex_orders.specs.States.{IsSameState}
 
 -- each partition made the same number of calls in both

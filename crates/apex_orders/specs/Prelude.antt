@@ -1,6 +1,5 @@
 -- The words of std and of the crates below that several files of this crate cite.
 pub use Rattle.std.specs.Option.{option_copied}
-pub use Rattle.std.specs.Prelude.{ℕ, Bool, false, ◌≡◌, ◌⊎◌, List, length, slice_get, Some, unwrap_or, true, ◌≤◌, ◌+◌, ◌∷◌, ◌++◌, take, ◌≢◌, ◌==◌, ◌&&◌, Option, None, not, ◌<◌, [], zero, suc, ◌*◌, ◌%◌, ◌^◌, slice_index_or, ◌-◌, map, count_by, ◌↔◌, Result, Err, IfSome, MatchOption, IsTrue, IfOk, OnOk, if◌then◌else◌}
 pub use Rattle.apex_types.specs.declared.call.Call.{Call}
 pub use Rattle.apex_types.specs.declared.moment.Moment.{Moment}
 pub use Rattle.apex_types.specs.declared.reply.Reply.{Reply}

@@ -1,5 +1,6 @@
 -- What a search has found.
-use Rattle.apex_orders.specs.Prelude.{ℕ, Bool, true, false, ◌≡◌, ◌<◌, ◌≤◌, List, ◌∷◌, [], ◌++◌, length, slice_get, Option, Some, None, IfSome, MatchOption, Result, Err, Configuration, count_of, History, entries_of}
+use Rattle.std.specs.Prelude.{ℕ, Bool, true, false, ◌≡◌, ◌<◌, ◌≤◌, List, ◌∷◌, [], ◌++◌, length, slice_get, Option, Some, None, IfSome, MatchOption, Result, Err}
+use Rattle.apex_orders.specs.Prelude.{Configuration, count_of, History, entries_of}
 use Rattle.apex_orders.specs.declared.asked.Asked.{Asked}
 use Rattle.apex_orders.specs.declared.replies.PossibleReply.{PossibleReply}
 use Rattle.apex_orders.specs.declared.orders_fault.OrdersFault.{OrdersFault}

@@ -1,5 +1,6 @@
 -- The law of states: what follows depends only on the state.
-use Rattle.apex_orders.specs.Prelude.{ℕ, ◌≡◌, ◌<◌, List, ◌++◌, length, Call, Moment, Configuration, Entry, History, IsLawful, reply_to, IsSound}
+use Rattle.std.specs.Prelude.{ℕ, ◌≡◌, ◌<◌, List, ◌++◌, length}
+use Rattle.apex_orders.specs.Prelude.{Call, Moment, Configuration, Entry, History, IsLawful, reply_to, IsSound}
 use Rattle.apex_orders.specs.States.{IsSameState}
 
 -- both histories continue alike

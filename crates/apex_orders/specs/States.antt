@@ -1,5 +1,6 @@
 -- The state that a history leads to: all that later replies depend on.
-use Rattle.apex_orders.specs.Prelude.{ℕ, ◌≡◌, ◌<◌, length, Validity, Configuration, ports_of, History, mode_of, IsIdentifier, is_created, waiting_on, last_write_on, seen, sampling_port, validity_shown}
+use Rattle.std.specs.Prelude.{ℕ, ◌≡◌, ◌<◌, length}
+use Rattle.apex_orders.specs.Prelude.{Validity, Configuration, ports_of, History, mode_of, IsIdentifier, is_created, waiting_on, last_write_on, seen, sampling_port, validity_shown}
 
 -- the last validity that the partition's port with this identifier shows
 abbrev pub last_shown : Configuration → History → ℕ → ℕ → Validity

@@ -1,5 +1,6 @@
 -- One call of a script.
-use Rattle.apex_orders.specs.Prelude.{ℕ, ◌≡◌, [], ◌∷◌, length, Call, Moment, Configuration, History, entry_of, entries_of}
+use Rattle.std.specs.Prelude.{ℕ, ◌≡◌, [], ◌∷◌, length}
+use Rattle.apex_orders.specs.Prelude.{Call, Moment, Configuration, History, entry_of, entries_of}
 use Rattle.apex_orders.specs.declared.replies.PossibleReply.{PossibleReply}
 use Rattle.apex_orders.specs.Orders.{Scripts, next_entries}
 

@@ -1,5 +1,6 @@
 //! The order that answers a question.
-ghost use Rattle.apex_orders.specs.Prelude.{◌≡◌, ◌<◌, ◌↔◌, length, IsTrue, IfOk, OnOk, IfSome, MatchOption, option_copied};
+ghost use Rattle.std.specs.Prelude.{◌≡◌, ◌<◌, ◌↔◌, length, IsTrue, IfOk, OnOk, IfSome, MatchOption};
+ghost use Rattle.apex_orders.specs.Prelude.{option_copied};
 ghost use Rattle.apex_orders.specs.Known.{IsAfter};
 ghost use Rattle.apex_orders.specs.Orders.{IsOrder, order_at};
 ghost use Rattle.apex_orders.specs.Searching.{IsAnswer, IsAnsweredAfter, IsSearch, IsUnansweredAt};

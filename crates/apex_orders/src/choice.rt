@@ -1,5 +1,6 @@
 //! The partitions whose next calls are enough to try.
-ghost use Rattle.apex_orders.specs.Prelude.{◌≡◌, ◌<◌, ◌↔◌, length, true, slice_get, Some, None, OnOk, MatchOption, IsTrue, entries_of};
+ghost use Rattle.std.specs.Prelude.{◌≡◌, ◌<◌, ◌↔◌, length, true, slice_get, Some, None, OnOk, MatchOption, IsTrue};
+ghost use Rattle.apex_orders.specs.Prelude.{entries_of};
 ghost use Rattle.apex_orders.specs.Choices.{AreNextUses, IsNextUse, IsQuietOutside, IsSafeToTry, is_tried};
 ghost use Rattle.apex_orders.specs.Clock.{IsNextDue};
 ghost use Rattle.apex_orders.specs.Enough.{IsEnough, is_early};

@@ -1,5 +1,6 @@
 //! The last calls of a script that name a channel.
-ghost use Rattle.apex_orders.specs.Prelude.{◌≡◌, ◌<◌, ◌≤◌, ◌+◌, if◌then◌else◌, ℕ, List, length, slice_get, Some, IfOk, IsTrue, Call, Moment, Configuration};
+ghost use Rattle.std.specs.Prelude.{◌≡◌, ◌<◌, ◌≤◌, ◌+◌, if◌then◌else◌, ℕ, List, length, slice_get, Some, IfOk, IsTrue};
+ghost use Rattle.apex_orders.specs.Prelude.{Call, Moment, Configuration};
 ghost use Rattle.apex_orders.specs.LastUses.{AreLastUses, AreLastUsesBelow, AreOfScripts, IsQuietFrom};
 
 use crate::commuting::{channel_named, is_change};

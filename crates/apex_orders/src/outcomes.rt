@@ -1,5 +1,6 @@
 //! All that can happen to scripts.
-ghost use Rattle.apex_orders.specs.Prelude.{◌≡◌, ◌<◌, length, true, IfOk, IsTrue, ◌↔◌, Configuration};
+ghost use Rattle.std.specs.Prelude.{◌≡◌, ◌<◌, length, true, IfOk, IsTrue, ◌↔◌};
+ghost use Rattle.apex_orders.specs.Prelude.{Configuration};
 ghost use Rattle.apex_orders.specs.Orders.{IsOrder, history_of, order_at};
 ghost use Rattle.apex_orders.specs.Outcomes.{AreReplies, AreRepliesWith, AreEnds, AreEndsWith, IsUndecided, IsUndecidedWith};
 ghost use Rattle.apex_orders.specs.Searching.{AreOrders, AreEndsOf, HasMadeAll};

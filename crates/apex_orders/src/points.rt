@@ -1,5 +1,6 @@
 //! The known points: their hashes, and the ports at those from which the search has yet to continue.
-ghost use Rattle.apex_orders.specs.Prelude.{◌≡◌, ◌-◌, ◌<◌, ◌≤◌, ◌↔◌, ◌++◌, [], ◌∷◌, ℕ, List, length, IfOk, OnOk, IfSome, MatchOption, IsTrue, slice_get, Some, true, IsSound};
+ghost use Rattle.std.specs.Prelude.{◌≡◌, ◌-◌, ◌<◌, ◌≤◌, ◌↔◌, ◌++◌, [], ◌∷◌, ℕ, List, length, IfOk, OnOk, IfSome, MatchOption, IsTrue, slice_get, Some, true};
+ghost use Rattle.apex_orders.specs.Prelude.{IsSound};
 ghost use Rattle.apex_orders.specs.Known.{ArePoints, IsAfter, IsReadyAfter, IsTrialOf, IsLeft, IsTaken};
 ghost use Rattle.apex_orders.specs.Hashes.{hash_of};
 ghost use Rattle.apex_orders.specs.Orders.{Scripts, IsOrder, history_of, order_at};

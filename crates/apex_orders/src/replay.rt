@@ -1,5 +1,6 @@
 //! Runs an order.
-ghost use Rattle.apex_orders.specs.Prelude.{◌≡◌, length, IfOk, IsSound};
+ghost use Rattle.std.specs.Prelude.{◌≡◌, length, IfOk};
+ghost use Rattle.apex_orders.specs.Prelude.{IsSound};
 ghost use Rattle.apex_orders.specs.Orders.{history_of, IsOrder};
 
 use crate::order::PackedOrder;

@@ -1,5 +1,6 @@
 //! Compares the states of the ports of two runs of one configuration.
-ghost use Rattle.apex_orders.specs.Prelude.{◌≡◌, ◌<◌, ◌↔◌, length, IsTrue, option_copied, waiting_on, last_write_on};
+ghost use Rattle.std.specs.Prelude.{◌≡◌, ◌<◌, ◌↔◌, length, IsTrue};
+ghost use Rattle.apex_orders.specs.Prelude.{option_copied, waiting_on, last_write_on};
 ghost use Rattle.apex_orders.specs.States.{IsSameState, IsSamePartition, IsSamePorts, IsSameChannel};
 
 use apex_ports::Ports;

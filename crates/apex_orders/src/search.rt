@@ -1,5 +1,6 @@
 //! The search of all points that orders lead to.
-ghost use Rattle.apex_orders.specs.Prelude.{◌≡◌, ◌<◌, ◌++◌, [], ◌∷◌, ℕ, Bool, true, length, IfOk, OnOk, IfSome, option_copied};
+ghost use Rattle.std.specs.Prelude.{◌≡◌, ◌<◌, ◌++◌, [], ◌∷◌, ℕ, Bool, true, length, IfOk, OnOk, IfSome};
+ghost use Rattle.apex_orders.specs.Prelude.{option_copied};
 ghost use Rattle.apex_orders.specs.Choices.{is_tried};
 ghost use Rattle.apex_orders.specs.Clock.{IsClocked, IsNextDue};
 ghost use Rattle.apex_orders.specs.Known.{IsAfter, IsReadyAfter};

@@ -1,5 +1,6 @@
 //! The next call of a partition's script.
-ghost use Rattle.apex_orders.specs.Prelude.{◌≡◌, ◌<◌, ◌≤◌, ◌++◌, length, true, false, MatchOption, IsSound};
+ghost use Rattle.std.specs.Prelude.{◌≡◌, ◌<◌, ◌≤◌, ◌++◌, length, true, false, MatchOption};
+ghost use Rattle.apex_orders.specs.Prelude.{IsSound};
 ghost use Rattle.apex_orders.specs.Orders.{next_entries, script_of};
 ghost use Rattle.apex_orders.specs.Steps.{MakesNothing, Makes};
 

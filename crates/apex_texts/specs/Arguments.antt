@@ -1,6 +1,7 @@
 -- The arguments of a call, from the words of a line: they are read from left to right, and reading stops at the first
 -- fault.
-use Rattle.apex_texts.specs.Prelude.{◌≡◌, ℕ, zero, suc, List, [], ◌∷◌, Option, Some, None, Result, Ok, Err, message_of_hex, Call, Moment}
+use Rattle.std.specs.Prelude.{◌≡◌, ℕ, zero, suc, List, [], ◌∷◌, Option, Some, None, Result, Ok, Err}
+use Rattle.apex_texts.specs.Prelude.{message_of_hex, Call, Moment}
 use Rattle.apex_types.specs.Name.{name_of}
 use Rattle.apex_types.specs.declared.call.Call.TheVariants as calls
 use Rattle.apex_texts.specs.declared.arguments.TheConstants.{MOMENT_LIMIT, NUMBER_LIMIT}

@@ -1,5 +1,6 @@
 -- The line of an accepted configuration.
-use Rattle.apex_texts.specs.Prelude.{ℕ, List, ◌++◌, length, codes, decimal, sum_by, Configuration}
+use Rattle.std.specs.Prelude.{ℕ, List, ◌++◌, length, codes, decimal, sum_by}
+use Rattle.apex_texts.specs.Prelude.{Configuration}
 
 -- the number of ports of all partitions
 abbrev pub port_count : Configuration → ℕ

@@ -1,5 +1,6 @@
 -- The printed lines for refused texts.
-use Rattle.apex_texts.specs.Prelude.{ℕ, List, [], ◌++◌, codes, decimal, Option, Some, None, ConfigFault}
+use Rattle.std.specs.Prelude.{ℕ, List, [], ◌++◌, codes, decimal, Option, Some, None}
+use Rattle.apex_texts.specs.Prelude.{ConfigFault}
 use Rattle.apex_module.specs.Fault.{pass_of}
 use Rattle.apex_module.specs.declared.fault.ConfigFault.TheVariants as config_faults
 use Rattle.apex_ports.specs.declared.run_fault.RunFault.{RunFault}

@@ -1,6 +1,7 @@
 -- The meaning of a text of lines: the items of its lines in order, or its first faulty line. How the words of a line
 -- are read is a parameter.
-use Rattle.apex_texts.specs.Prelude.{◌≡◌, ℕ, Bool, ◌+◌, ◌==◌, nat_lt, if◌then◌else◌, List, [], ◌∷◌, slice_index, Option, Some, None, Result, Ok, Err, list_all}
+use Rattle.std.specs.Prelude.{◌≡◌, ℕ, Bool, ◌+◌, ◌==◌, nat_lt, if◌then◌else◌, List, [], ◌∷◌, slice_index, Option, Some, None, Result, Ok, Err}
+use Rattle.apex_texts.specs.Prelude.{list_all}
 use Rattle.std.specs.Str.Lines.{lines}
 use Rattle.apex_texts.specs.declared.line_fault.LineFault.{LineFault}
 use Rattle.apex_texts.specs.declared.line_fault.LineFault.TheVariants as faults

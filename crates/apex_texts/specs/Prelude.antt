@@ -1,6 +1,5 @@
 -- The words of std and of the crates below that several files of this crate cite.
 pub use Rattle.std.specs.List.{list_all, slice_split, after_first}
-pub use Rattle.std.specs.Prelude.{◌≡◌, ℕ, zero, suc, List, [], ◌∷◌, Option, Some, None, Result, Ok, Err, ◌++◌, length, codes, decimal, sum_by, Bool, ◌+◌, ◌==◌, nat_lt, if◌then◌else◌, slice_index, String, string_bytes, unwrap_or, find, ◌*◌, ◌-◌, ◌||◌, ◌&&◌, not, nat_le, filter, ◌<◌, All, ◌≤◌, ◌^◌, OnOk, false, take, drop, position, IfSome, MatchOption}
 pub use Rattle.apex_types.specs.Message.{message_of_hex, hex_text_of}
 pub use Rattle.apex_types.specs.declared.call.Call.{Call}
 pub use Rattle.apex_types.specs.declared.moment.Moment.{Moment}

@@ -1,5 +1,6 @@
 -- What a replay gives: the report of the lawful history of the trace's requests, or why a text is refused.
-use Rattle.apex_texts.specs.Prelude.{◌≡◌, ℕ, List, Result, Ok, Err, String, string_bytes, Configuration, ConfigFault, Entry, Request, History, entry_of, requests_of}
+use Rattle.std.specs.Prelude.{◌≡◌, ℕ, List, Result, Ok, Err, String, string_bytes}
+use Rattle.apex_texts.specs.Prelude.{Configuration, ConfigFault, Entry, Request, History, entry_of, requests_of}
 use Rattle.std.specs.declared.alloc.Global.{Global}
 use Rattle.apex_config.specs.Meaning.{config_of}
 use Rattle.apex_module.specs.declared.fault.ConfigFault.TheVariants as config_faults

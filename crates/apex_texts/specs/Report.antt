@@ -1,5 +1,6 @@
 -- The report of a history: a line for each entry, each partition and each channel.
-use Rattle.apex_texts.specs.Prelude.{ℕ, ◌+◌, ◌==◌, if◌then◌else◌, List, [], ◌∷◌, ◌++◌, length, codes, decimal, Option, Some, None, unwrap_or, hex_text_of, Call, Moment, Configuration, PartitionData, partition_name_of, Entry, History, entries_of, accepted_on, received_on, cleared_on, waiting_on, last_write_on}
+use Rattle.std.specs.Prelude.{ℕ, ◌+◌, ◌==◌, if◌then◌else◌, List, [], ◌∷◌, ◌++◌, length, codes, decimal, Option, Some, None, unwrap_or}
+use Rattle.apex_texts.specs.Prelude.{hex_text_of, Call, Moment, Configuration, PartitionData, partition_name_of, Entry, History, entries_of, accepted_on, received_on, cleared_on, waiting_on, last_write_on}
 use Rattle.apex_types.specs.Direction.{word_of as direction_word}
 use Rattle.apex_types.specs.Mode.{word_of as mode_word}
 use Rattle.apex_types.specs.ReturnCode.{word_of as code_word}

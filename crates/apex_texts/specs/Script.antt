@@ -1,6 +1,7 @@
 -- The meaning of a script: the calls of its lines in order, each with its moment, or its first faulty line. A script's
 -- line is a trace's line without the partition.
-use Rattle.apex_texts.specs.Prelude.{ℕ, List, Result, Ok, Call, Moment}
+use Rattle.std.specs.Prelude.{ℕ, List, Result, Ok}
+use Rattle.apex_texts.specs.Prelude.{Call, Moment}
 use Rattle.apex_texts.specs.declared.line_fault.LineFault.{LineFault}
 use Rattle.apex_texts.specs.declared.fault.TraceFault.{TraceFault}
 use Rattle.apex_texts.specs.Arguments.{◌>>=◌, word_at, moment_of, call_of}

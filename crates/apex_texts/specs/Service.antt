@@ -1,5 +1,6 @@
 -- The services that a trace can ask for, by their call words.
-use Rattle.apex_texts.specs.Prelude.{ℕ, List, [], ◌∷◌, length, codes, find, Option, Call}
+use Rattle.std.specs.Prelude.{ℕ, List, [], ◌∷◌, length, codes, find, Option}
+use Rattle.apex_texts.specs.Prelude.{Call}
 use Rattle.std.specs.Str.{bytes_eq}
 use Rattle.apex_types.specs.declared.call.Call.TheVariants as calls
 use Rattle.apex_texts.specs.declared.expected.Expected.{Expected}

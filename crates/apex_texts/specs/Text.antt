@@ -1,5 +1,6 @@
 -- The words and numbers of a line. The lines of a text are std's `lines`.
-use Rattle.apex_texts.specs.Prelude.{ℕ, Bool, ◌+◌, ◌*◌, ◌-◌, ◌==◌, ◌||◌, ◌&&◌, not, nat_le, if◌then◌else◌, List, [], ◌∷◌, length, filter, Option, Some, None, slice_split}
+use Rattle.std.specs.Prelude.{ℕ, Bool, ◌+◌, ◌*◌, ◌-◌, ◌==◌, ◌||◌, ◌&&◌, not, nat_le, if◌then◌else◌, List, [], ◌∷◌, length, filter, Option, Some, None}
+use Rattle.apex_texts.specs.Prelude.{slice_split}
 
 -- a line feed
 abbrev pub is_line_feed : ℕ → Bool

@@ -1,5 +1,6 @@
 -- The meaning of a trace: the requests of its lines in order, or its first faulty line.
-use Rattle.apex_texts.specs.Prelude.{ℕ, ◌<◌, List, length, All, Result, Ok, Configuration, partition_named, Request}
+use Rattle.std.specs.Prelude.{ℕ, ◌<◌, List, length, All, Result, Ok}
+use Rattle.apex_texts.specs.Prelude.{Configuration, partition_named, Request}
 use Rattle.std.specs.Global.{Vec}
 use Rattle.apex_texts.specs.declared.line_fault.LineFault.{LineFault}
 use Rattle.apex_texts.specs.declared.line_fault.LineFault.TheVariants as faults

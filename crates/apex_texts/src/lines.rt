@@ -1,6 +1,7 @@
 //! Reads a text line by line: the items of its lines, or its first faulty line. Traces and scripts are such texts; they
 //! differ in how the words of a line are read.
-ghost use Rattle.apex_texts.specs.Prelude.{◌≡◌, list_all};
+ghost use Rattle.std.specs.Prelude.{◌≡◌};
+ghost use Rattle.apex_texts.specs.Prelude.{list_all};
 ghost use Rattle.std.specs.Option.{option_map};
 ghost use Rattle.apex_texts.specs.Text.{words_of};
 ghost use Rattle.apex_texts.specs.Arguments.{Gives};

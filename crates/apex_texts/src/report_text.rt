@@ -1,5 +1,6 @@
 //! The lines of a report: one for each call, each partition and each channel.
-ghost use Rattle.apex_texts.specs.Prelude.{◌≡◌, ◌<◌, ◌≤◌, ◌^◌, ◌∷◌, ◌++◌, [], length, decimal, string_bytes, OnOk, hex_text_of, accepted_on, received_on, cleared_on, waiting_on, last_write_on, entries_of};
+ghost use Rattle.std.specs.Prelude.{◌≡◌, ◌<◌, ◌≤◌, ◌^◌, ◌∷◌, ◌++◌, [], length, decimal, string_bytes, OnOk};
+ghost use Rattle.apex_texts.specs.Prelude.{hex_text_of, accepted_on, received_on, cleared_on, waiting_on, last_write_on, entries_of};
 ghost use Rattle.apex_ports.specs.Noted.{call_by, reply_by};
 ghost use Rattle.apex_ports.specs.Services.{message_length};
 ghost use Rattle.apex_texts.specs.Report.{queuing_status_text, sampling_status_text, reply_text, entry_line, partition_line, partition_lines, cleared_text, queue_text, sample_text, channel_text, channel_lines, messages_text, totals_of};

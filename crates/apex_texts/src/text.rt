@@ -1,5 +1,6 @@
 //! Lines, words and numbers of a text, which is read as bytes.
-ghost use Rattle.apex_texts.specs.Prelude.{◌≡◌, ◌-◌, ◌<◌, ◌≤◌, false, [], ◌∷◌, length, take, drop, slice_index, not, position, Some, None, IfSome, MatchOption, after_first};
+ghost use Rattle.std.specs.Prelude.{◌≡◌, ◌-◌, ◌<◌, ◌≤◌, false, [], ◌∷◌, length, take, drop, slice_index, not, position, Some, None, IfSome, MatchOption};
+ghost use Rattle.apex_texts.specs.Prelude.{after_first};
 ghost use Rattle.std.specs.Str.Lines.{lines, strip_carriage_return};
 ghost use Rattle.apex_texts.specs.Text.{is_line_feed, is_blank, words_of, number_up_to};
 

@@ -1,5 +1,6 @@
 -- The call whose message a call showed. Calls are given by their indexes in the history, from 0.
-use Rattle.dekarino_drawings.specs.Prelude.{ℕ, Bool, ◌+◌, ◌-◌, if◌then◌else◌, List, [], ◌∷◌, ◌++◌, length, drop, slice_get, Option, Some, None, is_some, Call, ReceiveQueuing, ReadSampling, Configuration, port_of, Entry, History, message_accepted, taken_on, sample_written}
+use Rattle.std.specs.Prelude.{ℕ, Bool, ◌+◌, ◌-◌, if◌then◌else◌, List, [], ◌∷◌, ◌++◌, length, drop, slice_get, Option, Some, None, is_some}
+use Rattle.dekarino_drawings.specs.Prelude.{Call, ReceiveQueuing, ReadSampling, Configuration, port_of, Entry, History, message_accepted, taken_on, sample_written}
 use Rattle.apex_types.specs.declared.reply.Reply.{Reply}
 use Rattle.apex_types.specs.declared.reply.Reply.TheVariants.{Received, Read}
 use Rattle.apex_module.specs.declared.channel.Channel.{Channel}

@@ -1,5 +1,6 @@
 -- What is read from a trace to be drawn, and when it isn't drawn.
-use Rattle.dekarino_drawings.specs.Prelude.{◌≡◌, ℕ, ◌≤◌, ◌<◌, List, length, Ok, Configuration, Answers}
+use Rattle.std.specs.Prelude.{◌≡◌, ℕ, ◌≤◌, ◌<◌, List, length, Ok}
+use Rattle.dekarino_drawings.specs.Prelude.{Configuration, Answers}
 use Rattle.apex_ports.specs.declared.history.Request.{Request}
 use Rattle.apex_texts.specs.Replay.{IsServed, IsRefused}
 use Rattle.apex_texts.specs.declared.fault.Fault.{Fault}

@@ -1,5 +1,6 @@
 -- What is kept for each channel while going through the calls of a history.
-use Rattle.dekarino_drawings.specs.Prelude.{◌≡◌, ℕ, ◌≤◌, List, length, drop, Option, None, option_map, Call, SendQueuing, ReceiveQueuing, ClearQueuing, WriteSampling, Configuration, port_of, History, taken_on, EachAt}
+use Rattle.std.specs.Prelude.{◌≡◌, ℕ, ◌≤◌, List, length, drop, Option, None, option_map}
+use Rattle.dekarino_drawings.specs.Prelude.{Call, SendQueuing, ReceiveQueuing, ClearQueuing, WriteSampling, Configuration, port_of, History, taken_on, EachAt}
 use Rattle.dekarino_drawings.specs.declared.channel_calls.ChannelCalls.{ChannelCalls}
 use Rattle.dekarino_drawings.specs.Arrows.{sends_on, last_write}
 

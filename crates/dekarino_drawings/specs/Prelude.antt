@@ -1,5 +1,4 @@
 -- The words of std and of the crates below that several files of this crate cite.
-pub use Rattle.std.specs.Prelude.{ℕ, Bool, ◌+◌, ◌-◌, if◌then◌else◌, List, [], ◌∷◌, ◌++◌, length, drop, slice_get, Option, Some, None, is_some, ◌≡◌, ◌≤◌, ◌<◌, Ok, option_map, ◌^◌, max, OnOk, IfOk, MatchResult}
 pub use Rattle.apex_types.specs.declared.call.Call.{Call}
 pub use Rattle.apex_types.specs.declared.call.Call.TheVariants.{ReceiveQueuing, ReadSampling, SendQueuing, ClearQueuing, WriteSampling}
 pub use Rattle.apex_module.specs.Configuration.{Configuration, port_of}

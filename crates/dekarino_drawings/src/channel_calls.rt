@@ -1,5 +1,6 @@
 //! What calls did to a channel.
-ghost use Rattle.dekarino_drawings.specs.Prelude.{◌≡◌, ℕ, ◌<◌, ◌≤◌, ◌-◌, ◌^◌, ◌++◌, ◌∷◌, [], if◌then◌else◌, List, length, max, slice_get, Some, is_some, OnOk, Configuration, port_of, message_accepted, message_received, clears, taken_by, sample_written, History};
+ghost use Rattle.std.specs.Prelude.{◌≡◌, ℕ, ◌<◌, ◌≤◌, ◌-◌, ◌^◌, ◌++◌, ◌∷◌, [], if◌then◌else◌, List, length, max, slice_get, Some, is_some, OnOk};
+ghost use Rattle.dekarino_drawings.specs.Prelude.{Configuration, port_of, message_accepted, message_received, clears, taken_by, sample_written, History};
 ghost use Rattle.apex_ports.specs.Modes.{is_code_no_error};
 ghost use Rattle.apex_ports.specs.Ports.{is_source_of, is_destination_of};
 ghost use Rattle.dekarino_drawings.specs.Arrows.{index_if};

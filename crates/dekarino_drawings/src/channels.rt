@@ -1,5 +1,6 @@
 //! What calls did to each channel.
-ghost use Rattle.dekarino_drawings.specs.Prelude.{◌≡◌, ℕ, ◌<◌, ◌-◌, ◌^◌, ◌++◌, ◌∷◌, [], length, IfOk, OnOk, Configuration, History};
+ghost use Rattle.std.specs.Prelude.{◌≡◌, ℕ, ◌<◌, ◌-◌, ◌^◌, ◌++◌, ◌∷◌, [], length, IfOk, OnOk};
+ghost use Rattle.dekarino_drawings.specs.Prelude.{Configuration, History};
 ghost use Rattle.dekarino_drawings.specs.Arrows.{origin_of, waiting_of};
 ghost use Rattle.dekarino_drawings.specs.Following.{AreFollowed, channel_changed};
 

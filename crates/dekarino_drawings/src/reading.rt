@@ -1,5 +1,6 @@
 //! Reads what a trace's chart shows.
-ghost use Rattle.dekarino_drawings.specs.Prelude.{◌≡◌, ◌<◌, ◌++◌, [], ◌∷◌, length, IfOk, MatchResult, request_of, Answers};
+ghost use Rattle.std.specs.Prelude.{◌≡◌, ◌<◌, ◌++◌, [], ◌∷◌, length, IfOk, MatchResult};
+ghost use Rattle.dekarino_drawings.specs.Prelude.{request_of, Answers};
 ghost use Rattle.apex_ports.specs.Sound.{IsSound};
 ghost use Rattle.apex_texts.specs.Trace.{HavePartitions};
 ghost use Rattle.dekarino_drawings.specs.Chart.{IsChart, IsChartOf, IsDrawn, IsNotDrawn, IsNotRead};

@@ -1,6 +1,6 @@
 //! The files that the program opens.
 use crate::file_writer::FileWriter;
-use apex_files::Opener;
+use apex_files::{Opener, file_bytes};
 use std::fs::File;
 use std::rt::Files;
 use std::{fs, io};
@@ -16,6 +16,10 @@ impl<R: Files> Opener for InputFiles<'_, R> {
 
     fn open(&self, path: &str) -> io::Result<R::File> {
         File::open(self.rt, if path == "-" { "/dev/stdin" } else { path })
+    }
+
+    fn expected_bytes(&self, reader: &R::File) -> usize {
+        file_bytes(reader)
     }
 }
 

@@ -1,5 +1,6 @@
 -- The counts of a queuing channel over orders of all calls: of each the least and the greatest.
-use Rattle.dekarino_texts.specs.Prelude.{ℕ, List, [], ◌∷◌, length, min, max, Configuration, accepted_on, received_on, cleared_on, waiting_on, History}
+use Rattle.std.specs.Prelude.{ℕ, List, [], ◌∷◌, length, min, max}
+use Rattle.dekarino_texts.specs.Prelude.{Configuration, accepted_on, received_on, cleared_on, waiting_on, History}
 use Rattle.apex_ports.specs.Counts.{count_of}
 use Rattle.apex_orders.specs.Orders.{Scripts, history_of}
 use Rattle.dekarino_texts.specs.declared.counts.Counts.{Counts}

@@ -1,5 +1,6 @@
 -- A log, judged entry by entry: which departures a sink is handed, and what is counted.
-use Rattle.dekarino_texts.specs.Prelude.{◌≡◌, ℕ, Bool, ◌+◌, ◌≤◌, ◌⊎◌, nat_lt, if◌then◌else◌, List, [], ◌∷◌, ◌++◌, Option, Some, None, option_map, Result, Ok, Err, Call, Configuration, Entry, History, instead_of, Own, none_known, entry_in_ours, own_after, replaced_in, LoggedEntry, MaxWait, entries_from, wait_of, polled_entry, as_waited, logged_request_at}
+use Rattle.std.specs.Prelude.{◌≡◌, ℕ, Bool, ◌+◌, ◌≤◌, ◌⊎◌, nat_lt, if◌then◌else◌, List, [], ◌∷◌, ◌++◌, Option, Some, None, option_map, Result, Ok, Err}
+use Rattle.dekarino_texts.specs.Prelude.{Call, Configuration, Entry, History, instead_of, Own, none_known, entry_in_ours, own_after, replaced_in, LoggedEntry, MaxWait, entries_from, wait_of, polled_entry, as_waited, logged_request_at}
 use Rattle.apex_judge.specs.declared.departure.Expected.{Expected}
 use Rattle.apex_judge.specs.declared.own_ids.Replaced.{Replaced}
 use Rattle.apex_judge.specs.declared.port_ids.KnownIds.{KnownIds}

@@ -1,5 +1,6 @@
 -- The end of an explanation, after its lines.
-use Rattle.dekarino_texts.specs.Prelude.{◌≡◌, List, [], length, MatchOption, Configuration}
+use Rattle.std.specs.Prelude.{◌≡◌, List, [], length, MatchOption}
+use Rattle.dekarino_texts.specs.Prelude.{Configuration}
 use Rattle.apex_ports.specs.PortsView.{PortsView}
 use Rattle.dekarino_texts.specs.declared.explanation.Explanation.{Explanation}
 use Rattle.dekarino_texts.specs.Explanation.{ExplainedLine, log_in}

@@ -1,5 +1,6 @@
 -- What an explanation has of each line of a trace, up to the first faulty one.
-use Rattle.dekarino_texts.specs.Prelude.{ℕ, ◌+◌, List, [], ◌∷◌, ◌++◌, Option, Some, None, Result, Ok, Err, IsOk, before_first, after_first, flat_map, Reply, Configuration, Request, History, entry_of, LineFault, FaultyLine, item_of_line, entry_after, IsRefused, is_line_feed, request_at}
+use Rattle.std.specs.Prelude.{ℕ, ◌+◌, List, [], ◌∷◌, ◌++◌, Option, Some, None, Result, Ok, Err, IsOk}
+use Rattle.dekarino_texts.specs.Prelude.{before_first, after_first, flat_map, Reply, Configuration, Request, History, entry_of, LineFault, FaultyLine, item_of_line, entry_after, IsRefused, is_line_feed, request_at}
 use Rattle.std.specs.Str.Lines.{lines}
 use Rattle.apex_ports.specs.declared.rows.Row.{Row}
 use Rattle.apex_ports.specs.ReplyTable.{row_of}

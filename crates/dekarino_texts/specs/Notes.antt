@@ -1,5 +1,6 @@
 -- What is noted of the calls of a trace, for the remarks.
-use Rattle.dekarino_texts.specs.Prelude.{◌≡◌, ℕ, Bool, false, ◌==◌, ◌&&◌, List, [], ◌∷◌, length, Option, Some, None, list_any, Moment, Configuration, History, creates}
+use Rattle.std.specs.Prelude.{◌≡◌, ℕ, Bool, false, ◌==◌, ◌&&◌, List, [], ◌∷◌, length, Option, Some, None}
+use Rattle.dekarino_texts.specs.Prelude.{list_any, Moment, Configuration, History, creates}
 use Rattle.dekarino_texts.specs.declared.notes.Notes.{Notes}
 use Rattle.dekarino_texts.specs.declared.port_notes.PortKey.{PortKey}
 use Rattle.dekarino_texts.specs.declared.port_notes.PortNotes.{PortNotes}

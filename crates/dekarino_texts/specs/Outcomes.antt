@@ -1,5 +1,6 @@
 -- The calls of scripts, each with its line and the replies that it can get.
-use Rattle.dekarino_texts.specs.Prelude.{ℕ, Bool, ◌==◌, ◌&&◌, List, [], filter, map, slice_get, unwrap_or, Option, Some, None, Reply}
+use Rattle.std.specs.Prelude.{ℕ, Bool, ◌==◌, ◌&&◌, List, [], filter, map, slice_get, unwrap_or, Option, Some, None}
+use Rattle.dekarino_texts.specs.Prelude.{Reply}
 use Rattle.apex_orders.specs.declared.replies.PossibleReply.{PossibleReply}
 use Rattle.dekarino_texts.specs.declared.script_lines.LineNumbers.{LineNumbers}
 

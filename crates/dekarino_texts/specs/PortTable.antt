@@ -1,5 +1,6 @@
 -- The table of a configuration's ports: a row for each partition, and after it one for each of its ports.
-use Rattle.dekarino_texts.specs.Prelude.{ℕ, ◌+◌, ◌==◌, Bool, true, false, ◌&&◌, if◌then◌else◌, List, [], ◌∷◌, ◌++◌, Configuration, PartitionData, Port}
+use Rattle.std.specs.Prelude.{ℕ, ◌+◌, ◌==◌, Bool, true, false, ◌&&◌, if◌then◌else◌, List, [], ◌∷◌, ◌++◌}
+use Rattle.dekarino_texts.specs.Prelude.{Configuration, PartitionData, Port}
 use Rattle.apex_types.specs.declared.direction.Direction.{Direction}
 use Rattle.apex_types.specs.declared.direction.Direction.TheVariants.{Source, Destination}
 use Rattle.dekarino_texts.specs.declared.table.PortPlace.{PortPlace}

@@ -1,6 +1,5 @@
 -- The words of std and of the crates below that several files of this crate cite.
 pub use Rattle.std.specs.List.{before_first, after_first, flat_map, list_any}
-pub use Rattle.std.specs.Prelude.{ℕ, List, [], ◌∷◌, length, min, max, ◌≡◌, Bool, ◌+◌, ◌≤◌, ◌⊎◌, nat_lt, if◌then◌else◌, ◌++◌, Option, Some, None, option_map, Result, Ok, Err, MatchOption, IsOk, false, ◌==◌, ◌&&◌, filter, map, slice_get, unwrap_or, true, not, ◌<◌, IfOk, ◌^◌, ◌-◌, IfErr, OnOk, position, IfSome, ◌||◌, IsTrue}
 pub use Rattle.apex_types.specs.declared.call.Call.{Call}
 pub use Rattle.apex_types.specs.declared.moment.Moment.{Moment}
 pub use Rattle.apex_types.specs.declared.reply.Reply.{Reply}
@@ -13,7 +12,7 @@ pub use Rattle.apex_ports.specs.Sound.{IsSound}
 pub use Rattle.apex_ports.specs.declared.history.Entry.{Entry}
 pub use Rattle.apex_ports.specs.declared.history.Request.{Request}
 pub use Rattle.apex_texts.specs.Lines.{FaultyLine}
-unfoldable pub use Rattle.apex_texts.specs.Lines.{item_of_line, line_words, items_from}
+unfoldable pub use Rattle.apex_texts.specs.Lines.{item_of_line, line_words}
 pub use Rattle.apex_texts.specs.Replay.{entry_after, IsRefused}
 pub use Rattle.apex_texts.specs.Report.{name_of_partition}
 pub use Rattle.apex_texts.specs.Script.{script_of}

@@ -1,5 +1,6 @@
 -- What is worth a look when a trace has ended: the remarks.
-use Rattle.dekarino_texts.specs.Prelude.{ℕ, Bool, true, false, ◌+◌, ◌&&◌, ◌==◌, nat_lt, not, if◌then◌else◌, List, [], ◌∷◌, ◌++◌, length, map, list_any, flat_map, Moment, Reply, Configuration, PartitionData, Port, Entry, is_read, validity_in, waiting_on, last_write_on, History, creates, is_created, is_source, name_of_partition}
+use Rattle.std.specs.Prelude.{ℕ, Bool, true, false, ◌+◌, ◌&&◌, ◌==◌, nat_lt, not, if◌then◌else◌, List, [], ◌∷◌, ◌++◌, length, map}
+use Rattle.dekarino_texts.specs.Prelude.{list_any, flat_map, Moment, Reply, Configuration, PartitionData, Port, Entry, is_read, validity_in, waiting_on, last_write_on, History, creates, is_created, is_source, name_of_partition}
 use Rattle.std.specs.Option.{is_some}
 use Rattle.apex_types.specs.declared.reply.Reply.TheVariants.{NotMade}
 use Rattle.apex_module.specs.declared.channel.Channel.{Channel}

@@ -1,5 +1,6 @@
 -- The lines of a script that have a call.
-use Rattle.dekarino_texts.specs.Prelude.{◌≡◌, ℕ, Bool, true, false, ◌+◌, if◌then◌else◌, List, [], ◌∷◌, length, slice_get, Option, Some, None, Result, Ok, Err, Call, Moment, LineFault, FaultyLine, line_words, item_of_line, timed_call_at}
+use Rattle.std.specs.Prelude.{◌≡◌, ℕ, Bool, true, false, ◌+◌, if◌then◌else◌, List, [], ◌∷◌, length, slice_get, Option, Some, None, Result, Ok, Err}
+use Rattle.dekarino_texts.specs.Prelude.{Call, Moment, LineFault, FaultyLine, line_words, item_of_line, timed_call_at}
 use Rattle.std.specs.Str.Lines.{lines}
 
 -- ---- the numbers

@@ -1,5 +1,6 @@
 //! The counts of queuing channels, over the ends of all orders.
-ghost use Rattle.dekarino_texts.specs.Prelude.{◌≡◌, ◌<◌, length, IfOk, IsSound};
+ghost use Rattle.std.specs.Prelude.{◌≡◌, ◌<◌, length, IfOk};
+ghost use Rattle.dekarino_texts.specs.Prelude.{IsSound};
 ghost use Rattle.apex_orders.specs.Orders.{history_of};
 ghost use Rattle.dekarino_texts.specs.Counts.{counts_after, lesser, greater, only, widened, ranges_over};
 

@@ -1,5 +1,6 @@
 //! The departures of a log, entry by entry.
-ghost use Rattle.dekarino_texts.specs.Prelude.{◌≡◌, ◌<◌, ◌≤◌, ◌+◌, ◌^◌, ◌-◌, ◌∷◌, ◌++◌, [], true, false, length, None, IfOk, IfErr, OnOk, entry_of, instead_of, entry_in_ours, own_after, replaced_in, restored, polled_entry};
+ghost use Rattle.std.specs.Prelude.{◌≡◌, ◌<◌, ◌≤◌, ◌+◌, ◌^◌, ◌-◌, ◌∷◌, ◌++◌, [], true, false, length, None, IfOk, IfErr, OnOk};
+ghost use Rattle.dekarino_texts.specs.Prelude.{entry_of, instead_of, entry_in_ours, own_after, replaced_in, restored, polled_entry};
 ghost use Rattle.apex_types.specs.declared.reply.Reply.TheVariants as replies;
 ghost use Rattle.dekarino_texts.specs.declared.departures.SinkError.TheVariants as sinks;
 ghost use Rattle.dekarino_texts.specs.Departures.{NamesNoLine, counts_with, departure_in, departures_handed, expected_waited, known_in, place_with};

@@ -1,5 +1,6 @@
 //! The explanation of a trace: each line with what comes of it, and then the remarks.
-ghost use Rattle.dekarino_texts.specs.Prelude.{◌≡◌, ◌<◌, ◌∷◌, ◌++◌, [], List, length, position, Some, IfOk, IfErr, OnOk, before_first, IsSound, entry_after, is_line_feed, trace_of};
+ghost use Rattle.std.specs.Prelude.{◌≡◌, ◌<◌, ◌∷◌, ◌++◌, [], List, length, position, Some, IfOk, IfErr, OnOk};
+ghost use Rattle.dekarino_texts.specs.Prelude.{before_first, IsSound, entry_after, is_line_feed, trace_of};
 ghost use Rattle.apex_texts.specs.declared.fault.Fault.TheVariants as faults;
 ghost use Rattle.apex_texts.specs.declared.fault.TraceFault.TheVariants as traces;
 ghost use Rattle.apex_texts.specs.LineFault.{number_of};

@@ -1,5 +1,6 @@
 //! The departures of a log, found line by line as it comes.
-ghost use Rattle.dekarino_texts.specs.Prelude.{◌≡◌, [], OnOk, IfErr, IfSome, none_known};
+ghost use Rattle.std.specs.Prelude.{◌≡◌, [], OnOk, IfErr, IfSome};
+ghost use Rattle.dekarino_texts.specs.Prelude.{none_known};
 ghost use Rattle.dekarino_texts.specs.declared.judged_lines.JudgeError.TheVariants as stops;
 ghost use Rattle.dekarino_texts.specs.Departures.{IsJudgedThrough, IsStoppedAt, refused_by_sink, stopped_at};
 

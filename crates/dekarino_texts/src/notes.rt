@@ -1,5 +1,6 @@
 //! What the remarks need of the calls of a trace, noted call by call.
-ghost use Rattle.dekarino_texts.specs.Prelude.{◌≡◌, List, [], ◌∷◌, ◌++◌, ◌<◌, length, OnOk, Configuration, entry_of};
+ghost use Rattle.std.specs.Prelude.{◌≡◌, List, [], ◌∷◌, ◌++◌, ◌<◌, length, OnOk};
+ghost use Rattle.dekarino_texts.specs.Prelude.{Configuration, entry_of};
 ghost use Rattle.dekarino_texts.specs.Notes.{AreNoted};
 ghost use Rattle.dekarino_texts.specs.Remarks.{LineEntry, earlier, not_made};
 

@@ -1,5 +1,6 @@
 //! Which ports the calls of a trace created, and at which a sample was read.
-ghost use Rattle.dekarino_texts.specs.Prelude.{◌≡◌, ℕ, [], ◌∷◌, ◌++◌, ◌||◌, OnOk, History, entry_of, creates};
+ghost use Rattle.std.specs.Prelude.{◌≡◌, ℕ, [], ◌∷◌, ◌++◌, ◌||◌, OnOk};
+ghost use Rattle.dekarino_texts.specs.Prelude.{History, entry_of, creates};
 ghost use Rattle.dekarino_texts.specs.Notes.{ArePortsNoted, has_port, is_some_port};
 ghost use Rattle.dekarino_texts.specs.Remarks.{shows_sample};
 

@@ -1,5 +1,6 @@
 //! The words of remarks. Those on a channel say which messages wait there, and at which port.
-ghost use Rattle.dekarino_texts.specs.Prelude.{◌≡◌, ◌<◌, true, length, IfSome, port_of, is_destination_of};
+ghost use Rattle.std.specs.Prelude.{◌≡◌, ◌<◌, true, length, IfSome};
+ghost use Rattle.dekarino_texts.specs.Prelude.{port_of, is_destination_of};
 
 use crate::remark::Remark;
 use crate::table::PortPlace;

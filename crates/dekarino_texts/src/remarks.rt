@@ -1,5 +1,6 @@
 //! The remarks on a trace that has ended.
-ghost use Rattle.dekarino_texts.specs.Prelude.{◌≡◌, ◌<◌, ◌++◌, length, IfOk, OnOk, ports_of, name_of_partition};
+ghost use Rattle.std.specs.Prelude.{◌≡◌, ◌<◌, ◌++◌, length, IfOk, OnOk};
+ghost use Rattle.dekarino_texts.specs.Prelude.{ports_of, name_of_partition};
 ghost use Rattle.dekarino_texts.specs.Notes.{ArePortsNoted};
 ghost use Rattle.dekarino_texts.specs.Remarks.{is_unread, port_remark, port_remarks, partition_remarks, waiting_remark, channel_remarks};
 

@@ -1,5 +1,6 @@
 //! The explanation of a run: the calls of its scripts, in the order in which they were made.
-ghost use Rattle.dekarino_texts.specs.Prelude.{◌≡◌, ◌<◌, [], length, IfErr, IsTrue, IsSound};
+ghost use Rattle.std.specs.Prelude.{◌≡◌, ◌<◌, [], length, IfErr, IsTrue};
+ghost use Rattle.dekarino_texts.specs.Prelude.{IsSound};
 ghost use Rattle.apex_texts.specs.declared.fault.Fault.TheVariants as faults;
 
 use crate::explanation::{Explained, Explanation, ExplanationSink, explain_call};

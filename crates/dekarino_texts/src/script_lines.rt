@@ -1,5 +1,6 @@
 //! The numbers of the lines of a script that have a call.
-ghost use Rattle.dekarino_texts.specs.Prelude.{◌≡◌, IfOk, script_of};
+ghost use Rattle.std.specs.Prelude.{◌≡◌, IfOk};
+ghost use Rattle.dekarino_texts.specs.Prelude.{script_of};
 ghost use Rattle.dekarino_texts.specs.ScriptLines.{has_call, call_numbers, AreLinesOf};
 
 use apex_texts::lines::line_words;

@@ -1,5 +1,6 @@
 //! The table of a configuration's ports, partition by partition, as data.
-ghost use Rattle.dekarino_texts.specs.Prelude.{◌≡◌, ◌<◌, ◌++◌, length, map, IfOk, OnOk, ports_of};
+ghost use Rattle.std.specs.Prelude.{◌≡◌, ◌<◌, ◌++◌, length, map, IfOk, OnOk};
+ghost use Rattle.dekarino_texts.specs.Prelude.{ports_of};
 ghost use Rattle.dekarino_texts.specs.PortTable.{place_if, places_in, partners_of, row_data, port_rows, table_rows};
 
 use apex_module::{Config, Port};
