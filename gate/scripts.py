@@ -19,6 +19,7 @@ TESTS = {
     "c_builds": ("package",), "serve": ("c_builds",), "runs": (), "judge": (), "judge_readings": (), "stream": (),
     "departures_of_one_lie": (), "run_cases": (),
     "examples": (), "dekarino": (), "mistakes": (), "drawings": (), "documents": ("serve",), "terminal": (),
+    "refused_texts": (),
 }
 # Those that need the toolchain, or more minutes, and the words that they are run with.
 WHOLE = {"edits": (), "sweep_memory": ("all",)}

@@ -1,5 +1,5 @@
 -- What is found for the scripts of a part is so for all scripts: the replies to its calls, and what its channels count.
-use Rattle.apex_groups.proofs.Common.{◌≡◌, ⊎_elim, ℕ, zero, suc, ◌<◌, Bool, true, false, if◌then◌else◌, List, [], ◌∷◌, ◌++◌, length, drop, filter, map, take, Option, Some, None, refl, sym, ap, ◌∙◌, subst, arith, slice_get, slice_get-map, option_map, take_all, Configuration, IsConfiguration, port_of, Port, Entry, History, entries_of, IsPart, Scripts, script_of, calls_of, next_entries, continued, history_of, IsWay, CanOccur, CanBeAnswered, Asked, PossibleReply, Has}
+use Rattle.apex_groups.proofs.Common.{◌≡◌, ⊎_elim, ℕ, zero, suc, ◌<◌, Bool, true, false, if◌then◌else◌, List, [], ◌∷◌, ◌++◌, length, drop, filter, map, take, Option, Some, None, refl, sym, ap, ◌∙◌, subst, arith, slice_get, slice_get-map, option_map, take_all, Configuration, IsConfiguration, Entry, History, entries_of, IsPart, Scripts, script_of, calls_of, next_entries, continued, history_of, IsWay, CanOccur, CanBeAnswered, Asked, PossibleReply, Has}
 use Rattle.apex_groups.proofs.Common.{IsGood, IsDone, IsNext, answered, next_cases, one_longer, unclocked, HasSameTotals, made_whole, calls_outside}
 use Rattle.apex_types.specs.declared.call.Call.{Call}
 use Rattle.apex_types.specs.declared.moment.Moment.{Moment}
@@ -12,6 +12,7 @@ use Rattle.apex_orders.proofs.Alike.{IsChannelAlike, channel_along, channel_left
 use Rattle.apex_orders.proofs.Completing.{good_history}
 use Rattle.apex_orders.proofs.Walks.{ordered, same_history}
 use Rattle.apex_groups.proofs.AlikeInside.{AreAlike, alike_nil, is_own_call, outside_leaves, told, way_alike}
+use Rattle.apex_groups.specs.Parts.{IsFed}
 use Rattle.apex_groups.proofs.Exchanged.{here_inside, none_outside}
 use Rattle.apex_groups.proofs.WholeLemmas.{outside_each, whole_history}
 
@@ -67,15 +68,15 @@ module _ (config : Configuration) (c : ℕ) where
   }
 
 module _ (config : Configuration) (own : ℕ → Bool) (inside : ℕ → Bool) (scripts part : Scripts) (is : IsPart inside scripts part)
-    (ends : (p id : ℕ) (port : Port) → port_of config p id ≡ Some port → own port.channel ≡ true → inside p ≡ true) (valid : IsConfiguration config) where
+    (fed : (c : ℕ) → own c ≡ true → IsFed config inside c) (valid : IsConfiguration config) where
   -- ---- ways
 
   -- what the part makes of the way's order
   abbrev pub part_way : History → History
   part_way way = history_of config part (order_of way)
 
-  alike : (way : History) → IsWay config scripts way → AreAlike config own inside scripts part is ends way (part_way way)
-  alike way is_way = way_alike config own inside scripts part is ends way [] [] is_way (alike_nil config own inside scripts part is ends)
+  alike : (way : History) → IsWay config scripts way → AreAlike config own inside scripts part is fed way (part_way way)
+  alike way is_way = way_alike config own inside scripts part is fed way [] [] is_way (alike_nil config own inside scripts part is fed)
 
   told_calls : (p : ℕ) (es : History) → map (λ (one : (Moment × Call) × Option Reply). one.0) (map (told config own p) es) ≡ map timed_of es
   told_calls p [] = refl
@@ -169,7 +170,7 @@ module _ (config : Configuration) (own : ℕ → Bool) (inside : ℕ → Bool) (
         (⊎_elim
         (λ (done : IsDone config scripts h p). subst (λ (g : History). IsChannelAlike config g h c) (sym (same_history config scripts h p done)) (record { accepted = refl; received = refl; taken = refl; writes = refl }))
         (λ (more : IsNext config scripts h p). subst (λ (g : History). IsChannelAlike config g h c) (sym (one_longer config scripts h p more))
-        (channel_left config c h (answered config scripts h p more.timed) (outside_leaves config own inside scripts part is ends c (answered config scripts h p more.timed) mine (out p (0, refl)))))
+        (channel_left config c h (answered config scripts h p more.timed) (outside_leaves config own inside scripts part is fed c mine h p (out p (0, refl)) more.timed.0 more.timed.1)))
         (next_cases config scripts h p))
 
     -- what the channel counts after a way, it counts after the part's order to the same point, followed by all other calls

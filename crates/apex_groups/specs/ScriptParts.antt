@@ -4,6 +4,7 @@ use Rattle.apex_groups.specs.Prelude.{Configuration, History, Scripts, IsWay, hi
 use Rattle.apex_groups.specs.Counts.{ShowsCounts}
 use Rattle.apex_groups.specs.Groups.{IsPart, group_of}
 use Rattle.apex_groups.specs.Parts.{part_of_index}
+use Rattle.apex_groups.specs.declared.parts.Parts.{Parts}
 use Rattle.apex_orders.specs.declared.outcomes.Outcomes.{Outcomes}
 
 -- ---- orders
@@ -37,14 +38,14 @@ pub record IsAnswerOf (config : Configuration) (inside : ℕ → Bool) (scripts 
 -- ---- the parts searched so far
 
 -- these are the replies that calls of the first parts can get
-abbrev pub AreRepliesBelow : Configuration → Scripts → List ℕ → List ℕ → ℕ → List PossibleReply → Type 0
-AreRepliesBelow config scripts channels partitions count replies =
+abbrev pub AreRepliesBelow : Configuration → Scripts → Parts → ℕ → List PossibleReply → Type 0
+AreRepliesBelow config scripts parts count replies =
     (one : PossibleReply) → Has replies one
-    ↔ (CanOccur config scripts one × (part_of_index config channels partitions scripts one.partition one.index < count))
+    ↔ (CanOccur config scripts one × (part_of_index config parts scripts one.partition one.index < count))
 
 -- each listed order makes all calls, and whatever a channel of the first parts counts after a way, it counts after one of
 -- them
-pub record ShowCountsBelow (config : Configuration) (scripts : Scripts) (channels : List ℕ) (count : ℕ) (ends : List (List ℕ)) : Type 0 where
+pub record ShowCountsBelow (config : Configuration) (scripts : Scripts) (parts : Parts) (count : ℕ) (ends : List (List ℕ)) : Type 0 where
   pub ways : (order : List ℕ) → Has ends order → IsWay config scripts (history_of config scripts order)
-  pub counts : (c : ℕ) → c < length config.channels → group_of channels c < count
+  pub counts : (c : ℕ) → c < length config.channels → group_of parts.of_channels.items c < count
       → (way : History) → IsWay config scripts way → ShowsCounts config scripts ends way c

@@ -62,7 +62,7 @@ impl Groups {
     }
 
     /// The group of the channel.
-    fn of_channel(&self, channel: usize) -> usize
+    pub(crate) fn of_channel(&self, channel: usize) -> usize
         ensures { result ≡ group_of self.now.of_channels.items channel }
     {
         self.of_channels.get(channel).copied().unwrap_or(0)

@@ -153,8 +153,7 @@ fn outcomes_by_parts<P: Progress>(
     progress: &mut P,
 ) -> Result<OutcomesApart, OrdersFault>
     requires count { length scripts.old ≡ length config.now.partitions }
-    requires below { AreBelow parts.now.of_channels.items
-        parts.now.of_partitions.items parts.now.count }
+    requires below { AreBelow parts.now }
     ensures same { scripts.new ≡ scripts.old }
     ensures replies { IfOk result
         (λ found. AreReplies config.now scripts.old found.replies.items) }
@@ -169,6 +168,9 @@ fn outcomes_by_parts<P: Progress>(
     };
     for part in 0..parts.count {
         let members = parts.members(alloc, config, part)?;
+        if !parts.hold(config, part, &members) {
+            return outcomes_together(alloc, config, scripts, false, bound, progress);
+        }
         if !members.have(config, 1) {
             continue;
         }
@@ -195,8 +197,7 @@ fn add_part(
     found: Outcomes,
 ) -> Result<(), AllocError>
     ensures replies { OnOk result (all.new.replies.items ≡ all.old.replies.items
-        ++ filter (is_of_part config.now parts.now.of_channels.items
-        parts.now.of_partitions.items scripts.now part) found.replies.items) }
+        ++ filter (is_of_part config.now parts.now scripts.now part) found.replies.items) }
     ensures ends { let inside = in_group members.now.of_partitions.items 1 in
         OnOk result (all.new.ends.items
         ≡ all.old.ends.items ++ map (made_whole inside scripts.now) found.ends.items) }
@@ -224,8 +225,7 @@ fn add_replies(
     found: &[PossibleReply],
 ) -> Result<(), AllocError>
     ensures { OnOk result (all.new.items ≡ all.old.items
-        ++ filter (is_of_part config.now parts.now.of_channels.items
-        parts.now.of_partitions.items scripts.now part) found.now) }
+        ++ filter (is_of_part config.now parts.now scripts.now part) found.now) }
 {
     for one in found {
         if parts.of_index(config, scripts, one.partition, one.index) == part {

@@ -1,20 +1,29 @@
-//! Parts of scripts: the partitions at the ends of a channel, which are searched by themselves.
-ghost use Rattle.std.specs.Prelude.{◌≡◌, ◌<◌, ℕ, length, false, IfOk, IsTrue};
+//! Parts of scripts: the partitions on which depends what a channel's calls are answered, which are searched by themselves.
+ghost use Rattle.std.specs.Prelude.{◌≡◌, ◌<◌, ℕ, length, true, IsTrue};
 ghost use Rattle.apex_groups.specs.Prelude.{IsConfiguration};
 ghost use Rattle.apex_groups.specs.Groups.{group_of, in_group};
-ghost use Rattle.apex_groups.specs.Parts.{AreBelow, HoldsPart, IsOutside, id_asked, part_of_call, part_of_index};
+ghost use Rattle.apex_groups.specs.Parts.{AreBelow, HoldsPart, IsHeld, IsPortHeld, IsReader, id_asked, part_of_call, part_of_index, part_of_port};
 
 use crate::groups::Groups;
-use apex_module::Config;
+use apex_module::{Config, Port};
 use apex_ports::Script;
-use apex_types::Call;
+use apex_types::{Call, Direction};
 use std::alloc::{AllocError, Global};
 
-/// The part of each channel, and that of each partition's calls that name no port.
+/// The part of each of a partition's ports, at the place of its identifier.
+#[derive(Drop)]
+pub(crate) struct OfPorts {
+    pub(crate) parts: Vec<usize>,
+}
+
+/// The part of each port, of each channel, and of each partition's calls that name no port.
 #[derive(Drop)]
 pub(crate) struct Parts {
+    pub(crate) of_ports: Vec<OfPorts>,
     pub(crate) of_channels: Vec<usize>,
     pub(crate) of_partitions: Vec<usize>,
+    /// The channels of the last parts, each of which is a reader's by itself.
+    pub(crate) read: Vec<usize>,
     /// A number beyond all parts.
     pub(crate) count: usize,
 }
@@ -38,41 +47,83 @@ impl Ends {
 }
 
 impl Parts {
-    /// The part of a channel has the number of the first channel between the same two partitions. Calls that name no port
-    /// are in the part of their partition's first port, or in one of their own. No clause says so: whoever relies on the
-    /// parts checks whether they are below the count.
+    /// A channel with two ports is one part with all channels between the same partitions. Of a sampling channel with
+    /// several readers, the source is a part, and so is each reader with the source. Calls that name no port are in the part
+    /// of their partition's first port, or in one of their own. No clause says so: whoever relies on parts checks them.
     pub(crate) fn new(alloc: Global, config: &Config) -> Result<Parts, AllocError> {
         let ends = ends_of(alloc, config)?;
         let mut of_channels = Vec::with_capacity(alloc, ends.len())?;
         for c in 0..ends.len() {
             of_channels.push(first_alike(ends.as_slice(), c))?;
         }
-        let mut of_partitions = Vec::with_capacity(alloc, config.partitions())?;
-        for p in 0..config.partitions() {
-            of_partitions.push(match config.port(p, 1) {
-                Some(port) => of_channels.get(port.channel).copied().unwrap_or(0),
-                None => ends.len().saturating_add(p),
-            })?;
-        }
-        let count = ends.len().saturating_add(config.partitions());
-        Ok(Parts {
+        let mut parts = Parts {
+            of_ports: Vec::new(alloc),
             of_channels,
-            of_partitions,
-            count,
-        })
+            of_partitions: Vec::new(alloc),
+            read: Vec::new(alloc),
+            count: ends.len().saturating_add(config.partitions()),
+        };
+        for p in 0..config.partitions() {
+            parts.add_partition(alloc, config, ends.as_slice(), p)?;
+        }
+        Ok(parts)
+    }
+
+    /// Adds a partition and its ports.
+    fn add_partition(
+        &mut self,
+        alloc: Global,
+        config: &Config,
+        ends: &[Ends],
+        p: usize,
+    ) -> Result<(), AllocError>
+        requires { p < length config.now.partitions }
+    {
+        let mut of_ports = Vec::new(alloc);
+        of_ports.push(ends.len().saturating_add(p))?;
+        for index in 0..config.ports(p) {
+            if let Some(port) = config.port(p, index as u32 + 1) {
+                let part = self.part_for(ends, port)?;
+                of_ports.push(part)?;
+            }
+        }
+        let first = if of_ports.len() > 1 { 1 } else { 0 };
+        self.of_partitions
+            .push(of_ports.get(first).copied().unwrap_or(0))?;
+        self.of_ports.push(OfPorts { parts: of_ports })?;
+        Ok(())
+    }
+
+    /// The part for a port: one more if it is one of several readers.
+    fn part_for(&mut self, ends: &[Ends], port: &Port) -> Result<usize, AllocError> {
+        let are_several = match ends.get(port.channel) {
+            None => false,
+            Some(ends) => ends.ports > 2,
+        };
+        if !are_several || !is_reader(port) {
+            return Ok(self.of_channel(port.channel));
+        }
+        let part = self.count;
+        self.read.push(port.channel)?;
+        self.count = part.saturating_add(1);
+        Ok(part)
     }
 
     /// Whether each part has a number below the count.
     pub(crate) fn are_below(&self) -> bool
-        ensures { IsTrue result → AreBelow self.now.of_channels.items
-            self.now.of_partitions.items self.now.count }
+        ensures { IsTrue result → AreBelow self.now }
     {
+        for one in self.of_ports.iter() {
+            if !have_less(one.parts.as_slice(), self.count) {
+                return false;
+            }
+        }
         have_less(self.of_channels.as_slice(), self.count)
             && have_less(self.of_partitions.as_slice(), self.count)
     }
 
     /// The part of the channel.
-    pub(crate) fn of_channel(&self, channel: usize) -> usize
+    fn of_channel(&self, channel: usize) -> usize
         ensures { result ≡ group_of self.now.of_channels.items channel }
     {
         self.of_channels.get(channel).copied().unwrap_or(0)
@@ -85,17 +136,26 @@ impl Parts {
         self.of_partitions.get(p).copied().unwrap_or(0)
     }
 
-    /// The part of the call: that of the channel of the port that it names.
+    /// The part of the partition's port with the identifier.
+    fn of_port(&self, p: usize, id: u32) -> usize
+        ensures { result ≡ part_of_port self.now p id }
+    {
+        match self.of_ports.get(p) {
+            None => 0,
+            Some(one) => one.parts.get(id as usize).copied().unwrap_or(0),
+        }
+    }
+
+    /// The part of the call: that of the port that it names.
     fn of_call(&self, config: &Config, p: usize, call: &Call) -> usize
-        ensures { result ≡ part_of_call config.now
-            self.now.of_channels.items self.now.of_partitions.items p call.now }
+        ensures { result ≡ part_of_call config.now self.now p call.now }
     {
         let Some(id) = id_asked(call) else {
             return self.of_partition(p);
         };
         match config.port(p, id) {
             None => self.of_partition(p),
-            Some(port) => self.of_channel(port.channel),
+            Some(_) => self.of_port(p, id),
         }
     }
 
@@ -107,8 +167,7 @@ impl Parts {
         p: usize,
         index: usize,
     ) -> usize
-        ensures { result ≡ part_of_index config.now self.now.of_channels.items
-            self.now.of_partitions.items scripts.now p index }
+        ensures { result ≡ part_of_index config.now self.now scripts.now p index }
     {
         let Some(script) = scripts.get(p) else {
             return self.of_partition(p);
@@ -119,46 +178,125 @@ impl Parts {
         }
     }
 
-    /// The partitions of the part, as group 1.
+    /// The partitions and the channels of the part, as group 1. No clause says so: `hold` checks it.
     pub(crate) fn members(
         &self,
         alloc: Global,
         config: &Config,
         part: usize,
-    ) -> Result<Groups, AllocError>
-        ensures holds { IfOk result (λ members. HoldsPart config.now
-            self.now.of_channels.items self.now.of_partitions.items part
-            (in_group members.of_partitions.items 1)) }
-        ensures valid { IsConfiguration config.now }
-    {
+    ) -> Result<Groups, AllocError> {
+        let mut of_channels = Vec::with_capacity(alloc, config.channels())?;
+        for c in 0..config.channels() {
+            of_channels.push((self.of_channel(c) == part || self.reads(part, c)) as usize)?;
+        }
         let mut of_partitions = Vec::with_capacity(alloc, config.partitions())?;
         for p in 0..config.partitions() {
-            let group = if self.has(config, part, p) { 1 } else { 0 };
-            of_partitions.push(group)?;
+            of_partitions.push(self.has(config, part, p) as usize)?;
         }
         Ok(Groups {
             of_partitions,
-            of_channels: Vec::new(alloc),
+            of_channels,
         })
     }
 
-    /// Whether the part is the partition's, or that of the channel of one of its ports.
+    /// Whether the part is one reader's of the channel.
+    fn reads(&self, part: usize, channel: usize) -> bool {
+        let last = self.count.saturating_sub(self.read.len());
+        part >= last && self.read.get(part - last).copied() == Some(channel)
+    }
+
+    /// Whether the part is the partition's, one of its ports', or one reader's of a channel that it writes.
     fn has(&self, config: &Config, part: usize, p: usize) -> bool
         requires { p < length config.now.partitions }
-        ensures { result ≡ false → IsOutside config.now
-            self.now.of_channels.items self.now.of_partitions.items part p }
     {
         if self.of_partition(p) == part {
             return true;
         }
         for index in 0..config.ports(p) {
-            if let Some(port) = config.port(p, index as u32 + 1) {
-                if self.of_channel(port.channel) == part {
+            let id = index as u32 + 1;
+            if let Some(port) = config.port(p, id) {
+                let feeds = !is_reader(port) && self.reads(part, port.channel);
+                if feeds || self.of_port(p, id) == part {
                     return true;
                 }
             }
         }
         false
+    }
+
+    /// Whether the members hold the part: nobody else changes what its calls are answered, or what its channels count.
+    pub(crate) fn hold(&self, config: &Config, part: usize, members: &Groups) -> bool
+        ensures holds { let inside = in_group members.now.of_partitions.items 1 in
+            IsTrue result → HoldsPart config.now self.now part inside
+            (in_group members.now.of_channels.items 1) }
+        ensures valid { IsConfiguration config.now }
+    {
+        for p in 0..config.partitions() {
+            if !self.is_held(config, part, members, p) {
+                return false;
+            }
+        }
+        for c in 0..config.channels() {
+            if self.of_channel(c) == part && members.of_channel(c) != 1 {
+                return false;
+            }
+        }
+        true
+    }
+
+    /// Whether the partition is a member if it has to be one, and its ports are held.
+    fn is_held(&self, config: &Config, part: usize, members: &Groups, p: usize) -> bool
+        requires { p < length config.now.partitions }
+        ensures { let inside = in_group members.now.of_partitions.items 1 in
+            IsTrue result → IsHeld config.now self.now part inside
+            (in_group members.now.of_channels.items 1) p }
+    {
+        if !self.is_partition_held(part, members, p) {
+            return false;
+        }
+        for index in 0..config.ports(p) {
+            let id = index as u32 + 1;
+            let Some(port) = config.port(p, id) else {
+                return false;
+            };
+            if !self.is_port_held(part, members, p, id, port) {
+                return false;
+            }
+        }
+        true
+    }
+
+    /// Whether the partition is a member if the part is its own.
+    fn is_partition_held(&self, part: usize, members: &Groups, p: usize) -> bool
+        ensures { IsTrue result → group_of self.now.of_partitions.items p ≡ part
+            → in_group members.now.of_partitions.items 1 p ≡ true }
+    {
+        members.of_partition(p) == 1 || self.of_partition(p) != part
+    }
+
+    /// Whether the port's partition and channel are members if they have to be.
+    fn is_port_held(&self, part: usize, members: &Groups, p: usize, id: u32, port: &Port) -> bool
+        ensures { let inside = in_group members.now.of_partitions.items 1 in
+            IsTrue result → IsPortHeld self.now part inside
+            (in_group members.now.of_channels.items 1) p id port.now }
+    {
+        let is_own = members.of_channel(port.channel) == 1;
+        let is_of_part = self.of_port(p, id) == part;
+        if members.of_partition(p) == 1 {
+            is_own || !is_of_part
+        } else {
+            !is_of_part && (!is_own || is_reader(port))
+        }
+    }
+}
+
+/// Whether the port reads a sampling channel, and so changes nothing on it.
+fn is_reader(port: &Port) -> bool
+    ensures { IsTrue result → IsReader port.now }
+{
+    match port.direction {
+        Direction::Source => false,
+        Direction::Destination => !port.kind.is_queuing(),
     }
 }
 
@@ -194,7 +332,7 @@ fn ends_of(alloc: Global, config: &Config) -> Result<Vec<Ends>, AllocError> {
     Ok(ends)
 }
 
-/// The first channel with the same two ports' partitions.
+/// The first channel whose two ports are the same partitions' as the channel's; the channel itself if it has not two.
 fn first_alike(ends: &[Ends], c: usize) -> usize
     requires { c < length ends.now }
 {

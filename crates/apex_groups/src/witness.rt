@@ -58,6 +58,9 @@ fn unclocked_order<P: Progress>(
     let parts = Parts::new(alloc, config)?;
     let part = parts.of_index(config, scripts, asked.partition, asked.index);
     let members = parts.members(alloc, config, part)?;
+    if !parts.hold(config, part, &members) {
+        return order_giving_with_progress(alloc, config, scripts, false, asked, bound, progress);
+    }
     match order_of(alloc, config, &members, 1, scripts, asked, bound, progress) {
         Err(fault) => Err(fault),
         Ok(None) => Ok(None),

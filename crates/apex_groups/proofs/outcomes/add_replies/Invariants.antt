@@ -5,4 +5,4 @@ use Rattle.apex_groups.proofs.outcomes.add_replies.Given as goal
 abbrev pub invariant-loop-one : goal.invariant-loop-one
 invariant-loop-one l =
     l.all.items ≡ l.fn.all.items
-    ++ filter (is_of_part l.config l.parts.of_channels.items l.parts.of_partitions.items l.scripts l.part) (take l.one-index l.found)
+    ++ filter (is_of_part l.config l.parts l.scripts l.part) (take l.one-index l.found)

@@ -1,4 +1,4 @@
-use Rattle.apex_groups.proofs.Common.{◌≡◌, ℕ, ◌+◌, ◌<◌, ◌++◌, Bool, false, List, length, map, filter, sym, ap, ◌∙◌, subst, arith, nat_tests, Scripts, PossibleReply, HasNone, in_group, AreRepliesBelow, IsFoundOf, ShowCountsBelow, made_whole}
+use Rattle.apex_groups.proofs.Common.{AreReplies, IfOk, ◌≡◌, ℕ, ◌+◌, ◌<◌, ◌++◌, Bool, false, List, length, map, filter, sym, ap, ◌∙◌, subst, arith, nat_tests, Scripts, PossibleReply, HasNone, in_group, AreRepliesBelow, IsFoundOf, ShowCountsBelow, made_whole}
 use Rattle.apex_groups.specs.Parts.{HoldsPart, is_of_part}
 use Rattle.apex_groups.proofs.PartSteps.{all_counts, all_replies, counts_added, counts_pass, replies_added, replies_pass}
 use Rattle.apex_groups.proofs.outcomes.outcomes_by_parts.Goals as goal
@@ -7,60 +7,66 @@ pub loop-part-preserved-then-not-have : goal.loop-part-preserved-then-not-have
 loop-part-preserved-then-not-have g c =
     let config = c.args.config.now in
     let scripts = c.args.scripts.now in
-    let channels = c.args.parts.now.of_channels.items in
-    let partitions = c.args.parts.now.of_partitions.items in
+    let parts = c.args.parts.now in
     let part = c.loop-part.part in
     let groups = c.in_ok-members.members.of_partitions.items in
     let inside : ℕ → Bool = in_group groups 1 in
-    let valid = c.in_ok-members.ensures.valid in
-    let holds : HoldsPart config channels partitions part inside = c.in_ok-members.ensures.holds in
+    let own : ℕ → Bool = in_group c.in_ok-members.members.of_channels.items 1 in
+    let valid = c.hold.ensures.valid in
+    let holds : HoldsPart config parts part inside own = c.hold.ensures.holds c.if-not-hold.false in
     let no = c.if-not-have.true in
     let none : HasNone config groups 1 = c.have.ensures.none (λ is. absurd (cc)) in
     let out : (p : ℕ) → p < length config.partitions → inside p ≡ false = λ p within. let apart = none p within in grind (arith, nat_tests, apart) in
     record {
       same = c.loop-part.invariant.same;
-      replies = replies_pass config scripts channels partitions part inside holds valid c.requires.count out c.loop-part.all.replies.items c.loop-part.invariant.replies;
-      ends = counts_pass config scripts channels partitions part inside holds valid c.requires.count out c.loop-part.all.ends.items c.loop-part.invariant.ends;
+      replies = replies_pass config scripts parts part inside own holds valid c.requires.count out c.loop-part.all.replies.items c.loop-part.invariant.replies;
+      ends = counts_pass config scripts parts part inside own holds valid c.requires.count out c.loop-part.all.ends.items c.loop-part.invariant.ends;
     }
 
 pub loop-part-preserved : goal.loop-part-preserved
 loop-part-preserved g c =
     let config = c.args.config.now in
     let scripts = c.args.scripts.now in
-    let channels = c.args.parts.now.of_channels.items in
-    let partitions = c.args.parts.now.of_partitions.items in
+    let parts = c.args.parts.now in
     let part = c.loop-part.part in
     let inside : ℕ → Bool = in_group c.in_ok-members.members.of_partitions.items 1 in
-    let valid = c.in_ok-members.ensures.valid in
-    let holds : HoldsPart config channels partitions part inside = c.in_ok-members.ensures.holds in
+    let own : ℕ → Bool = in_group c.in_ok-members.members.of_channels.items 1 in
+    let valid = c.hold.ensures.valid in
+    let holds : HoldsPart config parts part inside own = c.hold.ensures.holds c.if-not-hold.false in
     let found : IsFoundOf config inside scripts c.in-Ok.found = subst (λ (own : Scripts). IsFoundOf config inside own c.in-Ok.found) c.loop-part.invariant.same c.in-Ok.ensures.found in
     let back : c.outcomes_of.new.scripts ≡ scripts = c.in-Ok.ensures.scripts ∙ c.loop-part.invariant.same in
     let replies = c.loop-part.all.replies.items in
     let ends = c.loop-part.all.ends.items in
     let more : c.add_part.new.all.ends.items ≡ ends ++ map (made_whole inside scripts) c.in-Ok.found.ends.items =
     c.in_ok-add_part.ensures.ends ∙ ap (λ (own : Scripts). ends ++ map (made_whole inside own) c.in-Ok.found.ends.items) back in
-    let answered : c.add_part.new.all.replies.items ≡ replies ++ filter (is_of_part config channels partitions scripts part) c.in-Ok.found.replies.items =
-    c.in_ok-add_part.ensures.replies ∙ ap (λ (own : Scripts). replies ++ filter (is_of_part config channels partitions own part) c.in-Ok.found.replies.items) back in
+    let answered : c.add_part.new.all.replies.items ≡ replies ++ filter (is_of_part config parts scripts part) c.in-Ok.found.replies.items =
+    c.in_ok-add_part.ensures.replies ∙ ap (λ (own : Scripts). replies ++ filter (is_of_part config parts own part) c.in-Ok.found.replies.items) back in
     record {
       same = back;
-      replies = subst (λ (all : List PossibleReply). AreRepliesBelow config scripts channels partitions (part + 1) all) (sym answered)
-          (replies_added config scripts channels partitions part inside holds valid c.requires.count found.part found.is replies c.in-Ok.found.replies.items found.replies c.loop-part.invariant.replies);
-      ends = subst (ShowCountsBelow config scripts channels (part + 1)) (sym more)
-          (counts_added config scripts channels partitions part inside holds valid c.requires.count found.part found.is ends c.in-Ok.found.ends.items found.ends c.loop-part.invariant.ends);
+      replies = subst (λ (all : List PossibleReply). AreRepliesBelow config scripts parts (part + 1) all) (sym answered)
+          (replies_added config scripts parts part inside own holds valid c.requires.count found.part found.is replies c.in-Ok.found.replies.items found.replies c.loop-part.invariant.replies);
+      ends = subst (ShowCountsBelow config scripts parts (part + 1)) (sym more)
+          (counts_added config scripts parts part inside own holds valid c.requires.count found.part found.is ends c.in-Ok.found.ends.items found.ends c.loop-part.invariant.ends);
     }
 
 pub returns-clause-replies : goal.returns-clause-replies
 returns-clause-replies g c =
     let past = c.loop-part-test.false in
     let last = c.loop-part.auto.part-end in
-    let searched : c.loop-part.part ≡ c.args.parts.now.count = omega (arith, past, last) in
-    all_replies c.args.config.now c.args.scripts.now c.args.parts.now.of_channels.items c.args.parts.now.of_partitions.items c.args.parts.now.count c.requires.below c.loop-part.all.replies.items
-    (subst (λ (n : ℕ). AreRepliesBelow c.args.config.now c.args.scripts.now c.args.parts.now.of_channels.items c.args.parts.now.of_partitions.items n c.loop-part.all.replies.items) searched c.loop-part.invariant.replies)
+    let parts = c.args.parts.now in
+    let searched : c.loop-part.part ≡ parts.count = omega (arith, past, last) in
+    all_replies c.args.config.now c.args.scripts.now parts c.requires.below c.loop-part.all.replies.items
+    (subst (λ (n : ℕ). AreRepliesBelow c.args.config.now c.args.scripts.now parts n c.loop-part.all.replies.items) searched c.loop-part.invariant.replies)
 
 pub returns-clause-ends : goal.returns-clause-ends
 returns-clause-ends g c =
     let past = c.loop-part-test.false in
     let last = c.loop-part.auto.part-end in
-    let searched : c.loop-part.part ≡ c.args.parts.now.count = omega (arith, past, last) in
-    all_counts c.args.config.now c.args.scripts.now c.args.parts.now.of_channels.items c.args.parts.now.of_partitions.items c.args.parts.now.count c.requires.below c.loop-part.all.ends.items
-    (subst (λ (n : ℕ). ShowCountsBelow c.args.config.now c.args.scripts.now c.args.parts.now.of_channels.items n c.loop-part.all.ends.items) searched c.loop-part.invariant.ends)
+    let parts = c.args.parts.now in
+    let searched : c.loop-part.part ≡ parts.count = omega (arith, past, last) in
+    all_counts c.args.config.now c.args.scripts.now parts c.requires.below c.loop-part.all.ends.items
+    (subst (λ (n : ℕ). ShowCountsBelow c.args.config.now c.args.scripts.now parts n c.loop-part.all.ends.items) searched c.loop-part.invariant.ends)
+
+pub returns-then-not-hold-clause-replies : goal.returns-then-not-hold-clause-replies
+returns-then-not-hold-clause-replies g c =
+    subst (λ (own : Scripts). IfOk c.outcomes_together.result (λ found. AreReplies c.args.config.now own found.replies.items)) c.loop-part.invariant.same c.outcomes_together.ensures.replies

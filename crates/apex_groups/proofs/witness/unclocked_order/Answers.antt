@@ -9,13 +9,13 @@ returns-in-Ok-None-clause-never g c = λ can.
     let config = c.args.config.now in
     let scripts = c.args.scripts.now in
     let asked = c.args.asked.now in
-    let channels = c.in_ok-parts.parts.of_channels.items in
-    let partitions = c.in_ok-parts.parts.of_partitions.items in
+    let parts = c.in_ok-parts.parts in
     let part = c.of_index-part.result in
     let inside : ℕ → Bool = in_group c.in_ok-members.members.of_partitions.items 1 in
-    let holds : HoldsPart config channels partitions part inside = c.in_ok-members.ensures.holds in
+    let own : ℕ → Bool = in_group c.in_ok-members.members.of_channels.items 1 in
+    let holds : HoldsPart config parts part inside own = c.hold.ensures.holds c.if-not-hold.false in
     let answer : IsAnswerOf config inside scripts asked None = subst (IsAnswerOf config inside scripts asked) c.in-Ok-None.field-0-is c.in-Ok-None.ensures.found in
-    answer.never (answered_there config scripts channels partitions part inside holds c.in_ok-members.ensures.valid c.requires answer.part answer.is asked (sym c.of_index-part.ensures) can)
+    answer.never (answered_there config scripts parts part inside own holds c.hold.ensures.valid c.requires answer.part answer.is asked (sym c.of_index-part.ensures) can)
 
 pub returns-clause-found : goal.returns-clause-found
 returns-clause-found g c =

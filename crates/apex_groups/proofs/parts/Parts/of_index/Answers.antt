@@ -13,5 +13,5 @@ returns-in-Some-get c =
     slice_get-get_or c.args.scripts.now c.args.p c.in-Some.script.now found.3.0 ∙ ap Some (sym found.1 ∙ (sym c.script.view_is ∙ sym c.deref.ensures.value)) in
     let call : slice_get calls c.args.index ≡ Some c.in-Some-get.field-0.now = slice_get-get_or calls c.args.index c.in-Some-get.field-0.now item.3.0 ∙ ap Some (sym item.1) in
     c.of_call.ensures
-    ∙ sym (ap (part_of_timed c.args.config.now c.args.self.now.of_channels.items c.args.self.now.of_partitions.items c.args.p)
+    ∙ sym (ap (part_of_timed c.args.config.now c.args.self.now c.args.p)
     (ap (λ (o : Option (List (Moment × Call))). slice_get (unwrap_or o []) c.args.index) script ∙ call))
