@@ -1,4 +1,5 @@
 pub mod Common
+pub mod CountLemmas
 pub mod DepartureLemmas
 pub mod ExplanationLemmas
 pub mod HandedLemmas

@@ -1,5 +1,5 @@
 -- The replies to a call, one after the other.
-use Rattle.dekarino_texts.proofs.Common.{◌≡◌, ℕ, ◌+◌, true, false, List, ◌∷◌, drop, Some, refl, slice_get, drop_at}
+use Rattle.dekarino_texts.proofs.Common.{◌≡◌, ℕ, ◌+◌, true, List, ◌∷◌, drop, Some, refl, slice_get, drop_at}
 use Rattle.apex_orders.specs.declared.replies.PossibleReply.{PossibleReply}
 use Rattle.dekarino_texts.specs.Outcomes.{is_to, replies_to}
 

@@ -1,5 +1,5 @@
--- The counts of a queuing channel over orders of all calls: of each the least and the greatest.
-use Rattle.std.specs.Prelude.{ℕ, List, [], ◌∷◌, length, min, max}
+-- The counts of channels over orders of all calls: of each the least and the greatest.
+use Rattle.std.specs.Prelude.{ℕ, ◌≡◌, ◌<◌, List, [], ◌∷◌, length, min, max, slice_get, Some}
 use Rattle.dekarino_texts.specs.Prelude.{Configuration, accepted_on, received_on, cleared_on, waiting_on, History}
 use Rattle.apex_ports.specs.Counts.{count_of}
 use Rattle.apex_orders.specs.Orders.{Scripts, history_of}
@@ -58,3 +58,21 @@ abbrev pub ranges_over : Configuration → Scripts → List (List ℕ) → ℕ �
 ranges_over config scripts [] c = only (counts_after config [] c)
 ranges_over config scripts (first ∷ rest) c =
     widened_by config scripts c (only (counts_after config (history_of config scripts first) c)) rest
+
+-- ---- all channels
+
+-- each channel's range is over the orders
+pub record AreRanges (config : Configuration) (scripts : Scripts) (orders : List (List ℕ)) (all : List Ranges) : Type 0 where
+  pub count : length all ≡ length config.channels
+  pub each : (c : ℕ) → c < length config.channels → slice_get all c ≡ Some (ranges_over config scripts orders c)
+
+-- each channel's range is from its counts to themselves
+pub record AreOnly (config : Configuration) (history : History) (all : List Ranges) : Type 0 where
+  pub count : length all ≡ length config.channels
+  pub each : (c : ℕ) → c < length config.channels → slice_get all c ≡ Some (only (counts_after config history c))
+
+-- each channel's range was made so wide that its counts are within
+pub record AreWidened (config : Configuration) (history : History) (before after : List Ranges) : Type 0 where
+  pub count : length after ≡ length before
+  pub each : (c : ℕ) (ranges : Ranges) → slice_get before c ≡ Some ranges
+      → slice_get after c ≡ Some (widened ranges (counts_after config history c))

@@ -1,15 +1,13 @@
 //! The counts of queuing channels, over the ends of all orders.
 ghost use Rattle.std.specs.Prelude.{◌≡◌, ◌<◌, length, IfOk};
-ghost use Rattle.dekarino_texts.specs.Prelude.{IsSound};
-ghost use Rattle.apex_orders.specs.Orders.{history_of};
-ghost use Rattle.dekarino_texts.specs.Counts.{counts_after, lesser, greater, only, widened, ranges_over};
+ghost use Rattle.dekarino_texts.specs.Counts.{AreOnly, AreRanges, AreWidened, counts_after, lesser, greater, only, widened};
 
 use apex_groups::ports_after;
 use apex_module::Config;
 use apex_orders::Order;
 use apex_ports::{Ports, Script};
 use apex_types::OutOfMemory;
-use std::alloc::Global;
+use std::alloc::{AllocError, Global};
 
 /// How many messages a channel accepted, how many were received and cleared, and how many wait.
 #[derive(Clone, Copy, Debug, PartialEq, Eq)]
@@ -27,7 +25,7 @@ pub struct Ranges {
     pub highest: Counts,
 }
 
-/// The ranges of a channel's counts after these orders of the scripts' calls; before the first call if there is no
+/// The ranges of each channel's counts after these orders of the scripts' calls; before the first call if there is no
 /// order.
 #[tactic(auto, unfolding(crate::specs::Counts::widened_by))]
 pub fn ranges_of(
@@ -35,22 +33,43 @@ pub fn ranges_of(
     config: &Config,
     scripts: &[Script],
     orders: &[Order],
-    c: usize,
-) -> Result<Ranges, OutOfMemory>
-    requires channel { c < length config.now.channels }
-    requires scripts { length scripts.now ≡ length config.now.partitions }
-    ensures { IfOk result
-        (λ ranges. ranges ≡ ranges_over config.now scripts.now orders.now c) }
+) -> Result<Vec<Ranges>, OutOfMemory>
+    requires { length scripts.now ≡ length config.now.partitions }
+    ensures { IfOk result (λ all. AreRanges config.now scripts.now orders.now all.items) }
 {
     let Some((first, rest)) = orders.split_first() else {
         let ports = Ports::new(alloc, config.copy()?)?;
-        return Ok(only(counts_of(&ports, c)));
+        return Ok(ranges_at(alloc, &ports)?);
     };
-    let mut ranges = only(counts_after(alloc, config, scripts, first, c)?);
+    let ports = ports_after(alloc, config, scripts, first)?;
+    let mut all = ranges_at(alloc, &ports)?;
     for order in rest {
-        ranges = widened(ranges, counts_after(alloc, config, scripts, order, c)?);
+        let ports = ports_after(alloc, config, scripts, order)?;
+        widen(&mut all, &ports);
     }
-    Ok(ranges)
+    Ok(all)
+}
+
+/// From each channel's counts to themselves.
+fn ranges_at(alloc: Global, ports: &Ports) -> Result<Vec<Ranges>, AllocError>
+    ensures { IfOk result (λ all. AreOnly ports.now.config ports.now.history all.items) }
+{
+    let channels = ports.config().channels();
+    let mut all = Vec::with_capacity(alloc, channels)?;
+    for c in 0..channels {
+        all.push(only(counts_of(ports, c)))?;
+    }
+    Ok(all)
+}
+
+/// Makes the ranges so wide that each channel's counts are within.
+fn widen(all: &mut Vec<Ranges>, ports: &Ports)
+    requires { length all.old.items ≡ length ports.now.config.channels }
+    ensures { AreWidened ports.now.config ports.now.history all.old.items all.new.items }
+{
+    for c in 0..all.len() {
+        all[c] = widened(all[c], counts_of(ports, c));
+    }
 }
 
 fn only(counts: Counts) -> Ranges
@@ -91,23 +110,6 @@ fn greater(a: Counts, b: Counts) -> Counts
         cleared: a.cleared.max(b.cleared),
         waiting: a.waiting.max(b.waiting),
     }
-}
-
-/// The counts of a channel after the calls of the scripts in this order.
-fn counts_after(
-    alloc: Global,
-    config: &Config,
-    scripts: &[Script],
-    order: &Order,
-    c: usize,
-) -> Result<Counts, OutOfMemory>
-    requires channel { c < length config.now.channels }
-    requires scripts { length scripts.now ≡ length config.now.partitions }
-    ensures { let history = history_of config.now scripts.now order.now in
-        IfOk result (λ counts. counts ≡ counts_after config.now history c) }
-{
-    let ports = ports_after(alloc, config, scripts, order)?;
-    Ok(counts_of(&ports, c))
 }
 
 fn counts_of(ports: &Ports, c: usize) -> Counts

@@ -145,11 +145,11 @@ fn walk_channels<S: OutcomeSink>(
 ) -> Result<(), OutOfMemory>
     requires { length scripts.now ≡ length config.now.partitions }
 {
-    for c in 0..config.channels() {
+    let all = ranges_of(alloc, config, scripts, ends)?;
+    for (c, ranges) in all.iter().enumerate() {
         let channel = config.channel(c);
         if let ChannelKind::Queuing { .. } = channel.kind {
-            let ranges = ranges_of(alloc, config, scripts, ends, c)?;
-            sink.channel(&channel.name, &ranges)?;
+            sink.channel(&channel.name, ranges)?;
         }
     }
     Ok(())
