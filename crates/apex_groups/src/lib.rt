@@ -20,5 +20,5 @@ pub use crate::end_witness::order_to_end;
 pub use crate::exchanging::exchange;
 pub use crate::groups::Groups;
 pub use crate::log_orders::find_order_apart;
-pub use crate::outcomes::{GroupCounts, OutcomesApart, all_outcomes_apart};
+pub use crate::outcomes::{OutcomesApart, PartCounts, all_outcomes_apart};
 pub use crate::witness::{order_giving_apart, order_of_reply};

@@ -19,7 +19,7 @@ use std::alloc::{AllocError, Global};
 
 /// What can happen to a part of the scripts by itself: to the partitions at the ends of a channel.
 #[derive(Debug, Drop)]
-pub struct GroupCounts {
+pub struct PartCounts {
     /// The part's partitions, ascending.
     pub partitions: Vec<usize>,
     /// The number of states that its calls can lead to, including those on the way.
@@ -35,8 +35,8 @@ pub struct OutcomesApart {
     pub replies: Vec<PossibleReply>,
     /// Orders of all calls: whatever counts of a channel some order leads to, one of these does.
     pub ends: Vec<Order>,
-    /// The parts whose partitions have calls, or one of all partitions if all are searched together.
-    pub groups: Vec<GroupCounts>,
+    /// The parts that have calls, or one of all partitions if all are searched together.
+    pub parts: Vec<PartCounts>,
 }
 
 /// All that can happen to the partitions' scripts, as `all_outcomes` of `apex_orders` finds it, but the partitions at the
@@ -115,32 +115,32 @@ fn outcomes_together<P: Progress>(
         Err(fault) => return Err(fault),
         Ok(found) => found,
     };
-    let groups = one_group(alloc, config, found.states, found.ends.len())?;
+    let parts = one_part(alloc, config, found.states, found.ends.len())?;
     Ok(OutcomesApart {
         replies: found.replies,
         ends: found.ends,
-        groups,
+        parts,
     })
 }
 
-/// One group of all partitions.
-fn one_group(
+/// One part of all partitions.
+fn one_part(
     alloc: Global,
     config: &Config,
     states: usize,
     ends: usize,
-) -> Result<Vec<GroupCounts>, AllocError> {
+) -> Result<Vec<PartCounts>, AllocError> {
     let mut partitions = Vec::with_capacity(alloc, config.partitions())?;
     for p in 0..config.partitions() {
         partitions.push(p)?;
     }
-    let mut groups = Vec::new(alloc);
-    groups.push(GroupCounts {
+    let mut parts = Vec::new(alloc);
+    parts.push(PartCounts {
         partitions,
         states,
         ends,
     })?;
-    Ok(groups)
+    Ok(parts)
 }
 
 /// Searches one part after the other.
@@ -164,7 +164,7 @@ fn outcomes_by_parts<P: Progress>(
     let mut all = OutcomesApart {
         replies: Vec::new(alloc),
         ends: Vec::new(alloc),
-        groups: Vec::new(alloc),
+        parts: Vec::new(alloc),
     };
     for part in 0..parts.count {
         let members = parts.members(alloc, config, part)?;
@@ -203,15 +203,16 @@ fn add_part(
         ≡ all.old.ends.items ++ map (made_whole inside scripts.now) found.ends.items) }
 {
     let ends = found.ends.as_slice();
-    if let Some(partitions) = partitions_with_calls(alloc, config, members, 1, scripts)? {
-        all.groups.push(GroupCounts {
-            partitions,
+    let replies = found.replies.as_slice();
+    let known = all.replies.len();
+    add_replies(config, parts, part, scripts, &mut all.replies, replies)?;
+    if all.replies.len() > known {
+        all.parts.push(PartCounts {
+            partitions: partitions_of(alloc, config, members)?,
             states: found.states,
             ends: ends.len(),
         })?;
     }
-    let replies = found.replies.as_slice();
-    add_replies(config, parts, part, scripts, &mut all.replies, replies)?;
     add_ends(alloc, members, 1, scripts, &mut all.ends, ends)
 }
 
@@ -239,23 +240,17 @@ fn add_replies(
     Ok(())
 }
 
-/// The part's partitions, if one of them has a call to make.
-fn partitions_with_calls(
+/// The part's partitions.
+fn partitions_of(
     alloc: Global,
     config: &Config,
-    groups: &Groups,
-    group: usize,
-    scripts: &[Script],
-) -> Result<Option<Vec<usize>>, AllocError> {
+    members: &Groups,
+) -> Result<Vec<usize>, AllocError> {
     let mut partitions = Vec::new(alloc);
-    let mut has_calls = false;
     for p in 0..config.partitions() {
-        if groups.of_partition(p) == group {
+        if members.of_partition(p) == 1 {
             partitions.push(p)?;
-            if let Some(script) = scripts.get(p) {
-                has_calls = has_calls || !script.calls.is_empty();
-            }
         }
     }
-    Ok(if has_calls { Some(partitions) } else { None })
+    Ok(partitions)
 }

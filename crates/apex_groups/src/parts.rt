@@ -6,6 +6,7 @@ ghost use Rattle.apex_groups.specs.Parts.{AreBelow, HoldsPart, IsHeld, IsPortHel
 
 use crate::groups::Groups;
 use apex_module::{Config, Port};
+use apex_orders::id_in;
 use apex_ports::Script;
 use apex_types::{Call, Direction};
 use std::alloc::{AllocError, Global};
@@ -349,13 +350,7 @@ fn id_asked(call: &Call) -> Option<u32>
     ensures { result ≡ id_asked call.now }
 {
     match call {
-        Call::WriteSampling { id, .. } => Some(*id),
-        Call::ReadSampling { id } => Some(*id),
         Call::SamplingStatus { id } => Some(*id),
-        Call::SendQueuing { id, .. } => Some(*id),
-        Call::ReceiveQueuing { id } => Some(*id),
-        Call::QueuingStatus { id } => Some(*id),
-        Call::ClearQueuing { id } => Some(*id),
-        _ => None,
+        _ => id_in(call),
     }
 }

@@ -5,8 +5,8 @@ ghost use Rattle.apex_orders.specs.Commuting.{channel_named, id_in, is_change};
 use apex_module::Config;
 use apex_types::Call;
 
-/// The identifier by which the call reads or changes a channel.
-fn id_in(call: &Call) -> Option<u32>
+/// The identifier of the port by which the call reads or changes a channel.
+pub fn id_in(call: &Call) -> Option<u32>
     ensures { result ≡ id_in call.now }
 {
     match call {

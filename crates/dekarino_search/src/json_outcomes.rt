@@ -1,7 +1,7 @@
 //! The outcomes of scripts, as JSON lines.
 use crate::json::push_object;
 use crate::json_departures::reply_text;
-use apex_groups::GroupCounts;
+use apex_groups::PartCounts;
 use apex_module::Config;
 use apex_ports::CallRef;
 use apex_texts::Service;
@@ -34,7 +34,7 @@ struct ChannelLine<'a> {
     waiting: (u64, u64),
 }
 
-/// How many states and ends a group of partitions has.
+/// How many states and ends a part of the scripts has.
 #[derive(Drop, Serialize)]
 struct CountLine<'a> {
     states: usize,
@@ -95,10 +95,10 @@ impl OutcomeSink for OutcomeObjects {
         push_object(*self.text.allocator(), &mut self.text, &object)
     }
 
-    /// Writes an object for each group.
-    fn groups(&mut self, config: &Config, groups: &[GroupCounts]) -> Result<(), AllocError> {
-        for group in groups {
-            push_group(&mut self.text, config, group)?;
+    /// Writes an object for each part.
+    fn parts(&mut self, config: &Config, parts: &[PartCounts]) -> Result<(), AllocError> {
+        for part in parts {
+            push_part(&mut self.text, config, part)?;
         }
         Ok(())
     }
@@ -116,17 +116,17 @@ fn names_of<'a>(alloc: Global, files: &'a [String]) -> Result<Option<Vec<&'a str
     Ok(Some(names))
 }
 
-fn push_group(text: &mut String, config: &Config, group: &GroupCounts) -> Result<(), AllocError> {
+fn push_part(text: &mut String, config: &Config, part: &PartCounts) -> Result<(), AllocError> {
     let alloc = *text.allocator();
     let mut partitions = Vec::new(alloc);
-    for p in group.partitions.iter() {
+    for p in part.partitions.iter() {
         if *p < config.partitions() {
             partitions.push(config.partition_name(*p).text())?;
         }
     }
     let object = CountLine {
-        states: group.states,
-        ends: group.ends,
+        states: part.states,
+        ends: part.ends,
         partitions,
     };
     push_object(alloc, text, &object)

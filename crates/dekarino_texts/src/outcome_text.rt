@@ -3,7 +3,7 @@ use crate::counted::Counted;
 use crate::counts::Ranges;
 use crate::outcomes::{OutcomeSink, ScriptCall};
 use crate::table_words::partition_name;
-use apex_groups::GroupCounts;
+use apex_groups::PartCounts;
 use apex_module::Config;
 use apex_ports::ReplyRef;
 use apex_texts::push_reply;
@@ -87,13 +87,13 @@ impl OutcomeSink for OutcomeText {
         writeln!(text, " waiting {waiting}")
     }
 
-    /// Writes the counts of the only group, or a line for each of several, how many orders are in no file if others are, and
+    /// Writes the counts of the only part, or a line for each of several, how many orders are in no file if others are, and
     /// the number of calls that depend on the order.
-    fn groups(&mut self, config: &Config, groups: &[GroupCounts]) -> Result<(), AllocError> {
-        if let [group] = groups {
-            push_counts(&mut self.text, group)?;
+    fn parts(&mut self, config: &Config, parts: &[PartCounts]) -> Result<(), AllocError> {
+        if let [part] = parts {
+            push_counts(&mut self.text, part)?;
         } else {
-            push_each_counts(&mut self.text, config, groups)?;
+            push_each_counts(&mut self.text, config, parts)?;
         }
         if self.written > 0 && self.unwritten > 0 {
             let (written, unwritten) = (self.written, self.unwritten);
@@ -110,16 +110,16 @@ impl OutcomeSink for OutcomeText {
     }
 }
 
-/// Writes a line of counts for each group, after the names of its partitions.
+/// Writes a line of counts for each part, after the names of its partitions.
 fn push_each_counts(
     text: &mut String,
     config: &Config,
-    groups: &[GroupCounts],
+    parts: &[PartCounts],
 ) -> Result<(), AllocError> {
-    for group in groups {
-        push_names(text, config, group.partitions.as_slice())?;
+    for part in parts {
+        push_names(text, config, part.partitions.as_slice())?;
         text.push_str(": ")?;
-        push_counts(text, group)?;
+        push_counts(text, part)?;
     }
     Ok(())
 }
@@ -136,13 +136,13 @@ fn push_names(text: &mut String, config: &Config, partitions: &[usize]) -> Resul
 }
 
 /// Writes `N states, M ends`.
-fn push_counts(text: &mut String, group: &GroupCounts) -> Result<(), AllocError> {
+fn push_counts(text: &mut String, part: &PartCounts) -> Result<(), AllocError> {
     let states = Counted {
-        count: group.states,
+        count: part.states,
         noun: "state",
     };
     let ends = Counted {
-        count: group.ends,
+        count: part.ends,
         noun: "end",
     };
     writeln!(text, "{states}, {ends}")

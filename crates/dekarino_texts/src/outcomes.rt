@@ -5,7 +5,7 @@ ghost use Rattle.dekarino_texts.specs.Outcomes.{is_to, line_at, numbers_of, repl
 
 use crate::counts::{Ranges, ranges_of};
 use crate::script_lines::LineNumbers;
-use apex_groups::{GroupCounts, OutcomesApart};
+use apex_groups::{OutcomesApart, PartCounts};
 use apex_module::{ChannelKind, Config};
 use apex_orders::{Order, PossibleReply};
 use apex_ports::Script;
@@ -25,7 +25,7 @@ pub struct ScriptCall<'a> {
     pub files: &'a [String],
 }
 
-/// Takes the outcomes of scripts: the calls, then the queuing channels, then the groups.
+/// Takes the outcomes of scripts: the calls, then the queuing channels, then the parts.
 pub trait OutcomeSink {
     /// Takes a call with the replies that it can get.
     fn call(&mut self, call: &ScriptCall<'_>, replies: &[&Reply]) -> Result<(), AllocError>;
@@ -33,8 +33,8 @@ pub trait OutcomeSink {
     /// Takes a queuing channel with the ranges of its counts in the end.
     fn channel(&mut self, name: &Name, ranges: &Ranges) -> Result<(), AllocError>;
 
-    /// Takes how many states and ends each group of partitions has.
-    fn groups(&mut self, config: &Config, groups: &[GroupCounts]) -> Result<(), AllocError>;
+    /// Takes how many states and ends each part of the scripts has.
+    fn parts(&mut self, config: &Config, parts: &[PartCounts]) -> Result<(), AllocError>;
 }
 
 /// Hands all outcomes to the sink. `lines` has the numbers of the lines of each partition's calls, and `files` the names of
@@ -57,7 +57,7 @@ pub fn walk_outcomes<S: OutcomeSink>(
         files = walk_script(alloc, config, p, script, numbers, replies, files, sink)?;
     }
     walk_channels(alloc, config, scripts, outcomes.ends.as_slice(), sink)?;
-    sink.groups(config, outcomes.groups.as_slice())?;
+    sink.parts(config, outcomes.parts.as_slice())?;
     Ok(())
 }
 
