@@ -9,6 +9,7 @@ pub use Rattle.std.proofs.lemmas.Bool.Decides.{nat_tests}
 pub use Rattle.std.proofs.lemmas.List.{get_or-set_same, get_or-set_other, length-set, take-append-le, take_all, length-map, length-take, drop-drop, map-append, get_or-replicate, length-replicate, reverse-append, take_more}
 pub use Rattle.std.proofs.lemmas.Option.{slice_get-get_or, get_or_from_slice_get, slice_get_within, slice_get_past, unwrap_or-slice_get, slice_get_read}
 pub use Rattle.std.specs.List.{slice_get}
+pub use Rattle.std.specs.Result.{OnOk}
 pub use Rattle.std.specs.Option.{unwrap_or, option_to_list, MatchOption, IfSome, option_copied, is_some}
 pub use Rattle.apex_types.specs.declared.sample.Sample.{Sample}
 pub use Rattle.apex_types.specs.declared.taken.Taken.{Taken}
@@ -24,17 +25,20 @@ pub use Rattle.apex_orders.specs.Clock.{IsNextDue, ClockedNeverFalls, IsDue, IsC
 pub use Rattle.apex_orders.specs.Commuting.{names, Commutes, id_in, port_in, is_on, is_change, changes, IsApart, AlwaysCommutes, channel_in, channel_named}
 pub use Rattle.apex_orders.specs.Enough.{HasNext, IsApartFromRest, IsEnough, IsRefusedEarly, HasSameByTried, is_early, IsSameWay, AreAmongTried, TryingEnoughIsEnough, EnoughGoesFirst}
 pub use Rattle.apex_orders.specs.Hashes.{mix, calls_below, shown_below, all_shown_below, shown_hash, messages_hash, channels_below, hash_of, AreHashes, bytes_below, messages_below}
-pub use Rattle.apex_orders.specs.Known.{IsAfter, ArePoints, IsTaken, IsLeft, IsTrialOf, IsReadyAfter}
+pub use Rattle.apex_orders.specs.Known.{IsAfter, ArePoints, IsTrialOf, IsReadyAfter}
 pub use Rattle.apex_orders.specs.LastUses.{IsLastUseBelow, IsQuiet, IsQuietFrom, AreLastUses, AreOfScripts}
 pub use Rattle.apex_orders.specs.Lists.{Has}
 pub use Rattle.apex_orders.specs.Orders.{Scripts, script_of, IsWay, next_entries, calls_of, replies_of, IsBeginning, IsOrder, continued, history_of, AreShort, times, entries_for, order_at, order_of}
 pub use Rattle.apex_orders.specs.Outcomes.{CanOccurWith, AreRepliesWith, AreEndsWith, EndsAtOne, HasMorePointsWith, IsUndecidedWith, CanBeAnsweredWith, IsAnsweredByWith, IsGivenByWith}
 pub use Rattle.apex_orders.specs.Points.{IsSamePoint, IsSameCalls, HasSameCounts}
-pub use Rattle.apex_orders.specs.Searching.{AreDue, IsEnoughWith, IsSearched, IsGivenByAnOrder, HasMadeAll, AreEndsOf, HasMoreOrders, IsGivenUp, Keeps, Knows, Includes, AreOrders, AreApart, AreClocked, IsUnansweredAt, IsTried, HasTried, IsFound, AreFound, HasEnded, IsAnsweredAfter, IsGivenAfter, IsSearchedInVain, IsAnswer, HasTriedEnough, IsLater, IsSearch}
+pub use Rattle.apex_orders.specs.Searching.{AreDue, IsEnoughWith, IsSearched, IsGivenByAnOrder, HasMadeAll, AreEndsOf, HasMoreOrders, IsGivenUp, Keeps, Knows, Includes, AreOrders, AreApart, AreClocked, IsUnansweredAt, IsTried, HasTried, IsFound, AreFound, HasEnded, IsAnsweredAfter, IsGivenAfter, IsSearchedInVain, IsAnswer, HasTriedEnough, HasTriedFrom, AreUnansweredFrom, IsLater, IsSearch}
 pub use Rattle.apex_orders.specs.States.{IsSameChannel, IsSameState, IsSamePorts, last_shown, IsSamePartition}
 pub use Rattle.apex_orders.specs.Steps.{Makes, MakesNothing}
+pub use Rattle.apex_orders.specs.Workers.{AreHashed, AreGiven, HasPoint, HasContinued, IsFoundBy, IsLaterWorker, IsRange, IsWorker, AreWorkers, order_given, order_found, orders_known}
 pub use Rattle.apex_orders.specs.declared.asked.Asked.{Asked}
 pub use Rattle.apex_orders.specs.declared.last_uses.LastUse.{LastUse}
 pub use Rattle.apex_orders.specs.declared.last_uses.LastUses.{LastUses}
 pub use Rattle.apex_orders.specs.declared.orders.LastCall.{LastCall}
 pub use Rattle.apex_orders.specs.declared.replies.PossibleReply.{PossibleReply}
+pub use Rattle.apex_orders.specs.declared.worker.FoundPoint.{FoundPoint}
+pub use Rattle.apex_orders.specs.declared.worker.Worker.{Worker}

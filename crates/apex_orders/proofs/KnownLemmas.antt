@@ -1,7 +1,8 @@
--- The known points, with one more, and with one taken out.
-use Rattle.apex_orders.proofs.Common.{◌≡◌, ⊎_elim, ℕ, suc, ◌+◌, ◌-◌, ◌≤◌, List, [], ◌∷◌, ◌++◌, length, Bor, Option, Some, None, sym, ap, ◌∙◌, subst, arith, length-append, slice_get, MatchOption, IfSome, option_copied, slice_get_within, Configuration, PortsView, IsAfter, ArePoints, IsTaken, IsLeft, hash_of, AreHashes, Scripts, history_of}
+-- The known points, with one more, and without the first that were saved.
+use Rattle.apex_orders.proofs.Common.{◌≡◌, ⊎_elim, ℕ, suc, ◌+◌, ◌-◌, ◌≤◌, List, [], ◌∷◌, ◌++◌, length, Bor, Option, Some, None, sym, ap, ◌∙◌, subst, arith, length-append, slice_get, IfSome, slice_get_within, Configuration, PortsView, IsAfter, ArePoints, hash_of, AreHashes, Scripts, history_of, order_at}
 use Rattle.apex_orders.specs.declared.points.Points.{Points}
-use Rattle.apex_orders.proofs.Lists.{before_or_last}
+use Rattle.apex_orders.proofs.GrowthLemmas.{order_here}
+use Rattle.apex_orders.proofs.Lists.{at_behind, before_or_last, stays_before}
 use Rattle.apex_orders.proofs.HashLemmas.{hashed_push}
 
 module _ (config : Configuration) (scripts : Scripts) (orders : List (List ℕ)) (old new : Points) (are : ArePoints config scripts orders old) where
@@ -36,42 +37,6 @@ module _ (config : Configuration) (scripts : Scripts) (orders : List (List ℕ))
         (before_or_last old.saved.items ports j one here);
   }
 
-  -- what was taken out belongs to the order at the index
-  pub taken_after : (k : ℕ) (ports : PortsView) (order : List ℕ) → IsTaken old new k ports → slice_get orders k ≡ Some order → IsAfter config scripts order ports
-  taken_after k ports order taken at =
-      are.each 0 ports order
-      (ap (λ (ps : List PortsView). slice_get ps 0) taken.saved)
-      (let index : old.first + 0 ≡ k = let here = taken.here in omega (arith, here) in ap (λ (n : ℕ). slice_get orders n) index ∙ at)
-
-  pub points_taken : (k : ℕ) (ports : PortsView) → IsTaken old new k ports → ArePoints config scripts orders new
-  points_taken k ports taken = record {
-    hashed = subst (λ (ms : List ℕ). AreHashes config scripts orders ms) (sym taken.hashes) are.hashed;
-    count =
-        let count = are.count in
-        let first = taken.first in
-        let shorter : length old.saved.items ≡ suc (length new.saved.items) = ap (λ (ps : List PortsView). length ps) taken.saved in
-        omega (arith, count, first, shorter);
-    each = λ j one order at listed.
-        let first = taken.first in
-        let index : new.first + j ≡ old.first + suc j = omega (arith, first) in
-        are.each (suc j) one order
-        (ap (λ (ps : List PortsView). slice_get ps (suc j)) taken.saved ∙ at)
-        (ap (λ (n : ℕ). slice_get orders n) (sym index) ∙ listed);
-  }
-
-  pub points_left : IsLeft old new → ArePoints config scripts orders new
-  points_left left = record {
-    hashed = subst (λ (ms : List ℕ). AreHashes config scripts orders ms) (sym left.hashes) are.hashed;
-    count =
-        let count = are.count in
-        let first = left.first in
-        let same = ap (λ (ps : List PortsView). length ps) left.saved in
-        omega (arith, count, first, same);
-    each = λ j one order at listed. are.each j one order
-        (ap (λ (ps : List PortsView). slice_get ps j) (sym left.saved) ∙ at)
-        (ap (λ (n : ℕ). slice_get orders (n + j)) (sym left.first) ∙ listed);
-  }
-
   -- what is saved for the index belongs to the order there
   pub saved_here : (k : ℕ) (order : List ℕ) (r : Option (Bor PortsView)) → slice_get orders k ≡ Some order → IfSome r (λ _. old.first ≤ k)
       → IfSome r (λ ports. slice_get old.saved.items (k - old.first) ≡ Some ports.now) → IfSome r (λ ports. IsAfter config scripts order ports.now)
@@ -80,15 +45,27 @@ module _ (config : Configuration) (scripts : Scripts) (orders : List (List ℕ))
       let there : old.first + (k - old.first) ≡ k = omega (arith, index) in
       are.each (k - old.first) lent.now order is (ap (λ (n : ℕ). slice_get orders n) there ∙ at)
 
-  -- by the result of taking out
-  pub points_after : (k : ℕ) (o : Option PortsView) → MatchOption o (IsLeft old new) (λ ports. IsTaken old new k ports) → ArePoints config scripts orders new
-  points_after k None left = points_left left
-  points_after k (Some ports) taken = points_taken k ports taken
+  -- the first saved ports, and those that are left
+  module _ (given : List PortsView) (count : ℕ) (saved : old.saved.items ≡ given ++ new.saved.items) (many : length given ≡ count) (first : new.first ≡ old.first + count) (hashes : new.hashes ≡ old.hashes) where
+    pub points_left : ArePoints config scripts orders new
+    points_left = record {
+      hashed = subst (λ (ms : List ℕ). AreHashes config scripts orders ms) (sym hashes) are.hashed;
+      count =
+          let count_all = are.count in
+          let split = ap (λ (ps : List PortsView). length ps) saved in
+          omega (arith, count_all, first, many, split, length-append given new.saved.items);
+      each = λ j one order at listed.
+          let index : new.first + j ≡ old.first + (length given + j) = omega (arith, first, many) in
+          are.each (length given + j) one order
+          (ap (λ (ps : List PortsView). slice_get ps (length given + j)) saved ∙ (at_behind given new.saved.items j ∙ at))
+          (ap (λ (n : ℕ). slice_get orders n) (sym index) ∙ listed);
+    }
 
-  pub saved_after : (k : ℕ) (order : List ℕ) (o : Option PortsView) (r : Option (Bor PortsView)) → slice_get orders k ≡ Some order
-      → MatchOption o (IsLeft old new) (λ ports. IsTaken old new k ports) → option_copied r ≡ o → IfSome r (λ ports. IsAfter config scripts order ports.now)
-  saved_after k order o None at is same = tt
-  saved_after k order None (Some ports) at is same = absurd (cc)
-  saved_after k order (Some ports) (Some lent) at is same =
-      let both : lent.now ≡ ports = cc in
-      subst (λ (x : PortsView). IsAfter config scripts order x) (sym both) (taken_after k ports order is at)
+    pub points_given : (j : ℕ) (ports : PortsView) → slice_get given j ≡ Some ports → IsAfter config scripts (order_at orders (old.first + j)) ports
+    points_given j ports at =
+        let within = slice_get_within given j ports at in
+        let count_all = are.count in
+        let split = ap (λ (ps : List PortsView). length ps) saved in
+        are.each j ports (order_at orders (old.first + j))
+        (ap (λ (ps : List PortsView). slice_get ps j) saved ∙ stays_before given new.saved.items j ports at)
+        (order_here orders (old.first + j) (omega (arith, within, count_all, split, length-append given new.saved.items)))

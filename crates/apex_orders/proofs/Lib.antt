@@ -4,6 +4,7 @@ pub mod BucketLemmas
 pub mod ChoiceLemmas
 pub mod ClockLemmas
 pub mod Completing
+pub mod Crossing
 pub mod Early
 pub mod EndLemmas
 pub mod Enough
@@ -12,6 +13,7 @@ pub mod Following
 pub mod GoingOn
 pub mod GrowthLemmas
 pub mod HashLemmas
+pub mod Having
 pub mod KnownLemmas
 pub mod Leaving
 pub mod Lists
@@ -24,3 +26,4 @@ pub mod Swapping
 pub mod UseLemmas
 pub mod Walks
 pub mod WitnessLemmas
+pub mod WorkerLemmas

@@ -1,5 +1,5 @@
 -- Indexes of lists.
-use Rattle.apex_orders.proofs.Common.{◌≡◌, ◌⊎◌, inl, inr, ⊎_elim, ℕ, zero, suc, ◌<◌, ◌≤◌, List, [], ◌∷◌, ◌++◌, length, take, Some, None, refl, ap, arith, slice_get}
+use Rattle.apex_orders.proofs.Common.{◌≡◌, ◌⊎◌, inl, inr, ⊎_elim, ℕ, zero, suc, ◌+◌, ◌<◌, ◌≤◌, List, [], ◌∷◌, ◌++◌, length, take, Some, None, refl, ap, ◌∙◌, arith, slice_get}
 
 pub at_seam : {X : Type 0} (xs : List X) (x : X) (ys : List X) → slice_get (xs ++ x ∷ ys) (length xs) ≡ Some x
 at_seam [] x ys = refl
@@ -9,6 +9,12 @@ pub stays_before : {X : Type 0} (xs ys : List X) (k : ℕ) (x : X) → slice_get
 stays_before [] ys k x at = absurd (cc)
 stays_before (y ∷ xs) ys zero x at = at
 stays_before (y ∷ xs) ys (suc k) x at = stays_before xs ys k x at
+
+pub at_behind : {X : Type 0} (xs ys : List X) (k : ℕ) → slice_get (xs ++ ys) (length xs + k) ≡ slice_get ys k
+at_behind {X} [] ys k = let index : length {A = X} [] + k ≡ k = omega arith in ap (λ (n : ℕ). slice_get ys n) index
+at_behind {X} (x ∷ xs) ys k =
+    let index : length (x ∷ xs) + k ≡ suc (length xs + k) = omega arith in
+    ap (λ (n : ℕ). slice_get (x ∷ (xs ++ ys)) n) index ∙ at_behind xs ys k
 
 pub before_or_last : {X : Type 0} (xs : List X) (x : X) (k : ℕ) (y : X) → slice_get (xs ++ x ∷ []) k ≡ Some y → (slice_get xs k ≡ Some y) ⊎ ((k ≡ length xs) × (x ≡ y))
 before_or_last [] x zero y at = inr (refl, cc)

@@ -1,5 +1,5 @@
 -- The steps of a search.
-use Rattle.apex_orders.proofs.Common.{◌≡◌, ◌⊎◌, ⊎_elim, ℕ, ◌<◌, Bool, List, [], ◌∷◌, ◌++◌, length, Option, Some, refl, sym, ap, ◌∙◌, subst, arith, append-nil, slice_get, slice_get_within, slice_get-get_or, Reply, Configuration, History, PortsView, Asked, PossibleReply, IsNextDue, IsClocked, IsAfter, Scripts, IsOrder, next_entries, history_of, IsSamePoint, Has, Knows, Keeps, Includes, AreOrders, AreApart, AreClocked}
+use Rattle.apex_orders.proofs.Common.{◌≡◌, ◌⊎◌, ⊎_elim, ℕ, ◌<◌, Bool, List, [], ◌∷◌, ◌++◌, length, MatchOption, Option, None, Some, refl, sym, ap, ◌∙◌, subst, arith, append-nil, slice_get, slice_get_within, slice_get-get_or, Reply, Configuration, History, PortsView, Asked, PossibleReply, IsNextDue, IsClocked, IsAfter, Scripts, IsOrder, next_entries, history_of, IsSamePoint, Has, Knows, Keeps, Includes, AreOrders, AreApart, AreClocked}
 use Rattle.apex_orders.proofs.Common.{IsUnansweredAt, IsTried, HasTried, IsFound, AreFound, MakesNothing, Makes}
 use Rattle.apex_orders.proofs.ClockLemmas.{clocked_none}
 use Rattle.apex_orders.proofs.Lists.{at_seam, stays_before, before_or_last}
@@ -174,3 +174,8 @@ includes_along a b c one two x has = two x (one x has)
 
 pub keeps_within : {X : Type 0} (old new : List X) (k : ℕ) (x : X) → Keeps old new → slice_get old k ≡ Some x → Has new x
 keeps_within old new k x keeps at = (k, keeps k x at)
+
+-- what holds if there is no order
+pub without : (o : Option (List ℕ)) (P : Type 0) (R : List ℕ → Type 0) → ((order : List ℕ) → o ≡ Some order → ⊥) → MatchOption o P R → P
+without None P R never is = is
+without (Some order) P R never is = absurd (never order refl)

@@ -1,5 +1,5 @@
 -- The points that a search knows.
-use Rattle.std.specs.Prelude.{ℕ, ◌≡◌, ◌+◌, List, ◌∷◌, length, slice_get, Some}
+use Rattle.std.specs.Prelude.{ℕ, ◌≡◌, ◌+◌, List, length, slice_get, Some}
 use Rattle.apex_orders.specs.Prelude.{Configuration, PortsView, IsSound}
 use Rattle.apex_orders.specs.declared.trial.Trial.{Trial}
 use Rattle.apex_orders.specs.declared.points.Points.{Points}
@@ -22,19 +22,6 @@ pub record ArePoints (config : Configuration) (scripts : Scripts) (orders : List
   pub count : points.first + length points.saved.items ≡ length orders
   pub each : (j : ℕ) (ports : PortsView) (order : List ℕ) → slice_get points.saved.items j ≡ Some ports
       → slice_get orders (points.first + j) ≡ Some order → IsAfter config scripts order ports
-
--- what was saved at the index was taken out
-pub record IsTaken (old new : Points) (index : ℕ) (ports : PortsView) : Type 0 where
-  pub here : old.first ≡ index
-  pub first : new.first ≡ old.first + 1
-  pub saved : old.saved.items ≡ ports ∷ new.saved.items
-  pub hashes : new.hashes ≡ old.hashes
-
--- nothing was taken out
-pub record IsLeft (old new : Points) : Type 0 where
-  pub first : new.first ≡ old.first
-  pub saved : new.saved.items ≡ old.saved.items
-  pub hashes : new.hashes ≡ old.hashes
 
 -- both are ports of the configuration
 pub record IsTrialOf (config : Configuration) (trial : Trial) : Type 0 where

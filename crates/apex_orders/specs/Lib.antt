@@ -16,3 +16,4 @@ pub mod Searching
 pub mod StateLaw
 pub mod States
 pub mod Steps
+pub mod Workers

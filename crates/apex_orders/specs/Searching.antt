@@ -1,5 +1,5 @@
 -- What a search has found.
-use Rattle.std.specs.Prelude.{ℕ, Bool, true, false, ◌≡◌, ◌<◌, ◌≤◌, List, ◌∷◌, [], ◌++◌, length, slice_get, Option, Some, None, IfSome, MatchOption, Result, Err}
+use Rattle.std.specs.Prelude.{ℕ, Bool, true, false, ◌≡◌, ◌<◌, ◌≤◌, ◌+◌, List, ◌∷◌, [], ◌++◌, length, slice_get, Option, Some, None, IfSome, MatchOption, Result, Err}
 use Rattle.apex_orders.specs.Prelude.{Configuration, count_of, History, entries_of}
 use Rattle.apex_orders.specs.declared.asked.Asked.{Asked}
 use Rattle.apex_orders.specs.declared.replies.PossibleReply.{PossibleReply}
@@ -8,7 +8,7 @@ use Rattle.apex_orders.specs.declared.orders_fault.OrdersFault.TheVariants.{TooM
 use Rattle.apex_orders.specs.declared.search.Search.{Search}
 use Rattle.apex_orders.specs.Clock.{IsClocked, IsNextDue}
 use Rattle.apex_orders.specs.Enough.{IsEnough, HasNext}
-use Rattle.apex_orders.specs.Known.{ArePoints, IsTrialOf}
+use Rattle.apex_orders.specs.Known.{ArePoints}
 use Rattle.apex_orders.specs.LastUses.{AreOfScripts}
 use Rattle.apex_orders.specs.Orders.{Scripts, script_of, AreShort, IsOrder, history_of}
 use Rattle.apex_orders.specs.Outcomes.{Answers, IsAnsweredByWith}
@@ -83,7 +83,6 @@ pub record IsSearch (clock : Bool) (config : Configuration) (scripts : Scripts) 
   pub apart : AreApart config scripts current.orders
   pub points : ArePoints config scripts current.orders current.points
   pub found : AreFound clock config scripts current.replies
-  pub trial : IsTrialOf config current.trial
   pub uses : AreOfScripts config scripts current.uses.items
 
 -- nothing that was found is lost
@@ -111,6 +110,11 @@ abbrev pub HasTried : Bool → Configuration → Scripts → List (List ℕ) →
 HasTried clock config scripts orders replies k =
     (order : List ℕ) → slice_get orders k ≡ Some order → HasTriedEnough clock config scripts orders replies order
 
+-- and for those from one index up to another
+abbrev pub HasTriedFrom : Bool → Configuration → Scripts → List (List ℕ) → List PossibleReply → ℕ → ℕ → Type 0
+HasTriedFrom clock config scripts orders replies from to =
+    (k : ℕ) → from ≤ k → k < to → HasTried clock config scripts orders replies k
+
 -- the search is complete
 pub record IsSearched (clock : Bool) (config : Configuration) (scripts : Scripts) (orders : List (List ℕ)) (replies : List PossibleReply) : Type 0 where
   pub all : length scripts ≡ length config.partitions
@@ -134,6 +138,10 @@ IsUnanswered clock config scripts asked order = IfSome asked (λ one. ¬ IsAnswe
 -- nor after the order at the index
 abbrev pub IsUnansweredAt : Bool → Configuration → Scripts → Option Asked → List (List ℕ) → ℕ → Type 0
 IsUnansweredAt clock config scripts asked orders k = (order : List ℕ) → slice_get orders k ≡ Some order → IsUnanswered clock config scripts asked order
+
+-- nor after any of so many from the index on
+abbrev pub AreUnansweredFrom : Bool → Configuration → Scripts → Option Asked → List (List ℕ) → ℕ → ℕ → Type 0
+AreUnansweredFrom clock config scripts asked orders from count = (k : ℕ) → k < count → IsUnansweredAt clock config scripts asked orders (from + k)
 
 -- the search is complete without an answer
 pub record IsSearchedInVain (clock : Bool) (config : Configuration) (scripts : Scripts) (asked : Option Asked) (orders : List (List ℕ)) (replies : List PossibleReply) : Type 0 where

@@ -1,9 +1,9 @@
 //! The order that answers a question.
-ghost use Rattle.std.specs.Prelude.{◌≡◌, ◌<◌, ◌↔◌, length, IsTrue, IfOk, OnOk, IfSome, MatchOption};
+ghost use Rattle.std.specs.Prelude.{◌≡◌, ◌<◌, ◌≤◌, ◌+◌, ◌↔◌, length, IsTrue, IfOk, OnOk, IfSome, MatchOption, Some};
 ghost use Rattle.apex_orders.specs.Prelude.{option_copied};
-ghost use Rattle.apex_orders.specs.Known.{IsAfter};
+ghost use Rattle.apex_orders.specs.Known.{IsAfter, IsTrialOf};
 ghost use Rattle.apex_orders.specs.Orders.{IsOrder, order_at};
-ghost use Rattle.apex_orders.specs.Searching.{IsAnswer, IsAnsweredAfter, IsSearch, IsUnansweredAt};
+ghost use Rattle.apex_orders.specs.Searching.{AreUnansweredFrom, IsAnswer, IsAnsweredAfter, IsSearch, IsUnansweredAt};
 
 use crate::asked::Asked;
 use crate::choice::is_due;
@@ -12,41 +12,82 @@ use crate::orders::Orders;
 use crate::points::go_to;
 use crate::search::Search;
 use crate::step::step;
+use crate::trial::Trial;
 use apex_module::Config;
 use apex_ports::{Ports, SavedPorts, Script};
 use apex_types::OutOfMemory;
 use std::alloc::Global;
 
-/// The order at the index followed by the asked call, if that call is the next there and gets an admitted reply.
-pub(crate) fn answer_after(
+/// The first of the orders from an index on, followed by the asked call, if that call is the next there and gets an
+/// admitted reply.
+pub(crate) fn first_answer(
     alloc: Global,
     config: &Config,
     scripts: &[Script],
     clock: bool,
     asked: Option<&Asked>,
-    current: &mut Search,
-    i: usize,
+    current: &Search,
+    from: usize,
+    count: usize,
+    trial: &mut Trial,
 ) -> Result<Option<PackedOrder>, OutOfMemory>
-    requires valid { IsSearch clock config.now scripts.now current.old }
-    requires within { i < length current.old.orders }
+    requires valid { IsSearch clock config.now scripts.now current.now }
+    requires within { from + count ≤ length current.now.orders }
+    requires trial { IsTrialOf config.now trial.old }
     ensures answer { let asked = option_copied asked.entry in
         IfOk result (λ answer. MatchOption answer
-        (IsUnansweredAt clock config.now scripts.now asked current.old.orders i)
+        (AreUnansweredFrom clock config.now scripts.now asked current.now.orders from count)
         (IsAnswer clock config.now scripts.now asked)) }
-    ensures valid { OnOk result (IsSearch clock config.now scripts.now current.new) }
-    ensures orders { current.new.orders ≡ current.old.orders }
-    ensures replies { current.new.replies ≡ current.old.replies }
+    ensures trial { OnOk result (IsTrialOf config.now trial.new) }
 {
     let Some(asked) = asked else {
         return Ok(None);
     };
+    let orders = current.orders.len();
+    prove!(from + count <= orders);
+    for k in 0..count {
+        if let Some(order) = answer_after(
+            alloc,
+            config,
+            scripts,
+            clock,
+            asked,
+            current,
+            from + k,
+            trial,
+        )? {
+            return Ok(Some(order));
+        }
+    }
+    Ok(None)
+}
+
+/// The order at the index followed by the asked call, if that call is the next there and gets an admitted reply.
+fn answer_after(
+    alloc: Global,
+    config: &Config,
+    scripts: &[Script],
+    clock: bool,
+    asked: &Asked,
+    current: &Search,
+    i: usize,
+    trial: &mut Trial,
+) -> Result<Option<PackedOrder>, OutOfMemory>
+    requires valid { IsSearch clock config.now scripts.now current.now }
+    requires within { i < length current.now.orders }
+    requires trial { IsTrialOf config.now trial.old }
+    ensures answer { IfOk result (λ answer. MatchOption answer
+        (IsUnansweredAt clock config.now scripts.now (Some asked.now) current.now.orders i)
+        (IsAnswer clock config.now scripts.now (Some asked.now))) }
+    ensures trial { OnOk result (IsTrialOf config.now trial.new) }
+{
     let partitions = config.partitions();
     if asked.partition >= partitions {
         return Ok(None);
     }
     let orders = &current.orders;
     let saved = current.points.saved_at(i);
-    let ports = &mut current.trial.ports;
+    let ports = &mut trial.ports;
     if !gives(
         alloc, config, scripts, clock, asked, orders, i, saved, ports,
     )? {

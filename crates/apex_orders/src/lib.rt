@@ -27,6 +27,8 @@ pub mod state_law;
 pub mod step;
 mod trial;
 pub mod witness;
+mod worker;
+mod workers;
 
 pub use crate::asked::{Admitted, Asked};
 pub use crate::commuting::id_in;

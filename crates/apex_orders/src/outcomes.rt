@@ -16,6 +16,7 @@ use apex_module::Config;
 use apex_ports::{Ports, Script};
 use apex_types::OutOfMemory;
 use std::alloc::Global;
+use std::thread::Threads;
 
 /// All that can happen to scripts, over every order of their calls.
 #[derive(Debug, Drop)]
@@ -30,7 +31,8 @@ pub struct Outcomes {
 
 /// All that can happen to the partitions' scripts on new ports of the configuration, over every order of their calls.
 /// It is undecided if they lead to more states than the bound.
-pub fn all_outcomes(
+pub fn all_outcomes<R: Threads + Sync>(
+    rt: &R,
     alloc: Global,
     config: &Config,
     scripts: &[Script],
@@ -42,13 +44,14 @@ pub fn all_outcomes(
     ensures ends { IfOk result (λ found. AreEnds config.now scripts.now found.ends.items) }
     ensures undecided { IsUndecided ⊥ config.now scripts.now bound result }
 {
-    all_outcomes_with_progress(alloc, config, scripts, false, bound, &mut NoProgress)
+    all_outcomes_with_progress(rt, alloc, config, scripts, false, bound, &mut NoProgress)
 }
 
 /// Answers like `all_outcomes`. With `clock`, the moments of all partitions are of one clock: each call is made before
 /// every call of another partition that has a greater moment. `progress` receives from time to time how far the search
 /// is, and may end it.
-pub fn all_outcomes_with_progress<P: Progress>(
+pub fn all_outcomes_with_progress<R: Threads + Sync, P: Progress>(
+    rt: &R,
     alloc: Global,
     config: &Config,
     scripts: &[Script],
@@ -65,7 +68,7 @@ pub fn all_outcomes_with_progress<P: Progress>(
 {
     let partitions = config.partitions();
     prove!(scripts.len() == partitions);
-    let found = match search_points(alloc, config, scripts, clock, None, bound, progress) {
+    let found = match search_points(rt, alloc, config, scripts, clock, None, bound, progress) {
         Err(fault) => return Err(fault),
         Ok(found) => found,
     };

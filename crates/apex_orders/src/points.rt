@@ -1,7 +1,7 @@
 //! The known points: their hashes, and the ports at those from which the search has yet to continue.
-ghost use Rattle.std.specs.Prelude.{◌≡◌, ◌-◌, ◌<◌, ◌≤◌, ◌↔◌, ◌++◌, [], ◌∷◌, ℕ, List, length, IfOk, OnOk, IfSome, MatchOption, IsTrue, slice_get, Some, true};
+ghost use Rattle.std.specs.Prelude.{◌≡◌, ◌+◌, ◌-◌, ◌<◌, ◌≤◌, ◌↔◌, ◌++◌, [], ◌∷◌, length, IfOk, OnOk, IfSome, IsTrue, slice_get, Some};
 ghost use Rattle.apex_orders.specs.Prelude.{IsSound};
-ghost use Rattle.apex_orders.specs.Known.{ArePoints, IsAfter, IsReadyAfter, IsTrialOf, IsLeft, IsTaken};
+ghost use Rattle.apex_orders.specs.Known.{ArePoints, IsAfter, IsTrialOf};
 ghost use Rattle.apex_orders.specs.Hashes.{hash_of};
 ghost use Rattle.apex_orders.specs.Orders.{Scripts, IsOrder, history_of, order_at};
 ghost use Rattle.apex_orders.specs.Points.{IsSamePoint};
@@ -19,17 +19,12 @@ use apex_types::OutOfMemory;
 use std::alloc::Global;
 use std::collections::VecDeque;
 
-/// The greatest number of saved ports whose memory is kept to be used again.
-const SPARE: usize = 64;
-
 /// The hashes of all known points, and the ports at those from the index `first` on.
 #[derive(Drop)]
 pub(crate) struct Points {
     pub(crate) hashes: HashIndex,
     pub(crate) first: usize,
     pub(crate) saved: VecDeque<SavedPorts>,
-    /// What was taken out, whose memory is used again.
-    pub(crate) spare: Vec<SavedPorts>,
     /// About how many bytes the saved ports take.
     pub(crate) bytes: usize,
 }
@@ -46,67 +41,58 @@ impl Points {
         hashes.push(alloc, hash_of(&ports))?;
         let mut saved = VecDeque::new(alloc);
         saved.push_back(ports.save(alloc)?)?;
-        let spare = Vec::new(alloc);
         Ok(Points {
             hashes,
             first: 0,
             saved,
-            spare,
             bytes: 0,
         })
     }
 
-    /// Takes out the ports saved at the index, if it is the first index with saved ports.
-    pub(crate) fn take(&mut self, k: usize) -> Option<SavedPorts>
-        requires { k < usize.MAX }
-        ensures { MatchOption result (IsLeft self.old self.new)
-            (λ ports. IsTaken self.old self.new k ports) }
+    /// Moves the first saved ports to the list, which is empty.
+    pub(crate) fn take(&mut self, count: usize, to: &mut Vec<SavedPorts>) -> Result<(), OutOfMemory>
+        requires count { count ≤ length self.old.saved.items }
+        requires room { self.old.first + count ≤ usize.MAX }
+        requires empty { to.old.items ≡ [] }
+        ensures taken { OnOk result
+            (self.old.saved.items ≡ to.new.items ++ self.new.saved.items) }
+        ensures count { OnOk result (length to.new.items ≡ count) }
+        ensures first { OnOk result (self.new.first ≡ self.old.first + count) }
+        ensures hashes { OnOk result (self.new.hashes ≡ self.old.hashes) }
     {
-        if k != self.first {
-            return None;
+        for _ in 0..count {
+            let ports = self.saved.pop_front().unwrap();
+            self.bytes = self.bytes.saturating_sub(ports.bytes());
+            to.push(ports)?;
         }
-        match self.saved.pop_front() {
-            None => None,
-            Some(ports) => {
-                self.first += 1;
-                self.bytes = self.bytes.saturating_sub(ports.bytes());
-                Some(ports)
-            }
-        }
+        self.first += count;
+        Ok(())
     }
 
-    /// Adds a point.
+    /// Adds a point with its hash.
     pub(crate) fn push(
         &mut self,
         alloc: Global,
-        ports: &Ports,
+        saved: SavedPorts,
         hash: u64,
     ) -> Result<(), OutOfMemory>
         ensures first { self.new.first ≡ self.old.first }
         ensures hashes { OnOk result (self.new.hashes ≡ self.old.hashes ++ hash ∷ []) }
         ensures saved { OnOk result
-            (self.new.saved.items ≡ self.old.saved.items ++ ports.now ∷ []) }
+            (self.new.saved.items ≡ self.old.saved.items ++ saved ∷ []) }
     {
         self.hashes.push(alloc, hash)?;
-        let saved = match self.spare.pop() {
-            None => ports.save(alloc)?,
-            Some(old) => ports.save_over(old)?,
-        };
         self.bytes = self.bytes.saturating_add(saved.bytes());
         self.saved.push_back(saved)?;
         Ok(())
     }
 
-    /// Keeps the memory of saved ports, if there is not enough of it already.
-    pub(crate) fn keep(&mut self, old: Option<SavedPorts>) -> Result<(), OutOfMemory>
-        ensures { IsLeft self.old self.new }
-    {
-        if let Some(ports) = old {
-            if self.spare.len() < SPARE {
-                self.spare.push(ports)?;
-            }
+    /// About how many bytes the first saved ports take.
+    pub(crate) fn first_bytes(&self) -> usize {
+        match self.saved.get(0) {
+            None => 0,
+            Some(saved) => saved.bytes(),
         }
-        Ok(())
     }
 
     /// The ports saved at the index, if there are any.
@@ -122,8 +108,49 @@ impl Points {
     }
 }
 
-/// Whether one of the orders leads to the point of the trial's ports.
+/// Moves all saved ports to another list.
+pub(crate) fn move_all(
+    from: &mut Vec<SavedPorts>,
+    to: &mut Vec<SavedPorts>,
+) -> Result<(), OutOfMemory>
+    ensures { OnOk result (from.new.items ≡ []) }
+{
+    while let Some(ports) = from.pop() {
+        to.push(ports)?;
+    }
+    Ok(())
+}
+
+/// Whether one of the orders leads to the point of the saved ports, which has this hash.
 pub(crate) fn is_known(
+    alloc: Global,
+    config: &Config,
+    scripts: &[Script],
+    orders: &Orders,
+    points: &Points,
+    saved: &SavedPorts,
+    hash: u64,
+    trial: &mut Trial,
+) -> Result<bool, OutOfMemory>
+    requires scripts { length scripts.now ≡ length config.now.partitions }
+    requires trial { IsTrialOf config.now trial.old }
+    requires orders { AreOrders config.now orders.now }
+    requires points { ArePoints config.now scripts.now orders.now points.now }
+    requires saved { saved.now.config ≡ config.now }
+    requires hash { hash ≡ hash_of config.now saved.now.history }
+    ensures known { IfOk result (λ known.
+        IsTrue known ↔ Knows config.now scripts.now orders.now saved.now.history) }
+    ensures trial { OnOk result (IsTrialOf config.now trial.new) }
+{
+    if points.hashes.up_to_last(hash) == 0 {
+        return Ok(false);
+    }
+    trial.ports.restore(saved);
+    is_among(alloc, config, scripts, orders, points, trial, hash)
+}
+
+/// Whether one of the orders leads to the point of the trial's ports.
+fn is_among(
     alloc: Global,
     config: &Config,
     scripts: &[Script],
@@ -183,35 +210,6 @@ pub(crate) fn go_to(
             let order = orders.order(alloc, index)?;
             *ports = replay(alloc, config, scripts, &order)?;
         }
-    }
-    Ok(())
-}
-
-/// Sets the ports as `go_to` does, unless they are there already.
-pub(crate) fn return_to(
-    alloc: Global,
-    config: &Config,
-    scripts: &[Script],
-    orders: &Orders,
-    index: usize,
-    saved: Option<&SavedPorts>,
-    is_there: bool,
-    ports: &mut Ports,
-) -> Result<(), OutOfMemory>
-    requires scripts { length scripts.now ≡ length config.now.partitions }
-    requires index { index < length orders.now }
-    requires order { IsOrder config.now (order_at orders.now index) }
-    requires saved { IfSome saved
-        (λ one. IsAfter config.now scripts.now (order_at orders.now index) one.now) }
-    requires config { ports.old.config ≡ config.now }
-    requires there { is_there ≡ true →
-        IsReadyAfter config.now scripts.now (order_at orders.now index) ports.old }
-    ensures after { OnOk result
-        (IsAfter config.now scripts.now (order_at orders.now index) ports.new) }
-    ensures sound { OnOk result (IsSound ports.new.config ports.new.history) }
-{
-    if !is_there {
-        go_to(alloc, config, scripts, orders, index, saved, ports)?;
     }
     Ok(())
 }

@@ -1,12 +1,6 @@
 //! Reports of how far a search is, which may end it.
 ghost use Rattle.std.specs.Prelude.{◌≡◌, false};
 
-/// The number of points of a level that a search continues from before it reports again.
-const POINTS_BETWEEN_REPORTS: usize = 256;
-
-/// How much more memory a search may keep before it reports again, in bytes.
-const BYTES_BETWEEN_REPORTS: usize = 1 << 20;
-
 /// Receives reports of how far a search of all points is, and may end the search. No contract depends on what else it
 /// does with them.
 pub trait Progress {
@@ -41,42 +35,27 @@ impl Progress for NoProgress {
 pub(crate) struct Level {
     depth: usize,
     /// The index after the last of them.
-    end: usize,
-    /// The bytes that the search kept at the last report.
-    bytes: usize,
+    pub(crate) end: usize,
 }
 
 impl Level {
     /// Only the point before the first call.
     pub(crate) fn new() -> Level {
-        Level {
-            depth: 0,
-            end: 1,
-            bytes: 0,
-        }
+        Level { depth: 0, end: 1 }
     }
 
-    /// Reports that the search continues from the point at the index, if a level begins there, or enough points have
-    /// passed, or the search keeps enough more. Returns whether the search is to go on.
-    pub(crate) fn goes_on<P: Progress>(
-        &mut self,
-        progress: &mut P,
-        index: usize,
-        states: usize,
-        bytes: usize,
-    ) -> bool
-        ensures { result ≡ false → P.CanStop }
-    {
-        let is_next = index >= self.end;
-        if is_next {
+    /// Goes on to the next level if the index is not in this one.
+    pub(crate) fn reach(&mut self, index: usize, states: usize) {
+        if index >= self.end {
             self.depth = self.depth.saturating_add(1);
             self.end = states;
         }
-        let more = bytes.saturating_sub(self.bytes);
-        if !is_next && index % POINTS_BETWEEN_REPORTS != 0 && more < BYTES_BETWEEN_REPORTS {
-            return true;
-        }
-        self.bytes = bytes;
+    }
+
+    /// Reports how far the search is. Returns whether it is to go on.
+    pub(crate) fn goes_on<P: Progress>(&self, progress: &mut P, states: usize, bytes: usize) -> bool
+        ensures { result ≡ false → P.CanStop }
+    {
         progress.level(self.depth, states, bytes)
     }
 }

@@ -2,6 +2,7 @@
 ghost use Rattle.std.specs.Prelude.{◌≡◌, ◌⊎◌, ◌↔◌, [], IsTrue, IfOk, OnOk};
 ghost use Rattle.apex_orders.specs.declared.replies.PossibleReply.{PossibleReply};
 ghost use Rattle.apex_orders.specs.Lists.{Has};
+ghost use Rattle.apex_orders.specs.Searching.{Includes};
 
 use crate::hash_index::HashIndex;
 use apex_types::{OutOfMemory, Reply};
@@ -77,6 +78,28 @@ impl Replies {
         self.hashes.push(alloc, hash)?;
         self.found.push(one.copy())?;
         Ok(())
+    }
+
+    /// Adds all of these replies.
+    pub(crate) fn add_all(&mut self, alloc: Global, other: &Replies) -> Result<(), OutOfMemory>
+        ensures kept { OnOk result (Includes self.old self.new) }
+        ensures added { OnOk result (Includes other.now self.new) }
+        ensures only { OnOk result ((one : PossibleReply) →
+            Has self.new one → Has self.old one ⊎ Has other.now one) }
+    {
+        let others = other.list();
+        for k in 0..others.len() {
+            let one = &others[k];
+            self.add(alloc, one)?;
+        }
+        Ok(())
+    }
+
+    /// The replies as a slice.
+    fn list(&self) -> &[PossibleReply]
+        ensures { result.now ≡ self.now }
+    {
+        self.found.as_slice()
     }
 
     /// The replies alone.

@@ -10,11 +10,13 @@ use crate::search::search_points;
 use apex_module::Config;
 use apex_ports::Script;
 use std::alloc::Global;
+use std::thread::Threads;
 
 /// An order in which the asked call gets an admitted reply: the calls up to that one, which is the last. `None` if no
 /// order of all calls gives it such a reply. The first order that gives one ends the search. If none is found and
 /// orders lead to more states than the bound, the answer is undecided.
-pub fn order_giving(
+pub fn order_giving<R: Threads + Sync>(
+    rt: &R,
     alloc: Global,
     config: &Config,
     scripts: &[Script],
@@ -28,12 +30,22 @@ pub fn order_giving(
         (λ answer. IfNone answer (¬ CanBeAnswered config.now scripts.now asked.now)) }
     ensures undecided { IsUndecided ⊥ config.now scripts.now bound result }
 {
-    order_giving_with_progress(alloc, config, scripts, false, asked, bound, &mut NoProgress)
+    order_giving_with_progress(
+        rt,
+        alloc,
+        config,
+        scripts,
+        false,
+        asked,
+        bound,
+        &mut NoProgress,
+    )
 }
 
 /// Answers like `order_giving`. With `clock`, the moments of all partitions are of one clock, as for
 /// `all_outcomes_with_progress`. `progress` receives from time to time how far the search is, and may end it.
-pub fn order_giving_with_progress<P: Progress>(
+pub fn order_giving_with_progress<R: Threads + Sync, P: Progress>(
+    rt: &R,
     alloc: Global,
     config: &Config,
     scripts: &[Script],
@@ -52,7 +64,16 @@ pub fn order_giving_with_progress<P: Progress>(
 {
     let partitions = config.partitions();
     prove!(scripts.len() == partitions);
-    let found = match search_points(alloc, config, scripts, clock, Some(asked), bound, progress) {
+    let found = match search_points(
+        rt,
+        alloc,
+        config,
+        scripts,
+        clock,
+        Some(asked),
+        bound,
+        progress,
+    ) {
         Err(fault) => return Err(fault),
         Ok(found) => found,
     };

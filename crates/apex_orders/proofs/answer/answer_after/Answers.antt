@@ -1,4 +1,4 @@
-use Rattle.apex_orders.proofs.Common.{◌≡◌, ◌++◌, ◌∷◌, [], List, ℕ, true, Bor, Option, Some, slice_get, sym, ap, ◌∙◌, subst, arith, option_copied, Asked, order_at, IsAnsweredByWith, IsAnswer}
+use Rattle.apex_orders.proofs.Common.{◌≡◌, ◌++◌, ◌∷◌, [], List, ℕ, true, Some, slice_get, sym, ap, ◌∙◌, subst, arith, order_at, IsAnsweredByWith}
 use Rattle.apex_orders.proofs.GrowthLemmas.{order_here}
 use Rattle.apex_orders.proofs.WitnessLemmas.{longer_answers}
 use Rattle.apex_orders.proofs.answer.answer_after.Goals as goal
@@ -8,12 +8,10 @@ returns-clause-answer c =
     let config = c.args.config.now in
     let scripts = c.args.scripts.now in
     let orders = c.args.current.now.orders in
-    let asked = c.in-Some.asked.now in
+    let asked = c.args.asked.now in
     let item = order_at orders c.args.i in
     let at : slice_get orders c.args.i ≡ Some item = order_here orders c.args.i c.requires.within in
     let there = c.if-not-branch.false in
     let yes : c.in_ok-gives.field-0 ≡ true = grind (arith, there) in
-    let answers : IsAnsweredByWith c.args.clock config scripts asked c.in_ok-answer.answer =
     subst (IsAnsweredByWith c.args.clock config scripts asked) (sym (c.in_ok-answer.ensures ∙ ap (λ (order : List ℕ). order ++ asked.partition ∷ []) c.in_ok-order.ensures))
-    (longer_answers c.args.clock config scripts c.partitions-partitions.ensures.valid asked item (c.requires.valid.orders c.args.i item at) (c.requires.valid.clocked c.args.i item at) (c.in_ok-gives.ensures.given.0 yes)) in
-    subst (λ (o : Option (Bor Asked)). IsAnswer c.args.clock config scripts (option_copied o) c.in_ok-answer.answer) (sym c.in-Some.is) answers
+    (longer_answers c.args.clock config scripts c.partitions-partitions.ensures.valid asked item (c.requires.valid.orders c.args.i item at) (c.requires.valid.clocked c.args.i item at) (c.in_ok-gives.ensures.given.0 yes))

@@ -7,8 +7,8 @@ pub returns-clause-points : goal.returns-clause-points
 returns-clause-points c = λ scripts.
     let config = c.args.config.now in
     let ports = c.in_ok-save.field-0 in
-    let none : Points = record { hashes = c.in_ok-hashes.hashes; first = 0; saved = c.new-saved.result; spare = c.new-spare.result; bytes = 0 } in
-    let one : Points = record { hashes = c.push.new.self; first = 0; saved = c.push_back.new.self; spare = c.new-spare.result; bytes = 0 } in
+    let none : Points = record { hashes = c.in_ok-hashes.hashes; first = 0; saved = c.new-saved.result; bytes = 0 } in
+    let one : Points = record { hashes = c.push.new.self; first = 0; saved = c.push_back.new.self; bytes = 0 } in
     let unhashed : AreHashes config scripts [] [] = record { count = refl; each = λ k order at. absurd (cc) } in
     let known : ArePoints config scripts [] none = record {
       hashed = subst (λ (ms : List ℕ). AreHashes config scripts [] ms) (sym c.in_ok-hashes.ensures) unhashed;

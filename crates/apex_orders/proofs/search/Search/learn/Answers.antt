@@ -1,16 +1,8 @@
-use Rattle.apex_orders.proofs.Common.{◌≡◌, ◌++◌, ◌∷◌, [], List, ℕ, ap, sym, ◌∙◌, subst, false≢true, PortsView, IsClocked, IsAfter, ArePoints, hash_of, IsOrder, history_of, order_at, Knows, AreOrders, AreApart, AreClocked, Keeps}
+use Rattle.apex_orders.proofs.Common.{◌≡◌, ◌++◌, ◌∷◌, [], List, ℕ, sym, ◌∙◌, ap, subst, false≢true, PortsView, IsClocked, IsAfter, ArePoints, hash_of, IsOrder, history_of, order_at, Knows, AreOrders, AreApart, AreClocked, Keeps}
 use Rattle.apex_orders.proofs.GrowthLemmas.{order_here}
 use Rattle.apex_orders.proofs.KnownLemmas.{points_push}
 use Rattle.apex_orders.proofs.SearchLemmas.{apart_push, clocked_push, keeps_push, knows_push, longer_is_order, orders_push}
 use Rattle.apex_orders.proofs.search.Search.learn.Goals as goal
-
-pub returns-then-branch-clause-valid : goal.returns-then-branch-clause-valid
-returns-then-branch-clause-valid c =
-    let was = c.requires.valid in
-    record { all = was.all; orders = was.orders; clocked = was.clocked; apart = was.apart; points = was.points; found = was.found; trial = c.is_known.ensures.trial; uses = was.uses }
-
-pub returns-then-branch-clause-later : goal.returns-then-branch-clause-later
-returns-then-branch-clause-later c = record { orders = λ k x at. at; replies = λ x has. has }
 
 pub returns-clause-valid : goal.returns-clause-valid
 returns-clause-valid c =
@@ -18,15 +10,14 @@ returns-clause-valid c =
     let scripts = c.args.scripts.now in
     let was = c.requires.valid in
     let orders = c.args.self.now.orders in
+    let one = c.args.one in
     let order = order_at orders c.args.i in
-    let longer = order ++ c.args.p ∷ [] in
-    let ports = c.args.self.now.trial.ports in
-    let h = ports.history in
-    let leads : h ≡ history_of config scripts longer = c.requires.history in
+    let longer = order ++ one.partition ∷ [] in
+    let h = one.saved.history in
+    let leads : h ≡ history_of config scripts longer = c.requires.after.history in
     let pushed = sym c.in_ok-push-2.ensures in
-    let is_order : IsOrder config longer = longer_is_order config scripts order c.args.p (was.orders c.args.i order (order_here orders c.args.i c.requires.within)) c.requires.partition in
-    let hash : c.hash_of-hash.result ≡ hash_of config (history_of config scripts longer) = c.hash_of-hash.ensures ∙ (λ i. hash_of (was.trial.ports i) (leads i)) in
-    let after : IsAfter config scripts longer ports = record { configured = was.trial.ports; history = leads } in
+    let is_order : IsOrder config longer = longer_is_order config scripts order one.partition (was.orders c.args.i order (order_here orders c.args.i c.requires.within)) c.requires.partition in
+    let hash : one.hash ≡ hash_of config (history_of config scripts longer) = c.requires.hash ∙ ap (hash_of config) leads in
     let unknown : Knows config scripts orders h → ⊥ = λ known. false≢true (sym c.if-branch.false ∙ c.in_ok-is_known.ensures.known.1 known) in
     record {
       all = was.all;
@@ -34,10 +25,9 @@ returns-clause-valid c =
       clocked = subst (AreClocked c.args.clock config scripts) pushed (clocked_push config scripts c.args.clock orders longer was.clocked (subst (IsClocked c.args.clock scripts) leads c.requires.clocked));
       apart = subst (AreApart config scripts) pushed (apart_push config scripts orders longer h leads was.apart unknown);
       points = subst (λ (all : List (List ℕ)). ArePoints config scripts all c.push.new.self) pushed
-          (points_push config scripts orders c.args.self.now.points c.push.new.self was.points longer ports c.hash_of-hash.result after hash
-          c.push.ensures.first c.in_ok-push.ensures.hashes (c.in_ok-push.ensures.saved ∙ ap (λ (one : PortsView). c.args.self.now.points.saved.items ++ one ∷ []) c.is_known.ensures.ports));
+          (points_push config scripts orders c.args.self.now.points c.push.new.self was.points longer one.saved one.hash c.requires.after hash
+          c.push.ensures.first c.in_ok-push.ensures.hashes c.in_ok-push.ensures.saved);
       found = was.found;
-      trial = c.is_known.ensures.trial;
       uses = was.uses;
     }
 
@@ -45,7 +35,7 @@ pub returns-clause-later : goal.returns-clause-later
 returns-clause-later c =
     let orders = c.args.self.now.orders in
     record {
-      orders = subst (Keeps orders) (sym c.in_ok-push-2.ensures) (keeps_push c.args.config.now c.args.scripts.now orders (order_at orders c.args.i ++ c.args.p ∷ []));
+      orders = subst (Keeps orders) (sym c.in_ok-push-2.ensures) (keeps_push c.args.config.now c.args.scripts.now orders (order_at orders c.args.i ++ c.args.one.partition ∷ []));
       replies = λ x has. has;
     }
 
@@ -54,5 +44,5 @@ returns-clause-known c =
     let config = c.args.config.now in
     let scripts = c.args.scripts.now in
     let orders = c.args.self.now.orders in
-    let h = c.args.self.now.trial.ports.history in
-    subst (λ (all : List (List ℕ)). Knows config scripts all h) (sym c.in_ok-push-2.ensures) (knows_push config scripts orders (order_at orders c.args.i ++ c.args.p ∷ []) h c.requires.history)
+    let h = c.args.one.saved.history in
+    subst (λ (all : List (List ℕ)). Knows config scripts all h) (sym c.in_ok-push-2.ensures) (knows_push config scripts orders (order_at orders c.args.i ++ c.args.one.partition ∷ []) h c.requires.after.history)

@@ -14,7 +14,6 @@ returns-clause-valid c clock =
       apart = subst (AreApart config scripts) first (first_apart config scripts);
       points = subst (λ (orders : List (List ℕ)). ArePoints config scripts orders c.in_ok-points.points) first (c.in_ok-points.ensures.points scripts);
       found = subst (AreFound clock config scripts) (sym c.in_ok-replies.ensures) (none_found config scripts clock);
-      trial = c.in_ok-trial.ensures;
       uses = c.in_ok-uses.ensures;
     }
 

@@ -1,5 +1,5 @@
 use Rattle.apex_orders.proofs.Common.{◌≡◌, ◌+◌, ℕ, ◌≤◌, List, Some, slice_get, history_of, IsTrialOf, IsSamePoint}
-use Rattle.apex_orders.proofs.points.is_known.Given as goal
+use Rattle.apex_orders.proofs.points.is_among.Given as goal
 
 abbrev pub invariant-loop-count : goal.invariant-loop-count
 invariant-loop-count l = record {

@@ -1,0 +1,148 @@
+-- What a worker is given, finds and knows.
+use Rattle.apex_orders.proofs.Common.{◌≡◌, ⊎_elim, ℕ, ◌+◌, ◌<◌, ◌≤◌, Bool, List, [], ◌∷◌, ◌++◌, length, map, Ok, Err, Result, OnOk, Some, false, refl, sym, ap, ◌∙◌, subst, arith, cases_lt, append_assoc, map-append, length-append, get_or, slice_get, slice_get-get_or, Configuration, History, PortsView, PossibleReply, FoundPoint, Worker, Scripts, Has, IsAfter, IsSamePoint, IsTried, hash_of, history_of, order_at, Keeps, Includes, Knows, HasTriedEnough}
+use Rattle.apex_orders.proofs.Common.{AreGiven, AreHashed, HasPoint, HasTriedFrom, IsFoundBy, IsLaterWorker, IsRange, IsWorker, order_given, order_found, orders_known}
+use Rattle.std.specs.Result.{is_err}
+use Rattle.apex_orders.proofs.Following.{same_along}
+use Rattle.apex_orders.proofs.GrowthLemmas.{order_here}
+use Rattle.apex_orders.proofs.Having.{has_behind, has_either, has_mapped, of_mapped}
+use Rattle.apex_orders.proofs.Lists.{at_seam, before_or_last, stays_before}
+use Rattle.apex_orders.proofs.SearchLemmas.{has_tried_kept, includes_along, keeps_along, tried_kept}
+
+-- ---- one more point
+
+pub hashes_push : (config : Configuration) (found : List FoundPoint) (hashes : List ℕ) (one : FoundPoint) (hash : ℕ) → AreHashed config found hashes
+    → hash ≡ hash_of config one.saved.history → one.saved.config ≡ config → AreHashed config (found ++ one ∷ []) (hashes ++ hash ∷ [])
+hashes_push config found hashes one hash are is configured = record {
+  count = let count = are.count in omega (arith, count, length-append hashes (hash ∷ []), length-append found (one ∷ []));
+  each = λ k other at.
+      ⊎_elim
+      (λ (before : slice_get found k ≡ Some other). stays_before hashes (hash ∷ []) k (hash_of config other.saved.history) (are.each k other before))
+      (λ (last : (k ≡ length found) × (one ≡ other)).
+      ap (λ (n : ℕ). slice_get (hashes ++ hash ∷ []) n) (last.0 ∙ sym are.count)
+      ∙ (at_seam hashes hash [] ∙ ap Some (is ∙ ap (λ (o : FoundPoint). hash_of config o.saved.history) last.1)))
+      (before_or_last found one k other at);
+  configured = λ k other at.
+      ⊎_elim
+      (λ (before : slice_get found k ≡ Some other). are.configured k other before)
+      (λ (last : (k ≡ length found) × (one ≡ other)). subst (λ (o : FoundPoint). o.saved.config ≡ config) last.1 configured)
+      (before_or_last found one k other at);
+}
+
+pub known_push : (base : List (List ℕ)) (f : FoundPoint → List ℕ) (found new : List FoundPoint) (one : FoundPoint) → new ≡ found ++ one ∷ []
+    → base ++ map f new ≡ (base ++ map f found) ++ f one ∷ []
+known_push base f found new one is =
+    ap (λ (points : List FoundPoint). base ++ map f points) is
+    ∙ (ap (λ (orders : List (List ℕ)). base ++ orders) (map-append f found (one ∷ [])) ∙ sym (append_assoc base (map f found) (f one ∷ [])))
+
+pub found_push : (config : Configuration) (scripts : Scripts) (worker : Worker) (found : List FoundPoint) (one other : FoundPoint) → ((o : FoundPoint) → Has found o → IsFoundBy config scripts worker o)
+    → IsFoundBy config scripts worker one → Has (found ++ one ∷ []) other → IsFoundBy config scripts worker other
+found_push config scripts worker found one other each is has =
+    ⊎_elim
+    (λ (before : slice_get found has.0 ≡ Some other). each other (has.0, before))
+    (λ (last : (has.0 ≡ length found) × (one ≡ other)). subst (IsFoundBy config scripts worker) last.1 is)
+    (before_or_last found one has.0 other has.1)
+
+module _ (config : Configuration) (scripts : Scripts) where
+  -- ---- its own points
+
+  -- the order to a point that was given is known
+  pub given_known : (worker : Worker) (j : ℕ) → AreGiven config scripts worker → j < length worker.points.items
+      → slice_get (orders_known worker) (worker.first + j) ≡ Some (order_given worker j)
+  given_known worker j given within =
+      let base = worker.base.value in
+      let all = given.within in
+      stays_before base (map (order_found worker) worker.found.items) (worker.first + j) (order_given worker j) (order_here base (worker.first + j) (omega (arith, within, all)))
+
+  pub given_at : (worker : Worker) (j : ℕ) (saved : PortsView) → AreGiven config scripts worker → j < length worker.points.items → saved ≡ get_or worker.points.items j saved
+      → IsAfter config scripts (order_given worker j) saved
+  given_at worker j saved given within read = given.each j saved (slice_get-get_or worker.points.items j saved within ∙ ap Some (sym read))
+
+  -- a point that was found is known
+  pub point_known : (worker : Worker) (ports : PortsView) → ((o : FoundPoint) → Has worker.found.items o → IsFoundBy config scripts worker o) → ports.config ≡ config
+      → HasPoint worker.found.items ports → Knows config scripts (orders_known worker) ports.history
+  point_known worker ports each configured point = record {
+    order = order_found worker point.one;
+    here = has_behind worker.base.value (map (order_found worker) worker.found.items) (order_found worker point.one) (has_mapped (order_found worker) worker.found.items point.one point.here);
+    same = subst (λ (x : Configuration × History). IsSamePoint x.0 ports.history x.1) (λ i. (configured i, (each point.one point.here).after.history i)) point.same;
+  }
+
+  pub later_along : (a b c : Worker) → IsLaterWorker a b → IsLaterWorker b c → IsLaterWorker a c
+  later_along a b c one two = record {
+    base = two.base ∙ one.base;
+    first = two.first ∙ one.first;
+    points = two.points ∙ one.points;
+    orders = keeps_along (orders_known a) (orders_known b) (orders_known c) one.orders two.orders;
+    replies = includes_along a.replies b.replies c.replies one.replies two.replies;
+  }
+
+  pub same_given : (old new : Worker) (j : ℕ) → IsLaterWorker old new → order_given new j ≡ order_given old j
+  same_given old new j later = λ i. order_at (later.base i) (later.first i + j)
+
+  -- what was tried stays tried
+  pub enough_kept : (clock : Bool) (old new : List (List ℕ)) (replies more : List PossibleReply) (order : List ℕ) → Keeps old new → Includes replies more
+      → HasTriedEnough clock config scripts old replies order → HasTriedEnough clock config scripts new more order
+  enough_kept clock old new replies more order keeps includes was = record {
+    tried = was.tried;
+    enough = was.enough;
+    each = λ p within own. tried_kept config scripts old new replies more order p keeps includes (was.each p within own);
+  }
+
+  -- ---- what others know of it
+
+  pub knows_along : (known new : List (List ℕ)) (h : History) → ((order : List ℕ) → Has known order → Knows config scripts new (history_of config scripts order))
+      → Knows config scripts known h → Knows config scripts new h
+  knows_along known new h all one =
+      let two = all one.order one.here in
+      record { order = two.order; here = two.here; same = same_along config h (history_of config scripts one.order) (history_of config scripts two.order) one.same two.same }
+
+  -- what was tried is tried for all who know the points and the replies
+  pub tried_along : (clock : Bool) (known new : List (List ℕ)) (replies more : List PossibleReply) (order : List ℕ) → ((o : List ℕ) → Has known o → Knows config scripts new (history_of config scripts o))
+      → Includes replies more → HasTriedEnough clock config scripts known replies order → HasTriedEnough clock config scripts new more order
+  tried_along clock known new replies more order all includes was = record {
+    tried = was.tried;
+    enough = was.enough;
+    each = λ p within own.
+        let one = was.each p within own in
+        record { point = knows_along known new (history_of config scripts (order ++ p ∷ [])) all one.point; reply = λ r makes. includes r (one.reply r makes) };
+  }
+
+  -- each order that a worker knows is one of those before, or one to a point that it found
+  pub known_cases : (worker : Worker) (Is : List ℕ → Type 0) → ((order : List ℕ) → Has worker.base.value order → Is order)
+      → ((one : FoundPoint) → Has worker.found.items one → Is (order_found worker one)) → (order : List ℕ) → Has (orders_known worker) order → Is order
+  known_cases worker Is before found order has =
+      ⊎_elim
+      (λ (old : Has worker.base.value order). before order old)
+      (λ (new : Has (map (order_found worker) worker.found.items) order).
+      let from = of_mapped (order_found worker) worker.found.items order new in
+      subst Is from.2 (found from.0 from.1))
+      (has_either worker.base.value (map (order_found worker) worker.found.items) order has)
+
+-- ---- ranges
+
+pub same_range : (from to : ℕ) (old new : Worker) → IsLaterWorker old new → IsRange from to old → IsRange from to new
+same_range from to old new later range =
+    let first = later.first in
+    let count = ap (λ (points : List PortsView). length points) later.points in
+    let was = range.first in
+    let last = range.last in
+    record { first = first ∙ was; last = omega (arith, first, count, last) }
+
+module _ (clock : Bool) (config : Configuration) (scripts : Scripts) where
+  -- what was tried up to an index, and then on from there
+  pub tried_join : (old new : List (List ℕ)) (replies more : List PossibleReply) (from mid to : ℕ) → Keeps old new → Includes replies more → mid ≤ length old
+      → HasTriedFrom clock config scripts old replies from mid → HasTriedFrom clock config scripts new more mid to → HasTriedFrom clock config scripts new more from to
+  tried_join old new replies more from mid to keeps includes within one two k past below =
+      ⊎_elim
+      (λ (before : k < mid). has_tried_kept config scripts clock old new replies more k keeps includes (omega (arith, before, within)) (one k past before))
+      (λ (behind : mid ≤ k). two k behind below)
+      (cases_lt k mid)
+
+-- ---- results
+
+pub on_ok : {X E : Type 0} (r : Result X E) (P Q : Type 0) → (P → Q) → OnOk r P → OnOk r Q
+on_ok (Ok x) P Q f is = f is
+on_ok (Err e) P Q f is = tt
+
+pub when_ok : {X E : Type 0} (r : Result X E) (P : Type 0) → is_err r ≡ false → OnOk r P → P
+when_ok (Ok x) P ok is = is
+when_ok (Err e) P ok is = absurd (cc)

@@ -1,0 +1,10 @@
+use Rattle.apex_orders.proofs.Common.{◌≡◌, ◌++◌, length}
+use Rattle.apex_orders.proofs.points.Points.take.Given as goal
+
+abbrev pub invariant-loop : goal.invariant-loop
+invariant-loop l = record {
+  taken : l.fn.self.saved.items ≡ l.to.items ++ l.self.saved.items;
+  count : length l.to.items ≡ l.counter;
+  first : l.self.first ≡ l.fn.self.first;
+  hashes : l.self.hashes ≡ l.fn.self.hashes;
+}

@@ -1,0 +1,18 @@
+use Rattle.std.specs.VecDeque.{deque_len}
+use Rattle.apex_orders.proofs.Common.{◌≡◌, ◌⊎◌, FoundPoint, Has, Includes, IsTrialOf, IsLater, IsSearch, Knows, history_of, order_found}
+use Rattle.apex_orders.proofs.search.Search.add_points.Given as goal
+
+abbrev pub invariant-loop-one : goal.invariant-loop-one
+invariant-loop-one l = record {
+  valid : IsSearch l.clock l.config l.scripts l.self;
+  later : IsLater l.initial.self l.self;
+  first : l.self.points.first ≡ l.initial.self.points.first;
+  index : l.worker.first ≡ l.initial.worker.first;
+  trial : IsTrialOf l.config l.worker.trial;
+  left : Includes l.worker.found.items l.initial.worker.found.items;
+  known : (one : FoundPoint) → Has l.initial.worker.found.items one
+      → Has l.worker.found.items one ⊎ Knows l.config l.scripts l.self.orders (history_of l.config l.scripts (order_found l.initial.worker one));
+}
+
+abbrev pub decreases-loop-one : goal.decreases-loop-one
+decreases-loop-one l = deque_len l.worker.found

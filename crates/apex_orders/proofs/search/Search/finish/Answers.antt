@@ -1,0 +1,62 @@
+use Rattle.apex_orders.proofs.Common.{◌≡◌, ⊎_elim, ◌+◌, ◌-◌, ◌<◌, ◌≤◌, List, ℕ, Some, length, refl, sym, ap, ◌∙◌, subst, arith, false, slice_get, PossibleReply, Worker, Has, Includes, IsWorker, HasContinued, HasTriedEnough, Keeps, order_at, order_given, orders_known}
+use Rattle.apex_orders.proofs.GrowthLemmas.{order_here}
+use Rattle.apex_orders.proofs.SearchLemmas.{includes_along}
+use Rattle.apex_orders.proofs.WorkerLemmas.{tried_along, when_ok}
+use Rattle.apex_orders.proofs.search.Search.finish.Goals as goal
+
+pub add_points-requires-clause-valid : goal.add_points-requires-clause-valid
+add_points-requires-clause-valid c =
+    let was = c.requires.valid in
+    let worker = when_ok c.args.worker.now.result (IsWorker c.args.clock c.args.config.now c.args.scripts.now c.args.worker.now) (sym c.is_err.ensures.value ∙ c.if-is_err.false) c.requires.worker in
+    record {
+      all = was.all;
+      orders = was.orders;
+      clocked = was.clocked;
+      apart = was.apart;
+      points = was.points;
+      found = λ one has. ⊎_elim (λ (before : Has c.args.self.now.replies one). was.found one before) (λ (new : Has c.args.worker.now.replies one). worker.replies one new) (c.in_ok-add_all.ensures.only one has);
+      uses = was.uses;
+    }
+
+pub add_points-requires-clause-worker : goal.add_points-requires-clause-worker
+add_points-requires-clause-worker c =
+    when_ok c.args.worker.now.result (IsWorker c.args.clock c.args.config.now c.args.scripts.now c.args.worker.now) (sym c.is_err.ensures.value ∙ c.if-is_err.false) c.requires.worker
+
+pub add_points-requires-clause-base : goal.add_points-requires-clause-base
+add_points-requires-clause-base c = when_ok c.args.worker.now.result (Keeps c.args.worker.now.base.value c.args.self.now.orders) (sym c.is_err.ensures.value ∙ c.if-is_err.false) c.requires.base
+
+pub returns-clause-later : goal.returns-clause-later
+returns-clause-later c =
+    let later = c.in_ok-add_points.ensures.later in
+    record { orders = later.orders; replies = λ one has. later.replies one (c.in_ok-add_all.ensures.kept one has) }
+
+pub returns-clause-tried : goal.returns-clause-tried
+returns-clause-tried c from to range k past below order at =
+    let config = c.args.config.now in
+    let scripts = c.args.scripts.now in
+    let clock = c.args.clock in
+    let old = c.args.worker.now in
+    let new = c.add_points.new.self in
+    let ok = sym c.is_err.ensures.value ∙ c.if-is_err.false in
+    let worker = when_ok old.result (IsWorker clock config scripts old) ok c.requires.worker in
+    let continued = when_ok old.result (HasContinued clock config scripts old) ok c.requires.tried in
+    let base = when_ok old.result (Keeps old.base.value c.args.self.now.orders) ok c.requires.base in
+    let later = c.in_ok-add_points.ensures.later in
+    let first = range.first in
+    let last = range.last in
+    let j : ℕ = k - old.first in
+    let index : old.first + j ≡ k = omega (arith, first, past) in
+    let within : j < length old.points.items = omega (arith, first, last, past, below) in
+    let all = worker.given.within in
+    let inside : old.first + j < length old.base.value = omega (arith, all, within) in
+    let there : slice_get new.orders k ≡ Some (order_given old j) =
+    ap (λ (n : ℕ). slice_get new.orders n) (sym index)
+    ∙ later.orders (old.first + j) (order_given old j) (base (old.first + j) (order_given old j) (order_here old.base.value (old.first + j) inside)) in
+    let both : Some (order_given old j) ≡ Some order = sym there ∙ at in
+    let same : order_given old j ≡ order = cc in
+    subst (HasTriedEnough clock config scripts new.orders new.replies) same
+    (tried_along config scripts clock (orders_known old) new.orders old.replies new.replies (order_given old j) c.in_ok-add_points.ensures.points
+    (λ one has. later.replies one (c.in_ok-add_all.ensures.added one has)) (continued j within))
+
+pub returns-clause-run : goal.returns-clause-run
+returns-clause-run c = sym c.is_err.ensures.value ∙ c.if-is_err.false

@@ -1,0 +1,74 @@
+use Rattle.apex_orders.proofs.Common.{◌≡◌, ◌+◌, ◌++◌, [], List, ℕ, length, map, refl, sym, ap, ◌∙◌, subst, arith, append-nil, length-append, PortsView, PossibleReply, FoundPoint, Worker, Has, AreOrders, AreClocked, AreFound, AreHashed, IsAfter, IsTrialOf, order_at, order_found, orders_known}
+use Rattle.apex_orders.specs.declared.trial.Trial.{Trial}
+use Rattle.apex_orders.proofs.Having.{has_none}
+use Rattle.apex_orders.proofs.KnownLemmas.{points_given, points_left}
+use Rattle.apex_orders.proofs.SearchLemmas.{none_found}
+use Rattle.apex_orders.proofs.search.Search.give.Goals as goal
+
+pub begin-requires-clause-count : goal.begin-requires-clause-count
+begin-requires-clause-count c =
+    let count = c.requires.valid.points.count in
+    let within = c.requires.within in
+    omega (arith, count, within)
+
+pub returns-clause-valid : goal.returns-clause-valid
+returns-clause-valid c =
+    let was = c.requires.valid in
+    let begun = c.in_ok-begin.ensures in
+    let old = c.args.self.now in
+    record {
+      all = was.all;
+      orders = was.orders;
+      clocked = was.clocked;
+      apart = was.apart;
+      points = points_left c.args.config.now c.args.scripts.now old.orders old.points c.begin.new.points was.points c.begin.new.self.points.items c.args.count begun.given begun.count begun.rest begun.hashes;
+      found = was.found;
+      uses = was.uses;
+    }
+
+pub returns-clause-later : goal.returns-clause-later
+returns-clause-later c = record { orders = λ k x at. at; replies = λ x has. has }
+
+-- a worker that has found nothing knows the orders that it was given
+none_known : (worker : Worker) (orders : List (List ℕ)) → worker.base.value ≡ orders → worker.found.items ≡ [] → orders_known worker ≡ orders
+none_known worker orders base none =
+    ap (λ (items : List FoundPoint). worker.base.value ++ map (order_found worker) items) none ∙ (append-nil worker.base.value ∙ base)
+
+pub returns-clause-worker : goal.returns-clause-worker
+returns-clause-worker c =
+    let config = c.args.config.now in
+    let scripts = c.args.scripts.now in
+    let was = c.requires.valid in
+    let begun = c.in_ok-begin.ensures in
+    let old = c.args.self.now in
+    let new = c.begin.new.self in
+    let known = none_known new old.orders begun.base begun.found in
+    record {
+      all = was.all;
+      trial = subst (IsTrialOf config) (sym begun.trial) c.requires.trial;
+      given = record {
+        within =
+            let count = begun.count in
+            let first = begun.first in
+            let base = ap (λ (orders : List (List ℕ)). length orders) begun.base in
+            let within = c.requires.within in
+            omega (arith, count, first, base, within);
+        room =
+            let base = ap (λ (orders : List (List ℕ)). length orders) begun.base in
+            let len = c.len-orders.ensures in
+            omega (arith, base, len);
+        each = λ j ports at.
+            subst (λ (x : List (List ℕ) × ℕ). IsAfter config scripts (order_at x.0 (x.1 + j)) ports) (λ i. (sym begun.base i, sym begun.first i))
+            (points_given config scripts old.orders old.points c.begin.new.points was.points new.points.items c.args.count begun.given begun.count begun.rest begun.hashes j ports at);
+      };
+      found = λ one has. absurd (has_none one (subst (λ (points : List FoundPoint). Has points one) begun.found has));
+      hashed = subst (λ (x : List FoundPoint × List ℕ). AreHashed config x.0 x.1) (λ i. (sym begun.found i, sym begun.unhashed i)) (record { count = refl; each = λ k one at. absurd (cc); configured = λ k one at. absurd (cc) });
+      orders = subst (AreOrders config) (sym known) was.orders;
+      clocked = subst (AreClocked c.args.clock config scripts) (sym known) was.clocked;
+      replies = subst (AreFound c.args.clock config scripts) (sym begun.replies) (none_found config scripts c.args.clock);
+    }
+
+pub returns-clause-range : goal.returns-clause-range
+returns-clause-range c =
+    let begun = c.in_ok-begin.ensures in
+    record { first = begun.first; last = let first = begun.first in let count = begun.count in omega (arith, first, count) }

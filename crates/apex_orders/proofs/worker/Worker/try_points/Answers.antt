@@ -1,0 +1,27 @@
+use Rattle.apex_orders.proofs.Common.{◌≡◌, ⊎_elim, ℕ, ◌+◌, ◌<◌, List, length, sym, ap, subst, arith, cases_eq, PortsView, HasTriedEnough, order_given, orders_known}
+use Rattle.apex_orders.proofs.WorkerLemmas.{enough_kept, later_along, same_given}
+use Rattle.apex_orders.proofs.worker.Worker.try_points.Goals as goal
+
+pub loop-j-preserved : goal.loop-j-preserved
+loop-j-preserved c =
+    let config = c.args.config.now in
+    let scripts = c.args.scripts.now in
+    let clock = c.args.clock in
+    let start = c.args.self.now in
+    let before = c.loop-j.self in
+    let after = c.try_point.new.self in
+    let was = c.loop-j.invariant in
+    let now = c.in_ok-try_point.ensures in
+    record {
+      valid = now.valid;
+      later = later_along config scripts start before after was.later now.later;
+      tried = λ j below.
+          ⊎_elim
+          (λ (here : j ≡ c.loop-j.j).
+          subst (λ (n : ℕ). HasTriedEnough clock config scripts (orders_known after) after.replies (order_given start n)) (sym here)
+          (subst (HasTriedEnough clock config scripts (orders_known after) after.replies) (same_given config scripts start before c.loop-j.j was.later) now.tried))
+          (λ (earlier : j ≡ c.loop-j.j → ⊥).
+          enough_kept config scripts clock (orders_known before) (orders_known after) before.replies after.replies (order_given start j) now.later.orders now.later.replies
+          (was.tried j (omega (arith, below, earlier))))
+          (cases_eq j c.loop-j.j);
+    }

@@ -1,0 +1,74 @@
+use Rattle.apex_orders.proofs.Common.{◌≡◌, ◌+◌, ◌-◌, ◌≤◌, List, ℕ, length, sym, ◌∙◌, subst, arith, LastUses, AreOfScripts, Worker, HasTriedFrom, IsLaterWorker, IsRange, Keeps}
+use Rattle.std.proofs.Common.{◌/◌}
+use Rattle.apex_orders.proofs.GrowthLemmas.{still_many}
+use Rattle.apex_orders.proofs.SearchLemmas.{includes_along, keeps_along}
+use Rattle.apex_orders.proofs.WorkerLemmas.{on_ok, same_range, tried_join, when_ok}
+use Rattle.apex_orders.proofs.workers.try_both.Goals as goal
+
+pub give-requires-2-clause-within : goal.give-requires-2-clause-within
+give-requires-2-clause-within g c =
+    let start = c.args.current.now in
+    let one = c.give.new.self in
+    let first : one.points.first ≡ start.points.first + c.args.count / 2 = c.in_ok-give.ensures.first in
+    let many : start.points.first + c.args.count ≤ length one.orders = still_many start.orders one.orders (start.points.first + c.args.count) c.in_ok-give.ensures.later.orders c.requires.within in
+    omega (arith, first, many)
+
+pub run_both-requires-clause-uses : goal.run_both-requires-clause-uses
+run_both-requires-clause-uses g c κs inside = subst (λ (uses : List LastUses). AreOfScripts c.args.config.now c.args.scripts.now uses) (sym c.as_slice.ensures.value) c.in_ok-give-2.ensures.valid.uses
+
+pub finish-requires-clause-base : goal.finish-requires-clause-base
+finish-requires-clause-base g c =
+    on_ok c.run_both.new.one.result (IsLaterWorker c.give.new.worker c.run_both.new.one) (Keeps c.run_both.new.one.base.value c.give-2.new.self.orders)
+    (λ (later : IsLaterWorker c.give.new.worker c.run_both.new.one).
+    subst (λ (base : List (List ℕ)). Keeps base c.give-2.new.self.orders) (sym (later.base ∙ c.in_ok-give.ensures.base)) c.in_ok-give-2.ensures.later.orders)
+    c.run_both.ensures.later
+
+pub finish-requires-2-clause-base : goal.finish-requires-2-clause-base
+finish-requires-2-clause-base g c =
+    on_ok c.run_both.new.other.result (IsLaterWorker c.give-2.new.worker c.run_both.new.other) (Keeps c.run_both.new.other.base.value c.finish.new.self.orders)
+    (λ (later : IsLaterWorker c.give-2.new.worker c.run_both.new.other).
+    subst (λ (base : List (List ℕ)). Keeps base c.finish.new.self.orders) (sym (later.base ∙ c.in_ok-give-2.ensures.base)) c.in_ok-finish.ensures.later.orders)
+    c.run_both.ensures.later_too
+
+pub returns-clause-later : goal.returns-clause-later
+returns-clause-later g c =
+    let start = c.args.current.now in
+    let one = c.give.new.self in
+    let two = c.give-2.new.self in
+    let three = c.finish.new.self in
+    let four = c.finish-2.new.self in
+    record {
+      orders = keeps_along start.orders one.orders four.orders c.in_ok-give.ensures.later.orders
+          (keeps_along one.orders two.orders four.orders c.in_ok-give-2.ensures.later.orders
+          (keeps_along two.orders three.orders four.orders c.in_ok-finish.ensures.later.orders c.in_ok-finish-2.ensures.later.orders));
+      replies = includes_along start.replies one.replies four.replies c.in_ok-give.ensures.later.replies
+          (includes_along one.replies two.replies four.replies c.in_ok-give-2.ensures.later.replies
+          (includes_along two.replies three.replies four.replies c.in_ok-finish.ensures.later.replies c.in_ok-finish-2.ensures.later.replies));
+    }
+
+pub returns-clause-tried : goal.returns-clause-tried
+returns-clause-tried g c =
+    let config = c.args.config.now in
+    let scripts = c.args.scripts.now in
+    let start = c.args.current.now in
+    let three = c.finish.new.self in
+    let four = c.finish-2.new.self in
+    let from = start.points.first in
+    let count = c.args.count in
+    let mid = from + count / 2 in
+    let later = when_ok c.run_both.new.one.result (IsLaterWorker c.give.new.worker c.run_both.new.one) c.in_ok-finish.ensures.run c.run_both.ensures.later in
+    let later_too = when_ok c.run_both.new.other.result (IsLaterWorker c.give-2.new.worker c.run_both.new.other) c.in_ok-finish-2.ensures.run c.run_both.ensures.later_too in
+    let one : HasTriedFrom c.args.clock config scripts three.orders three.replies from mid =
+    c.in_ok-finish.ensures.tried from mid (same_range from mid c.give.new.worker c.run_both.new.one later c.in_ok-give.ensures.range) in
+    let first : c.give.new.self.points.first ≡ mid = c.in_ok-give.ensures.first in
+    let last : c.give.new.self.points.first + (count - count / 2) ≡ from + count = omega (arith, first) in
+    let range = subst (λ (x : ℕ × ℕ). IsRange x.0 x.1 c.give-2.new.worker) (λ i. (first i, last i)) c.in_ok-give-2.ensures.range in
+    let two : HasTriedFrom c.args.clock config scripts four.orders four.replies mid (from + count) =
+    c.in_ok-finish-2.ensures.tried mid (from + count) (same_range mid (from + count) c.give-2.new.worker c.run_both.new.other later_too range) in
+    let within = c.requires.within in
+    let few : mid ≤ length three.orders =
+    still_many start.orders three.orders mid
+    (keeps_along start.orders c.give.new.self.orders three.orders c.in_ok-give.ensures.later.orders
+    (keeps_along c.give.new.self.orders c.give-2.new.self.orders three.orders c.in_ok-give-2.ensures.later.orders c.in_ok-finish.ensures.later.orders))
+    (omega (arith, within)) in
+    tried_join c.args.clock config scripts three.orders four.orders three.replies four.replies from mid (from + count) c.in_ok-finish-2.ensures.later.orders c.in_ok-finish-2.ensures.later.replies few one two

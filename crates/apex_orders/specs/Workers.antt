@@ -1,0 +1,88 @@
+-- What the parts of a search find that can run in threads of their own.
+use Rattle.std.specs.Prelude.{ℕ, Bool, ◌≡◌, ◌<◌, ◌≤◌, ◌+◌, ◌^◌, List, [], ◌∷◌, ◌++◌, length, map, slice_get, Some, IfSome}
+use Rattle.apex_orders.specs.Prelude.{Configuration, PortsView}
+use Rattle.apex_orders.specs.declared.worker.FoundPoint.{FoundPoint}
+use Rattle.apex_orders.specs.declared.worker.Worker.{Worker}
+use Rattle.apex_orders.specs.declared.workers.Workers.{Workers}
+use Rattle.apex_orders.specs.Hashes.{hash_of}
+use Rattle.apex_orders.specs.Known.{IsAfter, IsTrialOf}
+use Rattle.apex_orders.specs.Lists.{Has}
+use Rattle.apex_orders.specs.Orders.{Scripts, order_at}
+use Rattle.apex_orders.specs.Points.{IsSamePoint}
+use Rattle.apex_orders.specs.Searching.{AreOrders, AreClocked, AreFound, HasTriedEnough, Includes, Keeps}
+
+-- ---- orders
+
+-- the order to the worker's point at the index
+abbrev pub order_given : Worker → ℕ → List ℕ
+order_given worker j = order_at worker.base.value (worker.first + j)
+
+-- the order to a point that the worker found
+abbrev pub order_found : Worker → FoundPoint → List ℕ
+order_found worker one = order_given worker one.before ++ one.partition ∷ []
+
+-- the orders that the search had found, and those to the points that the worker found
+abbrev pub orders_known : Worker → List (List ℕ)
+orders_known worker = worker.base.value ++ map (order_found worker) worker.found.items
+
+-- ---- points
+
+-- each point has its hash, and all are of one configuration
+pub record AreHashed (config : Configuration) (found : List FoundPoint) (hashes : List ℕ) : Type 0 where
+  pub count : length hashes ≡ length found
+  pub each : (k : ℕ) (one : FoundPoint) → slice_get found k ≡ Some one → slice_get hashes k ≡ Some (hash_of config one.saved.history)
+  pub configured : (k : ℕ) (one : FoundPoint) → slice_get found k ≡ Some one → one.saved.config ≡ config
+
+-- one of the points is that of the ports
+pub record HasPoint (found : List FoundPoint) (ports : PortsView) : Type 0 where
+  pub one : FoundPoint
+  pub here : Has found one
+  pub same : IsSamePoint ports.config ports.history one.saved.history
+
+-- the worker's points are those of the orders from its first index on
+pub record AreGiven (config : Configuration) (scripts : Scripts) (worker : Worker) : Type 0 where
+  pub within : worker.first + length worker.points.items ≤ length worker.base.value
+  pub room : length worker.base.value < 2 ^ 64
+  pub each : (j : ℕ) (ports : PortsView) → slice_get worker.points.items j ≡ Some ports → IsAfter config scripts (order_given worker j) ports
+
+-- what the worker found is one call behind one of its points
+pub record IsFoundBy (config : Configuration) (scripts : Scripts) (worker : Worker) (one : FoundPoint) : Type 0 where
+  pub before : one.before < length worker.points.items
+  pub partition : one.partition < length config.partitions
+  pub hash : one.hash ≡ hash_of config one.saved.history
+  pub after : IsAfter config scripts (order_found worker one) one.saved
+
+-- the invariant of a worker
+pub record IsWorker (clock : Bool) (config : Configuration) (scripts : Scripts) (worker : Worker) : Type 0 where
+  pub all : length scripts ≡ length config.partitions
+  pub trial : IsTrialOf config worker.trial
+  pub given : AreGiven config scripts worker
+  pub found : (one : FoundPoint) → Has worker.found.items one → IsFoundBy config scripts worker one
+  pub hashed : AreHashed config worker.found.items worker.hashes
+  pub orders : AreOrders config (orders_known worker)
+  pub clocked : AreClocked clock config scripts (orders_known worker)
+  pub replies : AreFound clock config scripts worker.replies
+
+-- nothing that was found is lost, and the points are the same
+pub record IsLaterWorker (old new : Worker) : Type 0 where
+  pub base : new.base.value ≡ old.base.value
+  pub first : new.first ≡ old.first
+  pub points : new.points.items ≡ old.points.items
+  pub orders : Keeps (orders_known old) (orders_known new)
+  pub replies : Includes old.replies new.replies
+
+-- enough was tried after each of the points
+abbrev pub HasContinued : Bool → Configuration → Scripts → Worker → Type 0
+HasContinued clock config scripts worker =
+    (j : ℕ) → j < length worker.points.items
+    → HasTriedEnough clock config scripts (orders_known worker) worker.replies (order_given worker j)
+
+-- its points are those of the orders from one index up to another
+pub record IsRange (from to : ℕ) (worker : Worker) : Type 0 where
+  pub first : worker.first ≡ from
+  pub last : worker.first + length worker.points.items ≡ to
+
+-- the workers can try calls of the configuration
+pub record AreWorkers (config : Configuration) (workers : Workers) : Type 0 where
+  pub first : IsTrialOf config workers.first.trial
+  pub second : IfSome workers.second (λ worker. IsTrialOf config worker.trial)

@@ -1,0 +1,369 @@
+//! A part of a search that can run in a thread of its own.
+ghost use Rattle.std.specs.Prelude.{◌≡◌, ◌<◌, ◌≤◌, ◌+◌, ◌++◌, [], ◌∷◌, ℕ, true, length, slice_get, Some, IfOk, OnOk, IsTrue, ◌↔◌};
+ghost use Rattle.apex_orders.specs.Choices.{is_tried};
+ghost use Rattle.apex_orders.specs.Clock.{IsClocked, IsNextDue};
+ghost use Rattle.apex_orders.specs.Hashes.{hash_of};
+ghost use Rattle.apex_orders.specs.Known.{IsReadyAfter, IsTrialOf};
+ghost use Rattle.apex_orders.specs.LastUses.{AreOfScripts};
+ghost use Rattle.apex_orders.specs.Orders.{history_of};
+ghost use Rattle.apex_orders.specs.Points.{IsSamePoint};
+ghost use Rattle.apex_orders.specs.declared.worker.FoundPoint.{FoundPoint};
+ghost use Rattle.apex_orders.specs.Searching.{AreDue, Knows, IsTried, HasTriedEnough};
+ghost use Rattle.apex_orders.specs.Prelude.{IsSound};
+ghost use Rattle.apex_orders.specs.Workers.{AreHashed, HasContinued, HasPoint, IsLaterWorker, IsWorker, order_given, orders_known};
+
+use crate::choice::{Choice, choose, is_tried};
+use crate::hash::hash_of;
+use crate::hash_index::HashIndex;
+use crate::last_uses::LastUses;
+use crate::orders::Orders;
+use crate::point::is_same_point;
+use crate::points::{Points, move_all};
+use crate::replies::Replies;
+use crate::step::step_into;
+use crate::trial::Trial;
+use apex_module::Config;
+use apex_ports::{Ports, SavedPorts, Script};
+use apex_types::OutOfMemory;
+use std::alloc::Global;
+use std::collections::VecDeque;
+use std::snapshot::Snapshot;
+
+/// A point that was found one call after one of a worker's points.
+#[derive(Drop)]
+pub(crate) struct FoundPoint {
+    /// The index of the point before the call among the worker's points.
+    pub(crate) before: usize,
+    /// The partition that makes the call.
+    pub(crate) partition: usize,
+    pub(crate) hash: u64,
+    pub(crate) saved: SavedPorts,
+}
+
+/// Continues from points that it is given, and shares nothing with other workers. What it finds is compared with all
+/// other points afterwards.
+#[derive(Drop)]
+pub(crate) struct Worker {
+    /// The orders that the search had found when it gave out the points; only contracts see them.
+    pub(crate) base: Snapshot<Orders>,
+    /// The index of the order to the first point.
+    pub(crate) first: usize,
+    /// The points from which it continues.
+    pub(crate) points: Vec<SavedPorts>,
+    /// The points that it found, each once, and their hashes.
+    pub(crate) found: VecDeque<FoundPoint>,
+    pub(crate) hashes: HashIndex,
+    /// The replies that it found, each once.
+    pub(crate) replies: Replies,
+    pub(crate) trial: Trial,
+    /// What was saved before, whose memory is used again.
+    pub(crate) spare: Vec<SavedPorts>,
+    /// Whether it has tried all.
+    pub(crate) result: Result<(), OutOfMemory>,
+}
+
+impl Worker {
+    /// A worker without points.
+    pub(crate) fn new(
+        alloc: Global,
+        config: &Config,
+        orders: &Orders,
+    ) -> Result<Worker, OutOfMemory>
+        ensures { IfOk result (λ one. IsTrialOf config.now one.trial) }
+    {
+        let hashes = HashIndex::new(alloc)?;
+        let replies = Replies::new(alloc)?;
+        let trial = Trial::new(alloc, config)?;
+        Ok(Worker {
+            base: Snapshot::of(orders),
+            first: 0,
+            points: Vec::new(alloc),
+            found: VecDeque::new(alloc),
+            hashes,
+            replies,
+            trial,
+            spare: Vec::new(alloc),
+            result: Ok(()),
+        })
+    }
+
+    /// Takes over the first points from which the search has yet to continue.
+    pub(crate) fn begin(
+        &mut self,
+        alloc: Global,
+        orders: &Orders,
+        points: &mut Points,
+        count: usize,
+    ) -> Result<(), OutOfMemory>
+        requires count { count ≤ length points.old.saved.items }
+        requires room { points.old.first + count ≤ usize.MAX }
+        ensures base { OnOk result (self.new.base.value ≡ orders.now) }
+        ensures first { OnOk result (self.new.first ≡ points.old.first) }
+        ensures given { OnOk result (points.old.saved.items
+            ≡ self.new.points.items ++ points.new.saved.items) }
+        ensures count { OnOk result (length self.new.points.items ≡ count) }
+        ensures rest { OnOk result (points.new.first ≡ points.old.first + count) }
+        ensures hashes { OnOk result (points.new.hashes ≡ points.old.hashes) }
+        ensures found { OnOk result (self.new.found.items ≡ []) }
+        ensures unhashed { OnOk result (self.new.hashes ≡ []) }
+        ensures replies { OnOk result (self.new.replies ≡ []) }
+        ensures trial { OnOk result (self.new.trial ≡ self.old.trial) }
+    {
+        move_all(&mut self.points, &mut self.spare)?;
+        self.base = Snapshot::of(orders);
+        self.first = points.first;
+        self.found.clear();
+        self.hashes = HashIndex::new(alloc)?;
+        self.replies = Replies::new(alloc)?;
+        points.take(count, &mut self.points)
+    }
+
+    /// Tries the next calls of enough partitions after each of its points.
+    pub(crate) fn run(
+        &mut self,
+        alloc: Global,
+        config: &Config,
+        scripts: &[Script],
+        clock: bool,
+        uses: &[LastUses],
+        from: Option<usize>,
+    )
+        requires valid { IsWorker clock config.now scripts.now self.old }
+        requires uses { AreOfScripts config.now scripts.now uses.now }
+        ensures valid { OnOk self.new.result
+            (IsWorker clock config.now scripts.now self.new) }
+        ensures later { OnOk self.new.result (IsLaterWorker self.old self.new) }
+        ensures tried { OnOk self.new.result
+            (HasContinued clock config.now scripts.now self.new) }
+    {
+        self.result = self.try_points(alloc, config, scripts, clock, uses, from);
+    }
+
+    fn try_points(
+        &mut self,
+        alloc: Global,
+        config: &Config,
+        scripts: &[Script],
+        clock: bool,
+        uses: &[LastUses],
+        from: Option<usize>,
+    ) -> Result<(), OutOfMemory>
+        requires valid { IsWorker clock config.now scripts.now self.old }
+        requires uses { AreOfScripts config.now scripts.now uses.now }
+        ensures valid { OnOk result (IsWorker clock config.now scripts.now self.new) }
+        ensures later { OnOk result (IsLaterWorker self.old self.new) }
+        ensures tried { OnOk result (HasContinued clock config.now scripts.now self.new) }
+    {
+        let mut choice = Choice::new(alloc);
+        for j in 0..self.points.len() {
+            self.try_point(alloc, config, scripts, clock, uses, from, j, &mut choice)?;
+        }
+        Ok(())
+    }
+
+    /// Tries the next calls of enough partitions after one of its points.
+    fn try_point(
+        &mut self,
+        alloc: Global,
+        config: &Config,
+        scripts: &[Script],
+        clock: bool,
+        uses: &[LastUses],
+        from: Option<usize>,
+        j: usize,
+        choice: &mut Choice,
+    ) -> Result<(), OutOfMemory>
+        requires valid { IsWorker clock config.now scripts.now self.old }
+        requires uses { AreOfScripts config.now scripts.now uses.now }
+        requires within { j < length self.old.points.items }
+        ensures valid { OnOk result (IsWorker clock config.now scripts.now self.new) }
+        ensures later { OnOk result (IsLaterWorker self.old self.new) }
+        ensures tried { OnOk result (HasTriedEnough clock config.now scripts.now
+            (orders_known self.new) self.new.replies (order_given self.old j)) }
+    {
+        self.trial.ports.restore(&self.points[j]);
+        let ports = &self.trial.ports;
+        choose(alloc, ports, scripts, clock, uses, from, choice)?;
+        let tried = choice.tried.as_slice();
+        self.try_those(alloc, config, scripts, clock, j, tried)?;
+        Ok(())
+    }
+
+    /// Tries the next calls of these partitions after the point. The trial's ports are there.
+    fn try_those(
+        &mut self,
+        alloc: Global,
+        config: &Config,
+        scripts: &[Script],
+        clock: bool,
+        j: usize,
+        tried: &[bool],
+    ) -> Result<(), OutOfMemory>
+        requires valid { IsWorker clock config.now scripts.now self.old }
+        requires within { j < length self.old.points.items }
+        requires ready { IsReadyAfter config.now scripts.now (order_given self.old j)
+            self.old.trial.ports }
+        requires due { AreDue clock scripts.now
+            (history_of config.now scripts.now (order_given self.old j)) (is_tried tried.now) }
+        ensures valid { OnOk result (IsWorker clock config.now scripts.now self.new) }
+        ensures later { OnOk result (IsLaterWorker self.old self.new) }
+        ensures tried { OnOk result ((p : ℕ) → p < length config.now.partitions
+            → is_tried tried.now p ≡ true
+            → IsTried config.now scripts.now (orders_known self.new) self.new.replies
+            (order_given self.old j) p) }
+    {
+        let mut is_there = true;
+        for p in 0..config.partitions() {
+            if is_tried(tried, p) {
+                self.try_partition(alloc, config, scripts, clock, j, is_there, p)?;
+                is_there = false;
+            }
+        }
+        Ok(())
+    }
+
+    /// Tries the partition's next call after the point.
+    fn try_partition(
+        &mut self,
+        alloc: Global,
+        config: &Config,
+        scripts: &[Script],
+        clock: bool,
+        j: usize,
+        is_there: bool,
+        p: usize,
+    ) -> Result<(), OutOfMemory>
+        requires valid { IsWorker clock config.now scripts.now self.old }
+        requires within { j < length self.old.points.items }
+        requires partition { p < length config.now.partitions }
+        requires there { is_there ≡ true → IsReadyAfter config.now scripts.now
+            (order_given self.old j) self.old.trial.ports }
+        requires due { IsNextDue clock scripts.now
+            (history_of config.now scripts.now (order_given self.old j)) p }
+        ensures valid { OnOk result (IsWorker clock config.now scripts.now self.new) }
+        ensures later { OnOk result (IsLaterWorker self.old self.new) }
+        ensures tried { OnOk result (IsTried config.now scripts.now
+            (orders_known self.new) self.new.replies (order_given self.old j) p) }
+    {
+        let trial = &mut self.trial;
+        return_to(&mut trial.ports, &self.points[j], is_there);
+        if !step_into(
+            &mut trial.ports,
+            scripts,
+            p,
+            &mut trial.reply,
+            &mut trial.buffer,
+        ) {
+            return Ok(());
+        }
+        self.replies.add(alloc, &self.trial.reply)?;
+        self.learn(alloc, config, scripts, clock, j, p)?;
+        Ok(())
+    }
+
+    /// Keeps the point of the trial's ports, unless the worker found it before.
+    fn learn(
+        &mut self,
+        alloc: Global,
+        config: &Config,
+        scripts: &[Script],
+        clock: bool,
+        j: usize,
+        p: usize,
+    ) -> Result<(), OutOfMemory>
+        requires valid { IsWorker clock config.now scripts.now self.old }
+        requires within { j < length self.old.points.items }
+        requires partition { p < length config.now.partitions }
+        requires history { self.old.trial.ports.history
+            ≡ history_of config.now scripts.now (order_given self.old j ++ p ∷ []) }
+        requires clocked { IsClocked clock scripts.now self.old.trial.ports.history }
+        ensures valid { OnOk result (IsWorker clock config.now scripts.now self.new) }
+        ensures later { OnOk result (IsLaterWorker self.old self.new) }
+        ensures known { OnOk result (Knows config.now scripts.now
+            (orders_known self.new) self.old.trial.ports.history) }
+    {
+        let hash = hash_of(&self.trial.ports);
+        if has_found(&self.found, &self.hashes, &mut self.trial, hash) {
+            return Ok(());
+        }
+        let saved = save(alloc, &self.trial.ports, &mut self.spare)?;
+        self.hashes.push(alloc, hash)?;
+        self.found.push_back(FoundPoint {
+            before: j,
+            partition: p,
+            hash,
+            saved,
+        })?;
+        Ok(())
+    }
+}
+
+/// Saves the ports, in memory that is spare if there is some.
+fn save(
+    alloc: Global,
+    ports: &Ports,
+    spare: &mut Vec<SavedPorts>,
+) -> Result<SavedPorts, OutOfMemory>
+    ensures { IfOk result (λ saved. saved ≡ ports.now) }
+{
+    match spare.pop() {
+        None => ports.save(alloc),
+        Some(old) => ports.save_over(old),
+    }
+}
+
+/// Sets the ports to what was saved, unless they are there already.
+fn return_to(ports: &mut Ports, saved: &SavedPorts, is_there: bool)
+    requires config { saved.now.config ≡ ports.old.config }
+    requires there { is_there ≡ true → ports.old.history ≡ saved.now.history }
+    requires sound { is_there ≡ true → IsSound ports.old.config ports.old.history }
+    ensures config { ports.new.config ≡ ports.old.config }
+    ensures history { ports.new.history ≡ saved.now.history }
+    ensures sound { IsSound ports.new.config ports.new.history }
+{
+    if !is_there {
+        ports.restore(saved);
+    }
+}
+
+/// Whether one of these points is that of the trial's ports, which has this hash.
+fn has_found(found: &VecDeque<FoundPoint>, hashes: &HashIndex, trial: &mut Trial, hash: u64) -> bool
+    requires hashed { AreHashed trial.old.ports.config found.now.items hashes.now }
+    requires hash { hash ≡ hash_of trial.old.ports.config trial.old.ports.history }
+    requires config { trial.old.other.config ≡ trial.old.ports.config }
+    ensures found { IsTrue result ↔ HasPoint found.now.items trial.old.ports }
+    ensures ports { trial.new.ports ≡ trial.old.ports }
+    ensures other { trial.new.other.config ≡ trial.old.other.config }
+{
+    let mut count = hashes.up_to_last(hash);
+    while count > 0 {
+        let k = count - 1;
+        if is_point_at(found, k, trial) {
+            return true;
+        }
+        count = hashes.up_to_earlier(hash, k);
+    }
+    false
+}
+
+/// Whether the point at the index is that of the trial's ports.
+fn is_point_at(found: &VecDeque<FoundPoint>, k: usize, trial: &mut Trial) -> bool
+    requires configured { (one : FoundPoint) → slice_get found.now.items k ≡ Some one
+        → one.saved.config ≡ trial.old.other.config }
+    requires config { trial.old.other.config ≡ trial.old.ports.config }
+    ensures same { IsTrue result → (one : FoundPoint) × (slice_get found.now.items k ≡ Some one)
+        × IsSamePoint trial.old.ports.config trial.old.ports.history one.saved.history }
+    ensures other { (one : FoundPoint) → slice_get found.now.items k ≡ Some one
+        → IsSamePoint trial.old.ports.config trial.old.ports.history one.saved.history
+        → IsTrue result }
+    ensures ports { trial.new.ports ≡ trial.old.ports }
+    ensures config { trial.new.other.config ≡ trial.old.other.config }
+{
+    match found.get(k) {
+        None => false,
+        Some(one) => {
+            trial.other.restore(&one.saved);
+            is_same_point(&trial.ports, &trial.other)
+        }
+    }
+}

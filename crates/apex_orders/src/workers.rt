@@ -1,0 +1,236 @@
+//! The workers of a search, one of which runs in a thread beside the other if there are many points.
+ghost use Rattle.std.specs.Prelude.{◌≡◌, ◌≤◌, ◌+◌, length, IfOk, OnOk, IfSome};
+ghost use Rattle.apex_orders.specs.Known.{IsTrialOf};
+ghost use Rattle.apex_orders.specs.Searching.{HasTriedFrom, IsLater, IsSearch};
+ghost use Rattle.apex_orders.specs.LastUses.{AreOfScripts};
+ghost use Rattle.apex_orders.specs.Workers.{AreWorkers, HasContinued, IsLaterWorker, IsWorker};
+
+use crate::last_uses::LastUses;
+use crate::orders::Orders;
+use crate::search::Search;
+use crate::worker::Worker;
+use apex_module::Config;
+use apex_ports::Script;
+use apex_types::OutOfMemory;
+use std::alloc::Global;
+use std::thread::{Threads, join_mut};
+
+/// From how many points on two workers share them: for fewer, a thread costs more than it saves.
+const SHARED_POINTS: usize = 256;
+
+/// One worker, and a second one once a search has many points.
+#[derive(Drop)]
+pub(crate) struct Workers {
+    pub(crate) first: Worker,
+    pub(crate) second: Option<Worker>,
+}
+
+impl Workers {
+    /// One worker.
+    pub(crate) fn new(
+        alloc: Global,
+        config: &Config,
+        orders: &Orders,
+    ) -> Result<Workers, OutOfMemory>
+        ensures { IfOk result (AreWorkers config.now) }
+    {
+        let first = Worker::new(alloc, config, orders)?;
+        Ok(Workers {
+            first,
+            second: None,
+        })
+    }
+
+    /// Tries the next calls of enough partitions after each of the first points from which the search has yet to
+    /// continue, in one thread or in two.
+    pub(crate) fn try_points<R: Threads + Sync>(
+        &mut self,
+        rt: &R,
+        alloc: Global,
+        config: &Config,
+        scripts: &[Script],
+        clock: bool,
+        count: usize,
+        current: &mut Search,
+    ) -> Result<(), OutOfMemory>
+        requires workers { AreWorkers config.now self.old }
+        requires valid { IsSearch clock config.now scripts.now current.old }
+        requires within { current.old.points.first + count ≤ length current.old.orders }
+        ensures workers { OnOk result (AreWorkers config.now self.new) }
+        ensures valid { OnOk result (IsSearch clock config.now scripts.now current.new) }
+        ensures later { OnOk result (IsLater current.old current.new) }
+        ensures first { OnOk result
+            (current.new.points.first ≡ current.old.points.first + count) }
+        ensures tried { OnOk result (HasTriedFrom clock config.now scripts.now
+            current.new.orders current.new.replies
+            current.old.points.first (current.old.points.first + count)) }
+    {
+        if count < SHARED_POINTS {
+            let worker = &mut self.first;
+            try_alone(alloc, config, scripts, clock, count, worker, current)?;
+            return Ok(());
+        }
+        let mut second = taken(alloc, config, &mut self.second, &current.orders)?;
+        let first = &mut self.first;
+        try_both(
+            rt,
+            alloc,
+            config,
+            scripts,
+            clock,
+            count,
+            first,
+            &mut second,
+            current,
+        )?;
+        self.second = Some(second);
+        Ok(())
+    }
+}
+
+/// The second worker, which is made if there is none.
+fn taken(
+    alloc: Global,
+    config: &Config,
+    second: &mut Option<Worker>,
+    orders: &Orders,
+) -> Result<Worker, OutOfMemory>
+    requires { IfSome second.old (λ worker. IsTrialOf config.now worker.trial) }
+    ensures { IfOk result (λ worker. IsTrialOf config.now worker.trial) }
+{
+    match second.take() {
+        Some(worker) => Ok(worker),
+        None => Worker::new(alloc, config, orders),
+    }
+}
+
+/// Tries the points by one worker.
+fn try_alone(
+    alloc: Global,
+    config: &Config,
+    scripts: &[Script],
+    clock: bool,
+    count: usize,
+    worker: &mut Worker,
+    current: &mut Search,
+) -> Result<(), OutOfMemory>
+    requires trial { IsTrialOf config.now worker.old.trial }
+    requires valid { IsSearch clock config.now scripts.now current.old }
+    requires within { current.old.points.first + count ≤ length current.old.orders }
+    ensures trial { OnOk result (IsTrialOf config.now worker.new.trial) }
+    ensures valid { OnOk result (IsSearch clock config.now scripts.now current.new) }
+    ensures later { OnOk result (IsLater current.old current.new) }
+    ensures first { OnOk result
+        (current.new.points.first ≡ current.old.points.first + count) }
+    ensures tried { OnOk result (HasTriedFrom clock config.now scripts.now
+        current.new.orders current.new.replies
+        current.old.points.first (current.old.points.first + count)) }
+{
+    current.give(alloc, config, scripts, clock, count, worker)?;
+    let (uses, from) = (current.uses.as_slice(), current.from);
+    worker.run(alloc, config, scripts, clock, uses, from);
+    current.finish(alloc, config, scripts, clock, worker)?;
+    Ok(())
+}
+
+/// Tries the points by two workers, of which one runs in another thread.
+fn try_both<R: Threads + Sync>(
+    rt: &R,
+    alloc: Global,
+    config: &Config,
+    scripts: &[Script],
+    clock: bool,
+    count: usize,
+    one: &mut Worker,
+    other: &mut Worker,
+    current: &mut Search,
+) -> Result<(), OutOfMemory>
+    requires one { IsTrialOf config.now one.old.trial }
+    requires other { IsTrialOf config.now other.old.trial }
+    requires valid { IsSearch clock config.now scripts.now current.old }
+    requires within { current.old.points.first + count ≤ length current.old.orders }
+    ensures one { OnOk result (IsTrialOf config.now one.new.trial) }
+    ensures other { OnOk result (IsTrialOf config.now other.new.trial) }
+    ensures valid { OnOk result (IsSearch clock config.now scripts.now current.new) }
+    ensures later { OnOk result (IsLater current.old current.new) }
+    ensures first { OnOk result
+        (current.new.points.first ≡ current.old.points.first + count) }
+    ensures tried { OnOk result (HasTriedFrom clock config.now scripts.now
+        current.new.orders current.new.replies
+        current.old.points.first (current.old.points.first + count)) }
+{
+    let half = count / 2;
+    current.give(alloc, config, scripts, clock, half, one)?;
+    current.give(alloc, config, scripts, clock, count - half, other)?;
+    let shared = Shared {
+        alloc,
+        config,
+        scripts,
+        clock,
+        uses: current.uses.as_slice(),
+        from: current.from,
+    };
+    run_both(rt, &shared, one, other);
+    current.finish(alloc, config, scripts, clock, one)?;
+    current.finish(alloc, config, scripts, clock, other)?;
+    Ok(())
+}
+
+/// What both workers read.
+#[derive(Clone, Copy)]
+struct Shared<'a> {
+    alloc: Global,
+    config: &'a Config,
+    scripts: &'a [Script],
+    clock: bool,
+    uses: &'a [LastUses],
+    from: Option<usize>,
+}
+
+/// Runs one worker in another thread beside the other.
+fn run_both<R: Threads + Sync>(rt: &R, shared: &Shared<'_>, one: &mut Worker, other: &mut Worker)
+    requires one { IsWorker shared.now.clock shared.now.config.now
+        shared.now.scripts.now one.old }
+    requires other { IsWorker shared.now.clock shared.now.config.now
+        shared.now.scripts.now other.old }
+    requires uses { AreOfScripts shared.now.config.now shared.now.scripts.now
+        shared.now.uses.now }
+    ensures valid { OnOk one.new.result (IsWorker shared.now.clock shared.now.config.now
+        shared.now.scripts.now one.new) }
+    ensures later { OnOk one.new.result (IsLaterWorker one.old one.new) }
+    ensures tried { OnOk one.new.result (HasContinued shared.now.clock shared.now.config.now
+        shared.now.scripts.now one.new) }
+    ensures valid_too { OnOk other.new.result (IsWorker shared.now.clock
+        shared.now.config.now shared.now.scripts.now other.new) }
+    ensures later_too { OnOk other.new.result (IsLaterWorker other.old other.new) }
+    ensures tried_too { OnOk other.new.result (HasContinued shared.now.clock
+        shared.now.config.now shared.now.scripts.now other.new) }
+{
+    join_mut(
+        rt,
+        &mut || run_worker(one, shared),
+        &mut || run_worker(other, shared),
+    );
+}
+
+/// Runs a worker.
+fn run_worker(worker: &mut Worker, shared: &Shared<'_>)
+    requires valid { IsWorker shared.now.clock shared.now.config.now
+        shared.now.scripts.now worker.old }
+    requires uses { AreOfScripts shared.now.config.now shared.now.scripts.now
+        shared.now.uses.now }
+    ensures valid { OnOk worker.new.result (IsWorker shared.now.clock shared.now.config.now
+        shared.now.scripts.now worker.new) }
+    ensures later { OnOk worker.new.result (IsLaterWorker worker.old worker.new) }
+    ensures tried { OnOk worker.new.result (HasContinued shared.now.clock
+        shared.now.config.now shared.now.scripts.now worker.new) }
+{
+    worker.run(
+        shared.alloc,
+        shared.config,
+        shared.scripts,
+        shared.clock,
+        shared.uses,
+        shared.from,
+    );
+}
