@@ -16,5 +16,5 @@ pub use Rattle.apex_orders.proofs.Walks.{entries_of-append, IsGood, IsDone, IsNe
 pub use Rattle.apex_groups.specs.Counts.{HasSameTotals, ShowAllCounts, ShowsCounts}
 pub use Rattle.apex_groups.specs.Groups.{AreExchanged, IsPart, list_of, AreApart, HasItsChannels, group_of, HasNone, in_group}
 pub use Rattle.apex_groups.specs.LogParts.{AreWhole, IsOfGroups}
-pub use Rattle.apex_groups.specs.ScriptParts.{AreRepliesBelow, ShowCountsBelow, made_whole, IsAnswerOf, IsFoundOf}
-unfoldable pub use Rattle.apex_groups.specs.ScriptParts.{calls_outside}
+pub use Rattle.apex_groups.specs.Merging.{AreAdded, AreCounted, AreEndsAdded, AreNextPast, EndsAlike, HasWholeOf, IsBefore, IsClockedWay, IsEndOfPart, IsFirst, IsFirstUntil, IsFoundBefore, IsMerged, IsOfPart, IsPast, IsWholeOf, moment_of, next_moment, next_of}
+pub use Rattle.apex_groups.specs.ScriptParts.{AreRepliesBelow, ShowCountsBelow, IsAnswerOf, IsFoundOf, IsUndecidedApart}

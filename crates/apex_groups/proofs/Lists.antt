@@ -23,7 +23,7 @@ module _ {X : Type 0} where
   has_behind (y ∷ xs) ys x has = has_rest y (xs ++ ys) x (has_behind xs ys x has)
 
   -- an item of a list is its first one, or one of the rest
-  first_or_rest : (y : X) (xs : List X) (x : X) → Has (y ∷ xs) x → (y ≡ x) ⊎ Has xs x
+  pub first_or_rest : (y : X) (xs : List X) (x : X) → Has (y ∷ xs) x → (y ≡ x) ⊎ Has xs x
   first_or_rest y xs x has = of_index has.0 has.1
     where
       of_index : (k : ℕ) → slice_get (y ∷ xs) k ≡ Some x → (y ≡ x) ⊎ Has xs x

@@ -9,6 +9,7 @@ pub mod exchanging;
 pub mod groups;
 mod log_orders;
 mod log_parts;
+mod merging;
 pub mod outcomes;
 mod parts;
 mod script_parts;
