@@ -1,12 +1,11 @@
 -- Steps of a merge: each call that is added is due, and how many calls are left.
 use Rattle.apex_groups.proofs.Common.{◌≡◌, ◌≢◌, ◌⊎◌, inl, inr, ⊎_elim, ℕ, zero, suc, ◌+◌, ◌-◌, ◌<◌, ◌≤◌, Bool, true, false, List, [], ◌∷◌, ◌++◌, length, set, Option, Some, None, refl, sym, ap, ◌∙◌, subst, arith, append-nil, length-append, length-set, slice_get, slice_index_or, option_map, cases_eq, cases_lt, false≢true, nat_tests, group_of, in_group, slice_get_past, slice_get_within, IfSome, replicate, Configuration, Entry, History, entries_of, Scripts, script_of, next_entries, history_of}
-use Rattle.apex_groups.proofs.Common.{entries_for, IsOrder, IsDone, IsNext, answered, next_cases, one_longer, own_entry, entries_of-append, IsFirst, IsFirstUntil, IsFoundBefore, IsBefore, IsPast, AreNextPast, AreCounted, next_of, moment_of, next_moment}
+use Rattle.apex_groups.proofs.Common.{entries_for, IsDone, IsNext, answered, next_cases, one_longer, own_entry, entries_of-append, IsFirstUntil, IsFoundBefore, IsPast, AreNextPast, AreCounted, next_of, moment_of, next_moment}
 use Rattle.std.proofs.lemmas.List.{get_or-set_same, get_or-set_other, get_or-replicate, length-replicate}
 use Rattle.apex_types.specs.declared.call.Call.{Call}
 use Rattle.apex_types.specs.declared.moment.Moment.{Moment}
 use Rattle.apex_groups.proofs.Lists.{item_at}
 use Rattle.apex_orders.specs.Clock.{IsNextDue}
-use Rattle.apex_orders.proofs.Lists.{none_past}
 use Rattle.apex_orders.proofs.SearchLemmas.{behind, longer_is_order}
 use Rattle.apex_orders.proofs.Walks.{none_ordered, other_entry, same_history}
 

@@ -1,5 +1,5 @@
 -- Each order of a part's calls can be merged, and completed.
-use Rattle.apex_groups.proofs.Common.{◌≡◌, ◌⊎◌, inl, inr, ⊎_elim, ℕ, zero, suc, ◌+◌, ◌<◌, ◌≤◌, Bool, true, false, List, [], ◌∷◌, ◌++◌, length, set, Option, Some, None, refl, sym, ap, ◌∙◌, subst, arith, append_assoc, append-nil, slice_get, slice_index_or, filter, false≢true, cases_lt, slice_get_within, Configuration, IsConfiguration, History, entries_of, IsPart, Scripts, script_of, calls_of, history_of, IsWay}
+use Rattle.apex_groups.proofs.Common.{◌≡◌, ⊎_elim, ℕ, zero, suc, ◌+◌, ◌<◌, ◌≤◌, Bool, true, false, List, [], ◌∷◌, ◌++◌, length, Option, Some, None, refl, sym, ap, ◌∙◌, subst, arith, append_assoc, append-nil, slice_index_or, filter, false≢true, cases_lt, slice_get_within, Configuration, IsConfiguration, History, entries_of, IsPart, Scripts, script_of, calls_of, history_of}
 use Rattle.apex_groups.proofs.Common.{calls_count, replicate, IsFirst, IsFirstUntil, IsPast, AreNextPast, AreAdded, AreCounted, IsEndOfPart, IsMerged, IsWholeOf, next_of, moment_of, next_moment}
 use Rattle.apex_types.specs.declared.call.Call.{Call}
 use Rattle.apex_types.specs.declared.moment.Moment.{Moment}

@@ -1,6 +1,6 @@
 -- A merge of a part's calls with the calls outside, call by call.
-use Rattle.apex_groups.proofs.Common.{◌≡◌, ◌≢◌, ◌⊎◌, inl, inr, ⊎_elim, ℕ, zero, suc, ◌+◌, ◌<◌, ◌≤◌, Bool, true, false, cond, List, [], ◌∷◌, ◌++◌, length, Option, Some, None, refl, sym, ap, ◌∙◌, subst, arith, append_assoc, append-nil, length-append, slice_get, filter, option_map, take, drop, slice_index_or, cases_lt, false≢true, Configuration, Entry, History, entries_of, IsPart, Scripts, script_of, next_entries, history_of}
-use Rattle.apex_groups.proofs.Common.{IsOrder, IsNext, answered, entries_for, IsFirst, IsBefore, IsPast, AreNextPast, AreAdded, AreCounted, EndsAlike, IsMerged, next_of, moment_of, next_moment}
+use Rattle.apex_groups.proofs.Common.{◌≡◌, ◌≢◌, ⊎_elim, ℕ, zero, suc, ◌<◌, ◌≤◌, Bool, true, false, cond, List, [], ◌∷◌, ◌++◌, length, Option, Some, None, refl, sym, ap, ◌∙◌, subst, arith, append-nil, length-append, slice_get, filter, option_map, take, drop, slice_index_or, cases_lt, false≢true, Configuration, Entry, History, entries_of, IsPart, Scripts, script_of, next_entries, history_of}
+use Rattle.apex_groups.proofs.Common.{answered, entries_for, IsFirst, IsBefore, IsPast, AreNextPast, AreAdded, AreCounted, EndsAlike, IsMerged, next_of, moment_of, next_moment}
 use Rattle.std.proofs.lemmas.List.Elements.{filter-append}
 use Rattle.apex_types.specs.declared.call.Call.{Call}
 use Rattle.apex_types.specs.declared.moment.Moment.{Moment}
@@ -11,8 +11,7 @@ use Rattle.apex_orders.proofs.Lists.{at_seam}
 use Rattle.apex_orders.proofs.SearchLemmas.{behind}
 use Rattle.apex_groups.proofs.Exchanged.{no_list}
 use Rattle.apex_groups.proofs.MergeSteps.{counted_next, due_of_first, due_of_past, next_none, next_same}
-use Rattle.apex_groups.proofs.PartOrders.{next_alike, part_same, past_inside}
-use Rattle.apex_groups.proofs.WholeLemmas.{same_walk}
+use Rattle.apex_groups.proofs.PartOrders.{next_alike, past_inside}
 
 pub some_mapped : {X Y : Type 0} (f : X → Y) (o : Option X) (y : Y) → option_map f o ≡ Some y → (x : X) × (o ≡ Some x) × (f x ≡ y)
 some_mapped f None y is = absurd (cc)
@@ -200,9 +199,9 @@ module _ (clock : Bool) (config : Configuration) (scripts : Scripts) (inside : �
               (added.clocked (past_inside config inside scripts part is whole done merged.same clock p rest timed here at clocked) merged.clocked)
               (due_of_past clock scripts inside (walk more) p timed at_more (past_inside config inside scripts part is more done same clock p rest timed here at_more clocked) added.past));
           ends = λ before e ended. (
-              walk more,
-              answered config scripts (walk more) p timed,
-              goes_on,
-              ap (λ (x : Entry). x.partition) (last_same (walk (filter inside done)) before (answered config scripts (walk (filter inside done)) p timed) e (sym goes_on_inside ∙ ended)),
+            walk more,
+            answered config scripts (walk more) p timed,
+            goes_on,
+            ap (λ (x : Entry). x.partition) (last_same (walk (filter inside done)) before (answered config scripts (walk (filter inside done)) p timed) e (sym goes_on_inside ∙ ended)),
           );
         }

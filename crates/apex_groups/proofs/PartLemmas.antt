@@ -1,5 +1,5 @@
 -- The scripts of the partitions inside lead to what all scripts lead to inside.
-use Rattle.apex_groups.proofs.Common.{◌≡◌, ⊎_elim, ℕ, ◌<◌, ◌≤◌, Bool, true, false, List, [], length, map, take, Ok, Err, Result, Option, refl, sym, ap, ◌∙◌, subst, arith, IfOk, IfSome, IfNone, slice_get, cases_lt, take_all, Configuration, IsConfiguration, Entry, History, entries_of, IsPart, Asked, PossibleReply, Scripts, script_of, calls_of, IsBeginning, AreEndsWith, IsEndOfPart, IsOfPart, Has, Some, history_of, false≢true}
+use Rattle.apex_groups.proofs.Common.{◌≡◌, ⊎_elim, ℕ, ◌<◌, ◌≤◌, Bool, true, false, List, [], length, map, take, Ok, Err, Result, Option, refl, sym, ap, ◌∙◌, subst, arith, IfOk, IfSome, IfNone, slice_get, cases_lt, take_all, Configuration, Entry, History, entries_of, IsPart, Asked, PossibleReply, Scripts, script_of, calls_of, IsBeginning, AreEndsWith, IsEndOfPart, Has, false≢true}
 use Rattle.apex_groups.proofs.Common.{AreRepliesWith, CanBeAnsweredWith, CanOccurWith, HasMorePointsWith, IsAnsweredByWith, IsUndecidedWith, IsUndecidedApart, unclocked, IsAnswerOf, IsFoundOf}
 use Rattle.apex_types.specs.declared.call.Call.{Call}
 use Rattle.apex_types.specs.declared.moment.Moment.{Moment}
@@ -82,10 +82,6 @@ ends_of clock config inside scripts found is order has = record {
   of_part = record { part = is.part; is = is.is; clocked = is.ends.clocked order has };
   is_way = is.ends.ways order has;
 }
-
-pub asked_of : (clock : Bool) (config : Configuration) (inside : ℕ → Bool) (scripts : Scripts) (asked : Asked) (order : List ℕ) → IsAnswerOf clock config inside scripts asked (Some order)
-    → IsOfPart clock config inside scripts order
-asked_of clock config inside scripts asked order is = record { part = is.part; is = is.is; clocked = is.found.given.clocked }
 
 -- ---- what stays undecided
 

@@ -1,5 +1,5 @@
 -- Orders of all scripts, and what they make of the part's scripts.
-use Rattle.apex_groups.proofs.Common.{◌≡◌, ℕ, Bool, true, false, List, [], ◌∷◌, ◌++◌, length, map, Option, Some, refl, sym, ap, ◌∙◌, subst, append_assoc, append-nil, false≢true, slice_get, filter, Configuration, Entry, History, entries_of, IsPart, Scripts, script_of, next_entries, continued, history_of, answered, entries_for, continued-append, AreNextPast, next_of, moment_of}
+use Rattle.apex_groups.proofs.Common.{◌≡◌, ℕ, Bool, true, false, List, [], ◌∷◌, ◌++◌, length, Option, Some, sym, ap, ◌∙◌, subst, append_assoc, append-nil, false≢true, slice_get, filter, Configuration, Entry, History, entries_of, IsPart, Scripts, next_entries, continued, history_of, answered, entries_for, continued-append, AreNextPast, next_of, moment_of}
 use Rattle.std.proofs.lemmas.List.{length-map}
 use Rattle.apex_types.specs.declared.call.Call.{Call}
 use Rattle.apex_types.specs.declared.moment.Moment.{Moment}

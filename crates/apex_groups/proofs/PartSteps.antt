@@ -1,5 +1,5 @@
 -- Parts searched one after the other.
-use Rattle.apex_groups.proofs.Common.{◌≡◌, ◌⊎◌, inl, inr, ⊎_elim, ℕ, ◌≤◌, ◌+◌, ◌<◌, Bool, true, false, List, ◌++◌, length, filter, map, Option, Some, None, refl, sym, ap, ◌∙◌, subst, arith, cases_eq, cases_lt, slice_get_past, nat_tests, false≢true, slice_get, Configuration, IsConfiguration, History, port_of, Port, IsPart, group_of, in_group, Asked, PossibleReply, Scripts, script_of, IsWay, history_of, AreEndsWith, AreRepliesWith, CanOccurWith, CanBeAnsweredWith, Has, ShowAllCounts, IsAnsweredByWith, IsMerged, IsOrder, IsClockedWay, IsWholeOf, AreEndsAdded, ◌∷◌, []}
+use Rattle.apex_groups.proofs.Common.{◌≡◌, ◌⊎◌, inl, inr, ⊎_elim, ℕ, ◌≤◌, ◌+◌, ◌<◌, Bool, true, false, List, ◌++◌, length, filter, Option, Some, None, refl, sym, ap, ◌∙◌, subst, arith, cases_eq, cases_lt, slice_get_past, nat_tests, false≢true, slice_get, Configuration, IsConfiguration, History, port_of, Port, IsPart, group_of, in_group, Asked, PossibleReply, Scripts, script_of, IsWay, AreEndsWith, AreRepliesWith, CanOccurWith, CanBeAnsweredWith, Has, ShowAllCounts, IsAnsweredByWith, IsMerged, IsOrder, IsClockedWay, IsWholeOf, AreEndsAdded, ◌∷◌, []}
 use Rattle.apex_groups.proofs.Common.{ShowsCounts, AreRepliesBelow, ShowCountsBelow}
 use Rattle.apex_types.specs.declared.call.Call.{Call}
 use Rattle.apex_types.specs.declared.moment.Moment.{Moment}

@@ -1,6 +1,6 @@
 -- What is found for the scripts of a part is so for all scripts: the replies to its calls, and what its channels count.
-use Rattle.apex_groups.proofs.Common.{◌≡◌, ⊎_elim, ℕ, zero, suc, ◌<◌, Bool, true, false, if◌then◌else◌, List, [], ◌∷◌, ◌++◌, length, drop, filter, map, take, Option, Some, None, refl, sym, ap, ◌∙◌, subst, arith, slice_get, slice_get-map, option_map, take_all, append_assoc, append-nil, Configuration, IsConfiguration, Entry, History, entries_of, IsPart, Scripts, script_of, calls_of, continued, history_of, IsWay, CanOccur, CanBeAnswered, Asked, PossibleReply, Has}
-use Rattle.apex_groups.proofs.Common.{IsGood, HasSameTotals, IsMerged, IsWholeOf, IsEndOfPart, IsOrder, IsBeginning, AreNextPast, next_of, CanOccurWith, CanBeAnsweredWith, IsAnsweredByWith, IsGivenByWith, EndsWith, next_entries}
+use Rattle.apex_groups.proofs.Common.{◌≡◌, ℕ, zero, suc, ◌<◌, Bool, true, false, if◌then◌else◌, List, [], ◌∷◌, ◌++◌, length, drop, filter, map, take, Option, Some, None, refl, sym, ap, ◌∙◌, subst, arith, slice_get, slice_get-map, option_map, take_all, append_assoc, append-nil, Configuration, IsConfiguration, Entry, History, entries_of, IsPart, Scripts, script_of, calls_of, continued, history_of, IsWay, Asked, PossibleReply}
+use Rattle.apex_groups.proofs.Common.{IsGood, HasSameTotals, IsMerged, IsOrder, IsBeginning, next_of, CanOccurWith, CanBeAnsweredWith, IsAnsweredByWith, IsGivenByWith, next_entries}
 use Rattle.apex_types.specs.declared.call.Call.{Call}
 use Rattle.apex_types.specs.declared.moment.Moment.{Moment}
 use Rattle.apex_types.specs.declared.reply.Reply.{Reply}

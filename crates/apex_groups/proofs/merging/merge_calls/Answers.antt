@@ -1,7 +1,6 @@
-use Rattle.apex_groups.proofs.Common.{◌≡◌, ◌+◌, ◌++◌, ◌∷◌, [], ℕ, suc, Bool, true, List, Some, None, take, drop, take_more, slice_index_or, slice_get, sym, ap, ◌∙◌, subst, arith, in_group, group_of, history_of, script_of, option_map, IsMerged, AreAdded, AreCounted, next_of, next_moment, moment_of}
+use Rattle.apex_groups.proofs.Common.{◌≡◌, ◌+◌, ◌++◌, ◌∷◌, [], ℕ, suc, Bool, true, List, Some, take, drop, take_more, slice_index_or, sym, ap, ◌∙◌, subst, in_group, history_of, IsMerged, AreAdded, AreCounted, moment_of}
 use Rattle.apex_orders.specs.Clock.{IsClocked}
-use Rattle.apex_groups.proofs.MergeSteps.{counted_next}
-use Rattle.apex_groups.proofs.Merges.{merged_more, merged_outside, merged_pass, moment_none, moment_some, moment_within, split_at}
+use Rattle.apex_groups.proofs.Merges.{merged_more, merged_pass, moment_none, moment_some, moment_within, split_at}
 use Rattle.apex_groups.proofs.PartSteps.{is_in}
 use Rattle.apex_groups.proofs.merging.merge_calls.Goals as goal
 use Rattle.apex_groups.proofs.merging.merge_calls.Goals.{in-Some+in_ok-make_before+in_ok-make, in_default}

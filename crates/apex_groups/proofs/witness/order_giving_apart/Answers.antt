@@ -1,4 +1,4 @@
-use Rattle.apex_groups.proofs.Common.{ℕ, Bool, Some, None, sym, ◌∙◌, subst, in_group, Scripts, IsAnswerOf, IsMerged}
+use Rattle.apex_groups.proofs.Common.{ℕ, Bool, Some, None, sym, subst, in_group, Scripts, IsAnswerOf, IsMerged}
 use Rattle.apex_groups.specs.Parts.{HoldsPart}
 use Rattle.apex_groups.proofs.PartSteps.{answered_here, answered_there}
 use Rattle.apex_groups.proofs.witness.order_giving_apart.Goals as goal

@@ -1,4 +1,4 @@
-use Rattle.apex_groups.proofs.Common.{◌≡◌, ◌+◌, ◌<◌, ℕ, Bool, false, true, Option, Some, None, sym, ap, ◌∙◌, subst, ⊎_elim, false≢true, group_of, in_group, next_moment, IsFirstUntil, IsPast}
+use Rattle.apex_groups.proofs.Common.{◌≡◌, ◌+◌, ℕ, Bool, false, Option, Some, None, sym, ◌∙◌, subst, ⊎_elim, false≢true, in_group, next_moment, IsFirstUntil, IsPast}
 use Rattle.apex_groups.proofs.MergeSteps.{first_pass, first_take, not_in, past_or_before}
 use Rattle.apex_groups.proofs.merging.Merge.first_outside.Goals as goal
 use Rattle.apex_groups.proofs.merging.Merge.first_outside.Goals.{in-Some+then-comes_before, in-Some+else-comes_before, in_default}

@@ -1,4 +1,4 @@
-use Rattle.apex_groups.proofs.Common.{◌≡◌, ◌+◌, ◌<◌, ◌≤◌, ◌++◌, ◌∷◌, [], ℕ, List, Option, length, sym, ap, ◌∙◌, subst, arith, set, slice_get-get_or, slice_index_or, unwrap_or, script_of, AreCounted}
+use Rattle.apex_groups.proofs.Common.{◌≡◌, ◌+◌, [], ℕ, List, Option, length, sym, ap, ◌∙◌, subst, arith, set, slice_get-get_or, slice_index_or, unwrap_or, script_of, AreCounted}
 use Rattle.apex_types.specs.declared.call.Call.{Call}
 use Rattle.apex_types.specs.declared.moment.Moment.{Moment}
 use Rattle.apex_groups.proofs.MergeSteps.{counted_more, counted_past, read_any}

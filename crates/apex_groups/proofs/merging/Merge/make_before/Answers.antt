@@ -1,4 +1,4 @@
-use Rattle.apex_groups.proofs.Common.{◌≡◌, ◌<◌, ◌++◌, ◌∷◌, [], ℕ, Bool, List, length, Some, None, sym, subst, in_group, IsFirst, next_moment}
+use Rattle.apex_groups.proofs.Common.{◌<◌, ℕ, Bool, List, length, Some, None, sym, subst, in_group, IsFirst, next_moment}
 use Rattle.apex_groups.proofs.MergeSteps.{fewer_left, left_after}
 use Rattle.apex_groups.proofs.Merges.{IsAdding, adding_end, adding_more, next_first}
 use Rattle.apex_groups.proofs.merging.Merge.make_before.Goals as goal
