@@ -5,7 +5,7 @@ ghost use Rattle.apex_groups.specs.Groups.{in_group};
 ghost use Rattle.apex_groups.specs.Merging.{AreEndsAdded, IsEndOfPart};
 
 use crate::groups::Groups;
-use crate::merging::whole_order;
+use crate::merging::merge_calls;
 use apex_module::Config;
 use apex_orders::Order;
 use apex_ports::Script;
@@ -30,7 +30,9 @@ pub(crate) fn add_ends(
         ends.now all.old.items all.new.items) }
 {
     for end in ends {
-        all.push(whole_order(alloc, config, members, scripts, clock, end)?)?;
+        let mut merge = merge_calls(alloc, config, members, scripts, clock, end)?;
+        merge.make_before(config, members, scripts, clock, None)?;
+        all.push(Order::new(merge.order))?;
     }
     Ok(())
 }

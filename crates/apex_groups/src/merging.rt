@@ -1,8 +1,8 @@
 //! Merges an order of a part's calls with the calls of the other partitions, by their moments.
 ghost use Rattle.std.specs.Prelude.{◌≡◌, ◌<◌, ◌↔◌, ◌++◌, ◌∷◌, [], length, IfOk, IsTrue, OnOk};
-ghost use Rattle.apex_groups.specs.Prelude.{IsConfiguration, IsOrder};
+ghost use Rattle.apex_groups.specs.Prelude.{IsConfiguration};
 ghost use Rattle.apex_groups.specs.Groups.{in_group};
-ghost use Rattle.apex_groups.specs.Merging.{AreAdded, AreCounted, IsEndOfPart, IsFirst, IsMerged, IsOfPart, IsPast, IsWholeOf, next_moment};
+ghost use Rattle.apex_groups.specs.Merging.{AreAdded, AreCounted, IsFirst, IsMerged, IsOfPart, IsPast, next_moment};
 
 use crate::groups::Groups;
 use apex_module::Config;
@@ -12,8 +12,8 @@ use std::alloc::{AllocError, Global};
 
 /// An order so far, and how many calls of each partition it makes.
 #[derive(Drop)]
-struct Merge {
-    order: Vec<usize>,
+pub(crate) struct Merge {
+    pub(crate) order: Vec<usize>,
     made: Vec<usize>,
 }
 
@@ -97,7 +97,7 @@ impl Merge {
     }
 
     /// Makes the calls of the partitions outside that come before the limit, the earliest first.
-    fn make_before(
+    pub(crate) fn make_before(
         &mut self,
         config: &Config,
         members: &Groups,
@@ -131,8 +131,8 @@ fn comes_before(at: u64, limit: Option<u64>) -> bool
     }
 }
 
-/// Before each of the part's calls, the calls of the others that come before it.
-fn merge_calls(
+/// The part's order, with the calls of the others that come before its calls.
+pub(crate) fn merge_calls(
     alloc: Global,
     config: &Config,
     members: &Groups,
@@ -160,44 +160,4 @@ fn merge_calls(
         }
     }
     Ok(merge)
-}
-
-/// The part's order, with the calls of the others that come before its calls.
-pub(crate) fn merged_order(
-    alloc: Global,
-    config: &Config,
-    members: &Groups,
-    scripts: &[Script],
-    clock: bool,
-    order: &Order,
-) -> Result<Order, AllocError>
-    requires count { length scripts.now ≡ length config.now.partitions }
-    requires part { IsOfPart clock config.now
-        (in_group members.now.of_partitions.items 1) scripts.now order.now }
-    ensures merged { IfOk result (IsMerged clock config.now scripts.now
-        (in_group members.now.of_partitions.items 1) order.now) }
-    ensures valid { IfOk result (IsOrder config.now) }
-{
-    let merge = merge_calls(alloc, config, members, scripts, clock, order)?;
-    Ok(Order::new(merge.order))
-}
-
-/// The part's order, with all calls of the others.
-pub(crate) fn whole_order(
-    alloc: Global,
-    config: &Config,
-    members: &Groups,
-    scripts: &[Script],
-    clock: bool,
-    order: &Order,
-) -> Result<Order, AllocError>
-    requires count { length scripts.now ≡ length config.now.partitions }
-    requires part { IsEndOfPart clock config.now
-        (in_group members.now.of_partitions.items 1) scripts.now order.now }
-    ensures { IfOk result (IsWholeOf clock config.now scripts.now
-        (in_group members.now.of_partitions.items 1) order.now) }
-{
-    let mut merge = merge_calls(alloc, config, members, scripts, clock, order)?;
-    merge.make_before(config, members, scripts, clock, None)?;
-    Ok(Order::new(merge.order))
 }

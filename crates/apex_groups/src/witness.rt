@@ -2,7 +2,7 @@
 ghost use Rattle.std.specs.Prelude.{◌≡◌, length, IfOk, IfSome, IfNone};
 ghost use Rattle.apex_groups.specs.Prelude.{CanBeAnsweredWith, CanOccurWith, IsAnsweredByWith, IsGivenByWith, IsUndecidedWith};
 
-use crate::merging::merged_order;
+use crate::merging::merge_calls;
 use crate::parts::Parts;
 use crate::script_parts::order_of;
 use apex_module::Config;
@@ -48,8 +48,8 @@ pub fn order_giving_apart<P: Progress>(
         Err(fault) => Err(fault),
         Ok(None) => Ok(None),
         Ok(Some(order)) => {
-            let merged = merged_order(alloc, config, &members, scripts, clock, &order)?;
-            Ok(Some(merged))
+            let merge = merge_calls(alloc, config, &members, scripts, clock, &order)?;
+            Ok(Some(Order::new(merge.order)))
         }
     }
 }
