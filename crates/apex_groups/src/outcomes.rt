@@ -42,9 +42,9 @@ pub struct OutcomesApart {
 
 /// All that can happen to the partitions' scripts, as `all_outcomes` of `apex_orders` finds it, but the partitions at the
 /// ends of each channel are searched by themselves: what the others call makes no difference to the channel. With `clock`,
-/// the moments of all partitions are of one clock. It is undecided if a part leads to more
-/// states than the bound, or `progress` ends a search. The scripts change only while a part is searched. `progress`
-/// receives from time to time how far the search of a part is.
+/// the moments of all partitions are of one clock. It is undecided if a part leads to more states than the bound, or
+/// `progress` ends a search. With `clock`, such a part leads to a search of all partitions together, which then decides.
+/// The scripts change only while a part is searched. `progress` receives from time to time how far a search is.
 pub fn all_outcomes_apart<P: Progress>(
     alloc: Global,
     config: &Config,

@@ -14,7 +14,8 @@ use std::alloc::Global;
 
 /// An order in which the asked call gets an admitted reply, like `order_giving` of `apex_orders`, but only the partitions
 /// at the ends of the call's channel are searched. With `clock`, the moments of all partitions are of one clock, and the
-/// order also has the calls of the others that come before. The scripts change only during the search.
+/// order also has the calls of the others that come before. If the part then leads to more states than the bound, all
+/// calls are searched. The scripts change only during the search.
 pub fn order_giving_apart<P: Progress>(
     alloc: Global,
     config: &Config,
