@@ -11,5 +11,6 @@ pub mod OrderLemmas
 pub mod PartLemmas
 pub mod PartSteps
 pub mod PartWays
+pub mod ReasonLemmas
 pub mod ReplyLemmas
 pub mod WholeLemmas
