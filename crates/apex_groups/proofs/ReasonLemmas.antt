@@ -1,24 +1,27 @@
 -- Replies that orders show, and why a call gets some in some orders and not in others.
-use Rattle.apex_groups.proofs.Common.{◌≡◌, ℕ, ◌+◌, ◌<◌, Bool, List, [], ◌∷◌, ◌++◌, length, take, Option, Some, None, Err, refl, sym, ap, ◌∙◌, subst, take_more, slice_index_or, Configuration, IsConfiguration, History, Asked, PossibleReply, Scripts, IsBeginning, IsOrder, next_entries, history_of, continued-append, IfSome, CanBeAnsweredWith, IsAnsweredByWith, IsUndecidedWith}
+use Rattle.apex_groups.proofs.Common.{◌≡◌, ℕ, ◌+◌, ◌<◌, Bool, List, [], ◌∷◌, ◌++◌, length, take, Option, Some, None, Err, refl, sym, ap, ◌∙◌, subst, take_more, slice_index_or, Configuration, IsConfiguration, History, Asked, PossibleReply, Scripts, IsBeginning, IsOrder, slice_get, next_entries, history_of, continued-append, IfSome, CanBeAnsweredWith, IsAnsweredByWith, IsUndecidedWith}
 use Rattle.apex_types.specs.declared.reply.Reply.{Reply}
 use Rattle.apex_orders.specs.Clock.{IsClocked, IsNextDue}
 use Rattle.apex_orders.specs.Steps.{Makes}
 use Rattle.apex_orders.specs.declared.orders_fault.OrdersFault.{OrdersFault}
 use Rattle.apex_orders.proofs.ClockLemmas.{clocked_next, clocked_none}
-use Rattle.apex_orders.proofs.Completing.{IsAnswered, good_history, made_is_answered, still_answered}
+use Rattle.apex_orders.proofs.Completing.{IsAnswered, good_history, made_is_answered}
 use Rattle.apex_orders.proofs.SearchLemmas.{longer_is_order}
-use Rattle.apex_orders.proofs.Walks.{is_beginning, none_ordered}
+use Rattle.apex_orders.proofs.Lists.{stays_before}
+use Rattle.apex_orders.proofs.Walks.{is_beginning, none_ordered, replies_of-append}
 use Rattle.apex_ports.specs.Sound.{IsSound}
+use Rattle.apex_groups.specs.Prelude.{replies_of}
 use Rattle.apex_groups.specs.Deciding.{HasReply, ShowsReply}
 
 -- ---- one step
 
 module _ (asked : Asked) where
   -- a reply that is known stays known
-  pub has_more : (config : Configuration) (scripts : Scripts) → IsConfiguration config → (h more : History) (found : Option Reply) → HasReply asked h found → HasReply asked (h ++ more) found
-  has_more config scripts valid h more None is = tt
-  has_more config scripts valid h more (Some reply) is =
-      still_answered config scripts valid h more (record { partition = asked.partition; index = asked.index; reply = reply }) is
+  pub has_more : (h more : History) (found : Option Reply) → HasReply asked h found → HasReply asked (h ++ more) found
+  has_more h more None is = tt
+  has_more h more (Some reply) is =
+      ap (λ (replies : List Reply). slice_get replies asked.index) (replies_of-append asked.partition h more)
+      ∙ stays_before (replies_of asked.partition h) (replies_of asked.partition more) asked.index reply is
 
   -- the reply of the asked call
   pub has_made : (config : Configuration) (scripts : Scripts) → IsConfiguration config → (h : History) (p : ℕ) (one : PossibleReply) → Makes config scripts h p one

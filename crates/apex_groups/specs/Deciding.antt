@@ -1,5 +1,5 @@
 -- Two neighbouring calls that decide which reply a call gets.
-use Rattle.std.specs.Prelude.{ℕ, Bool, ◌≡◌, ◌≢◌, List, ◌∷◌, ◌++◌, slice_get, Option, Some, None, Unit}
+use Rattle.std.specs.Prelude.{ℕ, Bool, ◌≡◌, ◌≢◌, List, ◌∷◌, ◌++◌, slice_get, Option, Some, None}
 use Rattle.apex_groups.specs.Prelude.{Configuration, History, Asked, Scripts, IsBeginning, IsOrder, IsAnsweredByWith, CanBeAnsweredWith, history_of, replies_of}
 use Rattle.apex_types.specs.declared.reply.Reply.{Reply}
 use Rattle.apex_orders.specs.Clock.{IsClocked}
@@ -18,11 +18,11 @@ abbrev pub other_order : TwoOrders → List ℕ
 other_order orders = orders.before.items ++ orders.second ∷ orders.first ∷ orders.after.items
 
 -- the calls in this order are a beginning of the scripts, and the asked call gets the reply; with the clock, each was due
-pub record ShowsReply (clock : Bool) (config : Configuration) (scripts : Scripts) (asked : Asked) (reply : Reply) (order : List ℕ) : Type 0 where
+pub record ShowsReply (clock : Bool) (config : Configuration) (scripts : Scripts) (asked : Asked) (given : Reply) (order : List ℕ) : Type 0 where
   pub valid : IsOrder config order
   pub begins : IsBeginning config scripts (history_of config scripts order)
   pub clocked : IsClocked clock scripts (history_of config scripts order)
-  pub reply : slice_get (replies_of asked.partition (history_of config scripts order)) asked.index ≡ Some reply
+  pub reply : slice_get (replies_of asked.partition (history_of config scripts order)) asked.index ≡ Some given
 
 -- the history gives the asked call this reply, if one is known
 abbrev pub HasReply : Asked → History → Option Reply → Type 0

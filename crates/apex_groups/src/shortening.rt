@@ -81,16 +81,17 @@ fn shortened_by(
     let mut short = decision;
     let mut size = last_calls(asked, &short.orders, p);
     for _ in 0..TRIES {
-        if size > 0 {
-            let before = last_calls(asked, &short.orders, p);
-            short = without(alloc, config, scripts, clock, asked, short, p, size)?;
-            let left = last_calls(asked, &short.orders, p);
-            size = if left < before {
-                size.min(left)
-            } else {
-                size / 2
-            };
+        if size == 0 {
+            return Ok(short);
         }
+        let before = last_calls(asked, &short.orders, p);
+        short = without(alloc, config, scripts, clock, asked, short, p, size)?;
+        let left = last_calls(asked, &short.orders, p);
+        size = if left < before {
+            size.min(left)
+        } else {
+            size / 2
+        };
     }
     Ok(short)
 }

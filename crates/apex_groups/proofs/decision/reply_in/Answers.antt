@@ -1,4 +1,4 @@
-use Rattle.apex_groups.proofs.Common.{◌≡◌, ◌+◌, ◌<◌, ◌++◌, ◌∷◌, [], take, List, ℕ, length, slice_index_or, sym, ap, ◌∙◌, subst, take_more, take_all, Configuration, History, history_of, next_entries, continued-append, IsOrder}
+use Rattle.apex_groups.proofs.Common.{◌≡◌, ◌+◌, ◌<◌, ◌++◌, ◌∷◌, [], take, List, ℕ, length, slice_index_or, sym, ap, ◌∙◌, subst, take_more, take_all, Configuration, IsConfiguration, History, history_of, next_entries, continued-append, IsOrder}
 use Rattle.apex_orders.specs.Clock.{IsClocked}
 use Rattle.apex_orders.proofs.ClockLemmas.{clocked_next, clocked_none}
 use Rattle.apex_orders.proofs.SearchLemmas.{longer_is_order}
@@ -31,3 +31,12 @@ loop-p-preserved c =
           (clocked_next c.args.clock scripts c.loop-p.ports.config c.loop-p.ports.history p inv.clocked (c.may_come.ensures.due c.if-not-may_come.false));
       found = c.make_next.ensures.found;
     }
+
+pub returns : goal.returns
+returns c =
+    let items = c.partitions-p-items.result.now in
+    let inv = c.loop-p.invariant in
+    let whole : take c.loop-p.p-index items ≡ c.args.order.now = take_all c.loop-p.p-index items c.loop-p-test.false ∙ c.partitions-p-items.ensures in
+    shows c.args.clock c.args.config.now c.args.scripts.now c.args.asked.now c.args.order.now c.loop-p.ports.history c.loop-p.found
+    (subst (λ (own : Configuration). IsConfiguration own) inv.config inv.sound.valid) (subst (IsOrder c.args.config.now) whole inv.valid)
+    (inv.history ∙ ap (λ (order : List ℕ). history_of c.args.config.now c.args.scripts.now order) whole) inv.clocked inv.found
