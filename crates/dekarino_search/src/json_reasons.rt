@@ -16,23 +16,23 @@ use std::alloc::{AllocError, Global};
 
 /// A call: the line of its script, from 1.
 #[derive(Drop, Serialize)]
-struct CallKey<'a> {
-    partition: &'a str,
+struct CallKey {
+    partition: String,
     line: usize,
 }
 
 /// The answer to a question: the two calls, the reply if the first comes before the second and the other reply, and both
 /// orders, a line of a log for each call.
 #[derive(Drop, Serialize)]
-struct ReasonLine<'a> {
-    why: &'a str,
+struct ReasonLine {
+    why: String,
     answer: &'static str,
-    first: Option<CallKey<'a>>,
-    second: Option<CallKey<'a>>,
+    first: Option<CallKey>,
+    second: Option<CallKey>,
     reply: Option<String>,
     other: Option<String>,
-    order: Option<Vec<&'a str>>,
-    other_order: Option<Vec<&'a str>>,
+    order: Option<Vec<String>>,
+    other_order: Option<Vec<String>>,
 }
 
 /// The object of a reason, on a line.
@@ -77,7 +77,7 @@ fn push_word(
     answer: &'static str,
 ) -> Result<(), AllocError> {
     let object = ReasonLine {
-        why: words,
+        why: String::from_str(alloc, words)?,
         answer,
         first: None,
         second: None,
@@ -104,14 +104,14 @@ fn push_decision(
     let order = order_text(alloc, config, scripts, &decision.orders.given_order(alloc)?)?;
     let other_order = order_text(alloc, config, scripts, &decision.orders.other_order(alloc)?)?;
     let object = ReasonLine {
-        why: words,
+        why: String::from_str(alloc, words)?,
         answer: "decided",
-        first: Some(key_of(config, lines, first)),
-        second: Some(key_of(config, lines, second)),
+        first: Some(key_of(alloc, config, lines, first)?),
+        second: Some(key_of(alloc, config, lines, second)?),
         reply: Some(reply_text(alloc, &decision.given)?),
         other: Some(reply_text(alloc, &decision.other)?),
-        order: Some(lines_of(alloc, &order)?),
-        other_order: Some(lines_of(alloc, &other_order)?),
+        order: Some(lines_of(alloc, order.as_str())?),
+        other_order: Some(lines_of(alloc, other_order.as_str())?),
     };
     push_object(alloc, text, &object)?;
     Ok(())
@@ -131,31 +131,39 @@ fn push_open(
     let order = order_text(alloc, config, scripts, given)?;
     let other_order = order_text(alloc, config, scripts, other)?;
     let object = ReasonLine {
-        why: words,
+        why: String::from_str(alloc, words)?,
         answer: "undecided",
         first: None,
         second: None,
         reply: None,
         other: None,
-        order: Some(lines_of(alloc, &order)?),
-        other_order: Some(lines_of(alloc, &other_order)?),
+        order: Some(lines_of(alloc, order.as_str())?),
+        other_order: Some(lines_of(alloc, other_order.as_str())?),
     };
     push_object(alloc, text, &object)?;
     Ok(())
 }
 
-fn key_of<'a>(config: &'a Config, lines: &[LineNumbers], call: CallIndex) -> CallKey<'a> {
-    CallKey {
-        partition: partition_name(config, call.partition),
+fn key_of(
+    alloc: Global,
+    config: &Config,
+    lines: &[LineNumbers],
+    call: CallIndex,
+) -> Result<CallKey, AllocError> {
+    Ok(CallKey {
+        partition: String::from_str(alloc, partition_name(config, call.partition))?,
         line: line_at(numbers_of(lines, call.partition), call.index),
-    }
+    })
 }
 
 /// The lines of a text.
-fn lines_of<'a>(alloc: Global, text: &'a str) -> Result<Vec<&'a str>, AllocError> {
+fn lines_of(alloc: Global, text: &str) -> Result<Vec<String>, AllocError> {
     let mut lines = Vec::new(alloc);
     for line in text.lines() {
-        lines.push(line)?;
+        let line = String::from_str(alloc, line)?;
+        if let Err(refused) = lines.push(line) {
+            return Err(AllocError::from(refused));
+        }
     }
     Ok(lines)
 }
