@@ -15,5 +15,6 @@ pub mod PartLemmas
 pub mod PartOrders
 pub mod PartSteps
 pub mod PartWays
+pub mod ReasonLemmas
 pub mod ReplyLemmas
 pub mod WholeLemmas

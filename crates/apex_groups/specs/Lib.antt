@@ -1,5 +1,6 @@
 pub mod Prelude
 pub mod Counts
+pub mod Deciding
 pub mod Ends
 pub mod Groups
 pub mod LogParts

@@ -29,6 +29,7 @@ mod trial;
 pub mod witness;
 
 pub use crate::asked::{Admitted, Asked};
+pub use crate::choice::is_due;
 pub use crate::commuting::id_in;
 pub use crate::order::Order;
 pub use crate::orders_fault::OrdersFault;
