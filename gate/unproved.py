@@ -21,7 +21,7 @@ NOTICE = "not proved: this answer is from an unproved build"
 # The commands whose words name no file, those that take words NAME=FILE, and the options with a word behind them that
 # names none.
 NO_PATHS, OF_SCRIPTS = ("rows", "help"), ("run", "explain", "orders", "judge")
-VALUED = ("--seconds", "--memory", "--states", "--when", "--never")
+VALUED = ("--seconds", "--memory", "--states", "--when", "--never", "--why")
 # What the toolchain writes after a program that ended.
 ENDED = re.compile(rb"^run=ended status=(\d+) .*proved=no\n\Z", re.M)
 OF_TOOLCHAIN = re.compile(rb"(^(interpreter|checked|races): .*\n)*\Z", re.M)

@@ -7,9 +7,14 @@ pub mod Inside
 pub mod Joined
 pub mod Lists
 pub mod LogGroupLemmas
+pub mod MergedEnds
+pub mod Merges
+pub mod MergeSteps
 pub mod OrderLemmas
 pub mod PartLemmas
+pub mod PartOrders
 pub mod PartSteps
 pub mod PartWays
+pub mod ReasonLemmas
 pub mod ReplyLemmas
 pub mod WholeLemmas

@@ -1,6 +1,5 @@
 -- Items of lists.
-use Rattle.apex_groups.proofs.Common.{◌≡◌, ◌⊎◌, inl, inr, ⊎_elim, ℕ, zero, suc, ◌+◌, ◌<◌, ◌==◌, Bool, true, false, cond, List, [], ◌∷◌, ◌++◌, length, map, Some, refl, sym, ap, subst, ◌∙◌, arith, replicate, slice_get, filter, option_map, nat_tests, slice_get-map, times, Has}
-use Rattle.std.proofs.lemmas.List.Sums.{sum_by-append, sum_by-cons}
+use Rattle.apex_groups.proofs.Common.{◌≡◌, ◌⊎◌, inl, inr, ⊎_elim, ℕ, zero, suc, ◌<◌, Bool, true, false, cond, List, [], ◌∷◌, ◌++◌, length, map, Some, refl, sym, ap, subst, ◌∙◌, arith, slice_get, filter, Has}
 use Rattle.apex_orders.proofs.Lists.{stays_before}
 
 module _ {X : Type 0} where
@@ -23,7 +22,7 @@ module _ {X : Type 0} where
   has_behind (y ∷ xs) ys x has = has_rest y (xs ++ ys) x (has_behind xs ys x has)
 
   -- an item of a list is its first one, or one of the rest
-  first_or_rest : (y : X) (xs : List X) (x : X) → Has (y ∷ xs) x → (y ≡ x) ⊎ Has xs x
+  pub first_or_rest : (y : X) (xs : List X) (x : X) → Has (y ∷ xs) x → (y ≡ x) ⊎ Has xs x
   first_or_rest y xs x has = of_index has.0 has.1
     where
       of_index : (k : ℕ) → slice_get (y ∷ xs) k ≡ Some x → (y ≡ x) ⊎ Has xs x
@@ -78,49 +77,6 @@ module _ {X : Type 0} where
       by_test true some = has_rest y (filter f xs) x some
       by_test false some = some
 
-  pub has_repeated : (n : ℕ) (y x : X) → Has (replicate n y) x → y ≡ x
-  has_repeated zero y x has = absurd (has_none x has)
-  has_repeated (suc n) y x has =
-      ⊎_elim
-      (λ (first : y ≡ x). first)
-      (λ (rest : Has (replicate n y) x). has_repeated n y x rest)
-      (first_or_rest y (replicate n y) x has)
-
-pub has_mapped : {X Y : Type 0} (f : X → Y) (xs : List X) (x : X) → Has xs x → Has (map f xs) (f x)
-has_mapped f xs x has = (has.0, slice_get-map f xs has.0 ∙ ap (option_map f) has.1)
-
-pub of_mapped : {X Y : Type 0} (f : X → Y) (xs : List X) (y : Y) → Has (map f xs) y → (x : X) × Has xs x × (f x ≡ y)
-of_mapped f [] y has = absurd (has_none y has)
-of_mapped {X} {Y} f (z ∷ xs) y has =
-    ⊎_elim
-    (λ (first : f z ≡ y). (z, (0, refl), first))
-    (λ (rest : Has (map f xs) y). let found : (x : X) × Has xs x × (f x ≡ y) = of_mapped f xs y rest in (found.0, (suc found.1.0, found.1.1), found.2))
-    (first_or_rest (f z) (map f xs) y has)
-
 pub nothing_mapped : {X Y : Type 0} (f : X → Y) (xs : List X) → map f xs ≡ [] → xs ≡ []
 nothing_mapped f [] is = refl
 nothing_mapped f (x ∷ xs) is = absurd (cc)
-
--- ---- how many times an order names a partition
-
-pub times_append : (p : ℕ) (order more : List ℕ) → times p (order ++ more) ≡ times p order + times p more
-times_append p order more = sum_by-append (λ (partition : ℕ). cond (partition == p) 1 0) order more
-
-named : (p q : ℕ) (order : List ℕ) → times p (q ∷ order) ≡ cond (q == p) 1 0 + times p order
-named p q order = sum_by-cons (λ (partition : ℕ). cond (partition == p) 1 0) q order
-
-pub times_more : (p q : ℕ) (order : List ℕ) → q ≡ p → times p (q ∷ order) ≡ suc (times p order)
-times_more p q order same =
-    let is : (q == p) ≡ true = grind (arith, nat_tests) in
-    let step : times p (q ∷ order) ≡ 1 + times p order = named p q order ∙ ap (λ (b : Bool). cond b 1 0 + times p order) is in
-    omega (arith, step)
-
-pub times_other : (p q : ℕ) (order : List ℕ) → (q ≡ p → ⊥) → times p (q ∷ order) ≡ times p order
-times_other p q order apart =
-    let is : (q == p) ≡ false = grind (arith, nat_tests) in
-    let step : times p (q ∷ order) ≡ 0 + times p order = named p q order ∙ ap (λ (b : Bool). cond b 1 0 + times p order) is in
-    omega (arith, step)
-
-pub times_repeated : (n p : ℕ) → times p (replicate n p) ≡ n
-times_repeated zero p = refl
-times_repeated (suc n) p = times_more p p (replicate n p) refl ∙ ap suc (times_repeated n p)

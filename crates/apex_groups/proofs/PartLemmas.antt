@@ -1,13 +1,12 @@
 -- The scripts of the partitions inside lead to what all scripts lead to inside.
-use Rattle.apex_groups.proofs.Common.{◌≡◌, ⊎_elim, ℕ, ◌<◌, ◌≤◌, Bool, true, false, List, [], length, map, take, Ok, Err, Result, Option, refl, sym, ap, ◌∙◌, subst, arith, IfOk, IfSome, IfNone, slice_get, cases_lt, take_all, Configuration, IsConfiguration, Entry, History, entries_of, IsPart, Asked, PossibleReply, Scripts, script_of, calls_of, IsBeginning, IsWay, AreEnds}
-use Rattle.apex_groups.proofs.Common.{AreReplies, CanBeAnswered, CanOccur, HasMorePointsWith, IsAnsweredBy, IsUndecided, unclocked, IsGood, IsAnswerOf, IsFoundOf}
+use Rattle.apex_groups.proofs.Common.{◌≡◌, ⊎_elim, ℕ, ◌<◌, ◌≤◌, Bool, true, false, List, [], length, map, take, Ok, Err, Result, Option, refl, sym, ap, ◌∙◌, subst, arith, IfOk, IfSome, IfNone, slice_get, cases_lt, take_all, Configuration, Entry, History, entries_of, IsPart, Asked, PossibleReply, Scripts, script_of, calls_of, IsBeginning, AreEndsWith, IsEndOfPart, Has, false≢true}
+use Rattle.apex_groups.proofs.Common.{AreRepliesWith, CanBeAnsweredWith, CanOccurWith, HasMorePointsWith, IsAnsweredByWith, IsUndecidedWith, IsUndecidedApart, unclocked, IsAnswerOf, IsFoundOf}
 use Rattle.apex_types.specs.declared.call.Call.{Call}
 use Rattle.apex_types.specs.declared.moment.Moment.{Moment}
 use Rattle.apex_groups.proofs.Exchanged.{here_inside, no_list, none_outside}
 use Rattle.apex_orders.specs.declared.orders_fault.OrdersFault.{OrdersFault}
 use Rattle.apex_orders.specs.declared.orders_fault.OrdersFault.TheVariants.{TooManyStates, OutOfMemory, Stopped}
 use Rattle.apex_orders.specs.declared.outcomes.Outcomes.{Outcomes}
-use Rattle.apex_orders.proofs.Completing.{answered_on, begins_of, finish}
 use Rattle.apex_groups.proofs.Lists.{nothing_mapped}
 
 abbrev timed_of : Entry → Moment × Call
@@ -17,31 +16,31 @@ timed_of entry = (entry.at, entry.call)
 no_entries : (scripts : Scripts) (p : ℕ) (h : History) → script_of scripts p ≡ [] → calls_of p h ≡ script_of scripts p → entries_of p h ≡ []
 no_entries scripts p h none is = nothing_mapped timed_of (entries_of p h) (is ∙ none)
 
-no_reply : (config : Configuration) (scripts : Scripts) (one : PossibleReply) → script_of scripts one.partition ≡ [] → CanOccur config scripts one → ⊥
-no_reply config scripts one none can =
+no_reply : (clock : Bool) (config : Configuration) (scripts : Scripts) (one : PossibleReply) → script_of scripts one.partition ≡ [] → CanOccurWith clock config scripts one → ⊥
+no_reply clock config scripts one none can =
     let nothing = no_entries scripts one.partition can.way none (can.is_way.calls one.partition) in
     let at = sym (ap (λ (es : History). slice_get (map (λ (entry : Entry). entry.reply) es) one.index) nothing) ∙ can.reply in
     absurd (cc)
 
 -- what is answered belongs to a partition of the configuration
-pub occurs_within : (config : Configuration) (scripts : Scripts) → length scripts ≡ length config.partitions → (one : PossibleReply) → CanOccur config scripts one → one.partition < length config.partitions
-occurs_within config scripts count one can = ⊎_elim
+pub occurs_within : (clock : Bool) (config : Configuration) (scripts : Scripts) → length scripts ≡ length config.partitions → (one : PossibleReply) → CanOccurWith clock config scripts one → one.partition < length config.partitions
+occurs_within clock config scripts count one can = ⊎_elim
     (λ (within : one.partition < length config.partitions). within)
-    (λ (beyond : length config.partitions ≤ one.partition). absurd (no_reply config scripts one (no_list scripts one.partition (omega (arith, count, beyond))) can))
+    (λ (beyond : length config.partitions ≤ one.partition). absurd (no_reply clock config scripts one (no_list scripts one.partition (omega (arith, count, beyond))) can))
     (cases_lt one.partition (length config.partitions))
 
 module _ (config : Configuration) (inside : ℕ → Bool) (scripts part : Scripts) (is : IsPart inside scripts part) where
   -- ---- answers
 
-  pub found_of : (result : Result Outcomes OrdersFault) → IfOk result (λ found. AreReplies config part found.replies.items) → IfOk result (λ found. AreEnds config part found.ends.items)
-      → IfOk result (IsFoundOf config inside scripts)
-  found_of (Ok found) replies ends = record { part = part; is = is; replies = replies; ends = ends }
-  found_of (Err fault) replies ends = replies
+  pub found_of : (clock : Bool) (result : Result Outcomes OrdersFault) → IfOk result (λ found. AreRepliesWith clock config part found.replies.items) → IfOk result (λ found. AreEndsWith clock config part found.ends.items)
+      → IfOk result (IsFoundOf clock config inside scripts)
+  found_of clock (Ok found) replies ends = record { part = part; is = is; replies = replies; ends = ends }
+  found_of clock (Err fault) replies ends = replies
 
-  pub answer_of : (asked : Asked) (result : Result (Option (List ℕ)) OrdersFault) → IfOk result (λ answer. IfSome answer (λ order. IsAnsweredBy config part asked order))
-      → IfOk result (λ answer. IfNone answer (CanBeAnswered config part asked → ⊥)) → IfOk result (IsAnswerOf config inside scripts asked)
-  answer_of asked (Ok answer) found never = record { part = part; is = is; found = found; never = never }
-  answer_of asked (Err fault) found never = found
+  pub answer_of : (clock : Bool) (asked : Asked) (result : Result (Option (List ℕ)) OrdersFault) → IfOk result (λ answer. IfSome answer (λ order. IsAnsweredByWith clock config part asked order))
+      → IfOk result (λ answer. IfNone answer (CanBeAnsweredWith clock config part asked → ⊥)) → IfOk result (IsAnswerOf clock config inside scripts asked)
+  answer_of clock asked (Ok answer) found never = record { part = part; is = is; found = found; never = never }
+  answer_of clock asked (Err fault) found never = found
 
   -- ---- beginnings
 
@@ -54,12 +53,6 @@ module _ (config : Configuration) (inside : ℕ → Bool) (scripts part : Script
           let none : calls_of p h ≡ [] = begins.calls p ∙ (ap (take (length (calls_of p h))) (none_outside inside scripts part is p out) ∙ take_all (length (calls_of p h)) [] (omega arith)) in
           subst (λ (calls : List (Moment × Call)). calls ≡ take (length calls) (script_of scripts p)) (sym none) refl
 
-  pub good_part : IsConfiguration config → (way : History) → IsWay config part way → IsGood config scripts way
-  good_part valid way is_way = record {
-    sound = record { valid = valid; lawful = is_way.lawful };
-    calls = (part_begins way (begins_of config part valid way is_way)).calls;
-  }
-
   -- more points than a bound are points of all scripts, too
   more_points : (bound : ℕ) → HasMorePointsWith false config part bound → HasMorePointsWith false config scripts bound
   more_points bound more = record {
@@ -70,21 +63,30 @@ module _ (config : Configuration) (inside : ℕ → Bool) (scripts part : Script
     apart = more.apart;
   }
 
-  pub undecided_part : {X : Type 0} (can_stop : Type 0) (bound : ℕ) (result : Result X OrdersFault)
-      → IsUndecided can_stop config part bound result → IsUndecided can_stop config scripts bound result
-  undecided_part can_stop bound (Ok found) undecided = tt
-  undecided_part can_stop bound (Err TooManyStates) undecided = more_points bound undecided
-  undecided_part can_stop bound (Err Stopped) undecided = undecided
-  undecided_part can_stop bound (Err OutOfMemory) undecided = tt
+  more_without : (clock : Bool) (bound : ℕ) → HasMorePointsWith clock config part bound → clock ≡ false → HasMorePointsWith clock config scripts bound
+  more_without false bound more off = more_points bound more
+  more_without true bound more off = absurd (false≢true (sym off))
 
-  -- ---- replies
+  pub undecided_part : {X : Type 0} (clock : Bool) (can_stop : Type 0) (bound : ℕ) (result : Result X OrdersFault)
+      → IsUndecidedWith clock can_stop config part bound result → IsUndecidedApart clock can_stop config scripts bound result
+  undecided_part clock can_stop bound (Ok found) undecided = tt
+  undecided_part clock can_stop bound (Err TooManyStates) undecided = more_without clock bound undecided
+  undecided_part clock can_stop bound (Err Stopped) undecided = undecided
+  undecided_part clock can_stop bound (Err OutOfMemory) undecided = tt
 
-  pub occurs_in_all : IsConfiguration config → length scripts ≡ length config.partitions → (one : PossibleReply) → CanOccur config part one → CanOccur config scripts one
-  occurs_in_all valid count one can =
-      let ended = finish config scripts valid false count can.way (good_part valid can.way can.is_way) (unclocked scripts can.way) in
-      record {
-        way = _;
-        is_way = ended.finished.0;
-        clocked = ended.finished.1;
-        reply = answered_on config scripts valid can.way ended.order one can.reply;
-      }
+-- ---- orders of the part
+
+pub ends_of : (clock : Bool) (config : Configuration) (inside : ℕ → Bool) (scripts : Scripts) (found : Outcomes) → IsFoundOf clock config inside scripts found
+    → (order : List ℕ) → Has found.ends.items order → IsEndOfPart clock config inside scripts order
+ends_of clock config inside scripts found is order has = record {
+  of_part = record { part = is.part; is = is.is; clocked = is.ends.clocked order has };
+  is_way = is.ends.ways order has;
+}
+
+-- ---- what stays undecided
+
+pub undecided_apart : (X Y : Type 0) (clock : Bool) (can_stop : Type 0) (config : Configuration) (scripts : Scripts) (bound : ℕ) (fault : OrdersFault) → (fault ≡ TooManyStates → clock ≡ false)
+    → IsUndecidedApart {X = X} clock can_stop config scripts bound (Err fault) → IsUndecidedWith {X = Y} clock can_stop config scripts bound (Err fault)
+undecided_apart X Y clock can_stop config scripts bound TooManyStates off undecided = undecided (off refl)
+undecided_apart X Y clock can_stop config scripts bound Stopped off undecided = undecided
+undecided_apart X Y clock can_stop config scripts bound OutOfMemory off undecided = tt

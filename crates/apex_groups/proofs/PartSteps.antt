@@ -1,6 +1,6 @@
 -- Parts searched one after the other.
-use Rattle.apex_groups.proofs.Common.{◌≡◌, ◌⊎◌, inl, inr, ⊎_elim, ℕ, ◌≤◌, ◌+◌, ◌<◌, Bool, true, false, List, ◌++◌, length, filter, map, Option, Some, None, refl, sym, ap, ◌∙◌, subst, arith, cases_eq, cases_lt, slice_get_past, nat_tests, false≢true, slice_get, Configuration, IsConfiguration, History, port_of, Port, IsPart, group_of, in_group, Asked, PossibleReply, Scripts, script_of, IsWay, history_of, AreEnds, AreEndsWith, AreReplies, CanOccur, CanBeAnswered, Has, ShowAllCounts}
-use Rattle.apex_groups.proofs.Common.{ShowsCounts, AreRepliesBelow, ShowCountsBelow, made_whole, unclocked}
+use Rattle.apex_groups.proofs.Common.{◌≡◌, ◌⊎◌, inl, inr, ⊎_elim, ℕ, ◌≤◌, ◌+◌, ◌<◌, Bool, true, false, List, ◌++◌, length, filter, Option, Some, None, refl, sym, ap, ◌∙◌, subst, arith, cases_eq, cases_lt, slice_get_past, nat_tests, false≢true, slice_get, Configuration, IsConfiguration, History, port_of, Port, IsPart, group_of, in_group, Asked, PossibleReply, Scripts, script_of, IsWay, AreEndsWith, AreRepliesWith, CanOccurWith, CanBeAnsweredWith, Has, ShowAllCounts, IsAnsweredByWith, IsMerged, IsOrder, IsClockedWay, IsWholeOf, AreEndsAdded, ◌∷◌, []}
+use Rattle.apex_groups.proofs.Common.{ShowsCounts, AreRepliesBelow, ShowCountsBelow}
 use Rattle.apex_types.specs.declared.call.Call.{Call}
 use Rattle.apex_types.specs.declared.moment.Moment.{Moment}
 use Rattle.apex_orders.specs.Commuting.{port_in}
@@ -9,10 +9,10 @@ use Rattle.apex_groups.specs.Parts.{AreBelow, HoldsPart, IsFed, IsReader, id_ask
 use Rattle.apex_groups.specs.declared.parts.Parts.{Parts}
 use Rattle.apex_groups.proofs.AlikeInside.{is_own, is_own_call}
 use Rattle.apex_groups.proofs.GroupLemmas.{owner_within}
-use Rattle.apex_groups.proofs.Lists.{has_before, has_behind, has_either, has_filtered, has_kept, has_mapped, is_kept, item_at, of_mapped}
-use Rattle.apex_groups.proofs.PartLemmas.{occurs_in_all, occurs_within}
-use Rattle.apex_groups.proofs.PartWays.{answered_in_part, occurs_in_part, part_way, same_totals, way_in_part}
-use Rattle.apex_groups.proofs.WholeLemmas.{whole_way}
+use Rattle.apex_groups.proofs.Lists.{has_before, first_or_rest, has_behind, has_either, has_filtered, has_kept, has_none, is_kept, item_at}
+use Rattle.apex_groups.proofs.PartLemmas.{occurs_within}
+use Rattle.apex_orders.specs.Clock.{IsClocked}
+use Rattle.apex_groups.proofs.PartWays.{answered_in_part, clocked_in_part, merged_answers, occurs_in_all, occurs_in_part, part_way, same_totals, way_in_part}
 
 -- if all are searched together
 pub together : (clock : Bool) (config : Configuration) (scripts : Scripts) (ends : List (List ℕ)) → AreEndsWith clock config scripts ends → ShowAllCounts clock config scripts ends
@@ -30,6 +30,28 @@ together clock config scripts ends are = record {
         };
       };
 }
+
+-- one more end
+pub end_added : (clock : Bool) (config : Configuration) (inside : ℕ → Bool) (scripts : Scripts) (ends old all : List (List ℕ)) (end whole : List ℕ) → AreEndsAdded clock config inside scripts ends old all
+    → IsWholeOf clock config scripts inside end whole → AreEndsAdded clock config inside scripts (ends ++ end ∷ []) old (all ++ whole ∷ [])
+end_added clock config inside scripts ends old all end whole added is = record {
+  kept = λ order has. has_before all (whole ∷ []) order (added.kept order has);
+  each = λ order has. ⊎_elim
+      (λ (earlier : Has all order). added.each order earlier)
+      (λ (last : Has (whole ∷ []) order). inr (subst (λ (one : List ℕ). IsClockedWay clock config scripts one) (only whole order last) (record { is_way = is.is_way; clocked = is.clocked })))
+      (has_either all (whole ∷ []) order has);
+  every = λ order has. ⊎_elim
+      (λ (earlier : Has ends order). let was = added.every order earlier in record { whole = was.whole; here = has_before all (whole ∷ []) was.whole was.here; is = was.is })
+      (λ (last : Has (end ∷ []) order). record {
+        whole = whole;
+        here = has_behind all (whole ∷ []) whole (0, refl);
+        is = subst (λ (one : List ℕ). IsWholeOf clock config scripts inside one whole) (only end order last) is;
+      })
+      (has_either ends (end ∷ []) order has);
+}
+  where
+    only : (x y : List ℕ) → Has (x ∷ []) y → x ≡ y
+    only x y has = ⊎_elim (λ (first : x ≡ y). first) (λ (rest : Has [] y). absurd (has_none y rest)) (first_or_rest x [] y has)
 
 -- ---- what is checked of parts
 
@@ -50,7 +72,7 @@ below_of parts ports channels partitions = record { ports = λ p id. of_ports p 
         let some = partitions 0 in
         omega (arith, none, some)
 
-module _ (config : Configuration) (scripts : Scripts) (parts : Parts) where
+module _ (clock : Bool) (config : Configuration) (scripts : Scripts) (parts : Parts) where
   -- ---- one part
 
   module _ (n : ℕ) (inside own : ℕ → Bool) (holds : HoldsPart config parts n inside own) where
@@ -103,31 +125,31 @@ module _ (config : Configuration) (scripts : Scripts) (parts : Parts) where
       -- ---- no partition inside
 
       module _ (none : (p : ℕ) → p < length config.partitions → inside p ≡ false) where
-        pub replies_pass : (replies : List PossibleReply) → AreRepliesBelow config scripts parts n replies → AreRepliesBelow config scripts parts (n + 1) replies
+        pub replies_pass : (replies : List PossibleReply) → AreRepliesBelow clock config scripts parts n replies → AreRepliesBelow clock config scripts parts (n + 1) replies
         replies_pass replies are one = (
           λ has. let was = (are one).0 has in let few = was.1 in (was.0, omega (arith, few)),
           λ both.
-              let within = occurs_within config scripts count one both.0 in
+              let within = occurs_within clock config scripts count one both.0 in
               let apart : part_of_index config parts scripts one.partition one.index ≡ n → ⊥ =
               λ same. absurd (false≢true (sym (none one.partition within) ∙ inside_of one.partition one.index within same)) in
               let few = both.1 in
               (are one).1 (both.0, grind (arith, few, apart)),
         )
 
-        pub counts_pass : (ends : List (List ℕ)) → ShowCountsBelow config scripts parts n ends → ShowCountsBelow config scripts parts (n + 1) ends
+        pub counts_pass : (ends : List (List ℕ)) → ShowCountsBelow clock config scripts parts n ends → ShowCountsBelow clock config scripts parts (n + 1) ends
         counts_pass ends show = record {
           ways = show.ways;
-          counts = λ c within few way is_way.
+          counts = λ c within few way is_way clocked.
               let apart : group_of parts.of_channels.items c ≡ n → ⊥ =
               λ same. let source = source_inside valid c within same in absurd (false≢true (sym (none source.0 source.1) ∙ source.2)) in
-              show.counts c within (grind (arith, few, apart)) way is_way;
+              show.counts c within (grind (arith, few, apart)) way is_way clocked;
         }
 
       -- ---- the part's scripts
 
       module _ (part : Scripts) (is : IsPart inside scripts part) where
-        pub replies_added : (replies found : List PossibleReply) → AreReplies config part found → AreRepliesBelow config scripts parts n replies
-            → AreRepliesBelow config scripts parts (n + 1) (replies ++ filter (is_of_part config parts scripts n) found)
+        pub replies_added : (replies found : List PossibleReply) → AreRepliesWith clock config part found → AreRepliesBelow clock config scripts parts n replies
+            → AreRepliesBelow clock config scripts parts (n + 1) (replies ++ filter (is_of_part config parts scripts n) found)
         replies_added replies found are before one = (goes, comes)
           where
             kept : List PossibleReply
@@ -136,63 +158,61 @@ module _ (config : Configuration) (scripts : Scripts) (parts : Parts) where
             of_one : ℕ
             of_one = part_of_index config parts scripts one.partition one.index
 
-            goes : Has (replies ++ kept) one → CanOccur config scripts one × (of_one < n + 1)
+            goes : Has (replies ++ kept) one → CanOccurWith clock config scripts one × (of_one < n + 1)
             goes has = ⊎_elim
                 (λ (earlier : Has replies one). let was = (before one).0 earlier in let few = was.1 in (was.0, omega (arith, few)))
                 (λ (new : Has kept one).
                 let can = (are one).0 (has_filtered (is_of_part config parts scripts n) found one new) in
                 let mine = is_kept (is_of_part config parts scripts n) found one new in
-                (occurs_in_all config inside scripts part is valid count one can, grind (arith, nat_tests, mine)))
+                let same : of_one ≡ n = grind (arith, nat_tests, mine) in
+                (occurs_in_all config own inside scripts part is fed valid clock count one (own_index one.partition one.index same) can, omega (arith, same)))
                 (has_either replies kept one has)
 
-            comes : CanOccur config scripts one × (of_one < n + 1) → Has (replies ++ kept) one
+            comes : CanOccurWith clock config scripts one × (of_one < n + 1) → Has (replies ++ kept) one
             comes both = ⊎_elim
                 (λ (same : of_one ≡ n).
-                let here = inside_of one.partition one.index (occurs_within config scripts count one both.0) same in
+                let here = inside_of one.partition one.index (occurs_within clock config scripts count one both.0) same in
                 has_behind replies kept one (has_kept (is_of_part config parts scripts n) found one
-                ((are one).1 (occurs_in_part config own inside scripts part is fed valid one here (own_index one.partition one.index same) both.0))
+                ((are one).1 (occurs_in_part config own inside scripts part is fed valid clock one here (own_index one.partition one.index same) both.0))
                 (grind (arith, nat_tests, same))))
                 (λ (other : of_one ≡ n → ⊥).
                 has_before replies kept one ((before one).1 (both.0, let few = both.1 in grind (arith, few, other))))
                 (cases_eq of_one n)
 
-        pub counts_added : (ends found : List (List ℕ)) → AreEnds config part found → ShowCountsBelow config scripts parts n ends
-            → ShowCountsBelow config scripts parts (n + 1) (ends ++ map (made_whole inside scripts) found)
-        counts_added ends found are before = record { ways = ways; counts = counts }
+        pub counts_added : (ends found new : List (List ℕ)) → AreEndsWith clock config part found → AreEndsAdded clock config inside scripts found ends new → ShowCountsBelow clock config scripts parts n ends
+            → ShowCountsBelow clock config scripts parts (n + 1) new
+        counts_added ends found new are added before = record { ways = ways; counts = counts }
           where
-            new : List (List ℕ)
-            new = map (made_whole inside scripts) found
+            ways : (order : List ℕ) → Has new order → IsClockedWay clock config scripts order
+            ways order has = ⊎_elim (λ (earlier : Has ends order). before.ways order earlier) (λ (way : IsClockedWay clock config scripts order). way) (added.each order has)
 
-            ways : (order : List ℕ) → Has (ends ++ new) order → IsWay config scripts (history_of config scripts order)
-            ways order has = ⊎_elim
-                (λ (earlier : Has ends order). before.ways order earlier)
-                (λ (later : Has new order).
-                let from = of_mapped (made_whole inside scripts) found order later in
-                subst (λ (o : List ℕ). IsWay config scripts (history_of config scripts o)) from.2
-                (whole_way config inside scripts part is from.0 (are.ways from.0 from.1) valid count))
-                (has_either ends new order has)
-
-            counts : (c : ℕ) → c < length config.channels → group_of parts.of_channels.items c < n + 1 → (way : History) → IsWay config scripts way → ShowsCounts config scripts (ends ++ new) way c
-            counts c within few way is_way = ⊎_elim
+            counts : (c : ℕ) → c < length config.channels → group_of parts.of_channels.items c < n + 1 → (way : History) → IsWay config scripts way → IsClocked clock scripts way → ShowsCounts config scripts new way c
+            counts c within few way is_way clocked = ⊎_elim
                 (λ (same : group_of parts.of_channels.items c ≡ n).
                 let other = part_way config own inside scripts part is fed valid way in
-                let one = are.all other (way_in_part config own inside scripts part is fed valid way is_way) (unclocked part other) in
+                let one = are.all other (way_in_part config own inside scripts part is fed valid way is_way) (clocked_in_part config own inside scripts part is fed valid clock way is_way clocked) in
+                let all = added.every one.order one.here in
                 record {
-                  order = made_whole inside scripts one.order;
-                  here = has_behind ends new (made_whole inside scripts one.order) (has_mapped (made_whole inside scripts) found one.order one.here);
-                  same = same_totals config own inside scripts part is fed valid c within (holds.channel c within same) way is_way one.order one.same;
+                  order = all.whole;
+                  here = all.here;
+                  same = same_totals config own inside scripts part is fed valid c within (holds.channel c within same) way is_way one.order all.whole one.same all.is.same;
                 })
                 (λ (apart : group_of parts.of_channels.items c ≡ n → ⊥).
-                let was = before.counts c within (grind (arith, few, apart)) way is_way in
-                record { order = was.order; here = has_before ends new was.order was.here; same = was.same })
+                let was = before.counts c within (grind (arith, few, apart)) way is_way clocked in
+                record { order = was.order; here = added.kept was.order was.here; same = was.same })
                 (cases_eq (group_of parts.of_channels.items c) n)
 
         -- ---- a question
 
-        pub answered_there : (asked : Asked) → part_of_index config parts scripts asked.partition asked.index ≡ n → CanBeAnswered config scripts asked → CanBeAnswered config part asked
+        pub answered_there : (asked : Asked) → part_of_index config parts scripts asked.partition asked.index ≡ n → CanBeAnsweredWith clock config scripts asked → CanBeAnsweredWith clock config part asked
         answered_there asked same can =
-            let within = subst (λ (p : ℕ). p < length config.partitions) can.answers.partition (occurs_within config scripts count can.one can.occurs) in
-            answered_in_part config own inside scripts part is fed valid asked (inside_of asked.partition asked.index within same) (own_index asked.partition asked.index same) can
+            let within = subst (λ (p : ℕ). p < length config.partitions) can.answers.partition (occurs_within clock config scripts count can.one can.occurs) in
+            answered_in_part config own inside scripts part is fed valid clock asked (inside_of asked.partition asked.index within same) (own_index asked.partition asked.index same) can
+
+        pub answered_here : (asked : Asked) (order whole : List ℕ) → part_of_index config parts scripts asked.partition asked.index ≡ n → IsAnsweredByWith clock config part asked order
+            → IsMerged clock config scripts inside order whole → IsOrder config whole → IsAnsweredByWith clock config scripts asked whole
+        answered_here asked order whole same answered merged ordered =
+            merged_answers config own inside scripts part is fed valid clock asked order whole (own_index asked.partition asked.index same) answered merged ordered
 
   -- ---- all parts
 
@@ -212,12 +232,12 @@ module _ (config : Configuration) (scripts : Scripts) (parts : Parts) where
         of_timed None = below.partitions p
         of_timed (Some timed) = of_id (id_asked timed.1)
 
-    pub all_replies : (replies : List PossibleReply) → AreRepliesBelow config scripts parts parts.count replies → AreReplies config scripts replies
+    pub all_replies : (replies : List PossibleReply) → AreRepliesBelow clock config scripts parts parts.count replies → AreRepliesWith clock config scripts replies
     all_replies replies are one = (λ has. ((are one).0 has).0, λ can. (are one).1 (can, part_below one.partition one.index))
 
-    pub all_counts : (ends : List (List ℕ)) → ShowCountsBelow config scripts parts parts.count ends → ShowAllCounts false config scripts ends
+    pub all_counts : (ends : List (List ℕ)) → ShowCountsBelow clock config scripts parts parts.count ends → ShowAllCounts clock config scripts ends
     all_counts ends show = record {
-      ways = show.ways;
-      clocked = λ order has. unclocked scripts (history_of config scripts order);
-      counts = λ way is_way clocked c within. show.counts c within (below.channels c) way is_way;
+      ways = λ order has. (show.ways order has).is_way;
+      clocked = λ order has. (show.ways order has).clocked;
+      counts = λ way is_way clocked c within. show.counts c within (below.channels c) way is_way clocked;
     }

@@ -5,8 +5,8 @@ pub use Rattle.apex_ports.specs.Channels.{waiting_on, accepted_on, received_on, 
 pub use Rattle.apex_ports.specs.History.{History, entries_of}
 pub use Rattle.apex_ports.specs.Interference.{IsClosed, entries_inside}
 pub use Rattle.apex_orders.specs.Lists.{Has}
-pub use Rattle.apex_orders.specs.Orders.{Scripts, IsWay, history_of, times, next_entries, script_of, calls_of, IsBeginning, IsOrder, entries_for, continued}
-pub use Rattle.apex_orders.specs.Outcomes.{AreEnds, AreReplies, CanBeAnswered, CanOccur, IsAnsweredBy, IsUndecidedWith, AreRepliesWith, IsUndecided, CanBeAnsweredWith, CanOccurWith, IsAnsweredByWith, IsGivenByWith, AreEndsWith, HasMorePointsWith, EndsWith, IsGivenBy}
+pub use Rattle.apex_orders.specs.Orders.{Scripts, IsWay, history_of, next_entries, script_of, calls_of, replies_of, IsBeginning, IsOrder, entries_for, continued}
+pub use Rattle.apex_orders.specs.Outcomes.{IsUndecidedWith, AreRepliesWith, CanBeAnsweredWith, CanOccurWith, IsAnsweredByWith, IsGivenByWith, AreEndsWith, HasMorePointsWith}
 pub use Rattle.apex_orders.specs.Points.{HasSameCounts, IsSamePoint}
 pub use Rattle.apex_orders.specs.declared.asked.Asked.{Asked}
 pub use Rattle.apex_orders.specs.declared.replies.PossibleReply.{PossibleReply}

@@ -3,22 +3,31 @@
 
 pub mod after;
 pub mod asked_end;
+mod between;
+pub mod deciding;
+pub mod decision;
 pub mod end_witness;
 mod ends;
 pub mod exchanging;
 pub mod groups;
 mod log_orders;
 mod log_parts;
+mod merging;
 pub mod outcomes;
 mod parts;
 mod script_parts;
+mod shortening;
+pub mod two_orders;
 pub mod witness;
 
 pub use crate::after::ports_after;
 pub use crate::asked_end::{AskedEnd, Comparison, Count};
+pub use crate::deciding::{Reason, deciding_calls};
+pub use crate::decision::Decision;
 pub use crate::end_witness::order_to_end;
 pub use crate::exchanging::exchange;
 pub use crate::groups::Groups;
 pub use crate::log_orders::find_order_apart;
 pub use crate::outcomes::{OutcomesApart, PartCounts, all_outcomes_apart};
+pub use crate::two_orders::TwoOrders;
 pub use crate::witness::{order_giving_apart, order_of_reply};

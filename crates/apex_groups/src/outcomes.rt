@@ -1,10 +1,11 @@
 //! All that can happen to scripts, part by part.
-ghost use Rattle.std.specs.Prelude.{◌≡◌, ◌++◌, false, length, filter, map, IfOk, OnOk};
-ghost use Rattle.apex_groups.specs.Prelude.{AreReplies, AreRepliesWith, IsUndecided, IsUndecidedWith};
+ghost use Rattle.std.specs.Prelude.{◌≡◌, ◌++◌, length, filter, IfOk, OnOk};
+ghost use Rattle.apex_groups.specs.Prelude.{AreRepliesWith, IsUndecidedWith};
 ghost use Rattle.apex_groups.specs.Groups.{in_group};
 ghost use Rattle.apex_groups.specs.Parts.{AreBelow, is_of_part};
 ghost use Rattle.apex_groups.specs.Counts.{ShowAllCounts};
-ghost use Rattle.apex_groups.specs.ScriptParts.{made_whole};
+ghost use Rattle.apex_groups.specs.Merging.{AreEndsAdded};
+ghost use Rattle.apex_groups.specs.ScriptParts.{IsFoundOf, IsUndecidedApart};
 
 use crate::ends::add_ends;
 use crate::groups::Groups;
@@ -41,9 +42,9 @@ pub struct OutcomesApart {
 
 /// All that can happen to the partitions' scripts, as `all_outcomes` of `apex_orders` finds it, but the partitions at the
 /// ends of each channel are searched by themselves: what the others call makes no difference to the channel. With `clock`,
-/// the moments of all partitions are of one clock, and all are searched together. It is undecided if a part leads to more
-/// states than the bound, or `progress` ends a search. The scripts change only while a part is searched. `progress`
-/// receives from time to time how far the search of a part is.
+/// the moments of all partitions are of one clock. It is undecided if a part leads to more states than the bound, or
+/// `progress` ends a search. With `clock`, such a part leads to a search of all partitions together, which then decides.
+/// The scripts change only while a part is searched. `progress` receives from time to time how far a search is.
 pub fn all_outcomes_apart<P: Progress>(
     alloc: Global,
     config: &Config,
@@ -60,33 +61,14 @@ pub fn all_outcomes_apart<P: Progress>(
         (λ found. ShowAllCounts clock config.now scripts.old found.ends.items) }
     ensures undecided { IsUndecidedWith clock P.CanStop config.now scripts.old bound result }
 {
-    if clock {
-        return outcomes_together(alloc, config, scripts, clock, bound, progress);
-    }
-    unclocked_outcomes(alloc, config, scripts, bound, progress)
-}
-
-/// Searches each part by itself, without a clock.
-fn unclocked_outcomes<P: Progress>(
-    alloc: Global,
-    config: &Config,
-    scripts: &mut [Script],
-    bound: usize,
-    progress: &mut P,
-) -> Result<OutcomesApart, OrdersFault>
-    requires { length scripts.old ≡ length config.now.partitions }
-    ensures same { scripts.new ≡ scripts.old }
-    ensures replies { IfOk result
-        (λ found. AreReplies config.now scripts.old found.replies.items) }
-    ensures ends { IfOk result
-        (λ found. ShowAllCounts false config.now scripts.old found.ends.items) }
-    ensures undecided { IsUndecided P.CanStop config.now scripts.old bound result }
-{
     let parts = Parts::new(alloc, config)?;
     if have_calls(scripts) && parts.are_below() {
-        return outcomes_by_parts(alloc, config, &parts, scripts, bound, progress);
+        match outcomes_by_parts(alloc, config, &parts, scripts, clock, bound, progress) {
+            Err(OrdersFault::TooManyStates) if clock => {}
+            found => return found,
+        }
     }
-    outcomes_together(alloc, config, scripts, false, bound, progress)
+    outcomes_together(alloc, config, scripts, clock, bound, progress)
 }
 
 /// Whether a partition has a call to make.
@@ -149,6 +131,7 @@ fn outcomes_by_parts<P: Progress>(
     config: &Config,
     parts: &Parts,
     scripts: &mut [Script],
+    clock: bool,
     bound: usize,
     progress: &mut P,
 ) -> Result<OutcomesApart, OrdersFault>
@@ -156,10 +139,10 @@ fn outcomes_by_parts<P: Progress>(
     requires below { AreBelow parts.now }
     ensures same { scripts.new ≡ scripts.old }
     ensures replies { IfOk result
-        (λ found. AreReplies config.now scripts.old found.replies.items) }
+        (λ found. AreRepliesWith clock config.now scripts.old found.replies.items) }
     ensures ends { IfOk result
-        (λ found. ShowAllCounts false config.now scripts.old found.ends.items) }
-    ensures undecided { IsUndecided P.CanStop config.now scripts.old bound result }
+        (λ found. ShowAllCounts clock config.now scripts.old found.ends.items) }
+    ensures undecided { IsUndecidedApart clock P.CanStop config.now scripts.old bound result }
 {
     let mut all = OutcomesApart {
         replies: Vec::new(alloc),
@@ -169,17 +152,17 @@ fn outcomes_by_parts<P: Progress>(
     for part in 0..parts.count {
         let members = parts.members(alloc, config, part)?;
         if !parts.hold(config, part, &members) {
-            return outcomes_together(alloc, config, scripts, false, bound, progress);
+            return outcomes_together(alloc, config, scripts, clock, bound, progress);
         }
         if !members.have(config, 1) {
             continue;
         }
-        let found = match outcomes_of(alloc, config, &members, 1, scripts, bound, progress) {
+        let found = match outcomes_of(alloc, config, &members, 1, scripts, clock, bound, progress) {
             Err(fault) => return Err(fault),
             Ok(found) => found,
         };
         add_part(
-            alloc, config, parts, part, &members, scripts, &mut all, found,
+            alloc, config, parts, part, &members, scripts, clock, &mut all, found,
         )?;
     }
     Ok(all)
@@ -193,14 +176,18 @@ fn add_part(
     part: usize,
     members: &Groups,
     scripts: &[Script],
+    clock: bool,
     all: &mut OutcomesApart,
     found: Outcomes,
 ) -> Result<(), AllocError>
+    requires count { length scripts.now ≡ length config.now.partitions }
+    requires found { IsFoundOf clock config.now
+        (in_group members.now.of_partitions.items 1) scripts.now found }
     ensures replies { OnOk result (all.new.replies.items ≡ all.old.replies.items
         ++ filter (is_of_part config.now parts.now scripts.now part) found.replies.items) }
-    ensures ends { let inside = in_group members.now.of_partitions.items 1 in
-        OnOk result (all.new.ends.items
-        ≡ all.old.ends.items ++ map (made_whole inside scripts.now) found.ends.items) }
+    ensures ends { OnOk result (AreEndsAdded clock config.now
+        (in_group members.now.of_partitions.items 1) scripts.now
+        found.ends.items all.old.ends.items all.new.ends.items) }
 {
     let ends = found.ends.as_slice();
     let replies = found.replies.as_slice();
@@ -213,7 +200,7 @@ fn add_part(
             ends: ends.len(),
         })?;
     }
-    add_ends(alloc, members, 1, scripts, &mut all.ends, ends)
+    add_ends(alloc, config, members, scripts, clock, &mut all.ends, ends)
 }
 
 /// Adds those of the replies that are to calls of the part.

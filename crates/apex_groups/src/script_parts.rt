@@ -1,8 +1,7 @@
 //! The scripts of one group.
 ghost use Rattle.std.specs.Prelude.{◌≡◌, [], length, replicate, IfOk};
-ghost use Rattle.apex_groups.specs.Prelude.{IsUndecided};
 ghost use Rattle.apex_groups.specs.Groups.{in_group};
-ghost use Rattle.apex_groups.specs.ScriptParts.{IsAnswerOf, IsFoundOf};
+ghost use Rattle.apex_groups.specs.ScriptParts.{IsAnswerOf, IsFoundOf, IsUndecidedApart};
 
 use crate::exchanging::exchange;
 use crate::groups::Groups;
@@ -34,19 +33,20 @@ pub(crate) fn outcomes_of<P: Progress>(
     groups: &Groups,
     group: usize,
     scripts: &mut [Script],
+    clock: bool,
     bound: usize,
     progress: &mut P,
 ) -> Result<Outcomes, OrdersFault>
     requires { length scripts.old ≡ length config.now.partitions }
     ensures scripts { scripts.new ≡ scripts.old }
     ensures found { IfOk result
-        (IsFoundOf config.now (in_group groups.now.of_partitions.items group) scripts.old) }
-    ensures undecided { IsUndecided P.CanStop config.now scripts.old bound result }
+        (IsFoundOf clock config.now (in_group groups.now.of_partitions.items group) scripts.old) }
+    ensures undecided { IsUndecidedApart clock P.CanStop config.now scripts.old bound result }
 {
     let mut part = no_scripts(alloc, config.partitions())?;
     let part = part.as_mut_slice();
     exchange(groups, group, scripts, part);
-    let found = all_outcomes_with_progress(alloc, config, part, false, bound, progress);
+    let found = all_outcomes_with_progress(alloc, config, part, clock, bound, progress);
     exchange(groups, group, scripts, part);
     found
 }
@@ -58,6 +58,7 @@ pub(crate) fn order_of<P: Progress>(
     groups: &Groups,
     group: usize,
     scripts: &mut [Script],
+    clock: bool,
     asked: &Asked,
     bound: usize,
     progress: &mut P,
@@ -65,13 +66,13 @@ pub(crate) fn order_of<P: Progress>(
     requires { length scripts.old ≡ length config.now.partitions }
     ensures scripts { scripts.new ≡ scripts.old }
     ensures found { let inside = in_group groups.now.of_partitions.items group in
-        IfOk result (IsAnswerOf config.now inside scripts.old asked.now) }
-    ensures undecided { IsUndecided P.CanStop config.now scripts.old bound result }
+        IfOk result (IsAnswerOf clock config.now inside scripts.old asked.now) }
+    ensures undecided { IsUndecidedApart clock P.CanStop config.now scripts.old bound result }
 {
     let mut part = no_scripts(alloc, config.partitions())?;
     let part = part.as_mut_slice();
     exchange(groups, group, scripts, part);
-    let found = order_giving_with_progress(alloc, config, part, false, asked, bound, progress);
+    let found = order_giving_with_progress(alloc, config, part, clock, asked, bound, progress);
     exchange(groups, group, scripts, part);
     found
 }

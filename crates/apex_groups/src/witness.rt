@@ -1,8 +1,8 @@
 //! An order in which a call gets a reply, searched for in the part of the call.
 ghost use Rattle.std.specs.Prelude.{◌≡◌, length, IfOk, IfSome, IfNone};
-ghost use Rattle.apex_groups.specs.Prelude.{CanBeAnswered, CanBeAnsweredWith, CanOccurWith, IsAnsweredBy, IsAnsweredByWith, IsGivenByWith, IsUndecided, IsUndecidedWith};
+ghost use Rattle.apex_groups.specs.Prelude.{CanBeAnsweredWith, CanOccurWith, IsAnsweredByWith, IsGivenByWith, IsUndecidedWith};
 
-use crate::ends::calls_inside;
+use crate::merging::merge_calls;
 use crate::parts::Parts;
 use crate::script_parts::order_of;
 use apex_module::Config;
@@ -13,7 +13,8 @@ use apex_ports::Script;
 use std::alloc::Global;
 
 /// An order in which the asked call gets an admitted reply, like `order_giving` of `apex_orders`, but only the partitions
-/// at the ends of the call's channel are searched. With `clock`, the moments of all partitions are of one clock, and all
+/// at the ends of the call's channel are searched. With `clock`, the moments of all partitions are of one clock, and the
+/// order also has the calls of the others that come before. If the part then leads to more states than the bound, all
 /// calls are searched. The scripts change only during the search.
 pub fn order_giving_apart<P: Progress>(
     alloc: Global,
@@ -32,41 +33,24 @@ pub fn order_giving_apart<P: Progress>(
         (λ answer. IfNone answer (¬ CanBeAnsweredWith clock config.now scripts.old asked.now)) }
     ensures undecided { IsUndecidedWith clock P.CanStop config.now scripts.old bound result }
 {
-    if clock {
-        return order_giving_with_progress(alloc, config, scripts, clock, asked, bound, progress);
-    }
-    unclocked_order(alloc, config, scripts, asked, bound, progress)
-}
-
-/// Searches the part of the call, without a clock.
-fn unclocked_order<P: Progress>(
-    alloc: Global,
-    config: &Config,
-    scripts: &mut [Script],
-    asked: &Asked,
-    bound: usize,
-    progress: &mut P,
-) -> Result<Option<Order>, OrdersFault>
-    requires { length scripts.old ≡ length config.now.partitions }
-    ensures same { scripts.new ≡ scripts.old }
-    ensures found { IfOk result
-        (λ answer. IfSome answer (λ order. IsAnsweredBy config.now scripts.old asked.now order)) }
-    ensures never { IfOk result
-        (λ answer. IfNone answer (¬ CanBeAnswered config.now scripts.old asked.now)) }
-    ensures undecided { IsUndecided P.CanStop config.now scripts.old bound result }
-{
     let parts = Parts::new(alloc, config)?;
     let part = parts.of_index(config, scripts, asked.partition, asked.index);
     let members = parts.members(alloc, config, part)?;
     if !parts.hold(config, part, &members) {
-        return order_giving_with_progress(alloc, config, scripts, false, asked, bound, progress);
+        return order_giving_with_progress(alloc, config, scripts, clock, asked, bound, progress);
     }
-    match order_of(alloc, config, &members, 1, scripts, asked, bound, progress) {
+    let found = order_of(
+        alloc, config, &members, 1, scripts, clock, asked, bound, progress,
+    );
+    match found {
+        Err(OrdersFault::TooManyStates) if clock => {
+            order_giving_with_progress(alloc, config, scripts, clock, asked, bound, progress)
+        }
         Err(fault) => Err(fault),
         Ok(None) => Ok(None),
         Ok(Some(order)) => {
-            let own = calls_inside(alloc, &members, 1, &order)?;
-            Ok(Some(Order::new(own)))
+            let merge = merge_calls(alloc, config, &members, scripts, clock, &order)?;
+            Ok(Some(Order::new(merge.order)))
         }
     }
 }

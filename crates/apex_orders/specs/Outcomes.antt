@@ -53,10 +53,19 @@ abbrev pub admitted_by : Reply → Admitted
 admitted_by (reply.Code code) = admitted.Code code
 admitted_by one = admitted.Reply one
 
--- the reply is the admitted one, or has the admitted code
+-- the reply is the admitted one, or has the admitted code; or it is another one, or has another code or none
 abbrev pub Admits : Admitted → Reply → Type 0
 Admits (admitted.Reply one) given = given ≡ one
 Admits (admitted.Code code) given = code_of given ≡ Some code
+Admits (admitted.NotReply one) given = ¬ (given ≡ one)
+Admits (admitted.NotCode code) given = ¬ (code_of given ≡ Some code)
+
+-- the replies that are not admitted
+abbrev pub others_of : Admitted → Admitted
+others_of (admitted.Reply one) = admitted.NotReply one
+others_of (admitted.Code code) = admitted.NotCode code
+others_of (admitted.NotReply one) = admitted.Reply one
+others_of (admitted.NotCode code) = admitted.Code code
 
 -- the reply is to the asked call, and admitted
 pub record Answers (asked : Asked) (one : PossibleReply) : Type 0 where

@@ -1,6 +1,6 @@
 //! A question about a call of a script.
 ghost use Rattle.std.specs.Prelude.{◌≡◌, ◌↔◌, IsTrue};
-ghost use Rattle.apex_orders.specs.Outcomes.{Admits, Answers, admitted_by};
+ghost use Rattle.apex_orders.specs.Outcomes.{Admits, Answers, admitted_by, others_of};
 
 use crate::replies::{PossibleReply, is_same_reply};
 use apex_types::{Reply, ReturnCode};
@@ -12,6 +12,10 @@ pub enum Admitted {
     Reply(Reply),
     /// Every reply with this return code.
     Code(ReturnCode),
+    /// Every reply but this one.
+    NotReply(Reply),
+    /// Every reply without this return code.
+    NotCode(ReturnCode),
 }
 
 /// A question: whether a call of a script can get an admitted reply.
@@ -43,6 +47,32 @@ impl Admitted {
         match self {
             Admitted::Reply(one) => is_same_reply(reply, one),
             Admitted::Code(code) => reply.code() == Some(*code),
+            Admitted::NotReply(one) => !is_same_reply(reply, one),
+            Admitted::NotCode(code) => reply.code() != Some(*code),
+        }
+    }
+
+    /// The replies that are not admitted.
+    pub fn others(&self) -> Admitted
+        ensures { result ≡ others_of self.now }
+    {
+        match self {
+            Admitted::Reply(one) => Admitted::NotReply(one.copy()),
+            Admitted::Code(code) => Admitted::NotCode(*code),
+            Admitted::NotReply(one) => Admitted::Reply(one.copy()),
+            Admitted::NotCode(code) => Admitted::Code(*code),
+        }
+    }
+
+    /// The same replies.
+    pub fn copy(&self) -> Admitted
+        ensures { result ≡ self.now }
+    {
+        match self {
+            Admitted::Reply(one) => Admitted::Reply(one.copy()),
+            Admitted::Code(code) => Admitted::Code(*code),
+            Admitted::NotReply(one) => Admitted::NotReply(one.copy()),
+            Admitted::NotCode(code) => Admitted::NotCode(*code),
         }
     }
 }

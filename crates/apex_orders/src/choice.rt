@@ -121,7 +121,7 @@ pub(crate) fn is_tried(tried: &[bool], p: usize) -> bool
 }
 
 /// Whether no partition's next call has a smaller moment than this partition's.
-pub(crate) fn is_due(ports: &Ports, scripts: &[Script], p: usize) -> bool
+pub fn is_due(ports: &Ports, scripts: &[Script], p: usize) -> bool
     requires partition { p < length ports.now.config.partitions }
     requires scripts { length scripts.now ≡ length ports.now.config.partitions }
     ensures { IsTrue result ↔ IsNextDue true scripts.now ports.now.history p }

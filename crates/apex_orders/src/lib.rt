@@ -31,6 +31,7 @@ mod worker;
 mod workers;
 
 pub use crate::asked::{Admitted, Asked};
+pub use crate::choice::is_due;
 pub use crate::commuting::id_in;
 pub use crate::order::Order;
 pub use crate::orders_fault::OrdersFault;

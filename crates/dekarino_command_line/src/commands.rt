@@ -37,6 +37,8 @@ pub(crate) const WHEN: &str = "when";
 
 pub(crate) const NEVER: &str = "never";
 
+pub(crate) const WHY: &str = "why";
+
 pub(crate) const WITNESS: &str = "witness";
 
 pub(crate) const JSON: &str = "json";
@@ -166,6 +168,7 @@ fn orders<'a>(alloc: Global) -> Result<Command<'a>, AllocError> {
         .arg(flag(alloc, CLOCK, help::CLOCK))?
         .arg(question(alloc, WHEN, help::WHEN))?
         .arg(question(alloc, NEVER, help::NEVER))?
+        .arg(question(alloc, WHY, help::WHY))?
         .arg(option(alloc, WITNESS, "FOLDER", help::WITNESS))?
         .arg(json(alloc))
 }

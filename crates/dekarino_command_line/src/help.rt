@@ -122,6 +122,11 @@ as NAV waiting <= 1, is about a queuing channel after all calls. COUNT is accept
 is =, <=, >=, < or >. Several questions are answered in the order given, each below a line with the question. The status
 is 4 if one answer is no, else 5 if one is undecided.
 
+--why NAME:LINE = REPLY finds two calls that decide: the call gets such a reply if one of them comes right before the
+other, and another reply if it comes right after. Two orders follow, as logs, which differ in nothing else. They are
+short, but need not be the shortest, and other pairs of calls may decide too. If no order or every order gives such a
+reply, a line says so, and the status is 4.
+
 Example:
   $ ./dekarino orders examples/orders/config.toml FMS=examples/orders/fms.script DSP=examples/orders/dsp.script
   FMS:2 10 create-queuing NAV_OUT 4 1 0 0 -> NO_ERROR id 1
@@ -131,7 +136,19 @@ Example:
   * DSP:3 40 receive 1 -> NOT_AVAILABLE | NO_ERROR message 0a0b
   queuing NAV accepted 1..2 received 0..1 waiting 0..1
   11 states, 3 ends
-  2 calls depend on the order";
+  2 calls depend on the order
+  $ ./dekarino orders examples/orders/config.toml FMS=examples/orders/fms.script DSP=examples/orders/dsp.script --why 'DSP:3 = NOT_AVAILABLE'
+  DSP:3 40 receive 1 -> NOT_AVAILABLE if it comes before FMS:3 30 send 1 0a0b, NO_ERROR message 0a0b if after
+  # DSP:3 before FMS:3
+  20 DSP create-queuing NAV_IN 4 1 1 0 -> NO_ERROR id 1
+  10 FMS create-queuing NAV_OUT 4 1 0 0 -> NO_ERROR id 1
+  40 DSP receive 1 -> NOT_AVAILABLE
+  30 FMS send 1 0a0b -> NO_ERROR
+  # DSP:3 after FMS:3
+  20 DSP create-queuing NAV_IN 4 1 1 0 -> NO_ERROR id 1
+  10 FMS create-queuing NAV_OUT 4 1 0 0 -> NO_ERROR id 1
+  30 FMS send 1 0a0b -> NO_ERROR
+  40 DSP receive 1 -> NO_ERROR message 0a0b";
 
 pub(crate) const MEMORY: &str =
     "Gives up a search that keeps more than this many MiB [default: 1024]";
@@ -146,6 +163,9 @@ pub(crate) const WHEN: &str =
 
 pub(crate) const NEVER: &str =
     "Status 0 if no order has such a reply or such an end; otherwise 4, with such an order";
+
+pub(crate) const WHY: &str =
+    "Prints two calls whose order decides whether a call gets such a reply, and both orders; else status 4";
 
 pub(crate) const WITNESS: &str =
     "Writes a shortest order for each reply of several to a file in FOLDER, as a log";

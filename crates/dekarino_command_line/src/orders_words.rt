@@ -26,7 +26,7 @@ pub(crate) fn orders_in<'a>(alloc: Global, given: &ArgMatches<'a>) -> Result<Tas
         return Err(orders_fault(alloc, "--witness takes a folder"));
     }
     if witness.is_some() && !questions.is_empty() {
-        let message = "--witness goes without --when and --never";
+        let message = "--witness goes without --when, --never and --why";
         return Err(orders_fault(alloc, message));
     }
     let mut scripts = Vec::new(alloc);
@@ -41,7 +41,7 @@ pub(crate) fn orders_in<'a>(alloc: Global, given: &ArgMatches<'a>) -> Result<Tas
     })
 }
 
-/// The questions of `--when` and `--never`, in the order given.
+/// The questions of `--when`, `--never` and `--why`, in the order given.
 fn questions_in<'a>(
     alloc: Global,
     given: &ArgMatches<'a>,
@@ -56,6 +56,11 @@ fn questions_in<'a>(
     let never = given.get_strs(commands::NEVER).unwrap_or(&[]);
     for (place, words) in places.iter().zip(never.iter()) {
         placed.push((*place, Question::Never(words)))?;
+    }
+    let places = given.indices_of(commands::WHY).unwrap_or(&[]);
+    let why = given.get_strs(commands::WHY).unwrap_or(&[]);
+    for (place, words) in places.iter().zip(why.iter()) {
+        placed.push((*place, Question::Why(words)))?;
     }
     placed.sort_by_key(|one| one.0)?;
     let mut questions = Vec::with_capacity(alloc, placed.len())?;

@@ -84,13 +84,24 @@ pub enum Question<'a> {
     When(&'a str),
     /// No order is to have one.
     Never(&'a str),
+    /// Two calls are to be found that decide whether a call gets such a reply.
+    Why(&'a str),
 }
 
 impl<'a> Question<'a> {
     /// The words of the question.
     pub fn words(&self) -> &'a str {
         match self {
-            Question::When(words) | Question::Never(words) => words,
+            Question::When(words) | Question::Never(words) | Question::Why(words) => words,
+        }
+    }
+
+    /// The option that asks it.
+    pub fn option(&self) -> &'static str {
+        match self {
+            Question::When(_) => "--when",
+            Question::Never(_) => "--never",
+            Question::Why(_) => "--why",
         }
     }
 

@@ -1,15 +1,18 @@
-//! The answers to the questions of `--when` and `--never`.
+//! The answers to the questions of `--when`, `--never` and `--why`.
 ghost use Rattle.std.specs.Prelude.{◌≡◌, length};
 
-use crate::occurrences::find_occurrence;
+use crate::bound::Bound;
+use crate::json_reasons::push_undecided;
+use crate::occurrences::{Answer, find_occurrence};
 use crate::outcome::Outcome;
 use crate::progress::Progress;
 use crate::questions::{AskedOf, question_in};
+use crate::reasons::find_reason;
 use crate::unfinished::Unfinished;
 use crate::verdict::Verdict;
 use apex_module::Config;
 use apex_ports::Script;
-use dekarino_command_line::{Question, SearchLimits};
+use dekarino_command_line::{Form, Question, SearchLimits};
 use dekarino_texts::LineNumbers;
 use std::alloc::{AllocError, Global};
 
@@ -22,6 +25,7 @@ pub(crate) fn answers_to<'a, P: Progress>(
     lines: &[LineNumbers],
     limits: SearchLimits,
     questions: &[Question<'a>],
+    form: Form,
     progress: &mut P,
 ) -> Result<Outcome, Unfinished<'a>>
     requires { length scripts.old ≡ length config.now.partitions }
@@ -30,14 +34,37 @@ pub(crate) fn answers_to<'a, P: Progress>(
     let all_asked = all_asked.as_slice();
     match (questions, all_asked) {
         ([question], [asked]) => {
-            let answer = find_occurrence(
-                alloc, config, scripts, limits, question, asked, progress,
+            let answer = answer_to(
+                alloc, config, scripts, lines, limits, question, asked, form, progress,
             )?;
             Ok(answer.verdict.outcome(answer.text.into_bytes()))
         }
         _ => several_answers(
-            alloc, config, scripts, limits, questions, all_asked, progress,
+            alloc, config, scripts, lines, limits, questions, all_asked, form, progress,
         ),
+    }
+}
+
+/// The answer to a question.
+fn answer_to<'a, P: Progress>(
+    alloc: Global,
+    config: &Config,
+    scripts: &mut [Script],
+    lines: &[LineNumbers],
+    limits: SearchLimits,
+    question: &Question<'a>,
+    asked: &AskedOf,
+    form: Form,
+    progress: &mut P,
+) -> Result<Answer, Unfinished<'a>>
+    requires { length scripts.old ≡ length config.now.partitions }
+    ensures same { scripts.new ≡ scripts.old }
+{
+    match (question, asked) {
+        (Question::Why(words), AskedOf::Call(asked)) => find_reason(
+            alloc, config, scripts, lines, limits, words, asked, form, progress,
+        ),
+        _ => find_occurrence(alloc, config, scripts, limits, question, asked, progress),
     }
 }
 
@@ -51,7 +78,7 @@ fn all_asked_in<'a>(
 ) -> Result<Vec<AskedOf>, Unfinished<'a>> {
     let mut all_asked = Vec::new(alloc);
     for question in questions {
-        let asked = question_in(alloc, config, scripts, lines, question.words())?;
+        let asked = question_in(alloc, config, scripts, lines, question)?;
         if let Err(refused) = all_asked.push(asked) {
             return Err(Unfinished::from(AllocError::from(refused)));
         }
@@ -64,9 +91,11 @@ fn several_answers<'a, P: Progress>(
     alloc: Global,
     config: &Config,
     scripts: &mut [Script],
+    lines: &[LineNumbers],
     limits: SearchLimits,
     questions: &[Question<'a>],
     all_asked: &[AskedOf],
+    form: Form,
     progress: &mut P,
 ) -> Result<Outcome, Unfinished<'a>>
     requires { length scripts.old ≡ length config.now.partitions }
@@ -74,15 +103,18 @@ fn several_answers<'a, P: Progress>(
     let mut text = String::new(alloc);
     let mut verdict = Verdict::Yes;
     for (question, asked) in questions.iter().zip(all_asked.iter()) {
-        push_question(&mut text, question)?;
-        match find_occurrence(alloc, config, scripts, limits, question, asked, progress) {
+        push_question(&mut text, question, form)?;
+        let answer = answer_to(
+            alloc, config, scripts, lines, limits, question, asked, form, progress,
+        );
+        match answer {
             Ok(answer) => {
                 verdict = verdict.and(answer.verdict);
                 text.push_str(answer.text.as_str())?;
             }
             Err(Unfinished::Undecided(bound)) => {
                 verdict = verdict.and(Verdict::Undecided);
-                writeln!(text, "{bound}")?;
+                push_bound(alloc, &mut text, question, bound, form)?;
             }
             Err(unfinished) => return Err(unfinished),
         }
@@ -90,12 +122,24 @@ fn several_answers<'a, P: Progress>(
     Ok(verdict.outcome(text.into_bytes()))
 }
 
-/// Writes a line with the option and the words of a question.
-fn push_question(text: &mut String, question: &Question<'_>) -> Result<(), AllocError> {
-    let option = if question.is_wanted() {
-        "when"
-    } else {
-        "never"
-    };
-    writeln!(text, "--{option} '{}'", question.words())
+/// Writes a line with the option and the words of a question. A JSON object of `--why` has the words itself.
+fn push_question(text: &mut String, question: &Question<'_>, form: Form) -> Result<(), AllocError> {
+    match (question, form) {
+        (Question::Why(_), Form::Json) => Ok(()),
+        _ => writeln!(text, "{} '{}'", question.option(), question.words()),
+    }
+}
+
+/// Writes the bound at which the search for an answer gave up.
+fn push_bound(
+    alloc: Global,
+    text: &mut String,
+    question: &Question<'_>,
+    bound: Bound,
+    form: Form,
+) -> Result<(), AllocError> {
+    match (question, form) {
+        (Question::Why(words), Form::Json) => push_undecided(alloc, text, words),
+        _ => writeln!(text, "{bound}"),
+    }
 }

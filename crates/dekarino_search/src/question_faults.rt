@@ -13,6 +13,8 @@ use std::alloc::{AllocError, Global};
 pub(crate) enum QuestionFault<'a> {
     /// They have another form.
     Form,
+    /// They have another form than `NAME:LINE = REPLY`.
+    CallForm,
     /// No partition has the name.
     NoPartition {
         name: &'a str,
@@ -83,6 +85,7 @@ fn reason_of(
         QuestionFault::Form => text.push_str(
             "expected NAME:LINE = REPLY or CHANNEL COUNT OP NUMBER",
         )?,
+        QuestionFault::CallForm => text.push_str("expected NAME:LINE = REPLY")?,
         QuestionFault::NoPartition { name } => {
             write!(text, "no partition is called {name}; there are")?;
             push_partitions(&mut text, config)?;

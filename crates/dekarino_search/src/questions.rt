@@ -1,4 +1,4 @@
-//! Reading the question of `--when` and `--never`.
+//! Reading the question of `--when`, `--never` and `--why`.
 ghost use Rattle.std.specs.Prelude.{ℕ, IsTrue};
 ghost use Rattle.apex_types.specs.declared.moment.Moment.{Moment};
 ghost use Rattle.apex_module.specs.Configuration.{Configuration};
@@ -17,6 +17,7 @@ use apex_ports::{CallRef, Script};
 use apex_texts::Service;
 use apex_types::{Call, Reply};
 use apex_words::{can_give, can_give_code};
+use dekarino_command_line::Question;
 use dekarino_texts::LineNumbers;
 use std::alloc::Global;
 
@@ -29,18 +30,36 @@ pub(crate) enum AskedOf {
     End(AskedEnd),
 }
 
-/// The question that words ask: `CHANNEL COUNT OP NUMBER` if they have no colon, else `NAME:LINE = REPLY`, of the call
-/// on that line of the partition's script. A return code alone means every reply with that code.
+/// What a question asks: `CHANNEL COUNT OP NUMBER` if it has no colon, else `NAME:LINE = REPLY`, of the call on that line
+/// of the partition's script. A return code alone means every reply with that code. `--why` asks only of a call.
 pub(crate) fn question_in<'a>(
     alloc: Global,
     config: &Config,
     scripts: &[Script],
     lines: &[LineNumbers],
-    words: &'a str,
+    question: &Question<'a>,
 ) -> Result<AskedOf, Unfinished<'a>> {
-    match read_question(config, scripts, lines, words) {
+    let words = question.words();
+    let read = match question {
+        Question::Why(_) => read_why(config, scripts, lines, words),
+        _ => read_question(config, scripts, lines, words),
+    };
+    match read {
         Ok(asked) => Ok(asked),
         Err(fault) => Err(question_error(alloc, config, lines, words, fault)),
+    }
+}
+
+fn read_why<'a>(
+    config: &Config,
+    scripts: &[Script],
+    lines: &[LineNumbers],
+    words: &'a str,
+) -> Result<AskedOf, QuestionFault<'a>> {
+    match read_call(config, scripts, lines, words) {
+        Ok(asked) => Ok(AskedOf::Call(asked)),
+        Err(QuestionFault::Form) => Err(QuestionFault::CallForm),
+        Err(fault) => Err(fault),
     }
 }
 
@@ -126,5 +145,6 @@ fn can_be_given(call: &Call, admitted: &Admitted) -> bool
     match admitted {
         Admitted::Reply(reply) => can_give(service, reply),
         Admitted::Code(code) => can_give_code(service, *code),
+        Admitted::NotReply(_) | Admitted::NotCode(_) => true,
     }
 }

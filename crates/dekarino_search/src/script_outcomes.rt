@@ -46,7 +46,9 @@ pub fn outcomes_of_scripts<'a, O: Opener + FileWriter, P: Progress>(
         check_moments(alloc, &config, arguments, scripts, lines)?;
     }
     if !questions.is_empty() {
-        return answers_to(alloc, &config, scripts, lines, limits, questions, progress);
+        return answers_to(
+            alloc, &config, scripts, lines, limits, questions, form, progress,
+        );
     }
     let mut progress = SearchProgress::new(progress, limits);
     let states = progress.states();

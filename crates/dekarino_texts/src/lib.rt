@@ -40,5 +40,5 @@ pub use crate::run_explanation::explain_run;
 pub use crate::script_lines::{LineNumbers, call_lines};
 pub use crate::standard_reply::{Conflict, StandardReply, conflict_of};
 pub use crate::table::{PortPlace, TableRow, port_table};
-pub use crate::table_words::{direction_word, kind_word, table_text};
+pub use crate::table_words::{direction_word, kind_word, partition_name, table_text};
 pub use crate::written_departures::{DepartureWords, WrittenDepartures};

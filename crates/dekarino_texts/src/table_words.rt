@@ -78,7 +78,7 @@ impl fmt::Display for PortName<'_> {
 }
 
 /// The name of a partition; empty if there is none with the number.
-pub(crate) fn partition_name(config: &Config, p: usize) -> &str {
+pub fn partition_name(config: &Config, p: usize) -> &str {
     if p < config.partitions() {
         config.partition_name(p).text()
     } else {

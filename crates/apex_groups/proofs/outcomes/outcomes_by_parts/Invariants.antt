@@ -4,6 +4,6 @@ use Rattle.apex_groups.proofs.outcomes.outcomes_by_parts.Given as goal
 abbrev pub invariant-loop-part : goal.invariant-loop-part
 invariant-loop-part g l = record {
   same : l.scripts ≡ l.fn.scripts;
-  replies : AreRepliesBelow l.config l.fn.scripts l.parts l.part l.all.replies.items;
-  ends : ShowCountsBelow l.config l.fn.scripts l.parts l.part l.all.ends.items;
+  replies : AreRepliesBelow l.clock l.config l.fn.scripts l.parts l.part l.all.replies.items;
+  ends : ShowCountsBelow l.clock l.config l.fn.scripts l.parts l.part l.all.ends.items;
 }

@@ -17,7 +17,7 @@ returns-clause-found g c =
     let none : c.as_mut_slice-part.result.now ≡ replicate (length config.partitions) [] =
     c.as_mut_slice-part.ensures.value ∙ (c.in_ok-part.ensures ∙ (λ i. replicate (c.partitions.ensures.count i) [])) in
     let put : AreExchanged inside (replicate (length config.partitions) []) scripts part = subst (λ (own : Scripts). AreExchanged inside own scripts part) none c.exchange.ensures.other in
-    answer_of config inside scripts part (put_in inside scripts (length config.partitions) part put) c.args.asked.now c.order_giving_with_progress-found.result
+    answer_of config inside scripts part (put_in inside scripts (length config.partitions) part put) c.args.clock c.args.asked.now c.order_giving_with_progress-found.result
     c.order_giving_with_progress-found.ensures.found c.order_giving_with_progress-found.ensures.never
 
 pub returns-clause-undecided : goal.returns-clause-undecided
@@ -29,5 +29,5 @@ returns-clause-undecided g c =
     let none : c.as_mut_slice-part.result.now ≡ replicate (length config.partitions) [] =
     c.as_mut_slice-part.ensures.value ∙ (c.in_ok-part.ensures ∙ (λ i. replicate (c.partitions.ensures.count i) [])) in
     let put : AreExchanged inside (replicate (length config.partitions) []) scripts part = subst (λ (own : Scripts). AreExchanged inside own scripts part) none c.exchange.ensures.other in
-    undecided_part config inside scripts part (put_in inside scripts (length config.partitions) part put) g.P.Progress.CanStop c.args.bound c.order_giving_with_progress-found.result
+    undecided_part config inside scripts part (put_in inside scripts (length config.partitions) part put) c.args.clock g.P.Progress.CanStop c.args.bound c.order_giving_with_progress-found.result
     c.order_giving_with_progress-found.ensures.undecided

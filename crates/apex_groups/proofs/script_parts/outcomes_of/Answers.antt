@@ -17,7 +17,7 @@ returns-clause-found g c =
     let none : c.as_mut_slice-part.result.now ≡ replicate (length config.partitions) [] =
     c.as_mut_slice-part.ensures.value ∙ (c.in_ok-part.ensures ∙ (λ i. replicate (c.partitions.ensures.count i) [])) in
     let put : AreExchanged inside (replicate (length config.partitions) []) scripts part = subst (λ (own : Scripts). AreExchanged inside own scripts part) none c.exchange.ensures.other in
-    found_of config inside scripts part (put_in inside scripts (length config.partitions) part put) c.all_outcomes_with_progress-found.result
+    found_of config inside scripts part (put_in inside scripts (length config.partitions) part put) c.args.clock c.all_outcomes_with_progress-found.result
     c.all_outcomes_with_progress-found.ensures.replies c.all_outcomes_with_progress-found.ensures.ends
 
 pub returns-clause-undecided : goal.returns-clause-undecided
@@ -29,5 +29,5 @@ returns-clause-undecided g c =
     let none : c.as_mut_slice-part.result.now ≡ replicate (length config.partitions) [] =
     c.as_mut_slice-part.ensures.value ∙ (c.in_ok-part.ensures ∙ (λ i. replicate (c.partitions.ensures.count i) [])) in
     let put : AreExchanged inside (replicate (length config.partitions) []) scripts part = subst (λ (own : Scripts). AreExchanged inside own scripts part) none c.exchange.ensures.other in
-    undecided_part config inside scripts part (put_in inside scripts (length config.partitions) part put) g.P.Progress.CanStop c.args.bound c.all_outcomes_with_progress-found.result
+    undecided_part config inside scripts part (put_in inside scripts (length config.partitions) part put) c.args.clock g.P.Progress.CanStop c.args.bound c.all_outcomes_with_progress-found.result
     c.all_outcomes_with_progress-found.ensures.undecided
