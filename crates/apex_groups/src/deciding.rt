@@ -10,6 +10,7 @@ use apex_module::Config;
 use apex_orders::{Asked, Order, OrdersFault, Progress};
 use apex_ports::Script;
 use std::alloc::Global;
+use std::thread::Threads;
 
 /// Why a call gets an admitted reply in some orders and not in others.
 #[derive(Debug, Drop)]
@@ -28,7 +29,8 @@ pub enum Reason {
 /// order or every order gives it one. It searches like `order_giving_apart`, for an order that gives an admitted reply
 /// and one that gives another, and then looks between these two. Both orders of the answer are short; no clause says how
 /// short. The scripts change only during the search.
-pub fn deciding_calls<P: Progress>(
+pub fn deciding_calls<R: Threads + Sync, P: Progress>(
+    rt: &R,
     alloc: Global,
     config: &Config,
     scripts: &mut [Script],
@@ -42,13 +44,17 @@ pub fn deciding_calls<P: Progress>(
     ensures reason { IfOk result (IsReason clock config.now scripts.old asked.now) }
     ensures undecided { IsUndecidedWith clock P.CanStop config.now scripts.old bound result }
 {
-    let given = match order_giving_apart(alloc, config, scripts, clock, asked, bound, progress) {
+    let given = match order_giving_apart(
+        rt, alloc, config, scripts, clock, asked, bound, progress,
+    ) {
         Err(fault) => return Err(fault),
         Ok(None) => return Ok(Reason::Never),
         Ok(Some(order)) => order,
     };
     let others = others_asked(asked);
-    let other = match order_giving_apart(alloc, config, scripts, clock, &others, bound, progress) {
+    let other = match order_giving_apart(
+        rt, alloc, config, scripts, clock, &others, bound, progress,
+    ) {
         Err(fault) => return Err(fault),
         Ok(None) => return Ok(Reason::Always),
         Ok(Some(order)) => order,

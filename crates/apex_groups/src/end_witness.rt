@@ -11,11 +11,13 @@ use apex_orders::{Order, OrdersFault, Progress};
 use apex_ports::Script;
 use apex_types::OutOfMemory;
 use std::alloc::Global;
+use std::thread::Threads;
 
 /// An order of all calls that leads to the end that is asked for; `None` if no order does, or if there is no such
 /// channel. With `clock`, the moments of all partitions are of one clock, as for `all_outcomes_apart`. All ends are
 /// searched. The scripts change only during the search.
-pub fn order_to_end<P: Progress>(
+pub fn order_to_end<R: Threads + Sync, P: Progress>(
+    rt: &R,
     alloc: Global,
     config: &Config,
     scripts: &mut [Script],
@@ -36,7 +38,7 @@ pub fn order_to_end<P: Progress>(
     if asked.channel >= config.channels() {
         return Ok(None);
     }
-    let mut found = match all_outcomes_apart(alloc, config, scripts, clock, bound, progress) {
+    let mut found = match all_outcomes_apart(rt, alloc, config, scripts, clock, bound, progress) {
         Err(fault) => return Err(fault),
         Ok(found) => found,
     };

@@ -17,6 +17,7 @@ use apex_orders::{
 };
 use apex_ports::Script;
 use std::alloc::{AllocError, Global};
+use std::thread::Threads;
 
 /// What can happen to a part of the scripts by itself: to the partitions at the ends of a channel.
 #[derive(Debug, Drop)]
@@ -45,7 +46,8 @@ pub struct OutcomesApart {
 /// the moments of all partitions are of one clock. It is undecided if a part leads to more states than the bound, or
 /// `progress` ends a search. With `clock`, such a part leads to a search of all partitions together, which then decides.
 /// The scripts change only while a part is searched. `progress` receives from time to time how far a search is.
-pub fn all_outcomes_apart<P: Progress>(
+pub fn all_outcomes_apart<R: Threads + Sync, P: Progress>(
+    rt: &R,
     alloc: Global,
     config: &Config,
     scripts: &mut [Script],
@@ -63,12 +65,12 @@ pub fn all_outcomes_apart<P: Progress>(
 {
     let parts = Parts::new(alloc, config)?;
     if have_calls(scripts) && parts.are_below() {
-        match outcomes_by_parts(alloc, config, &parts, scripts, clock, bound, progress) {
+        match outcomes_by_parts(rt, alloc, config, &parts, scripts, clock, bound, progress) {
             Err(OrdersFault::TooManyStates) if clock => {}
             found => return found,
         }
     }
-    outcomes_together(alloc, config, scripts, clock, bound, progress)
+    outcomes_together(rt, alloc, config, scripts, clock, bound, progress)
 }
 
 /// Whether a partition has a call to make.
@@ -78,7 +80,8 @@ fn have_calls(scripts: &[Script]) -> bool {
 
 /// Searches all partitions together.
 #[tactic(auto, using(crate::proofs::PartSteps::together))]
-fn outcomes_together<P: Progress>(
+fn outcomes_together<R: Threads + Sync, P: Progress>(
+    rt: &R,
     alloc: Global,
     config: &Config,
     scripts: &[Script],
@@ -93,7 +96,9 @@ fn outcomes_together<P: Progress>(
         (λ found. ShowAllCounts clock config.now scripts.now found.ends.items) }
     ensures undecided { IsUndecidedWith clock P.CanStop config.now scripts.now bound result }
 {
-    let found = match all_outcomes_with_progress(alloc, config, scripts, clock, bound, progress) {
+    let found = match all_outcomes_with_progress(
+        rt, alloc, config, scripts, clock, bound, progress,
+    ) {
         Err(fault) => return Err(fault),
         Ok(found) => found,
     };
@@ -126,7 +131,8 @@ fn one_part(
 }
 
 /// Searches one part after the other.
-fn outcomes_by_parts<P: Progress>(
+fn outcomes_by_parts<R: Threads + Sync, P: Progress>(
+    rt: &R,
     alloc: Global,
     config: &Config,
     parts: &Parts,
@@ -152,12 +158,14 @@ fn outcomes_by_parts<P: Progress>(
     for part in 0..parts.count {
         let members = parts.members(alloc, config, part)?;
         if !parts.hold(config, part, &members) {
-            return outcomes_together(alloc, config, scripts, clock, bound, progress);
+            return outcomes_together(rt, alloc, config, scripts, clock, bound, progress);
         }
         if !members.have(config, 1) {
             continue;
         }
-        let found = match outcomes_of(alloc, config, &members, 1, scripts, clock, bound, progress) {
+        let found = match outcomes_of(
+            rt, alloc, config, &members, 1, scripts, clock, bound, progress,
+        ) {
             Err(fault) => return Err(fault),
             Ok(found) => found,
         };

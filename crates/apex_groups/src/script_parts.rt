@@ -12,6 +12,7 @@ use apex_orders::{
 };
 use apex_ports::Script;
 use std::alloc::{AllocError, Global};
+use std::thread::Threads;
 
 /// `count` empty scripts.
 fn no_scripts(alloc: Global, count: usize) -> Result<Vec<Script>, AllocError>
@@ -27,7 +28,8 @@ fn no_scripts(alloc: Global, count: usize) -> Result<Vec<Script>, AllocError>
 }
 
 /// All that can happen to the scripts of one group's partitions. The scripts stay as they were.
-pub(crate) fn outcomes_of<P: Progress>(
+pub(crate) fn outcomes_of<R: Threads + Sync, P: Progress>(
+    rt: &R,
     alloc: Global,
     config: &Config,
     groups: &Groups,
@@ -46,13 +48,14 @@ pub(crate) fn outcomes_of<P: Progress>(
     let mut part = no_scripts(alloc, config.partitions())?;
     let part = part.as_mut_slice();
     exchange(groups, group, scripts, part);
-    let found = all_outcomes_with_progress(alloc, config, part, clock, bound, progress);
+    let found = all_outcomes_with_progress(rt, alloc, config, part, clock, bound, progress);
     exchange(groups, group, scripts, part);
     found
 }
 
 /// An order of the calls of one group that answers the question. The scripts stay as they were.
-pub(crate) fn order_of<P: Progress>(
+pub(crate) fn order_of<R: Threads + Sync, P: Progress>(
+    rt: &R,
     alloc: Global,
     config: &Config,
     groups: &Groups,
@@ -72,7 +75,7 @@ pub(crate) fn order_of<P: Progress>(
     let mut part = no_scripts(alloc, config.partitions())?;
     let part = part.as_mut_slice();
     exchange(groups, group, scripts, part);
-    let found = order_giving_with_progress(alloc, config, part, clock, asked, bound, progress);
+    let found = order_giving_with_progress(rt, alloc, config, part, clock, asked, bound, progress);
     exchange(groups, group, scripts, part);
     found
 }

@@ -11,12 +11,14 @@ use apex_orders::{
 };
 use apex_ports::Script;
 use std::alloc::Global;
+use std::thread::Threads;
 
 /// An order in which the asked call gets an admitted reply, like `order_giving` of `apex_orders`, but only the partitions
 /// at the ends of the call's channel are searched. With `clock`, the moments of all partitions are of one clock, and the
 /// order also has the calls of the others that come before. If the part then leads to more states than the bound, all
 /// calls are searched. The scripts change only during the search.
-pub fn order_giving_apart<P: Progress>(
+pub fn order_giving_apart<R: Threads + Sync, P: Progress>(
+    rt: &R,
     alloc: Global,
     config: &Config,
     scripts: &mut [Script],
@@ -37,14 +39,16 @@ pub fn order_giving_apart<P: Progress>(
     let part = parts.of_index(config, scripts, asked.partition, asked.index);
     let members = parts.members(alloc, config, part)?;
     if !parts.hold(config, part, &members) {
-        return order_giving_with_progress(alloc, config, scripts, clock, asked, bound, progress);
+        return order_giving_with_progress(
+            rt, alloc, config, scripts, clock, asked, bound, progress,
+        );
     }
     let found = order_of(
-        alloc, config, &members, 1, scripts, clock, asked, bound, progress,
+        rt, alloc, config, &members, 1, scripts, clock, asked, bound, progress,
     );
     match found {
         Err(OrdersFault::TooManyStates) if clock => {
-            order_giving_with_progress(alloc, config, scripts, clock, asked, bound, progress)
+            order_giving_with_progress(rt, alloc, config, scripts, clock, asked, bound, progress)
         }
         Err(fault) => Err(fault),
         Ok(None) => Ok(None),
@@ -57,7 +61,8 @@ pub fn order_giving_apart<P: Progress>(
 
 /// An order that ends with the call and gives it this reply, which some order of all calls does. It searches like
 /// `order_giving_apart`.
-pub fn order_of_reply<P: Progress>(
+pub fn order_of_reply<R: Threads + Sync, P: Progress>(
+    rt: &R,
     alloc: Global,
     config: &Config,
     scripts: &mut [Script],
@@ -78,7 +83,7 @@ pub fn order_of_reply<P: Progress>(
         index: one.index,
         admitted: Admitted::Reply(one.reply.copy()),
     };
-    match order_giving_apart(alloc, config, scripts, clock, &asked, bound, progress) {
+    match order_giving_apart(rt, alloc, config, scripts, clock, &asked, bound, progress) {
         Err(fault) => Err(fault),
         Ok(Some(order)) => Ok(order),
         Ok(None) => unreachable!(),

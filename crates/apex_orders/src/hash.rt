@@ -88,7 +88,7 @@ fn hash_with_bytes(before: u64, bytes: &[u8]) -> u64
 }
 
 /// The hash extended by one number.
-fn mix(hash: u64, number: u64) -> u64
+pub(crate) fn mix(hash: u64, number: u64) -> u64
     ensures { result ≡ mix hash number }
 {
     hash.wrapping_mul(1_000_003).wrapping_add(number)

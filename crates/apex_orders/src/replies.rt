@@ -4,6 +4,7 @@ ghost use Rattle.apex_orders.specs.declared.replies.PossibleReply.{PossibleReply
 ghost use Rattle.apex_orders.specs.Lists.{Has};
 ghost use Rattle.apex_orders.specs.Searching.{Includes};
 
+use crate::hash::mix;
 use crate::hash_index::HashIndex;
 use apex_types::{OutOfMemory, Reply};
 use std::alloc::Global;
@@ -64,7 +65,7 @@ impl Replies {
         ensures { OnOk result ((other : PossibleReply) →
             Has self.new other ↔ (Has self.old other ⊎ (other ≡ one.now))) }
     {
-        let hash = call_hash(one);
+        let hash = reply_hash(one);
         let mut count = self.hashes.up_to_last(hash);
         while count > 0 {
             let k = count - 1;
@@ -110,11 +111,23 @@ impl Replies {
     }
 }
 
-/// A number that is the same for the replies to one call.
-fn call_hash(one: &PossibleReply) -> u64 {
-    (one.partition as u64)
-        .wrapping_mul(1_000_003)
-        .wrapping_add(one.index as u64)
+/// A number that is the same for equal replies to one call.
+fn reply_hash(one: &PossibleReply) -> u64 {
+    let call = mix(one.partition as u64, one.index as u64);
+    match &one.reply {
+        Reply::Received(message) => bytes_hash(call, message.bytes()),
+        Reply::Read { message, .. } => bytes_hash(call, message.bytes()),
+        Reply::QueuingStatus { waiting, .. } => mix(call, *waiting as u64),
+        _ => call,
+    }
+}
+
+fn bytes_hash(before: u64, bytes: &[u8]) -> u64 {
+    let mut hash = before;
+    for byte in bytes {
+        hash = mix(hash, *byte as u64);
+    }
+    hash
 }
 
 /// Whether they are equal.

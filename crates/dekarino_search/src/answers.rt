@@ -15,10 +15,12 @@ use apex_ports::Script;
 use dekarino_command_line::{Form, Question, SearchLimits};
 use dekarino_texts::LineNumbers;
 use std::alloc::{AllocError, Global};
+use std::thread::Threads;
 
 /// The answers to questions, in the order given. Each of several is below a line with its question, also an undecided
 /// one. Each has a search of its own, which gives up at the limits.
-pub(crate) fn answers_to<'a, P: Progress>(
+pub(crate) fn answers_to<'a, R: Threads + Sync, P: Progress>(
+    rt: &R,
     alloc: Global,
     config: &Config,
     scripts: &mut [Script],
@@ -35,18 +37,19 @@ pub(crate) fn answers_to<'a, P: Progress>(
     match (questions, all_asked) {
         ([question], [asked]) => {
             let answer = answer_to(
-                alloc, config, scripts, lines, limits, question, asked, form, progress,
+                rt, alloc, config, scripts, lines, limits, question, asked, form, progress,
             )?;
             Ok(answer.verdict.outcome(answer.text.into_bytes()))
         }
         _ => several_answers(
-            alloc, config, scripts, lines, limits, questions, all_asked, form, progress,
+            rt, alloc, config, scripts, lines, limits, questions, all_asked, form, progress,
         ),
     }
 }
 
 /// The answer to a question.
-fn answer_to<'a, P: Progress>(
+fn answer_to<'a, R: Threads + Sync, P: Progress>(
+    rt: &R,
     alloc: Global,
     config: &Config,
     scripts: &mut [Script],
@@ -62,9 +65,11 @@ fn answer_to<'a, P: Progress>(
 {
     match (question, asked) {
         (Question::Why(words), AskedOf::Call(asked)) => find_reason(
-            alloc, config, scripts, lines, limits, words, asked, form, progress,
+            rt, alloc, config, scripts, lines, limits, words, asked, form, progress,
         ),
-        _ => find_occurrence(alloc, config, scripts, limits, question, asked, progress),
+        _ => find_occurrence(
+            rt, alloc, config, scripts, limits, question, asked, progress,
+        ),
     }
 }
 
@@ -87,7 +92,8 @@ fn all_asked_in<'a>(
 }
 
 /// The answers, each after a line with its question.
-fn several_answers<'a, P: Progress>(
+fn several_answers<'a, R: Threads + Sync, P: Progress>(
+    rt: &R,
     alloc: Global,
     config: &Config,
     scripts: &mut [Script],
@@ -105,7 +111,7 @@ fn several_answers<'a, P: Progress>(
     for (question, asked) in questions.iter().zip(all_asked.iter()) {
         push_question(&mut text, question, form)?;
         let answer = answer_to(
-            alloc, config, scripts, lines, limits, question, asked, form, progress,
+            rt, alloc, config, scripts, lines, limits, question, asked, form, progress,
         );
         match answer {
             Ok(answer) => {

@@ -17,6 +17,7 @@ use apex_types::OutOfMemory;
 use apex_words::push_logged;
 use dekarino_command_line::{Question, SearchLimits};
 use std::alloc::{AllocError, Global};
+use std::thread::Threads;
 
 /// The text if no order is.
 const NEVER: &str = "never\n";
@@ -30,7 +31,8 @@ pub(crate) struct Answer {
 
 /// The answer to a question: an order, as a log, in which the call gets an admitted reply or which leads to such an end; or
 /// that there is none.
-pub(crate) fn find_occurrence<'a, P: Progress>(
+pub(crate) fn find_occurrence<'a, R: Threads + Sync, P: Progress>(
+    rt: &R,
     alloc: Global,
     config: &Config,
     scripts: &mut [Script],
@@ -46,10 +48,28 @@ pub(crate) fn find_occurrence<'a, P: Progress>(
     let (clock, states) = (limits.clock, search.states());
     let found = match asked {
         AskedOf::Call(asked) => {
-            order_giving_apart(alloc, config, scripts, clock, asked, states, &mut search)
+            order_giving_apart(
+                rt,
+                alloc,
+                config,
+                scripts,
+                clock,
+                asked,
+                states,
+                &mut search,
+            )
         }
         AskedOf::End(asked) => {
-            order_to_end(alloc, config, scripts, clock, asked, states, &mut search)
+            order_to_end(
+                rt,
+                alloc,
+                config,
+                scripts,
+                clock,
+                asked,
+                states,
+                &mut search,
+            )
         }
     };
     let order = match found {

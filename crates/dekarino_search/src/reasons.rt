@@ -16,10 +16,12 @@ use apex_ports::Script;
 use dekarino_command_line::{Form, SearchLimits};
 use dekarino_texts::LineNumbers;
 use std::alloc::Global;
+use std::thread::Threads;
 
 /// The answer to `--why`: two calls that decide whether the asked call gets an admitted reply, with both orders; or that
 /// it gets one in no order, or in every order.
-pub(crate) fn find_reason<'a, P: Progress>(
+pub(crate) fn find_reason<'a, R: Threads + Sync, P: Progress>(
+    rt: &R,
     alloc: Global,
     config: &Config,
     scripts: &mut [Script],
@@ -35,7 +37,16 @@ pub(crate) fn find_reason<'a, P: Progress>(
 {
     let mut search = SearchProgress::new(progress, limits);
     let (clock, states) = (limits.clock, search.states());
-    let found = deciding_calls(alloc, config, scripts, clock, asked, states, &mut search);
+    let found = deciding_calls(
+        rt,
+        alloc,
+        config,
+        scripts,
+        clock,
+        asked,
+        states,
+        &mut search,
+    );
     let reason = match found {
         Ok(reason) => reason,
         Err(fault) => return Err(unfinished_by(fault, &search)),

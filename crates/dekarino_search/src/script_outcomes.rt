@@ -23,11 +23,13 @@ use apex_types::OutOfMemory;
 use dekarino_command_line::{Form, Question, SearchLimits};
 use dekarino_texts::{LineNumbers, OutcomeText, walk_outcomes};
 use std::alloc::{AllocError, Global};
+use std::thread::Threads;
 
 /// All replies that the scripts named by the arguments can get, on the configuration in a file, or the answers to
 /// questions. If `witness` is given, orders for the replies of calls that have several are written to files in that
 /// folder. A search gives up at the limits.
-pub fn outcomes_of_scripts<'a, O: Opener + FileWriter, P: Progress>(
+pub fn outcomes_of_scripts<'a, R: Threads + Sync, O: Opener + FileWriter, P: Progress>(
+    rt: &R,
     alloc: Global,
     opener: &O,
     config: &'a str,
@@ -47,18 +49,27 @@ pub fn outcomes_of_scripts<'a, O: Opener + FileWriter, P: Progress>(
     }
     if !questions.is_empty() {
         return answers_to(
-            alloc, &config, scripts, lines, limits, questions, form, progress,
+            rt, alloc, &config, scripts, lines, limits, questions, form, progress,
         );
     }
     let mut progress = SearchProgress::new(progress, limits);
     let states = progress.states();
-    let found = all_outcomes_apart(alloc, &config, scripts, limits.clock, states, &mut progress);
+    let found = all_outcomes_apart(
+        rt,
+        alloc,
+        &config,
+        scripts,
+        limits.clock,
+        states,
+        &mut progress,
+    );
     let found = match found {
         Ok(found) => found,
         Err(fault) => return Err(unfinished_by(fault, &progress)),
     };
     let replies = found.replies.as_slice();
     let files = write_witnesses(
+        rt,
         alloc,
         opener,
         &config,

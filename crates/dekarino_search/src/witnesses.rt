@@ -15,6 +15,7 @@ use apex_ports::{ReplyRef, Script};
 use apex_texts::push_reply;
 use dekarino_texts::{LineNumbers, is_to, line_at, numbers_of, replies_to};
 use std::alloc::{AllocError, Global};
+use std::thread::Threads;
 
 /// The most files that are written.
 const MOST_FILES: usize = 1_000;
@@ -24,7 +25,8 @@ const MOST_CHARACTERS: usize = 80;
 
 /// Writes an order for each reply of the calls that have several to a file in the folder, if one is given, and returns the
 /// names of the files, in the order of the calls. Each order has a search of its own.
-pub(crate) fn write_witnesses<'a, O: FileWriter, P: Progress>(
+pub(crate) fn write_witnesses<'a, R: Threads + Sync, O: FileWriter, P: Progress>(
+    rt: &R,
     alloc: Global,
     files: &O,
     config: &Config,
@@ -54,7 +56,7 @@ pub(crate) fn write_witnesses<'a, O: FileWriter, P: Progress>(
             if replies_to(alloc, p, index, replies)?.len() > 1 {
                 let line = line_at(numbers, index);
                 write_call(
-                    alloc, files, config, scripts, clock, p, index, line, replies, folder,
+                    rt, alloc, files, config, scripts, clock, p, index, line, replies, folder,
                     progress, &mut names,
                 )?;
             }
@@ -64,7 +66,8 @@ pub(crate) fn write_witnesses<'a, O: FileWriter, P: Progress>(
 }
 
 /// Writes an order for each reply to the call at an index of the partition's script.
-fn write_call<'a, O: FileWriter, P: Progress>(
+fn write_call<'a, R: Threads + Sync, O: FileWriter, P: Progress>(
+    rt: &R,
     alloc: Global,
     files: &O,
     config: &Config,
@@ -89,7 +92,7 @@ fn write_call<'a, O: FileWriter, P: Progress>(
             number = number.saturating_add(1);
             let name = file_name(alloc, config, p, line, number, one)?;
             write_order(
-                alloc, files, config, scripts, clock, one, folder, &name, progress,
+                rt, alloc, files, config, scripts, clock, one, folder, &name, progress,
             )?;
             if let Err(refused) = names.push(name) {
                 return Err(Unfinished::from(AllocError::from(refused)));
@@ -100,7 +103,8 @@ fn write_call<'a, O: FileWriter, P: Progress>(
 }
 
 /// Writes an order that ends with the reply to the file with this name in the folder.
-fn write_order<'a, O: FileWriter, P: Progress>(
+fn write_order<'a, R: Threads + Sync, O: FileWriter, P: Progress>(
+    rt: &R,
     alloc: Global,
     files: &O,
     config: &Config,
@@ -116,7 +120,7 @@ fn write_order<'a, O: FileWriter, P: Progress>(
     ensures same { scripts.new ≡ scripts.old }
 {
     let states = progress.states();
-    let order = match order_of_reply(alloc, config, scripts, clock, one, states, progress) {
+    let order = match order_of_reply(rt, alloc, config, scripts, clock, one, states, progress) {
         Ok(order) => order,
         Err(fault) => return Err(unfinished_by(fault, progress)),
     };

@@ -279,6 +279,7 @@ fn perform<'a, R: Threads + Wait + Sync, O: Opener + FileWriter, P: Progress, W:
             witness,
             form,
         } => outcomes_of_scripts(
+            rt,
             alloc,
             opener,
             config,
