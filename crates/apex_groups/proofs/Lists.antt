@@ -1,44 +1,12 @@
 -- Items of lists.
 use Rattle.apex_groups.proofs.Common.{◌≡◌, ◌⊎◌, inl, inr, ⊎_elim, ℕ, zero, suc, ◌<◌, Bool, true, false, cond, List, [], ◌∷◌, ◌++◌, length, map, Some, refl, sym, ap, subst, ◌∙◌, arith, slice_get, filter, Has}
-use Rattle.apex_orders.proofs.Lists.{stays_before}
+use Rattle.apex_orders.proofs.Having.{first_or_rest, has_none, has_rest}
 
 module _ {X : Type 0} where
-  pub has_none : (x : X) → Has [] x → ⊥
-  has_none x has = absurd (let at = has.1 in cc)
-
-  has_rest : (y : X) (xs : List X) (x : X) → Has xs x → Has (y ∷ xs) x
-  has_rest y xs x has = (suc has.0, has.1)
-
   pub item_at : (xs : List X) (k : ℕ) → k < length xs → (x : X) × (slice_get xs k ≡ Some x)
   item_at [] k within = absurd (omega arith)
   item_at (x ∷ xs) zero within = (x, refl)
   item_at (x ∷ xs) (suc k) within = item_at xs k (omega arith)
-
-  pub has_before : (xs ys : List X) (x : X) → Has xs x → Has (xs ++ ys) x
-  has_before xs ys x has = (has.0, stays_before xs ys has.0 x has.1)
-
-  pub has_behind : (xs ys : List X) (x : X) → Has ys x → Has (xs ++ ys) x
-  has_behind [] ys x has = has
-  has_behind (y ∷ xs) ys x has = has_rest y (xs ++ ys) x (has_behind xs ys x has)
-
-  -- an item of a list is its first one, or one of the rest
-  pub first_or_rest : (y : X) (xs : List X) (x : X) → Has (y ∷ xs) x → (y ≡ x) ⊎ Has xs x
-  first_or_rest y xs x has = of_index has.0 has.1
-    where
-      of_index : (k : ℕ) → slice_get (y ∷ xs) k ≡ Some x → (y ≡ x) ⊎ Has xs x
-      of_index zero at = inl (let same : y ≡ x = cc in same)
-      of_index (suc k) at = inr (k, at)
-
-  pub has_either : (xs ys : List X) (x : X) → Has (xs ++ ys) x → Has xs x ⊎ Has ys x
-  has_either [] ys x has = inr has
-  has_either (y ∷ xs) ys x has =
-      ⊎_elim
-      (λ (first : y ≡ x). inl (0, ap Some first))
-      (λ (rest : Has (xs ++ ys) x). ⊎_elim
-      (λ (mine : Has xs x). inl (has_rest y xs x mine))
-      (λ (theirs : Has ys x). inr theirs)
-      (has_either xs ys x rest))
-      (first_or_rest y (xs ++ ys) x has)
 
   pub has_filtered : (f : X → Bool) (xs : List X) (x : X) → Has (filter f xs) x → Has xs x
   has_filtered f [] x has = has

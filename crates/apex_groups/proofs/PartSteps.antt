@@ -9,7 +9,8 @@ use Rattle.apex_groups.specs.Parts.{AreBelow, HoldsPart, IsFed, IsReader, id_ask
 use Rattle.apex_groups.specs.declared.parts.Parts.{Parts}
 use Rattle.apex_groups.proofs.AlikeInside.{is_own, is_own_call}
 use Rattle.apex_groups.proofs.GroupLemmas.{owner_within}
-use Rattle.apex_groups.proofs.Lists.{has_before, first_or_rest, has_behind, has_either, has_filtered, has_kept, has_none, is_kept, item_at}
+use Rattle.apex_groups.proofs.Lists.{has_filtered, has_kept, is_kept, item_at}
+use Rattle.apex_orders.proofs.Having.{has_before, first_or_rest, has_behind, has_either, has_none}
 use Rattle.apex_groups.proofs.PartLemmas.{occurs_within}
 use Rattle.apex_orders.specs.Clock.{IsClocked}
 use Rattle.apex_groups.proofs.PartWays.{answered_in_part, clocked_in_part, merged_answers, occurs_in_all, occurs_in_part, part_way, same_totals, way_in_part}

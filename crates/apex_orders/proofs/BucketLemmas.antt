@@ -1,5 +1,5 @@
 -- Hashes in buckets.
-use Rattle.apex_orders.proofs.Common.{◌≡◌, ⊎_elim, ℕ, ◌+◌, ◌<◌, ◌≤◌, ◌%◌, List, [], ◌∷◌, ◌++◌, length, length-append, get_or, Some, sym, ap, ◌∙◌, subst, arith, slice_get, cases_eq, slice_get-get_or, get_or_from_slice_get, slice_get_within, get_or-set_same, get_or-set_other, length-set, IsLastOf, AreChained, AreFiledBelow, AreFiled, AreNone}
+use Rattle.apex_orders.proofs.Common.{◌≡◌, ⊎_elim, ℕ, ◌+◌, ◌<◌, ◌≤◌, ◌%◌, List, [], ◌∷◌, ◌++◌, length, length-append, get_or, Some, sym, ap, ◌∙◌, subst, arith, slice_get, cases_eq, slice_get-get_or, get_or_from_slice_get, slice_get_within, get_or-set_same, get_or-set_other, length-set, IsLastOf, AreChained, AreFiledBelow, AreFiled}
 use Rattle.std.proofs.Math.ListN.{set}
 use Rattle.apex_orders.proofs.Lists.{before_or_last, stays_before}
 

@@ -3,7 +3,7 @@ use Rattle.apex_orders.proofs.Common.{◌≡◌, ◌≢◌, ⊎_elim, ℕ, ◌+�
 use Rattle.apex_orders.proofs.Common.{Scripts, script_of, IsWay, next_entries, IsEnoughWith}
 use Rattle.apex_orders.proofs.ChoiceLemmas.{has_script}
 use Rattle.apex_orders.proofs.Enough.{enough_goes_first}
-use Rattle.apex_orders.proofs.Lists.{at_seam, before_or_last, stays_before}
+use Rattle.apex_orders.proofs.Lists.{at_seam, before_or_last}
 use Rattle.apex_orders.proofs.SameWays.{next_call, next_entry, same_way, timed_of}
 use Rattle.apex_orders.proofs.Walks.{IsDone, IsNext, answered, entries_of-append, next_cases, one_longer, other_entry, own_entry, same_history}
 

@@ -1,5 +1,5 @@
 -- The known points, with one more, and without the first that were saved.
-use Rattle.apex_orders.proofs.Common.{◌≡◌, ⊎_elim, ℕ, suc, ◌+◌, ◌-◌, ◌≤◌, List, [], ◌∷◌, ◌++◌, length, Bor, Option, Some, None, sym, ap, ◌∙◌, subst, arith, length-append, slice_get, IfSome, slice_get_within, Configuration, PortsView, IsAfter, ArePoints, hash_of, AreHashes, Scripts, history_of, order_at}
+use Rattle.apex_orders.proofs.Common.{◌≡◌, ⊎_elim, ℕ, ◌+◌, ◌-◌, ◌≤◌, List, [], ◌∷◌, ◌++◌, length, Bor, Option, Some, None, sym, ap, ◌∙◌, subst, arith, length-append, slice_get, IfSome, slice_get_within, Configuration, PortsView, IsAfter, ArePoints, hash_of, AreHashes, Scripts, history_of, order_at}
 use Rattle.apex_orders.specs.declared.points.Points.{Points}
 use Rattle.apex_orders.proofs.GrowthLemmas.{order_here}
 use Rattle.apex_orders.proofs.Lists.{at_behind, before_or_last, stays_before}

@@ -1,9 +1,8 @@
 -- The histories that orders lead to are beginnings, and each beginning is the history of its order.
-use Rattle.apex_orders.proofs.Common.{◌≡◌, ◌≢◌, ◌⊎◌, inl, inr, ⊎_elim, ℕ, zero, suc, if◌then◌else◌, ◌<◌, ◌==◌, true, false, List, [], ◌∷◌, ◌++◌, length, take, map, Option, Some, None, refl, sym, ap, ◌∙◌, subst, arith, append_assoc, append-nil, length-append, slice_get, cases_eq, nat_tests, length-map, map-append, Call, Moment, Reply, Configuration, Entry, History, entry_of, entries_of, IsLawful, reply_to, IsSound}
-use Rattle.apex_orders.proofs.Common.{sound-push, Scripts, script_of, calls_of, replies_of, IsBeginning, order_of, IsOrder, entries_for, next_entries, continued, history_of}
+use Rattle.apex_orders.proofs.Common.{◌≡◌, ◌≢◌, ◌⊎◌, inl, inr, ⊎_elim, ℕ, zero, suc, if◌then◌else◌, ◌<◌, ◌==◌, true, false, List, [], ◌∷◌, ◌++◌, length, take, map, Option, Some, None, refl, sym, ap, ◌∙◌, subst, arith, append-nil, length-append, slice_get, cases_eq, nat_tests, length-map, map-append, Call, Moment, Reply, Configuration, Entry, History, entry_of, entries_of, IsLawful, reply_to, IsSound}
+use Rattle.apex_orders.proofs.Common.{sound-push, Scripts, script_of, calls_of, replies_of, IsBeginning, order_of, IsOrder, entries_for, next_entries, continued}
 use Rattle.std.proofs.lemmas.List.Elements.{filter-append}
-use Rattle.apex_orders.proofs.GoingOn.{lawful_here}
-use Rattle.apex_orders.proofs.Lists.{at_seam, take_one_more, taken_from}
+use Rattle.apex_orders.proofs.Lists.{take_one_more}
 
 -- ---- what one partition did
 

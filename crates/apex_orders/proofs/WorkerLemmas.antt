@@ -1,6 +1,6 @@
 -- What a worker is given, finds and knows.
-use Rattle.apex_orders.proofs.Common.{◌≡◌, ⊎_elim, ℕ, ◌+◌, ◌<◌, ◌≤◌, Bool, List, [], ◌∷◌, ◌++◌, length, map, Ok, Err, Result, OnOk, Some, false, refl, sym, ap, ◌∙◌, subst, arith, cases_lt, append_assoc, map-append, length-append, get_or, slice_get, slice_get-get_or, Configuration, History, PortsView, PossibleReply, FoundPoint, Worker, Scripts, Has, IsAfter, IsSamePoint, IsTried, hash_of, history_of, order_at, Keeps, Includes, Knows, HasTriedEnough}
-use Rattle.apex_orders.proofs.Common.{AreGiven, AreHashed, HasPoint, HasTriedFrom, IsFoundBy, IsLaterWorker, IsRange, IsWorker, order_given, order_found, orders_known}
+use Rattle.apex_orders.proofs.Common.{◌≡◌, ⊎_elim, ℕ, ◌+◌, ◌<◌, ◌≤◌, Bool, List, [], ◌∷◌, ◌++◌, length, map, Ok, Err, Result, OnOk, Some, false, sym, ap, ◌∙◌, subst, arith, cases_lt, append_assoc, map-append, length-append, get_or, slice_get, slice_get-get_or, Configuration, History, PortsView, PossibleReply, FoundPoint, Worker, Scripts, Has, IsAfter, IsSamePoint, hash_of, history_of, order_at, Keeps, Includes, Knows, HasTriedEnough}
+use Rattle.apex_orders.proofs.Common.{AreGiven, AreHashed, HasPoint, HasTriedFrom, IsFoundBy, IsLaterWorker, IsRange, order_given, order_found, orders_known}
 use Rattle.std.specs.Result.{is_err}
 use Rattle.apex_orders.proofs.Following.{same_along}
 use Rattle.apex_orders.proofs.GrowthLemmas.{order_here}

@@ -1,4 +1,4 @@
-use Rattle.apex_orders.proofs.Common.{◌≡◌, ⊎_elim, ◌+◌, ◌<◌, ℕ, Some, sym, subst, arith, cases_eq, IsAnswer, IsUnansweredAt}
+use Rattle.apex_orders.proofs.Common.{◌≡◌, ⊎_elim, ◌+◌, ℕ, Some, sym, subst, arith, cases_eq, IsAnswer, IsUnansweredAt}
 use Rattle.apex_orders.proofs.SearchLemmas.{without}
 use Rattle.apex_orders.proofs.answer.first_answer.Goals as goal
 

@@ -1,4 +1,4 @@
-use Rattle.apex_orders.proofs.Common.{◌≡◌, ⊎_elim, ◌+◌, ◌-◌, ◌<◌, ◌≤◌, ℕ, List, [], length, Option, Some, arith, sym, ap, ◌∙◌, subst, cases_lt, option_copied, Asked, PossibleReply, AreUnansweredFrom, HasEnded, HasTried, IsAnswer, IsSearchedInVain, IsUnansweredAt}
+use Rattle.apex_orders.proofs.Common.{◌≡◌, ⊎_elim, ◌+◌, ◌-◌, ◌<◌, ◌≤◌, ℕ, List, [], Option, arith, sym, ap, ◌∙◌, subst, cases_lt, option_copied, Asked, PossibleReply, AreUnansweredFrom, HasEnded, IsAnswer, IsSearchedInVain, IsUnansweredAt}
 use Rattle.apex_orders.proofs.EndLemmas.{given_up_none}
 use Rattle.apex_orders.proofs.GrowthLemmas.{still_many}
 use Rattle.apex_orders.proofs.SearchLemmas.{has_tried_kept, keeps_within, unanswered_kept, without}

@@ -1,4 +1,4 @@
-use Rattle.apex_orders.proofs.Common.{◌≡◌, ⊎_elim, ◌<◌, ◌≤◌, ◌-◌, ℕ, length, List, Some, arith, refl, ap, sym, ◌∙◌, subst, slice_get, cases_eq, cases_lt, false≢true, slice_get_within, Configuration, History, PortsView, FoundPoint, hash_of, AreHashed, IsSamePoint}
+use Rattle.apex_orders.proofs.Common.{◌≡◌, ⊎_elim, ◌<◌, ◌≤◌, ◌-◌, ℕ, List, Some, arith, refl, ap, sym, ◌∙◌, subst, slice_get, cases_eq, cases_lt, false≢true, slice_get_within, Configuration, History, PortsView, FoundPoint, hash_of, AreHashed, IsSamePoint}
 use Rattle.apex_orders.proofs.HashLemmas.{same_hash}
 use Rattle.apex_orders.proofs.worker.has_found.Goals as goal
 

@@ -1,4 +1,4 @@
-use Rattle.apex_orders.proofs.Common.{◌≡◌, List, ℕ, sym, ◌∙◌, subst, LastUses, AreOfScripts, Worker, IsLaterWorker, Keeps}
+use Rattle.apex_orders.proofs.Common.{List, ℕ, sym, ◌∙◌, subst, LastUses, AreOfScripts, IsLaterWorker, Keeps}
 use Rattle.apex_orders.proofs.SearchLemmas.{includes_along, keeps_along}
 use Rattle.apex_orders.proofs.WorkerLemmas.{on_ok, same_range, when_ok}
 use Rattle.apex_orders.proofs.workers.try_alone.Goals as goal

@@ -1,4 +1,4 @@
-use Rattle.apex_orders.proofs.Common.{◌≡◌, ◌+◌, ◌-◌, ◌≤◌, List, ℕ, length, sym, ◌∙◌, subst, arith, LastUses, AreOfScripts, Worker, HasTriedFrom, IsLaterWorker, IsRange, Keeps}
+use Rattle.apex_orders.proofs.Common.{◌≡◌, ◌+◌, ◌-◌, ◌≤◌, List, ℕ, length, sym, ◌∙◌, subst, arith, LastUses, AreOfScripts, HasTriedFrom, IsLaterWorker, IsRange, Keeps}
 use Rattle.std.proofs.Common.{◌/◌}
 use Rattle.apex_orders.proofs.GrowthLemmas.{still_many}
 use Rattle.apex_orders.proofs.SearchLemmas.{includes_along, keeps_along}

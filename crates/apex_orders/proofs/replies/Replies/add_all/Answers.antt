@@ -1,4 +1,4 @@
-use Rattle.apex_orders.proofs.Common.{◌≡◌, ◌⊎◌, inl, inr, ⊎_elim, ◌<◌, ℕ, List, Some, sym, ap, ◌∙◌, subst, arith, cases_eq, get_or, length, slice_get, slice_get-get_or, slice_get_within, PossibleReply, Has}
+use Rattle.apex_orders.proofs.Common.{◌≡◌, inl, inr, ⊎_elim, ℕ, List, Some, sym, ap, ◌∙◌, arith, cases_eq, length, slice_get, slice_get-get_or, slice_get_within, PossibleReply, Has}
 use Rattle.apex_orders.proofs.replies.Replies.add_all.Goals as goal
 
 pub loop-k-preserved : goal.loop-k-preserved

@@ -1,4 +1,4 @@
-use Rattle.apex_orders.proofs.Common.{◌≡◌, Bool, ◌^◌, ◌⊎◌, inl, inr, ⊎_elim, ◌+◌, ◌<◌, ◌++◌, ◌∷◌, [], List, ℕ, Option, Some, None, length, drop, map, option_to_list, refl, sym, ap, ◌∙◌, subst, arith, slice_get, Configuration, History, PossibleReply, FoundPoint, Worker, Scripts, Has, Keeps, Knows, IsAfter, IsClocked, IsFoundBy, IsWorker, history_of, order_at, order_given, order_found, orders_known}
+use Rattle.apex_orders.proofs.Common.{◌≡◌, Bool, ◌^◌, inl, inr, ⊎_elim, ◌+◌, ◌<◌, ◌++◌, ◌∷◌, [], List, ℕ, Option, Some, None, length, drop, map, option_to_list, refl, sym, ap, ◌∙◌, subst, arith, Configuration, History, FoundPoint, Worker, Scripts, Has, Keeps, Knows, IsAfter, IsClocked, IsFoundBy, IsWorker, history_of, order_at, order_found, orders_known}
 use Rattle.apex_orders.proofs.Following.{same_self}
 use Rattle.apex_orders.proofs.GrowthLemmas.{order_kept, still_within}
 use Rattle.apex_orders.proofs.Having.{first_or_rest, has_behind, has_mapped, has_none, has_rest}

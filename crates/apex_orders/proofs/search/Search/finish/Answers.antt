@@ -1,6 +1,5 @@
-use Rattle.apex_orders.proofs.Common.{◌≡◌, ⊎_elim, ◌+◌, ◌-◌, ◌<◌, ◌≤◌, List, ℕ, Some, length, refl, sym, ap, ◌∙◌, subst, arith, false, slice_get, PossibleReply, Worker, Has, Includes, IsWorker, HasContinued, HasTriedEnough, Keeps, order_at, order_given, orders_known}
+use Rattle.apex_orders.proofs.Common.{◌≡◌, ⊎_elim, ◌+◌, ◌-◌, ◌<◌, ℕ, Some, length, sym, ap, ◌∙◌, subst, arith, slice_get, Has, IsWorker, HasContinued, HasTriedEnough, Keeps, order_given, orders_known}
 use Rattle.apex_orders.proofs.GrowthLemmas.{order_here}
-use Rattle.apex_orders.proofs.SearchLemmas.{includes_along}
 use Rattle.apex_orders.proofs.WorkerLemmas.{tried_along, when_ok}
 use Rattle.apex_orders.proofs.search.Search.finish.Goals as goal
 

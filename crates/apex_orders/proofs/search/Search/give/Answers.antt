@@ -1,5 +1,4 @@
-use Rattle.apex_orders.proofs.Common.{◌≡◌, ◌+◌, ◌++◌, [], List, ℕ, length, map, refl, sym, ap, ◌∙◌, subst, arith, append-nil, length-append, PortsView, PossibleReply, FoundPoint, Worker, Has, AreOrders, AreClocked, AreFound, AreHashed, IsAfter, IsTrialOf, order_at, order_found, orders_known}
-use Rattle.apex_orders.specs.declared.trial.Trial.{Trial}
+use Rattle.apex_orders.proofs.Common.{◌≡◌, ◌+◌, ◌++◌, [], List, ℕ, length, map, refl, sym, ap, ◌∙◌, subst, arith, append-nil, FoundPoint, Worker, Has, AreOrders, AreClocked, AreFound, AreHashed, IsAfter, IsTrialOf, order_at, order_found, orders_known}
 use Rattle.apex_orders.proofs.Having.{has_none}
 use Rattle.apex_orders.proofs.KnownLemmas.{points_given, points_left}
 use Rattle.apex_orders.proofs.SearchLemmas.{none_found}

@@ -1,4 +1,4 @@
-use Rattle.apex_orders.proofs.Common.{◌≡◌, ◌++◌, ◌∷◌, [], List, ℕ, sym, ◌∙◌, ap, subst, false≢true, PortsView, IsClocked, IsAfter, ArePoints, hash_of, IsOrder, history_of, order_at, Knows, AreOrders, AreApart, AreClocked, Keeps}
+use Rattle.apex_orders.proofs.Common.{◌≡◌, ◌++◌, ◌∷◌, [], List, ℕ, sym, ◌∙◌, ap, subst, false≢true, IsClocked, ArePoints, hash_of, IsOrder, history_of, order_at, Knows, AreOrders, AreApart, AreClocked, Keeps}
 use Rattle.apex_orders.proofs.GrowthLemmas.{order_here}
 use Rattle.apex_orders.proofs.KnownLemmas.{points_push}
 use Rattle.apex_orders.proofs.SearchLemmas.{apart_push, clocked_push, keeps_push, knows_push, longer_is_order, orders_push}

@@ -1,4 +1,4 @@
-use Rattle.apex_orders.proofs.Common.{◌≡◌, ◌+◌, ◌++◌, ◌∷◌, [], List, ℕ, map, refl, ap, sym, ◌∙◌, subst, Configuration, PortsView, FoundPoint, Worker, Has, IsClocked, IsAfter, hash_of, IsOrder, history_of, Knows, AreOrders, AreClocked, AreHashed, HasPoint, IsFoundBy, Keeps, order_given, order_found, orders_known}
+use Rattle.apex_orders.proofs.Common.{◌≡◌, ◌+◌, ◌++◌, ◌∷◌, [], List, ℕ, map, refl, ap, sym, ◌∙◌, subst, Configuration, PortsView, FoundPoint, Worker, Has, IsClocked, hash_of, IsOrder, history_of, Knows, AreOrders, AreClocked, AreHashed, HasPoint, IsFoundBy, Keeps, order_given, order_found, orders_known}
 use Rattle.apex_orders.proofs.SearchLemmas.{clocked_push, keeps_push, knows_push, longer_is_order, orders_push}
 use Rattle.apex_orders.proofs.WorkerLemmas.{found_push, given_known, hashes_push, known_push, point_known}
 use Rattle.apex_orders.proofs.worker.Worker.learn.Goals as goal

@@ -1,4 +1,4 @@
-use Rattle.apex_orders.proofs.Common.{Worker, IsWorker}
+use Rattle.apex_orders.proofs.Common.{IsWorker}
 use Rattle.apex_orders.proofs.WorkerLemmas.{on_ok}
 use Rattle.apex_orders.proofs.worker.Worker.run.Goals as goal
 

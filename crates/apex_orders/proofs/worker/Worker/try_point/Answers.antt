@@ -1,4 +1,4 @@
-use Rattle.apex_orders.proofs.Common.{◌≡◌, ℕ, true, Bool, List, length, sym, ap, ◌∙◌, subst, Configuration, History, PortsView, Worker, Scripts, LastUses, is_tried, AreOfScripts, AreDue, IsAfter, IsEnoughWith, IsWorker, order_given}
+use Rattle.apex_orders.proofs.Common.{◌≡◌, ℕ, true, Bool, List, sym, ◌∙◌, subst, Configuration, History, PortsView, Scripts, is_tried, AreOfScripts, AreDue, IsAfter, IsEnoughWith, order_given}
 use Rattle.apex_orders.proofs.WorkerLemmas.{given_at}
 use Rattle.apex_orders.proofs.worker.Worker.try_point.Goals as goal
 

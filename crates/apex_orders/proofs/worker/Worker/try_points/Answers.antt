@@ -1,4 +1,4 @@
-use Rattle.apex_orders.proofs.Common.{◌≡◌, ⊎_elim, ℕ, ◌+◌, ◌<◌, List, length, sym, ap, subst, arith, cases_eq, PortsView, HasTriedEnough, order_given, orders_known}
+use Rattle.apex_orders.proofs.Common.{◌≡◌, ⊎_elim, ℕ, sym, subst, arith, cases_eq, HasTriedEnough, order_given, orders_known}
 use Rattle.apex_orders.proofs.WorkerLemmas.{enough_kept, later_along, same_given}
 use Rattle.apex_orders.proofs.worker.Worker.try_points.Goals as goal
 

@@ -1,4 +1,4 @@
-use Rattle.apex_orders.proofs.Common.{◌≡◌, ℕ, ◌<◌, HasTriedEnough, IsLaterWorker, IsWorker, order_given, orders_known}
+use Rattle.apex_orders.proofs.Common.{ℕ, ◌<◌, HasTriedEnough, IsLaterWorker, IsWorker, order_given, orders_known}
 use Rattle.apex_orders.proofs.worker.Worker.try_points.Given as goal
 
 abbrev pub invariant-loop-j : goal.invariant-loop-j
