@@ -5,7 +5,7 @@ use Rattle.apex_ports.proofs.Lookups.{at_index}
 use Rattle.dekarino_search.proofs.witnesses.write_call.Goals as goal
 
 pub write_order-requires-clause-possible : goal.write_order-requires-clause-possible
-write_order-requires-clause-possible g c =
+write_order-requires-clause-possible g c κs inside =
     let replies = c.args.replies.now in
     let one = c.one-item.result in
     let here = at_index replies c.loop-one.one-index one c.loop-one-test.true c.one-item.is in
