@@ -1,5 +1,5 @@
 -- Hashes in buckets.
-use Rattle.apex_orders.proofs.Common.{◌≡◌, ⊎_elim, ℕ, ◌+◌, ◌<◌, ◌≤◌, ◌%◌, List, [], ◌∷◌, ◌++◌, length, length-append, get_or, Some, sym, ap, ◌∙◌, subst, arith, slice_get, cases_eq, slice_get-get_or, get_or_from_slice_get, slice_get_within, get_or-set_same, get_or-set_other, length-set, IsLastOf, AreChained, AreFiledBelow, AreFiled}
+use Rattle.apex_orders.proofs.Common.{◌≡◌, ⊎_elim, ℕ, ◌+◌, ◌<◌, ◌≤◌, List, [], ◌∷◌, ◌++◌, length, length-append, get_or, Some, sym, ap, ◌∙◌, subst, arith, slice_get, cases_eq, slice_get-get_or, get_or_from_slice_get, slice_get_within, get_or-set_same, get_or-set_other, length-set, IsLastOf, AreChained, AreFiledBelow, AreFiled, bucket_of}
 use Rattle.std.proofs.Math.ListN.{set}
 use Rattle.apex_orders.proofs.Lists.{before_or_last, stays_before}
 
@@ -30,7 +30,7 @@ filed_room hashes earlier last filed = record {
     room = let room = filed.chained.room in omega (arith, room, length-append earlier (0 ∷ []));
     each = λ k hash below at.
         let room = filed.chained.room in
-        subst (IsLastOf hashes (length last) (hash % length last) k) (sym (still_there earlier 0 k (omega (arith, below, room)))) (filed.chained.each k hash below at);
+        subst (IsLastOf hashes (length last) (bucket_of hash (length last)) k) (sym (still_there earlier 0 k (omega (arith, below, room)))) (filed.chained.each k hash below at);
   };
   heads = filed.heads;
 }
@@ -44,7 +44,7 @@ filed_more hashes earlier last hash filed =
       chained = record {
         room = let room = filed.chained.room in omega (arith, room, length-append earlier (0 ∷ []), length-append hashes (hash ∷ []));
         each = λ k other below at.
-            last_of_more hashes hash (length last) (other % length last) k (get_or (earlier ++ 0 ∷ []) k 0) (omega (arith, below))
+            last_of_more hashes hash (length last) (bucket_of other (length last)) k (get_or (earlier ++ 0 ∷ []) k 0) (omega (arith, below))
             (more.chained.each k other below (was_before hashes hash k other below at));
       };
       heads = λ b within. last_of_more hashes hash (length last) b (length hashes) (get_or last b 0) (omega arith) (filed.heads b within);
@@ -53,7 +53,7 @@ filed_more hashes earlier last hash filed =
 -- ---- filing one
 
 module _ (hashes earlier last : List ℕ) (index hash b place : ℕ) (filed : AreFiledBelow hashes earlier last index) (at : slice_get hashes index ≡ Some hash)
-    (own : b ≡ hash % length last) (within : b < length last) (is : place ≡ get_or last b 0) where
+    (own : b ≡ bucket_of hash (length last)) (within : b < length last) (is : place ≡ get_or last b 0) where
   same_count : length (set last b (index + 1)) ≡ length last
   same_count = length-set last b (index + 1)
 
@@ -72,17 +72,17 @@ module _ (hashes earlier last : List ℕ) (index hash b place : ℕ) (filed : Ar
         let inside = slice_get_within hashes index hash at in
         let now : get_or (set earlier index place) k 0 ≡ get_or last b 0 =
         ap (λ (n : ℕ). get_or (set earlier index place) n 0) here ∙ (get_or-set_same earlier index place 0 (omega (arith, room, inside)) ∙ is) in
-        let bucket : b ≡ other % length last = own ∙ ap (λ (n : ℕ). n % length last) (sym (same_hash_at k other here there)) in
+        let bucket : b ≡ bucket_of other (length last) = own ∙ ap (λ (n : ℕ). bucket_of n (length last)) (sym (same_hash_at k other here there)) in
         subst (λ (x : ℕ × ℕ × ℕ). IsLastOf hashes (length last) x.0 x.1 x.2) (λ i. (bucket i, sym here i, sym now i)) (filed.heads b within))
         (λ (apart : k ≡ index → ⊥).
-        subst (IsLastOf hashes (length last) (other % length last) k) (sym (get_or-set_other earlier index k place 0 apart)) (filed.chained.each k other (omega (arith, below, apart)) there))
+        subst (IsLastOf hashes (length last) (bucket_of other (length last)) k) (sym (get_or-set_other earlier index k place 0 apart)) (filed.chained.each k other (omega (arith, below, apart)) there))
         (cases_eq k index);
   }
 
   newest : IsLastOf hashes (length last) b (index + 1) (index + 1)
   newest = record {
     within = omega arith;
-    own = λ k other next there. ap (λ (n : ℕ). n % length last) (same_hash_at k other (omega (arith, next)) there) ∙ sym own;
+    own = λ k other next there. ap (λ (n : ℕ). bucket_of n (length last)) (same_hash_at k other (omega (arith, next)) there) ∙ sym own;
     rest = λ k other below there same. below;
   }
 
@@ -99,7 +99,7 @@ module _ (hashes earlier last : List ℕ) (index hash b place : ℕ) (filed : Ar
         own = was.own;
         rest = λ k other below there same.
             ⊎_elim
-            (λ (here : k ≡ index). absurd (apart (sym same ∙ (ap (λ (n : ℕ). n % length last) (same_hash_at k other here there) ∙ sym own))))
+            (λ (here : k ≡ index). absurd (apart (sym same ∙ (ap (λ (n : ℕ). bucket_of n (length last)) (same_hash_at k other here there) ∙ sym own))))
             (λ (before : k ≡ index → ⊥). was.rest k other (omega (arith, below, before)) there same)
             (cases_eq k index);
       }))

@@ -19,7 +19,7 @@ pub use Rattle.apex_ports.proofs.LawfulSteps.{lawful_push, sound-nil, sound-push
 pub use Rattle.apex_ports.proofs.Lookups.{is_identifier, at_index}
 pub use Rattle.apex_ports.proofs.PartitionSteps.{leaves_others}
 pub use Rattle.apex_ports.proofs.Stays.{LeavesPartition, LeavesChannel, accepted_stays, received_stays, taken_stays, or_not, none_or_none, IsElsewhere, leaves_channel, waiting_stays, sample_stays, and_false, sample_changes, slice_get-set_cases}
-pub use Rattle.apex_orders.specs.Buckets.{IsLastOf, AreChained, AreFiledBelow, AreFiled, AreNone}
+pub use Rattle.apex_orders.specs.Buckets.{IsLastOf, AreChained, AreFiledBelow, AreFiled, AreNone, bucket_of}
 pub use Rattle.apex_orders.specs.Choices.{is_tried, HasNoChannel, IsNextCall, IsOnChannel, IsQuietOutside, IsSafeToTry, IsNextUse}
 pub use Rattle.apex_orders.specs.Clock.{IsNextDue, ClockedNeverFalls, IsDue, IsClocked}
 pub use Rattle.apex_orders.specs.Commuting.{names, Commutes, id_in, port_in, is_on, is_change, changes, IsApart, AlwaysCommutes, channel_in, channel_named}
@@ -34,7 +34,7 @@ pub use Rattle.apex_orders.specs.Points.{IsSamePoint, IsSameCalls, HasSameCounts
 pub use Rattle.apex_orders.specs.Searching.{AreDue, IsEnoughWith, IsSearched, IsGivenByAnOrder, HasMadeAll, AreEndsOf, HasMoreOrders, IsGivenUp, Keeps, Knows, Includes, AreOrders, AreApart, AreClocked, IsUnansweredAt, IsTried, HasTried, IsFound, AreFound, HasEnded, IsAnsweredAfter, IsGivenAfter, IsSearchedInVain, IsAnswer, HasTriedEnough, HasTriedFrom, AreUnansweredFrom, IsLater, IsSearch}
 pub use Rattle.apex_orders.specs.States.{IsSameChannel, IsSameState, IsSamePorts, last_shown, IsSamePartition}
 pub use Rattle.apex_orders.specs.Steps.{Makes, MakesNothing}
-pub use Rattle.apex_orders.specs.Workers.{AreHashed, AreGiven, HasPoint, HasContinued, IsFoundBy, IsLaterWorker, IsRange, IsWorker, AreWorkers, order_given, order_found, orders_known}
+pub use Rattle.apex_orders.specs.Workers.{AreContinued, AreHashed, AreGiven, HasContinued, HasContinuedFrom, HasPoint, HasTriedCall, IsContinued, IsFoundBy, IsLaterWorker, IsRange, IsReady, IsWorker, IsWorkerOf, AreWorkers, KnowsPoint, order_given, order_found, orders_known}
 pub use Rattle.apex_orders.specs.declared.asked.Asked.{Asked}
 pub use Rattle.apex_orders.specs.declared.last_uses.LastUse.{LastUse}
 pub use Rattle.apex_orders.specs.declared.last_uses.LastUses.{LastUses}

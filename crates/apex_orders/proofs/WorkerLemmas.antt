@@ -1,10 +1,10 @@
 -- What a worker is given, finds and knows.
 use Rattle.apex_orders.proofs.Common.{◌≡◌, ⊎_elim, ℕ, ◌+◌, ◌<◌, ◌≤◌, Bool, List, [], ◌∷◌, ◌++◌, length, map, Ok, Err, Result, OnOk, Some, false, sym, ap, ◌∙◌, subst, arith, cases_lt, append_assoc, map-append, length-append, get_or, slice_get, slice_get-get_or, Configuration, History, PortsView, PossibleReply, FoundPoint, Worker, Scripts, Has, IsAfter, IsSamePoint, hash_of, history_of, order_at, Keeps, Includes, Knows, HasTriedEnough}
-use Rattle.apex_orders.proofs.Common.{AreGiven, AreHashed, HasPoint, HasTriedFrom, IsFoundBy, IsLaterWorker, IsRange, order_given, order_found, orders_known}
+use Rattle.apex_orders.proofs.Common.{AreGiven, AreHashed, HasContinued, HasPoint, HasTriedFrom, IsFoundBy, IsLaterWorker, IsRange, order_given, order_found, orders_known}
 use Rattle.std.specs.Result.{is_err}
 use Rattle.apex_orders.proofs.Following.{same_along}
 use Rattle.apex_orders.proofs.GrowthLemmas.{order_here}
-use Rattle.apex_orders.proofs.Having.{has_behind, has_either, has_mapped, of_mapped}
+use Rattle.apex_orders.proofs.Having.{has_before, has_behind, has_either, has_mapped, of_mapped}
 use Rattle.apex_orders.proofs.Lists.{at_seam, before_or_last, stays_before}
 use Rattle.apex_orders.proofs.SearchLemmas.{has_tried_kept, includes_along, keeps_along, tried_kept}
 
@@ -87,6 +87,18 @@ module _ (config : Configuration) (scripts : Scripts) where
     each = λ p within own. tried_kept config scripts old new replies more order p keeps includes (was.each p within own);
   }
 
+  -- enough was tried, also if more replies were known
+  pub continued_with_more : (clock : Bool) (known more : List PossibleReply) (worker : Worker) → Includes known more → HasContinued clock config scripts known worker → HasContinued clock config scripts more worker
+  continued_with_more clock known more worker includes continued j within =
+      let own = worker.replies in
+      enough_kept clock (orders_known worker) (orders_known worker) (known ++ own) (more ++ own) (order_given worker j) (λ k x at. at)
+      (λ one has.
+      ⊎_elim
+      (λ (before : Has known one). has_before more own one (includes one before))
+      (λ (found : Has own one). has_behind more own one found)
+      (has_either known own one has))
+      (continued j within)
+
   -- ---- what others know of it
 
   pub knows_along : (known new : List (List ℕ)) (h : History) → ((order : List ℕ) → Has known order → Knows config scripts new (history_of config scripts order))
@@ -116,6 +128,14 @@ module _ (config : Configuration) (scripts : Scripts) where
       let from = of_mapped (order_found worker) worker.found.items order new in
       subst Is from.2 (found from.0 from.1))
       (has_either worker.base.value (map (order_found worker) worker.found.items) order has)
+
+-- what more replies include, they include with others in front
+pub includes_behind : (known old new : List PossibleReply) → Includes old new → Includes (known ++ old) (known ++ new)
+includes_behind known old new includes one has =
+    ⊎_elim
+    (λ (before : Has known one). has_before known new one before)
+    (λ (found : Has old one). has_behind known new one (includes one found))
+    (has_either known old one has)
 
 -- ---- ranges
 

@@ -1,15 +1,19 @@
 -- What the parts of a search find that can run in threads of their own.
 use Rattle.std.specs.Prelude.{ℕ, Bool, ◌≡◌, ◌<◌, ◌≤◌, ◌+◌, ◌^◌, List, [], ◌∷◌, ◌++◌, length, map, slice_get, Some, IfSome}
-use Rattle.apex_orders.specs.Prelude.{Configuration, PortsView}
+use Rattle.apex_orders.specs.Prelude.{Configuration, History, PortsView}
+use Rattle.apex_orders.specs.declared.replies.PossibleReply.{PossibleReply}
+use Rattle.apex_orders.specs.declared.shared.Shared.{Shared}
 use Rattle.apex_orders.specs.declared.worker.FoundPoint.{FoundPoint}
 use Rattle.apex_orders.specs.declared.worker.Worker.{Worker}
 use Rattle.apex_orders.specs.declared.workers.Workers.{Workers}
 use Rattle.apex_orders.specs.Hashes.{hash_of}
-use Rattle.apex_orders.specs.Known.{IsAfter, IsTrialOf}
+use Rattle.apex_orders.specs.Known.{IsAfter, IsReadyAfter, IsTrialOf}
+use Rattle.apex_orders.specs.LastUses.{AreOfScripts}
 use Rattle.apex_orders.specs.Lists.{Has}
-use Rattle.apex_orders.specs.Orders.{Scripts, order_at}
+use Rattle.apex_orders.specs.Orders.{Scripts, history_of, order_at}
 use Rattle.apex_orders.specs.Points.{IsSamePoint}
-use Rattle.apex_orders.specs.Searching.{AreOrders, AreClocked, AreFound, HasTriedEnough, Includes, Keeps}
+use Rattle.apex_orders.specs.Searching.{AreOrders, AreClocked, AreFound, HasTriedEnough, HasTriedFrom, Includes, IsLater, IsSearch, IsTried, Keeps, Knows}
+use Rattle.apex_orders.specs.declared.search.Search.{Search}
 
 -- ---- orders
 
@@ -71,18 +75,60 @@ pub record IsLaterWorker (old new : Worker) : Type 0 where
   pub orders : Keeps (orders_known old) (orders_known new)
   pub replies : Includes old.replies new.replies
 
--- enough was tried after each of the points
-abbrev pub HasContinued : Bool → Configuration → Scripts → Worker → Type 0
-HasContinued clock config scripts worker =
+-- enough was tried after each of the points: the replies were known before, or found by the worker
+abbrev pub HasContinued : Bool → Configuration → Scripts → List PossibleReply → Worker → Type 0
+HasContinued clock config scripts known worker =
     (j : ℕ) → j < length worker.points.items
-    → HasTriedEnough clock config scripts (orders_known worker) worker.replies (order_given worker j)
+    → HasTriedEnough clock config scripts (orders_known worker) (known ++ worker.replies) (order_given worker j)
 
 -- its points are those of the orders from one index up to another
 pub record IsRange (from to : ℕ) (worker : Worker) : Type 0 where
   pub first : worker.first ≡ from
   pub last : worker.first + length worker.points.items ≡ to
 
+-- the search continued from so many more of its points
+pub record HasContinuedFrom (clock : Bool) (config : Configuration) (scripts : Scripts) (count : ℕ) (old new : Search) : Type 0 where
+  pub valid : IsSearch clock config scripts new
+  pub later : IsLater old new
+  pub first : new.points.first ≡ old.points.first + count
+  pub tried : HasTriedFrom clock config scripts new.orders new.replies old.points.first (old.points.first + count)
+
 -- the workers can try calls of the configuration
 pub record AreWorkers (config : Configuration) (workers : Workers) : Type 0 where
   pub first : IsTrialOf config workers.first.trial
   pub second : IfSome workers.second (λ worker. IsTrialOf config worker.trial)
+
+-- ---- by what all workers read
+
+-- the invariant of a worker
+abbrev pub IsWorkerOf : Shared → Worker → Type 0
+IsWorkerOf shared worker = IsWorker shared.clock shared.config.now shared.scripts.now worker
+
+-- the last uses of channels are those by the scripts
+abbrev pub HasUses : Shared → Type 0
+HasUses shared = AreOfScripts shared.config.now shared.scripts.now shared.uses.now
+
+-- the calls before the worker's point at the index
+abbrev pub history_given : Shared → Worker → ℕ → History
+history_given shared worker j = history_of shared.config.now shared.scripts.now (order_given worker j)
+
+-- the ports have answered the calls in this order, and the next call can be made on them
+abbrev pub IsReady : Shared → List ℕ → PortsView → Type 0
+IsReady shared order ports = IsReadyAfter shared.config.now shared.scripts.now order ports
+
+-- the history's point is known
+abbrev pub KnowsPoint : Shared → Worker → History → Type 0
+KnowsPoint shared worker history = Knows shared.config.now shared.scripts.now (orders_known worker) history
+
+-- the partition's next call after the order was tried
+abbrev pub HasTriedCall : Shared → Worker → List ℕ → ℕ → Type 0
+HasTriedCall shared worker order p = IsTried shared.config.now shared.scripts.now (orders_known worker) (shared.known.now ++ worker.replies) order p
+
+-- enough was tried after the order
+abbrev pub IsContinued : Shared → Worker → List ℕ → Type 0
+IsContinued shared worker order =
+    HasTriedEnough shared.clock shared.config.now shared.scripts.now (orders_known worker) (shared.known.now ++ worker.replies) order
+
+-- enough was tried after each of the points
+abbrev pub AreContinued : Shared → Worker → Type 0
+AreContinued shared worker = HasContinued shared.clock shared.config.now shared.scripts.now shared.known.now worker

@@ -1,12 +1,12 @@
 //! Hashes in the order in which they were found, with a table to look them up.
-ghost use Rattle.std.specs.Prelude.{◌≡◌, ◌<◌, ◌≤◌, ◌+◌, ◌++◌, ◌∷◌, [], ◌%◌, ◌^◌, ℕ, length, slice_get, slice_index_or, Some, IfOk, OnOk};
-ghost use Rattle.apex_orders.specs.Buckets.{AreChained, AreFiled, AreFiledBelow, AreNone, IsLastOf, IsUpToLast};
+ghost use Rattle.std.specs.Prelude.{◌≡◌, ◌<◌, ◌≤◌, ◌+◌, ◌++◌, ◌∷◌, [], ◌^◌, ℕ, length, slice_get, slice_index_or, Some, IfOk, OnOk};
+ghost use Rattle.apex_orders.specs.Buckets.{bucket_of, AreChained, AreFiled, AreFiledBelow, AreNone, IsLastOf, IsUpToLast};
 
 use apex_types::OutOfMemory;
 use std::alloc::Global;
 use std::marker::Model;
 
-/// The first number of buckets. It doubles whenever there are as many hashes.
+/// The first number of buckets. It doubles whenever there are half as many hashes, so that most buckets are empty.
 const FIRST_BUCKETS: usize = 1_021;
 
 /// Hashes, in the order in which they were found. A contract sees them as a list.
@@ -99,7 +99,7 @@ fn up_to_equal(
     requires buckets { 0 < buckets }
     requires chained { AreChained hashes.now earlier.now buckets (length hashes.now) }
     requires end { end ≤ length hashes.now }
-    requires first { IsLastOf hashes.now buckets (hash % buckets) end first }
+    requires first { IsLastOf hashes.now buckets (bucket_of hash buckets) end first }
     ensures { IsUpToLast hashes.now hash end result }
 {
     prove!(buckets > 0 && first as usize <= end);
@@ -125,12 +125,12 @@ fn no_places(alloc: Global, buckets: usize) -> Result<Vec<u32>, OutOfMemory>
 /// The number of the hash's bucket.
 fn bucket_of(hash: u64, buckets: usize) -> usize
     requires { 0 < buckets }
-    ensures { result ≡ hash % buckets }
+    ensures { result ≡ bucket_of hash buckets }
 {
-    (hash as usize) % buckets
+    (hash % 4_294_967_296) as usize % buckets
 }
 
-/// Files the hashes in more buckets if there are as many hashes as buckets.
+/// Files the hashes in more buckets if there are half as many hashes as buckets.
 fn spread(
     alloc: Global,
     hashes: &[u64],
@@ -141,7 +141,7 @@ fn spread(
     requires few { length hashes.now < 2 ^ 32 }
     ensures { AreFiled hashes.now earlier.new.items last.new.items }
 {
-    if hashes.len() < last.len() {
+    if hashes.len() < last.len() / 2 {
         return Ok(());
     }
     let buckets = last.len().saturating_mul(2).saturating_add(1);

@@ -22,6 +22,7 @@ mod replay;
 mod replies;
 pub mod same_state;
 mod search;
+mod shared;
 mod sizes;
 pub mod state_law;
 pub mod step;

@@ -1,5 +1,5 @@
 //! Replies that calls can get.
-ghost use Rattle.std.specs.Prelude.{◌≡◌, ◌⊎◌, ◌↔◌, [], IsTrue, IfOk, OnOk};
+ghost use Rattle.std.specs.Prelude.{◌≡◌, ◌⊎◌, ◌↔◌, ◌++◌, ◌∷◌, [], IsTrue, IfOk, OnOk};
 ghost use Rattle.apex_orders.specs.declared.replies.PossibleReply.{PossibleReply};
 ghost use Rattle.apex_orders.specs.Lists.{Has};
 ghost use Rattle.apex_orders.specs.Searching.{Includes};
@@ -66,16 +66,54 @@ impl Replies {
             Has self.new other ↔ (Has self.old other ⊎ (other ≡ one.now))) }
     {
         let hash = reply_hash(one);
+        if self.has(one, hash) {
+            return Ok(());
+        }
+        self.push(alloc, one, hash)?;
+        Ok(())
+    }
+
+    /// Adds the reply, unless it is there already, or among the known ones.
+    pub(crate) fn add_unless_known(
+        &mut self,
+        alloc: Global,
+        known: &Replies,
+        one: &PossibleReply,
+    ) -> Result<(), OutOfMemory>
+        ensures kept { OnOk result (Includes self.old self.new) }
+        ensures added { OnOk result (Has (known.now ++ self.new) one.now) }
+        ensures only { OnOk result ((other : PossibleReply) →
+            Has self.new other → Has self.old other ⊎ (other ≡ one.now)) }
+    {
+        let hash = reply_hash(one);
+        if known.has(one, hash) || self.has(one, hash) {
+            return Ok(());
+        }
+        self.push(alloc, one, hash)?;
+        Ok(())
+    }
+
+    /// Whether the reply, which has this hash, is among them.
+    fn has(&self, one: &PossibleReply, hash: u64) -> bool
+        ensures { IsTrue result → Has self.now one.now }
+    {
         let mut count = self.hashes.up_to_last(hash);
         while count > 0 {
             let k = count - 1;
             if let Some(known) = self.found.get(k) {
                 if is_same_possible(known, one) {
-                    return Ok(());
+                    return true;
                 }
             }
             count = self.hashes.up_to_earlier(hash, k);
         }
+        false
+    }
+
+    /// Adds the reply with its hash.
+    fn push(&mut self, alloc: Global, one: &PossibleReply, hash: u64) -> Result<(), OutOfMemory>
+        ensures { OnOk result (self.new ≡ self.old ++ one.now ∷ []) }
+    {
         self.hashes.push(alloc, hash)?;
         self.found.push(one.copy())?;
         Ok(())

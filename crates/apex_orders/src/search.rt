@@ -29,7 +29,7 @@ use std::alloc::Global;
 use std::thread::Threads;
 
 /// The greatest number of points that are tried at once.
-const MOST_POINTS: usize = 8_192;
+const MOST_POINTS: usize = 2_048;
 
 /// About how many bytes the saved ports of points that are tried at once may take.
 const MOST_BYTES: usize = 1 << 24;
@@ -186,7 +186,7 @@ impl Search {
         requires worker { OnOk worker.old.result
             (IsWorker clock config.now scripts.now worker.old) }
         requires tried { OnOk worker.old.result
-            (HasContinued clock config.now scripts.now worker.old) }
+            (HasContinued clock config.now scripts.now self.old.replies worker.old) }
         requires base { OnOk worker.old.result
             (Keeps worker.old.base.value self.old.orders) }
         ensures valid { OnOk result (IsSearch clock config.now scripts.now self.new) }

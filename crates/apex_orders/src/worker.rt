@@ -3,27 +3,26 @@ ghost use Rattle.std.specs.Prelude.{◌≡◌, ◌<◌, ◌≤◌, ◌+◌, ◌+
 ghost use Rattle.apex_orders.specs.Choices.{is_tried};
 ghost use Rattle.apex_orders.specs.Clock.{IsClocked, IsNextDue};
 ghost use Rattle.apex_orders.specs.Hashes.{hash_of};
-ghost use Rattle.apex_orders.specs.Known.{IsReadyAfter, IsTrialOf};
-ghost use Rattle.apex_orders.specs.LastUses.{AreOfScripts};
+ghost use Rattle.apex_orders.specs.Known.{IsTrialOf};
 ghost use Rattle.apex_orders.specs.Orders.{history_of};
 ghost use Rattle.apex_orders.specs.Points.{IsSamePoint};
 ghost use Rattle.apex_orders.specs.declared.worker.FoundPoint.{FoundPoint};
-ghost use Rattle.apex_orders.specs.Searching.{AreDue, Knows, IsTried, HasTriedEnough};
+ghost use Rattle.apex_orders.specs.Searching.{AreDue};
 ghost use Rattle.apex_orders.specs.Prelude.{IsSound};
-ghost use Rattle.apex_orders.specs.Workers.{AreHashed, HasContinued, HasPoint, IsLaterWorker, IsWorker, order_given, orders_known};
+ghost use Rattle.apex_orders.specs.Workers.{AreHashed, IsContinued, AreContinued, HasPoint, HasTriedCall, HasUses, IsLaterWorker, IsReady, IsWorkerOf, KnowsPoint, history_given, order_given};
 
 use crate::choice::{Choice, choose, is_tried};
 use crate::hash::hash_of;
 use crate::hash_index::HashIndex;
-use crate::last_uses::LastUses;
 use crate::orders::Orders;
 use crate::point::is_same_point;
 use crate::points::{Points, move_all};
 use crate::replies::Replies;
+use crate::shared::Shared;
 use crate::step::step_into;
 use crate::trial::Trial;
 use apex_module::Config;
-use apex_ports::{Ports, SavedPorts, Script};
+use apex_ports::{Ports, SavedPorts};
 use apex_types::OutOfMemory;
 use std::alloc::Global;
 use std::collections::VecDeque;
@@ -119,44 +118,26 @@ impl Worker {
     }
 
     /// Tries the next calls of enough partitions after each of its points.
-    pub(crate) fn run(
-        &mut self,
-        alloc: Global,
-        config: &Config,
-        scripts: &[Script],
-        clock: bool,
-        uses: &[LastUses],
-        from: Option<usize>,
-    )
-        requires valid { IsWorker clock config.now scripts.now self.old }
-        requires uses { AreOfScripts config.now scripts.now uses.now }
-        ensures valid { OnOk self.new.result
-            (IsWorker clock config.now scripts.now self.new) }
+    pub(crate) fn run(&mut self, shared: &Shared<'_>)
+        requires valid { IsWorkerOf shared.now self.old }
+        requires uses { HasUses shared.now }
+        ensures valid { OnOk self.new.result (IsWorkerOf shared.now self.new) }
         ensures later { OnOk self.new.result (IsLaterWorker self.old self.new) }
-        ensures tried { OnOk self.new.result
-            (HasContinued clock config.now scripts.now self.new) }
+        ensures tried { OnOk self.new.result (AreContinued shared.now self.new) }
     {
-        self.result = self.try_points(alloc, config, scripts, clock, uses, from);
+        self.result = self.try_points(shared);
     }
 
-    fn try_points(
-        &mut self,
-        alloc: Global,
-        config: &Config,
-        scripts: &[Script],
-        clock: bool,
-        uses: &[LastUses],
-        from: Option<usize>,
-    ) -> Result<(), OutOfMemory>
-        requires valid { IsWorker clock config.now scripts.now self.old }
-        requires uses { AreOfScripts config.now scripts.now uses.now }
-        ensures valid { OnOk result (IsWorker clock config.now scripts.now self.new) }
+    fn try_points(&mut self, shared: &Shared<'_>) -> Result<(), OutOfMemory>
+        requires valid { IsWorkerOf shared.now self.old }
+        requires uses { HasUses shared.now }
+        ensures valid { OnOk result (IsWorkerOf shared.now self.new) }
         ensures later { OnOk result (IsLaterWorker self.old self.new) }
-        ensures tried { OnOk result (HasContinued clock config.now scripts.now self.new) }
+        ensures tried { OnOk result (AreContinued shared.now self.new) }
     {
-        let mut choice = Choice::new(alloc);
+        let mut choice = Choice::new(shared.alloc);
         for j in 0..self.points.len() {
-            self.try_point(alloc, config, scripts, clock, uses, from, j, &mut choice)?;
+            self.try_point(shared, j, &mut choice)?;
         }
         Ok(())
     }
@@ -164,58 +145,55 @@ impl Worker {
     /// Tries the next calls of enough partitions after one of its points.
     fn try_point(
         &mut self,
-        alloc: Global,
-        config: &Config,
-        scripts: &[Script],
-        clock: bool,
-        uses: &[LastUses],
-        from: Option<usize>,
+        shared: &Shared<'_>,
         j: usize,
         choice: &mut Choice,
     ) -> Result<(), OutOfMemory>
-        requires valid { IsWorker clock config.now scripts.now self.old }
-        requires uses { AreOfScripts config.now scripts.now uses.now }
+        requires valid { IsWorkerOf shared.now self.old }
+        requires uses { HasUses shared.now }
         requires within { j < length self.old.points.items }
-        ensures valid { OnOk result (IsWorker clock config.now scripts.now self.new) }
+        ensures valid { OnOk result (IsWorkerOf shared.now self.new) }
         ensures later { OnOk result (IsLaterWorker self.old self.new) }
-        ensures tried { OnOk result (HasTriedEnough clock config.now scripts.now
-            (orders_known self.new) self.new.replies (order_given self.old j)) }
+        ensures tried { OnOk result
+            (IsContinued shared.now self.new (order_given self.old j)) }
     {
         self.trial.ports.restore(&self.points[j]);
-        let ports = &self.trial.ports;
-        choose(alloc, ports, scripts, clock, uses, from, choice)?;
+        choose(
+            shared.alloc,
+            &self.trial.ports,
+            shared.scripts,
+            shared.clock,
+            shared.uses,
+            shared.from,
+            choice,
+        )?;
         let tried = choice.tried.as_slice();
-        self.try_those(alloc, config, scripts, clock, j, tried)?;
+        self.try_those(shared, j, tried)?;
         Ok(())
     }
 
     /// Tries the next calls of these partitions after the point. The trial's ports are there.
     fn try_those(
         &mut self,
-        alloc: Global,
-        config: &Config,
-        scripts: &[Script],
-        clock: bool,
+        shared: &Shared<'_>,
         j: usize,
         tried: &[bool],
     ) -> Result<(), OutOfMemory>
-        requires valid { IsWorker clock config.now scripts.now self.old }
+        requires valid { IsWorkerOf shared.now self.old }
         requires within { j < length self.old.points.items }
-        requires ready { IsReadyAfter config.now scripts.now (order_given self.old j)
-            self.old.trial.ports }
-        requires due { AreDue clock scripts.now
-            (history_of config.now scripts.now (order_given self.old j)) (is_tried tried.now) }
-        ensures valid { OnOk result (IsWorker clock config.now scripts.now self.new) }
+        requires ready { IsReady shared.now (order_given self.old j) self.old.trial.ports }
+        requires due { AreDue shared.now.clock shared.now.scripts.now
+            (history_given shared.now self.old j) (is_tried tried.now) }
+        ensures valid { OnOk result (IsWorkerOf shared.now self.new) }
         ensures later { OnOk result (IsLaterWorker self.old self.new) }
-        ensures tried { OnOk result ((p : ℕ) → p < length config.now.partitions
+        ensures tried { OnOk result ((p : ℕ) → p < length shared.now.config.now.partitions
             → is_tried tried.now p ≡ true
-            → IsTried config.now scripts.now (orders_known self.new) self.new.replies
-            (order_given self.old j) p) }
+            → HasTriedCall shared.now self.new (order_given self.old j) p) }
     {
         let mut is_there = true;
-        for p in 0..config.partitions() {
+        for p in 0..shared.config.partitions() {
             if is_tried(tried, p) {
-                self.try_partition(alloc, config, scripts, clock, j, is_there, p)?;
+                self.try_partition(shared, j, is_there, p)?;
                 is_there = false;
             }
         }
@@ -225,69 +203,59 @@ impl Worker {
     /// Tries the partition's next call after the point.
     fn try_partition(
         &mut self,
-        alloc: Global,
-        config: &Config,
-        scripts: &[Script],
-        clock: bool,
+        shared: &Shared<'_>,
         j: usize,
         is_there: bool,
         p: usize,
     ) -> Result<(), OutOfMemory>
-        requires valid { IsWorker clock config.now scripts.now self.old }
+        requires valid { IsWorkerOf shared.now self.old }
         requires within { j < length self.old.points.items }
-        requires partition { p < length config.now.partitions }
-        requires there { is_there ≡ true → IsReadyAfter config.now scripts.now
-            (order_given self.old j) self.old.trial.ports }
-        requires due { IsNextDue clock scripts.now
-            (history_of config.now scripts.now (order_given self.old j)) p }
-        ensures valid { OnOk result (IsWorker clock config.now scripts.now self.new) }
+        requires partition { p < length shared.now.config.now.partitions }
+        requires there { is_there ≡ true →
+            IsReady shared.now (order_given self.old j) self.old.trial.ports }
+        requires due { IsNextDue shared.now.clock shared.now.scripts.now
+            (history_given shared.now self.old j) p }
+        ensures valid { OnOk result (IsWorkerOf shared.now self.new) }
         ensures later { OnOk result (IsLaterWorker self.old self.new) }
-        ensures tried { OnOk result (IsTried config.now scripts.now
-            (orders_known self.new) self.new.replies (order_given self.old j) p) }
+        ensures tried { OnOk result (HasTriedCall shared.now self.new (order_given self.old j) p) }
     {
         let trial = &mut self.trial;
         return_to(&mut trial.ports, &self.points[j], is_there);
         if !step_into(
             &mut trial.ports,
-            scripts,
+            shared.scripts,
             p,
             &mut trial.reply,
             &mut trial.buffer,
         ) {
             return Ok(());
         }
-        self.replies.add(alloc, &self.trial.reply)?;
-        self.learn(alloc, config, scripts, clock, j, p)?;
+        self.replies
+            .add_unless_known(shared.alloc, shared.known, &self.trial.reply)?;
+        self.learn(shared, j, p)?;
         Ok(())
     }
 
     /// Keeps the point of the trial's ports, unless the worker found it before.
-    fn learn(
-        &mut self,
-        alloc: Global,
-        config: &Config,
-        scripts: &[Script],
-        clock: bool,
-        j: usize,
-        p: usize,
-    ) -> Result<(), OutOfMemory>
-        requires valid { IsWorker clock config.now scripts.now self.old }
+    fn learn(&mut self, shared: &Shared<'_>, j: usize, p: usize) -> Result<(), OutOfMemory>
+        requires valid { IsWorkerOf shared.now self.old }
         requires within { j < length self.old.points.items }
-        requires partition { p < length config.now.partitions }
-        requires history { self.old.trial.ports.history
-            ≡ history_of config.now scripts.now (order_given self.old j ++ p ∷ []) }
-        requires clocked { IsClocked clock scripts.now self.old.trial.ports.history }
-        ensures valid { OnOk result (IsWorker clock config.now scripts.now self.new) }
+        requires partition { p < length shared.now.config.now.partitions }
+        requires history { self.old.trial.ports.history ≡ history_of shared.now.config.now
+            shared.now.scripts.now (order_given self.old j ++ p ∷ []) }
+        requires clocked { IsClocked shared.now.clock shared.now.scripts.now
+            self.old.trial.ports.history }
+        ensures valid { OnOk result (IsWorkerOf shared.now self.new) }
         ensures later { OnOk result (IsLaterWorker self.old self.new) }
-        ensures known { OnOk result (Knows config.now scripts.now
-            (orders_known self.new) self.old.trial.ports.history) }
+        ensures known { OnOk result
+            (KnowsPoint shared.now self.new self.old.trial.ports.history) }
     {
         let hash = hash_of(&self.trial.ports);
         if has_found(&self.found, &self.hashes, &mut self.trial, hash) {
             return Ok(());
         }
-        let saved = save(alloc, &self.trial.ports, &mut self.spare)?;
-        self.hashes.push(alloc, hash)?;
+        let saved = save(shared.alloc, &self.trial.ports, &mut self.spare)?;
+        self.hashes.push(shared.alloc, hash)?;
         self.found.push_back(FoundPoint {
             before: j,
             partition: p,

@@ -1,13 +1,12 @@
 //! The workers of a search, one of which runs in a thread beside the other if there are many points.
-ghost use Rattle.std.specs.Prelude.{◌≡◌, ◌≤◌, ◌+◌, length, IfOk, OnOk, IfSome};
+ghost use Rattle.std.specs.Prelude.{◌≤◌, ◌+◌, length, IfOk, OnOk, IfSome};
 ghost use Rattle.apex_orders.specs.Known.{IsTrialOf};
-ghost use Rattle.apex_orders.specs.Searching.{HasTriedFrom, IsLater, IsSearch};
-ghost use Rattle.apex_orders.specs.LastUses.{AreOfScripts};
-ghost use Rattle.apex_orders.specs.Workers.{AreWorkers, HasContinued, IsLaterWorker, IsWorker};
+ghost use Rattle.apex_orders.specs.Searching.{IsSearch};
+ghost use Rattle.apex_orders.specs.Workers.{AreContinued, AreWorkers, HasContinuedFrom, HasUses, IsLaterWorker, IsWorkerOf};
 
-use crate::last_uses::LastUses;
 use crate::orders::Orders;
 use crate::search::Search;
+use crate::shared::Shared;
 use crate::worker::Worker;
 use apex_module::Config;
 use apex_ports::Script;
@@ -57,13 +56,8 @@ impl Workers {
         requires valid { IsSearch clock config.now scripts.now current.old }
         requires within { current.old.points.first + count ≤ length current.old.orders }
         ensures workers { OnOk result (AreWorkers config.now self.new) }
-        ensures valid { OnOk result (IsSearch clock config.now scripts.now current.new) }
-        ensures later { OnOk result (IsLater current.old current.new) }
-        ensures first { OnOk result
-            (current.new.points.first ≡ current.old.points.first + count) }
-        ensures tried { OnOk result (HasTriedFrom clock config.now scripts.now
-            current.new.orders current.new.replies
-            current.old.points.first (current.old.points.first + count)) }
+        ensures continued { OnOk result
+            (HasContinuedFrom clock config.now scripts.now count current.old current.new) }
     {
         if count < SHARED_POINTS {
             let worker = &mut self.first;
@@ -118,17 +112,20 @@ fn try_alone(
     requires valid { IsSearch clock config.now scripts.now current.old }
     requires within { current.old.points.first + count ≤ length current.old.orders }
     ensures trial { OnOk result (IsTrialOf config.now worker.new.trial) }
-    ensures valid { OnOk result (IsSearch clock config.now scripts.now current.new) }
-    ensures later { OnOk result (IsLater current.old current.new) }
-    ensures first { OnOk result
-        (current.new.points.first ≡ current.old.points.first + count) }
-    ensures tried { OnOk result (HasTriedFrom clock config.now scripts.now
-        current.new.orders current.new.replies
-        current.old.points.first (current.old.points.first + count)) }
+    ensures continued { OnOk result
+        (HasContinuedFrom clock config.now scripts.now count current.old current.new) }
 {
     current.give(alloc, config, scripts, clock, count, worker)?;
-    let (uses, from) = (current.uses.as_slice(), current.from);
-    worker.run(alloc, config, scripts, clock, uses, from);
+    let shared = Shared {
+        alloc,
+        config,
+        scripts,
+        clock,
+        uses: current.uses.as_slice(),
+        from: current.from,
+        known: &current.replies,
+    };
+    worker.run(&shared);
     current.finish(alloc, config, scripts, clock, worker)?;
     Ok(())
 }
@@ -151,13 +148,8 @@ fn try_both<R: Threads + Sync>(
     requires within { current.old.points.first + count ≤ length current.old.orders }
     ensures one { OnOk result (IsTrialOf config.now one.new.trial) }
     ensures other { OnOk result (IsTrialOf config.now other.new.trial) }
-    ensures valid { OnOk result (IsSearch clock config.now scripts.now current.new) }
-    ensures later { OnOk result (IsLater current.old current.new) }
-    ensures first { OnOk result
-        (current.new.points.first ≡ current.old.points.first + count) }
-    ensures tried { OnOk result (HasTriedFrom clock config.now scripts.now
-        current.new.orders current.new.replies
-        current.old.points.first (current.old.points.first + count)) }
+    ensures continued { OnOk result
+        (HasContinuedFrom clock config.now scripts.now count current.old current.new) }
 {
     let half = count / 2;
     current.give(alloc, config, scripts, clock, half, one)?;
@@ -169,6 +161,7 @@ fn try_both<R: Threads + Sync>(
         clock,
         uses: current.uses.as_slice(),
         from: current.from,
+        known: &current.replies,
     };
     run_both(rt, &shared, one, other);
     current.finish(alloc, config, scripts, clock, one)?;
@@ -176,61 +169,17 @@ fn try_both<R: Threads + Sync>(
     Ok(())
 }
 
-/// What both workers read.
-#[derive(Clone, Copy)]
-struct Shared<'a> {
-    alloc: Global,
-    config: &'a Config,
-    scripts: &'a [Script],
-    clock: bool,
-    uses: &'a [LastUses],
-    from: Option<usize>,
-}
-
 /// Runs one worker in another thread beside the other.
 fn run_both<R: Threads + Sync>(rt: &R, shared: &Shared<'_>, one: &mut Worker, other: &mut Worker)
-    requires one { IsWorker shared.now.clock shared.now.config.now
-        shared.now.scripts.now one.old }
-    requires other { IsWorker shared.now.clock shared.now.config.now
-        shared.now.scripts.now other.old }
-    requires uses { AreOfScripts shared.now.config.now shared.now.scripts.now
-        shared.now.uses.now }
-    ensures valid { OnOk one.new.result (IsWorker shared.now.clock shared.now.config.now
-        shared.now.scripts.now one.new) }
+    requires one { IsWorkerOf shared.now one.old }
+    requires other { IsWorkerOf shared.now other.old }
+    requires uses { HasUses shared.now }
+    ensures valid { OnOk one.new.result (IsWorkerOf shared.now one.new) }
     ensures later { OnOk one.new.result (IsLaterWorker one.old one.new) }
-    ensures tried { OnOk one.new.result (HasContinued shared.now.clock shared.now.config.now
-        shared.now.scripts.now one.new) }
-    ensures valid_too { OnOk other.new.result (IsWorker shared.now.clock
-        shared.now.config.now shared.now.scripts.now other.new) }
+    ensures tried { OnOk one.new.result (AreContinued shared.now one.new) }
+    ensures valid_too { OnOk other.new.result (IsWorkerOf shared.now other.new) }
     ensures later_too { OnOk other.new.result (IsLaterWorker other.old other.new) }
-    ensures tried_too { OnOk other.new.result (HasContinued shared.now.clock
-        shared.now.config.now shared.now.scripts.now other.new) }
+    ensures tried_too { OnOk other.new.result (AreContinued shared.now other.new) }
 {
-    join_mut(
-        rt,
-        &mut || run_worker(one, shared),
-        &mut || run_worker(other, shared),
-    );
-}
-
-/// Runs a worker.
-fn run_worker(worker: &mut Worker, shared: &Shared<'_>)
-    requires valid { IsWorker shared.now.clock shared.now.config.now
-        shared.now.scripts.now worker.old }
-    requires uses { AreOfScripts shared.now.config.now shared.now.scripts.now
-        shared.now.uses.now }
-    ensures valid { OnOk worker.new.result (IsWorker shared.now.clock shared.now.config.now
-        shared.now.scripts.now worker.new) }
-    ensures later { OnOk worker.new.result (IsLaterWorker worker.old worker.new) }
-    ensures tried { OnOk worker.new.result (HasContinued shared.now.clock
-        shared.now.config.now shared.now.scripts.now worker.new) }
-{
-    worker.run(
-        shared.alloc,
-        shared.config,
-        shared.scripts,
-        shared.clock,
-        shared.uses,
-        shared.from,
-    );
+    join_mut(rt, &mut || one.run(shared), &mut || other.run(shared));
 }

@@ -54,7 +54,7 @@ pub fn outcomes_of_scripts<'a, R: Threads + Sync, O: Opener + FileWriter, P: Pro
     }
     let mut progress = SearchProgress::new(progress, limits);
     let states = progress.states();
-    let found = all_outcomes_apart(
+    let found = match all_outcomes_apart(
         rt,
         alloc,
         &config,
@@ -62,8 +62,7 @@ pub fn outcomes_of_scripts<'a, R: Threads + Sync, O: Opener + FileWriter, P: Pro
         limits.clock,
         states,
         &mut progress,
-    );
-    let found = match found {
+    ) {
         Ok(found) => found,
         Err(fault) => return Err(unfinished_by(fault, &progress)),
     };
@@ -80,8 +79,7 @@ pub fn outcomes_of_scripts<'a, R: Threads + Sync, O: Opener + FileWriter, P: Pro
         witness,
         &mut progress,
     )?;
-    let files = files.as_slice();
-    let text = outcomes_text(alloc, &config, scripts, lines, &found, files, form)?;
+    let text = outcomes_text(alloc, &config, scripts, lines, &found, &files, form)?;
     Ok(Outcome::Done(text.into_bytes()))
 }
 

@@ -27,7 +27,7 @@ loop-i-preserved g c =
     let clock = c.args.clock in
     let asked : Option Asked = option_copied c.args.asked in
     let was = c.loop-i.invariant in
-    let now = c.in_ok-try_points.ensures in
+    let now = c.in_ok-try_points.ensures.continued in
     let i = c.loop-i.i in
     let count = c.count_at_once-count.result in
     let fits = c.count_at_once-count.ensures.within in
@@ -44,7 +44,7 @@ loop-i-preserved g c =
       first = keeps_within orders more was.first.0 [] now.later.orders was.first.1;
       valid = now.valid;
       searched = now.first ∙ ap (λ (n : ℕ). n + count) searched;
-      workers = now.workers;
+      workers = c.in_ok-try_points.ensures.workers;
       unanswered = λ k below.
           ⊎_elim
           (λ (before : k < i). unanswered_kept config scripts clock asked orders more k now.later.orders (omega (arith, before, fits)) (was.unanswered k before))

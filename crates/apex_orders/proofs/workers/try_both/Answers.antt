@@ -1,8 +1,8 @@
-use Rattle.apex_orders.proofs.Common.{◌≡◌, ◌+◌, ◌-◌, ◌≤◌, List, ℕ, length, sym, ◌∙◌, subst, arith, LastUses, AreOfScripts, HasTriedFrom, IsLaterWorker, IsRange, Keeps}
+use Rattle.apex_orders.proofs.Common.{◌≡◌, ◌+◌, ◌-◌, ◌≤◌, List, ℕ, length, sym, ◌∙◌, subst, arith, LastUses, AreOfScripts, HasContinued, HasTriedFrom, IsLaterWorker, IsRange, Keeps}
 use Rattle.std.proofs.Common.{◌/◌}
 use Rattle.apex_orders.proofs.GrowthLemmas.{still_many}
 use Rattle.apex_orders.proofs.SearchLemmas.{includes_along, keeps_along}
-use Rattle.apex_orders.proofs.WorkerLemmas.{on_ok, same_range, tried_join, when_ok}
+use Rattle.apex_orders.proofs.WorkerLemmas.{continued_with_more, on_ok, same_range, tried_join, when_ok}
 use Rattle.apex_orders.proofs.workers.try_both.Goals as goal
 
 pub give-requires-2-clause-within : goal.give-requires-2-clause-within
@@ -30,27 +30,24 @@ finish-requires-2-clause-base g c =
     subst (λ (base : List (List ℕ)). Keeps base c.finish.new.self.orders) (sym (later.base ∙ c.in_ok-give-2.ensures.base)) c.in_ok-finish.ensures.later.orders)
     c.run_both.ensures.later_too
 
-pub returns-clause-later : goal.returns-clause-later
-returns-clause-later g c =
-    let start = c.args.current.now in
-    let one = c.give.new.self in
-    let two = c.give-2.new.self in
-    let three = c.finish.new.self in
-    let four = c.finish-2.new.self in
-    record {
-      orders = keeps_along start.orders one.orders four.orders c.in_ok-give.ensures.later.orders
-          (keeps_along one.orders two.orders four.orders c.in_ok-give-2.ensures.later.orders
-          (keeps_along two.orders three.orders four.orders c.in_ok-finish.ensures.later.orders c.in_ok-finish-2.ensures.later.orders));
-      replies = includes_along start.replies one.replies four.replies c.in_ok-give.ensures.later.replies
-          (includes_along one.replies two.replies four.replies c.in_ok-give-2.ensures.later.replies
-          (includes_along two.replies three.replies four.replies c.in_ok-finish.ensures.later.replies c.in_ok-finish-2.ensures.later.replies));
-    }
+pub finish-requires-2-clause-tried : goal.finish-requires-2-clause-tried
+finish-requires-2-clause-tried g c =
+    let config = c.args.config.now in
+    let scripts = c.args.scripts.now in
+    let worker = c.run_both.new.other in
+    let known = c.give-2.new.self.replies in
+    let more = c.finish.new.self.replies in
+    on_ok worker.result (HasContinued c.args.clock config scripts known worker) (HasContinued c.args.clock config scripts more worker)
+    (continued_with_more config scripts c.args.clock known more worker c.in_ok-finish.ensures.later.replies)
+    c.run_both.ensures.tried_too
 
-pub returns-clause-tried : goal.returns-clause-tried
-returns-clause-tried g c =
+pub returns-clause-continued : goal.returns-clause-continued
+returns-clause-continued g c =
     let config = c.args.config.now in
     let scripts = c.args.scripts.now in
     let start = c.args.current.now in
+    let given = c.give.new.self in
+    let both = c.give-2.new.self in
     let three = c.finish.new.self in
     let four = c.finish-2.new.self in
     let from = start.points.first in
@@ -71,4 +68,19 @@ returns-clause-tried g c =
     (keeps_along start.orders c.give.new.self.orders three.orders c.in_ok-give.ensures.later.orders
     (keeps_along c.give.new.self.orders c.give-2.new.self.orders three.orders c.in_ok-give-2.ensures.later.orders c.in_ok-finish.ensures.later.orders))
     (omega (arith, within)) in
-    tried_join c.args.clock config scripts three.orders four.orders three.replies four.replies from mid (from + count) c.in_ok-finish-2.ensures.later.orders c.in_ok-finish-2.ensures.later.replies few one two
+    let first_two = c.in_ok-give-2.ensures.first in
+    let first_three = c.in_ok-finish.ensures.first in
+    let first_four = c.in_ok-finish-2.ensures.first in
+    record {
+      valid = c.in_ok-finish-2.ensures.valid;
+      later = record {
+        orders = keeps_along start.orders given.orders four.orders c.in_ok-give.ensures.later.orders
+            (keeps_along given.orders both.orders four.orders c.in_ok-give-2.ensures.later.orders
+            (keeps_along both.orders three.orders four.orders c.in_ok-finish.ensures.later.orders c.in_ok-finish-2.ensures.later.orders));
+        replies = includes_along start.replies given.replies four.replies c.in_ok-give.ensures.later.replies
+            (includes_along given.replies both.replies four.replies c.in_ok-give-2.ensures.later.replies
+            (includes_along both.replies three.replies four.replies c.in_ok-finish.ensures.later.replies c.in_ok-finish-2.ensures.later.replies));
+      };
+      first = first_four ∙ (first_three ∙ (first_two ∙ last));
+      tried = tried_join c.args.clock config scripts three.orders four.orders three.replies four.replies from mid (from + count) c.in_ok-finish-2.ensures.later.orders c.in_ok-finish-2.ensures.later.replies few one two;
+    }

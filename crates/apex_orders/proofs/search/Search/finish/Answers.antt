@@ -1,5 +1,6 @@
-use Rattle.apex_orders.proofs.Common.{◌≡◌, ⊎_elim, ◌+◌, ◌-◌, ◌<◌, ℕ, Some, length, sym, ap, ◌∙◌, subst, arith, slice_get, Has, IsWorker, HasContinued, HasTriedEnough, Keeps, order_given, orders_known}
+use Rattle.apex_orders.proofs.Common.{◌≡◌, ⊎_elim, ◌+◌, ◌++◌, ◌-◌, ◌<◌, ℕ, Some, length, sym, ap, ◌∙◌, subst, arith, slice_get, Has, IsWorker, HasContinued, HasTriedEnough, Keeps, order_given, orders_known}
 use Rattle.apex_orders.proofs.GrowthLemmas.{order_here}
+use Rattle.apex_orders.proofs.Having.{has_either}
 use Rattle.apex_orders.proofs.WorkerLemmas.{tried_along, when_ok}
 use Rattle.apex_orders.proofs.search.Search.finish.Goals as goal
 
@@ -38,7 +39,8 @@ returns-clause-tried c from to range k past below order at =
     let new = c.add_points.new.self in
     let ok = sym c.is_err.ensures.value ∙ c.if-is_err.false in
     let worker = when_ok old.result (IsWorker clock config scripts old) ok c.requires.worker in
-    let continued = when_ok old.result (HasContinued clock config scripts old) ok c.requires.tried in
+    let known = c.args.self.now.replies in
+    let continued = when_ok old.result (HasContinued clock config scripts known old) ok c.requires.tried in
     let base = when_ok old.result (Keeps old.base.value c.args.self.now.orders) ok c.requires.base in
     let later = c.in_ok-add_points.ensures.later in
     let first = range.first in
@@ -54,8 +56,14 @@ returns-clause-tried c from to range k past below order at =
     let both : Some (order_given old j) ≡ Some order = sym there ∙ at in
     let same : order_given old j ≡ order = cc in
     subst (HasTriedEnough clock config scripts new.orders new.replies) same
-    (tried_along config scripts clock (orders_known old) new.orders old.replies new.replies (order_given old j) c.in_ok-add_points.ensures.points
-    (λ one has. later.replies one (c.in_ok-add_all.ensures.added one has)) (continued j within))
+    (tried_along config scripts clock (orders_known old) new.orders (known ++ old.replies) new.replies (order_given old j) c.in_ok-add_points.ensures.points
+    (λ one has.
+    later.replies one
+    (⊎_elim
+    (λ (before : Has known one). c.in_ok-add_all.ensures.kept one before)
+    (λ (found : Has old.replies one). c.in_ok-add_all.ensures.added one found)
+    (has_either known old.replies one has)))
+    (continued j within))
 
 pub returns-clause-run : goal.returns-clause-run
 returns-clause-run c = sym c.is_err.ensures.value ∙ c.if-is_err.false

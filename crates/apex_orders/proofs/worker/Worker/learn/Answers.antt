@@ -32,7 +32,7 @@ pub returns-then-has_found-clause-known : goal.returns-then-has_found-clause-kno
 returns-then-has_found-clause-known c =
     let was = c.requires.valid in
     let point : HasPoint c.args.self.now.found.items c.args.self.now.trial.ports = c.has_found.ensures.found.0 c.if-has_found.true in
-    point_known c.args.config.now c.args.scripts.now c.args.self.now c.args.self.now.trial.ports was.found was.trial.ports point
+    point_known c.args.shared.now.config.now c.args.shared.now.scripts.now c.args.self.now c.args.self.now.trial.ports was.found was.trial.ports point
 
 -- the point that is kept
 module _ (old : Worker) (j p hash : ℕ) (saved : PortsView) where
@@ -46,8 +46,8 @@ module _ (old : Worker) (j p hash : ℕ) (saved : PortsView) where
 
 pub returns-clause-valid : goal.returns-clause-valid
 returns-clause-valid c =
-    let config = c.args.config.now in
-    let scripts = c.args.scripts.now in
+    let config = c.args.shared.now.config.now in
+    let scripts = c.args.shared.now.scripts.now in
     let was = c.requires.valid in
     let old = c.args.self.now in
     let order = order_given old c.args.j in
@@ -74,8 +74,8 @@ returns-clause-valid c =
           record { before = is.before; partition = is.partition; hash = is.hash; after = is.after };
       hashed = subst (λ (x : List FoundPoint × List ℕ). AreHashed config x.0 x.1) (λ i. (sym items i, sym c.in_ok-push.ensures i)) (hashes_push config old.found.items old.hashes one hash was.hashed hashed configured);
       orders = subst (AreOrders config) (sym more) (orders_push config scripts (orders_known old) longer was.orders is_order);
-      clocked = subst (AreClocked c.args.clock config scripts) (sym more)
-          (clocked_push config scripts c.args.clock (orders_known old) longer was.clocked (subst (IsClocked c.args.clock scripts) c.requires.history c.requires.clocked));
+      clocked = subst (AreClocked c.args.shared.now.clock config scripts) (sym more)
+          (clocked_push config scripts c.args.shared.now.clock (orders_known old) longer was.clocked (subst (IsClocked c.args.shared.now.clock scripts) c.requires.history c.requires.clocked));
       replies = was.replies;
     }
 
@@ -87,14 +87,14 @@ returns-clause-later c =
       base = refl;
       first = refl;
       points = refl;
-      orders = subst (Keeps (orders_known old)) (sym more) (keeps_push c.args.config.now c.args.scripts.now (orders_known old) (order_given old c.args.j ++ c.args.p ∷ []));
+      orders = subst (Keeps (orders_known old)) (sym more) (keeps_push c.args.shared.now.config.now c.args.shared.now.scripts.now (orders_known old) (order_given old c.args.j ++ c.args.p ∷ []));
       replies = λ x has. has;
     }
 
 pub returns-clause-known : goal.returns-clause-known
 returns-clause-known c =
-    let config = c.args.config.now in
-    let scripts = c.args.scripts.now in
+    let config = c.args.shared.now.config.now in
+    let scripts = c.args.shared.now.scripts.now in
     let old = c.args.self.now in
     let h = old.trial.ports.history in
     let more = pushed old c.args.j c.args.p c.hash_of-hash.result c.in_ok-saved.saved c.push_back.new.self.items c.in_ok-push_back.ensures.items in

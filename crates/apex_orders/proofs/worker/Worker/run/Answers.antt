@@ -1,11 +1,11 @@
-use Rattle.apex_orders.proofs.Common.{IsWorker}
+use Rattle.apex_orders.proofs.Common.{IsWorkerOf}
 use Rattle.apex_orders.proofs.WorkerLemmas.{on_ok}
 use Rattle.apex_orders.proofs.worker.Worker.run.Goals as goal
 
 pub returns-clause-valid : goal.returns-clause-valid
 returns-clause-valid c =
-    on_ok c.try_points-self.result (IsWorker c.args.clock c.args.config.now c.args.scripts.now c.try_points-self.new.self) _
-    (λ (is : IsWorker c.args.clock c.args.config.now c.args.scripts.now c.try_points-self.new.self).
+    on_ok c.try_points-self.result (IsWorkerOf c.args.shared.now c.try_points-self.new.self) _
+    (λ (is : IsWorkerOf c.args.shared.now c.try_points-self.new.self).
     record {
       all = is.all;
       trial = is.trial;

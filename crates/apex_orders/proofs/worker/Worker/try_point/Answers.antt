@@ -9,20 +9,20 @@ restored config scripts order saved ports after is = subst (IsAfter config scrip
 pub restore-requires : goal.restore-requires
 restore-requires c =
     let was = c.requires.valid in
-    (given_at c.args.config.now c.args.scripts.now c.args.self.now c.args.j c.index.result.now was.given c.requires.within c.index.ensures).configured ∙ sym was.trial.ports
+    (given_at c.args.shared.now.config.now c.args.shared.now.scripts.now c.args.self.now c.args.j c.index.result.now was.given c.requires.within c.index.ensures).configured ∙ sym was.trial.ports
 
 pub choose-requires-clause-uses : goal.choose-requires-clause-uses
 choose-requires-clause-uses c =
     let was = c.requires.valid in
-    let given = given_at c.args.config.now c.args.scripts.now c.args.self.now c.args.j c.index.result.now was.given c.requires.within c.index.ensures in
-    let after = restored c.args.config.now c.args.scripts.now (order_given c.args.self.now c.args.j) c.index.result.now c.restore.new.self given c.restore.ensures.restored in
-    subst (λ (config : Configuration). AreOfScripts config c.args.scripts.now c.args.uses.now) (sym after.configured) c.requires.uses
+    let given = given_at c.args.shared.now.config.now c.args.shared.now.scripts.now c.args.self.now c.args.j c.index.result.now was.given c.requires.within c.index.ensures in
+    let after = restored c.args.shared.now.config.now c.args.shared.now.scripts.now (order_given c.args.self.now c.args.j) c.index.result.now c.restore.new.self given c.restore.ensures.restored in
+    subst (λ (config : Configuration). AreOfScripts config c.args.shared.now.scripts.now c.args.shared.now.uses.now) (sym after.configured) c.requires.uses
 
 pub try_those-requires-clause-valid : goal.try_those-requires-clause-valid
 try_those-requires-clause-valid c =
     let was = c.requires.valid in
-    let given = given_at c.args.config.now c.args.scripts.now c.args.self.now c.args.j c.index.result.now was.given c.requires.within c.index.ensures in
-    let after = restored c.args.config.now c.args.scripts.now (order_given c.args.self.now c.args.j) c.index.result.now c.restore.new.self given c.restore.ensures.restored in
+    let given = given_at c.args.shared.now.config.now c.args.shared.now.scripts.now c.args.self.now c.args.j c.index.result.now was.given c.requires.within c.index.ensures in
+    let after = restored c.args.shared.now.config.now c.args.shared.now.scripts.now (order_given c.args.self.now c.args.j) c.index.result.now c.restore.new.self given c.restore.ensures.restored in
     record {
       all = was.all;
       trial = record { ports = after.configured; other = was.trial.other };
@@ -37,27 +37,27 @@ try_those-requires-clause-valid c =
 pub try_those-requires-clause-ready : goal.try_those-requires-clause-ready
 try_those-requires-clause-ready c =
     let was = c.requires.valid in
-    let given = given_at c.args.config.now c.args.scripts.now c.args.self.now c.args.j c.index.result.now was.given c.requires.within c.index.ensures in
+    let given = given_at c.args.shared.now.config.now c.args.shared.now.scripts.now c.args.self.now c.args.j c.index.result.now was.given c.requires.within c.index.ensures in
     record {
-      after = restored c.args.config.now c.args.scripts.now (order_given c.args.self.now c.args.j) c.index.result.now c.restore.new.self given c.restore.ensures.restored;
+      after = restored c.args.shared.now.config.now c.args.shared.now.scripts.now (order_given c.args.self.now c.args.j) c.index.result.now c.restore.new.self given c.restore.ensures.restored;
       sound = c.restore.ensures.sound;
     }
 
 pub try_those-requires-clause-due : goal.try_those-requires-clause-due
 try_those-requires-clause-due c =
     let was = c.requires.valid in
-    let given = given_at c.args.config.now c.args.scripts.now c.args.self.now c.args.j c.index.result.now was.given c.requires.within c.index.ensures in
-    let after = restored c.args.config.now c.args.scripts.now (order_given c.args.self.now c.args.j) c.index.result.now c.restore.new.self given c.restore.ensures.restored in
-    subst (λ (x : History × List Bool). AreDue c.args.clock c.args.scripts.now x.0 (is_tried x.1)) (λ i. (after.history i, sym c.as_slice-tried.ensures.value i)) c.in_ok-choose.ensures.due
+    let given = given_at c.args.shared.now.config.now c.args.shared.now.scripts.now c.args.self.now c.args.j c.index.result.now was.given c.requires.within c.index.ensures in
+    let after = restored c.args.shared.now.config.now c.args.shared.now.scripts.now (order_given c.args.self.now c.args.j) c.index.result.now c.restore.new.self given c.restore.ensures.restored in
+    subst (λ (x : History × List Bool). AreDue c.args.shared.now.clock c.args.shared.now.scripts.now x.0 (is_tried x.1)) (λ i. (after.history i, sym c.as_slice-tried.ensures.value i)) c.in_ok-choose.ensures.due
 
 pub returns-clause-tried : goal.returns-clause-tried
 returns-clause-tried c =
     let was = c.requires.valid in
-    let given = given_at c.args.config.now c.args.scripts.now c.args.self.now c.args.j c.index.result.now was.given c.requires.within c.index.ensures in
-    let after = restored c.args.config.now c.args.scripts.now (order_given c.args.self.now c.args.j) c.index.result.now c.restore.new.self given c.restore.ensures.restored in
+    let given = given_at c.args.shared.now.config.now c.args.shared.now.scripts.now c.args.self.now c.args.j c.index.result.now was.given c.requires.within c.index.ensures in
+    let after = restored c.args.shared.now.config.now c.args.shared.now.scripts.now (order_given c.args.self.now c.args.j) c.index.result.now c.restore.new.self given c.restore.ensures.restored in
     record {
       tried = is_tried c.choose.new.choice.tried.items;
-      enough = subst (λ (x : Configuration × History). IsEnoughWith c.args.clock x.0 c.args.scripts.now x.1 (is_tried c.choose.new.choice.tried.items)) (λ i. (after.configured i, after.history i)) c.in_ok-choose.ensures.enough;
+      enough = subst (λ (x : Configuration × History). IsEnoughWith c.args.shared.now.clock x.0 c.args.shared.now.scripts.now x.1 (is_tried c.choose.new.choice.tried.items)) (λ i. (after.configured i, after.history i)) c.in_ok-choose.ensures.enough;
       each = λ p within own. c.in_ok-try_those.ensures.tried p within (subst (λ (items : List Bool). is_tried items p ≡ true) (sym c.as_slice-tried.ensures.value) own);
     }
 

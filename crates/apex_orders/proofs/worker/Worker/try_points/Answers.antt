@@ -1,12 +1,13 @@
-use Rattle.apex_orders.proofs.Common.{◌≡◌, ⊎_elim, ℕ, sym, subst, arith, cases_eq, HasTriedEnough, order_given, orders_known}
-use Rattle.apex_orders.proofs.WorkerLemmas.{enough_kept, later_along, same_given}
+use Rattle.apex_orders.proofs.Common.{◌≡◌, ◌++◌, ⊎_elim, ℕ, sym, subst, arith, cases_eq, IsContinued, order_given, orders_known}
+use Rattle.apex_orders.proofs.WorkerLemmas.{enough_kept, includes_behind, later_along, same_given}
 use Rattle.apex_orders.proofs.worker.Worker.try_points.Goals as goal
 
 pub loop-j-preserved : goal.loop-j-preserved
 loop-j-preserved c =
-    let config = c.args.config.now in
-    let scripts = c.args.scripts.now in
-    let clock = c.args.clock in
+    let config = c.args.shared.now.config.now in
+    let scripts = c.args.shared.now.scripts.now in
+    let shared = c.args.shared.now in
+    let known = shared.known.now in
     let start = c.args.self.now in
     let before = c.loop-j.self in
     let after = c.try_point.new.self in
@@ -18,10 +19,11 @@ loop-j-preserved c =
       tried = λ j below.
           ⊎_elim
           (λ (here : j ≡ c.loop-j.j).
-          subst (λ (n : ℕ). HasTriedEnough clock config scripts (orders_known after) after.replies (order_given start n)) (sym here)
-          (subst (HasTriedEnough clock config scripts (orders_known after) after.replies) (same_given config scripts start before c.loop-j.j was.later) now.tried))
+          subst (λ (n : ℕ). IsContinued shared after (order_given start n)) (sym here)
+          (subst (IsContinued shared after) (same_given config scripts start before c.loop-j.j was.later) now.tried))
           (λ (earlier : j ≡ c.loop-j.j → ⊥).
-          enough_kept config scripts clock (orders_known before) (orders_known after) before.replies after.replies (order_given start j) now.later.orders now.later.replies
+          enough_kept config scripts shared.clock (orders_known before) (orders_known after) (known ++ before.replies) (known ++ after.replies) (order_given start j) now.later.orders
+          (includes_behind known before.replies after.replies now.later.replies)
           (was.tried j (omega (arith, below, earlier))))
           (cases_eq j c.loop-j.j);
     }
