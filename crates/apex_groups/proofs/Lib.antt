@@ -1,5 +1,6 @@
 pub mod Common
 pub mod AlikeInside
+pub mod DifferentEnds
 pub mod EndLemmas
 pub mod Exchanged
 pub mod GroupLemmas

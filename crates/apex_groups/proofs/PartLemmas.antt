@@ -1,5 +1,5 @@
 -- The scripts of the partitions inside lead to what all scripts lead to inside.
-use Rattle.apex_groups.proofs.Common.{◌≡◌, ⊎_elim, ℕ, ◌<◌, ◌≤◌, Bool, true, false, List, [], length, map, take, Ok, Err, Result, Option, refl, sym, ap, ◌∙◌, subst, arith, IfOk, IfSome, IfNone, slice_get, cases_lt, take_all, Configuration, Entry, History, entries_of, IsPart, Asked, PossibleReply, Scripts, script_of, calls_of, IsBeginning, AreEndsWith, IsEndOfPart, Has, false≢true}
+use Rattle.apex_groups.proofs.Common.{◌≡◌, ⊎_elim, ℕ, ◌<◌, ◌≤◌, Bool, true, false, List, [], length, map, take, Ok, Err, Result, Option, refl, sym, ap, ◌∙◌, subst, arith, IfOk, IfSome, IfNone, slice_get, cases_lt, take_all, Configuration, Entry, History, entries_of, IsPart, Asked, PossibleReply, Scripts, script_of, calls_of, IsBeginning, ShowAllCounts, IsEndOfPart, Has, false≢true}
 use Rattle.apex_groups.proofs.Common.{AreRepliesWith, CanBeAnsweredWith, CanOccurWith, HasMorePointsWith, IsAnsweredByWith, IsUndecidedWith, IsUndecidedApart, unclocked, IsAnswerOf, IsFoundOf}
 use Rattle.apex_types.specs.declared.call.Call.{Call}
 use Rattle.apex_types.specs.declared.moment.Moment.{Moment}
@@ -32,7 +32,7 @@ occurs_within clock config scripts count one can = ⊎_elim
 module _ (config : Configuration) (inside : ℕ → Bool) (scripts part : Scripts) (is : IsPart inside scripts part) where
   -- ---- answers
 
-  pub found_of : (clock : Bool) (result : Result Outcomes OrdersFault) → IfOk result (λ found. AreRepliesWith clock config part found.replies.items) → IfOk result (λ found. AreEndsWith clock config part found.ends.items)
+  pub found_of : (clock : Bool) (result : Result Outcomes OrdersFault) → IfOk result (λ found. AreRepliesWith clock config part found.replies.items) → IfOk result (λ found. ShowAllCounts clock config part found.ends.items)
       → IfOk result (IsFoundOf clock config inside scripts)
   found_of clock (Ok found) replies ends = record { part = part; is = is; replies = replies; ends = ends }
   found_of clock (Err fault) replies ends = replies

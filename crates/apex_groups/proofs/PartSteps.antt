@@ -1,5 +1,5 @@
 -- Parts searched one after the other.
-use Rattle.apex_groups.proofs.Common.{◌≡◌, ◌⊎◌, inl, inr, ⊎_elim, ℕ, ◌≤◌, ◌+◌, ◌<◌, Bool, true, false, List, ◌++◌, length, filter, Option, Some, None, refl, sym, ap, ◌∙◌, subst, arith, cases_eq, cases_lt, slice_get_past, nat_tests, false≢true, slice_get, Configuration, IsConfiguration, History, port_of, Port, IsPart, group_of, in_group, Asked, PossibleReply, Scripts, script_of, IsWay, AreEndsWith, AreRepliesWith, CanOccurWith, CanBeAnsweredWith, Has, ShowAllCounts, IsAnsweredByWith, IsMerged, IsOrder, IsClockedWay, IsWholeOf, AreEndsAdded, ◌∷◌, []}
+use Rattle.apex_groups.proofs.Common.{◌≡◌, ◌⊎◌, inl, inr, ⊎_elim, ℕ, ◌≤◌, ◌+◌, ◌<◌, Bool, true, false, List, ◌++◌, length, filter, Option, Some, None, refl, sym, ap, ◌∙◌, subst, arith, cases_eq, cases_lt, slice_get_past, nat_tests, false≢true, slice_get, Configuration, IsConfiguration, History, port_of, Port, IsPart, group_of, in_group, Asked, PossibleReply, Scripts, script_of, IsWay, AreRepliesWith, CanOccurWith, CanBeAnsweredWith, Has, ShowAllCounts, IsAnsweredByWith, IsMerged, IsOrder, IsClockedWay, IsWholeOf, AreEndsAdded, ◌∷◌, []}
 use Rattle.apex_groups.proofs.Common.{ShowsCounts, AreRepliesBelow, ShowCountsBelow}
 use Rattle.apex_types.specs.declared.call.Call.{Call}
 use Rattle.apex_types.specs.declared.moment.Moment.{Moment}
@@ -14,23 +14,6 @@ use Rattle.apex_orders.proofs.Having.{has_before, first_or_rest, has_behind, has
 use Rattle.apex_groups.proofs.PartLemmas.{occurs_within}
 use Rattle.apex_orders.specs.Clock.{IsClocked}
 use Rattle.apex_groups.proofs.PartWays.{answered_in_part, clocked_in_part, merged_answers, occurs_in_all, occurs_in_part, part_way, same_totals, way_in_part}
-
--- if all are searched together
-pub together : (clock : Bool) (config : Configuration) (scripts : Scripts) (ends : List (List ℕ)) → AreEndsWith clock config scripts ends → ShowAllCounts clock config scripts ends
-together clock config scripts ends are = record {
-  ways = are.ways;
-  clocked = are.clocked;
-  counts = λ way is_way clocked c within.
-      let one = are.all way is_way clocked in
-      record {
-        order = one.order;
-        here = one.here;
-        same = record {
-          counts = one.same.counts c within;
-          waiting = ap (λ (messages : List (List ℕ)). length messages) (one.same.state.channels c within).waiting;
-        };
-      };
-}
 
 -- one more end
 pub end_added : (clock : Bool) (config : Configuration) (inside : ℕ → Bool) (scripts : Scripts) (ends old all : List (List ℕ)) (end whole : List ℕ) → AreEndsAdded clock config inside scripts ends old all
@@ -180,7 +163,7 @@ module _ (clock : Bool) (config : Configuration) (scripts : Scripts) (parts : Pa
                 has_before replies kept one ((before one).1 (both.0, let few = both.1 in grind (arith, few, other))))
                 (cases_eq of_one n)
 
-        pub counts_added : (ends found new : List (List ℕ)) → AreEndsWith clock config part found → AreEndsAdded clock config inside scripts found ends new → ShowCountsBelow clock config scripts parts n ends
+        pub counts_added : (ends found new : List (List ℕ)) → ShowAllCounts clock config part found → AreEndsAdded clock config inside scripts found ends new → ShowCountsBelow clock config scripts parts n ends
             → ShowCountsBelow clock config scripts parts (n + 1) new
         counts_added ends found new are added before = record { ways = ways; counts = counts }
           where
@@ -191,12 +174,12 @@ module _ (clock : Bool) (config : Configuration) (scripts : Scripts) (parts : Pa
             counts c within few way is_way clocked = ⊎_elim
                 (λ (same : group_of parts.of_channels.items c ≡ n).
                 let other = part_way config own inside scripts part is fed valid way in
-                let one = are.all other (way_in_part config own inside scripts part is fed valid way is_way) (clocked_in_part config own inside scripts part is fed valid clock way is_way clocked) in
+                let one = are.counts other (way_in_part config own inside scripts part is fed valid way is_way) (clocked_in_part config own inside scripts part is fed valid clock way is_way clocked) c within in
                 let all = added.every one.order one.here in
                 record {
                   order = all.whole;
                   here = all.here;
-                  same = same_totals config own inside scripts part is fed valid c within (holds.channel c within same) way is_way one.order all.whole one.same all.is.same;
+                  same = same_totals config own inside scripts part is fed valid c (holds.channel c within same) way is_way one.order all.whole one.same all.is.same;
                 })
                 (λ (apart : group_of parts.of_channels.items c ≡ n → ⊥).
                 let was = before.counts c within (grind (arith, few, apart)) way is_way clocked in

@@ -54,7 +54,7 @@ module _ (config : Configuration) (c : ℕ) where
     waiting = λ i. length (drop (length (alike.taken i)) (alike.accepted i));
   }
 
-  totals_along : (f g h : History) → HasSameTotals config f g c → HasSameTotals config g h c → HasSameTotals config f h c
+  pub totals_along : (f g h : History) → HasSameTotals config f g c → HasSameTotals config g h c → HasSameTotals config f h c
   totals_along f g h one two = record {
     counts = record {
       accepted = one.counts.accepted ∙ two.counts.accepted;
@@ -70,7 +70,7 @@ module _ (config : Configuration) (c : ℕ) where
     waiting = sym same.waiting;
   }
 
-  totals_at : (h g : History) → c < length config.channels → IsSamePoint config h g → HasSameTotals config h g c
+  pub totals_at : (h g : History) → c < length config.channels → IsSamePoint config h g → HasSameTotals config h g c
   totals_at h g within same = record {
     counts = same.counts c within;
     waiting = ap (λ (messages : List (List ℕ)). length messages) (same.state.channels c within).waiting;
@@ -344,12 +344,12 @@ module _ (config : Configuration) (own : ℕ → Bool) (inside : ℕ → Bool) (
 
   -- ---- ends
 
-  -- what the channel counts after a way, it counts after the part's order to the same point, merged with all other calls
-  pub same_totals : (c : ℕ) → c < length config.channels → own c ≡ true → (way : History) → IsWay config scripts way → (order whole : List ℕ) → IsSamePoint config (part_way way) (history_of config part order)
+  -- what the channel counts after a way, it counts after the part's order to the same counts, merged with all other calls
+  pub same_totals : (c : ℕ) → own c ≡ true → (way : History) → IsWay config scripts way → (order whole : List ℕ) → HasSameTotals config (part_way way) (history_of config part order) c
       → history_of config scripts (filter inside whole) ≡ history_of config scripts (filter inside order) → HasSameTotals config way (history_of config scripts whole) c
-  same_totals c within mine way is_way order whole point same =
+  same_totals c mine way is_way order whole counted same =
       let there = history_of config part order in
       let all = history_of config scripts whole in
       totals_along config c way (part_way way) all (totals_alike config c way (part_way way) ((alike way is_way).channels c mine))
-      (totals_along config c (part_way way) there all (totals_at config c (part_way way) there within point)
+      (totals_along config c (part_way way) there all counted
       (totals_back config c all there (totals_alike config c all there ((merged_alike order whole same).channels c mine))))

@@ -8,6 +8,21 @@ pub record HasSameTotals (config : Configuration) (history other : History) (c :
   pub counts : HasSameCounts config history other c
   pub waiting : length (waiting_on config c history) ≡ length (waiting_on config c other)
 
+-- each channel has the same counts of messages after both, and the same number wait
+abbrev pub AreSameTotals : Configuration → History → History → Type 0
+AreSameTotals config history other = (c : ℕ) → c < length config.channels → HasSameTotals config history other c
+
+-- one of the orders leads to each channel's counts after the history
+pub record HasSuchTotals (config : Configuration) (scripts : Scripts) (ends : List (List ℕ)) (history : History) : Type 0 where
+  pub order : List ℕ
+  pub here : Has ends order
+  pub same : AreSameTotals config history (history_of config scripts order)
+
+-- those kept are among the ends, and whatever an end counts on all channels, one of those kept counts
+pub record KeepTotals (config : Configuration) (scripts : Scripts) (ends kept : List (List ℕ)) : Type 0 where
+  pub each : (order : List ℕ) → Has kept order → Has ends order
+  pub every : (order : List ℕ) → Has ends order → HasSuchTotals config scripts kept (history_of config scripts order)
+
 -- one of the orders leads to the channel's counts after the way
 pub record ShowsCounts (config : Configuration) (scripts : Scripts) (ends : List (List ℕ)) (way : History) (c : ℕ) : Type 0 where
   pub order : List ℕ

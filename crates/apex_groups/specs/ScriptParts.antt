@@ -1,8 +1,8 @@
 -- What is found for the scripts of each part.
 use Rattle.std.specs.Prelude.{ℕ, ◌<◌, ◌↔◌, Bool, List, length, Option, IfSome, IfNone, Result, Err, false, ◌≡◌}
-use Rattle.apex_groups.specs.Prelude.{Configuration, History, Scripts, IsWay, AreEndsWith, AreRepliesWith, CanBeAnsweredWith, CanOccurWith, HasMorePointsWith, IsAnsweredByWith, Has, Asked, PossibleReply}
+use Rattle.apex_groups.specs.Prelude.{Configuration, History, Scripts, IsWay, AreRepliesWith, CanBeAnsweredWith, CanOccurWith, HasMorePointsWith, IsAnsweredByWith, Has, Asked, PossibleReply}
 use Rattle.apex_orders.specs.Clock.{IsClocked}
-use Rattle.apex_groups.specs.Counts.{ShowsCounts}
+use Rattle.apex_groups.specs.Counts.{ShowAllCounts, ShowsCounts}
 use Rattle.apex_groups.specs.Groups.{IsPart, group_of}
 use Rattle.apex_groups.specs.Merging.{IsClockedWay}
 use Rattle.apex_groups.specs.Parts.{part_of_index}
@@ -18,7 +18,7 @@ pub record IsFoundOf (clock : Bool) (config : Configuration) (inside : ℕ → B
   pub part : Scripts
   pub is : IsPart inside scripts part
   pub replies : AreRepliesWith clock config part found.replies.items
-  pub ends : AreEndsWith clock config part found.ends.items
+  pub ends : ShowAllCounts clock config part found.ends.items
 
 -- what an answer says about the scripts of the partitions inside
 pub record IsAnswerOf (clock : Bool) (config : Configuration) (inside : ℕ → Bool) (scripts : Scripts) (asked : Asked) (answer : Option (List ℕ)) : Type 0 where

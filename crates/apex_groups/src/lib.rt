@@ -6,6 +6,7 @@ pub mod asked_end;
 mod between;
 pub mod deciding;
 pub mod decision;
+mod different_ends;
 pub mod end_witness;
 mod ends;
 pub mod exchanging;

@@ -10,11 +10,9 @@ ghost use Rattle.apex_groups.specs.ScriptParts.{IsFoundOf, IsUndecidedApart};
 use crate::ends::add_ends;
 use crate::groups::Groups;
 use crate::parts::Parts;
-use crate::script_parts::outcomes_of;
+use crate::script_parts::{different_outcomes, outcomes_of};
 use apex_module::Config;
-use apex_orders::{
-    Order, OrdersFault, Outcomes, PossibleReply, Progress, all_outcomes_with_progress,
-};
+use apex_orders::{Order, OrdersFault, Outcomes, PossibleReply, Progress};
 use apex_ports::Script;
 use std::alloc::{AllocError, Global};
 use std::thread::Threads;
@@ -26,7 +24,7 @@ pub struct PartCounts {
     pub partitions: Vec<usize>,
     /// The number of states that its calls can lead to, including those on the way.
     pub states: usize,
-    /// The number of states after all of its calls.
+    /// The number of ends after all of its calls that differ in a count of a channel.
     pub ends: usize,
 }
 
@@ -79,7 +77,6 @@ fn have_calls(scripts: &[Script]) -> bool {
 }
 
 /// Searches all partitions together.
-#[tactic(auto, using(crate::proofs::PartSteps::together))]
 fn outcomes_together<R: Threads + Sync, P: Progress>(
     rt: &R,
     alloc: Global,
@@ -96,9 +93,7 @@ fn outcomes_together<R: Threads + Sync, P: Progress>(
         (λ found. ShowAllCounts clock config.now scripts.now found.ends.items) }
     ensures undecided { IsUndecidedWith clock P.CanStop config.now scripts.now bound result }
 {
-    let found = match all_outcomes_with_progress(
-        rt, alloc, config, scripts, clock, bound, progress,
-    ) {
+    let found = match different_outcomes(rt, alloc, config, scripts, clock, bound, progress) {
         Err(fault) => return Err(fault),
         Ok(found) => found,
     };

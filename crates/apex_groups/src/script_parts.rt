@@ -1,8 +1,11 @@
-//! The scripts of one group.
+//! What can happen to scripts, and to those of one group.
 ghost use Rattle.std.specs.Prelude.{◌≡◌, [], length, replicate, IfOk};
+ghost use Rattle.apex_groups.specs.Prelude.{AreRepliesWith, IsUndecidedWith};
+ghost use Rattle.apex_groups.specs.Counts.{ShowAllCounts};
 ghost use Rattle.apex_groups.specs.Groups.{in_group};
 ghost use Rattle.apex_groups.specs.ScriptParts.{IsAnswerOf, IsFoundOf, IsUndecidedApart};
 
+use crate::different_ends::different_ends;
 use crate::exchanging::exchange;
 use crate::groups::Groups;
 use apex_module::Config;
@@ -27,7 +30,40 @@ fn no_scripts(alloc: Global, count: usize) -> Result<Vec<Script>, AllocError>
     Ok(scripts)
 }
 
-/// All that can happen to the scripts of one group's partitions. The scripts stay as they were.
+/// All that can happen to the scripts, as `all_outcomes` of `apex_orders` finds it. Of the ends that agree in every count
+/// of every channel only the first is kept, whichever messages wait.
+pub(crate) fn different_outcomes<R: Threads + Sync, P: Progress>(
+    rt: &R,
+    alloc: Global,
+    config: &Config,
+    scripts: &[Script],
+    clock: bool,
+    bound: usize,
+    progress: &mut P,
+) -> Result<Outcomes, OrdersFault>
+    requires { length scripts.now ≡ length config.now.partitions }
+    ensures replies { IfOk result
+        (λ found. AreRepliesWith clock config.now scripts.now found.replies.items) }
+    ensures ends { IfOk result
+        (λ found. ShowAllCounts clock config.now scripts.now found.ends.items) }
+    ensures undecided { IsUndecidedWith clock P.CanStop config.now scripts.now bound result }
+{
+    let found = match all_outcomes_with_progress(
+        rt, alloc, config, scripts, clock, bound, progress,
+    ) {
+        Err(fault) => return Err(fault),
+        Ok(found) => found,
+    };
+    let ends = different_ends(alloc, config, scripts, found.ends)?;
+    Ok(Outcomes {
+        replies: found.replies,
+        ends,
+        states: found.states,
+    })
+}
+
+/// All that can happen to the scripts of one group's partitions, with the ends that differ in a count of a channel. The
+/// scripts stay as they were.
 pub(crate) fn outcomes_of<R: Threads + Sync, P: Progress>(
     rt: &R,
     alloc: Global,
@@ -48,7 +84,7 @@ pub(crate) fn outcomes_of<R: Threads + Sync, P: Progress>(
     let mut part = no_scripts(alloc, config.partitions())?;
     let part = part.as_mut_slice();
     exchange(groups, group, scripts, part);
-    let found = all_outcomes_with_progress(rt, alloc, config, part, clock, bound, progress);
+    let found = different_outcomes(rt, alloc, config, part, clock, bound, progress);
     exchange(groups, group, scripts, part);
     found
 }

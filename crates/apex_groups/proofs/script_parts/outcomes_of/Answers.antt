@@ -17,8 +17,8 @@ returns-clause-found g c =
     let none : c.as_mut_slice-part.result.now ≡ replicate (length config.partitions) [] =
     c.as_mut_slice-part.ensures.value ∙ (c.in_ok-part.ensures ∙ (λ i. replicate (c.partitions.ensures.count i) [])) in
     let put : AreExchanged inside (replicate (length config.partitions) []) scripts part = subst (λ (own : Scripts). AreExchanged inside own scripts part) none c.exchange.ensures.other in
-    found_of config inside scripts part (put_in inside scripts (length config.partitions) part put) c.args.clock c.all_outcomes_with_progress-found.result
-    c.all_outcomes_with_progress-found.ensures.replies c.all_outcomes_with_progress-found.ensures.ends
+    found_of config inside scripts part (put_in inside scripts (length config.partitions) part put) c.args.clock c.different_outcomes-found.result
+    c.different_outcomes-found.ensures.replies c.different_outcomes-found.ensures.ends
 
 pub returns-clause-undecided : goal.returns-clause-undecided
 returns-clause-undecided g c =
@@ -29,5 +29,5 @@ returns-clause-undecided g c =
     let none : c.as_mut_slice-part.result.now ≡ replicate (length config.partitions) [] =
     c.as_mut_slice-part.ensures.value ∙ (c.in_ok-part.ensures ∙ (λ i. replicate (c.partitions.ensures.count i) [])) in
     let put : AreExchanged inside (replicate (length config.partitions) []) scripts part = subst (λ (own : Scripts). AreExchanged inside own scripts part) none c.exchange.ensures.other in
-    undecided_part config inside scripts part (put_in inside scripts (length config.partitions) part put) c.args.clock g.P.Progress.CanStop c.args.bound c.all_outcomes_with_progress-found.result
-    c.all_outcomes_with_progress-found.ensures.undecided
+    undecided_part config inside scripts part (put_in inside scripts (length config.partitions) part put) c.args.clock g.P.Progress.CanStop c.args.bound c.different_outcomes-found.result
+    c.different_outcomes-found.ensures.undecided
