@@ -1,5 +1,5 @@
 -- What the partitions inside see of their channels, and are told on them, does not depend on the calls outside.
-use Rattle.apex_groups.proofs.Common.{◌≡◌, ◌≢◌, ◌⊎◌, inl, inr, ⊎_elim, ℕ, ◌-◌, ◌==◌, ◌&&◌, ◌||◌, not, Bool, true, false, if◌then◌else◌, List, [], ◌∷◌, ◌++◌, length, drop, map, Option, Some, None, refl, sym, ap, ◌∙◌, subst, arith, append-nil, append_assoc, false≢true, nat_tests, cases_eq, slice_get, unwrap_or, Configuration, port_of, Port, Entry, History, entries_of, IsPart, Scripts, script_of, next_entries, entries_for, continued, IsWay}
+use Rattle.apex_groups.proofs.Common.{◌≡◌, ◌≢◌, ⊎_elim, ℕ, ◌-◌, ◌==◌, ◌&&◌, ◌||◌, not, Bool, true, false, if◌then◌else◌, List, [], ◌∷◌, ◌++◌, length, drop, map, Option, Some, None, refl, sym, ap, ◌∙◌, subst, arith, append-nil, append_assoc, false≢true, nat_tests, cases_eq, slice_get, unwrap_or, Configuration, port_of, Port, Entry, History, entries_of, IsPart, Scripts, script_of, next_entries, entries_for, continued, IsWay}
 use Rattle.apex_groups.proofs.Common.{IsDone, IsNext, answered, next_cases, one_longer, own_entry, entries_of-append}
 use Rattle.std.proofs.lemmas.List.{length-map, map-append}
 use Rattle.apex_types.specs.declared.call.Call.{Call}
@@ -10,25 +10,24 @@ use Rattle.apex_types.specs.declared.reply.Reply.{Reply}
 use Rattle.apex_types.specs.declared.sample.Sample.{Sample}
 use Rattle.apex_types.specs.declared.validity.Validity.{Validity}
 use Rattle.apex_types.specs.declared.validity.Validity.TheVariants.{Invalid}
-use Rattle.apex_module.specs.Configuration.{is_queuing_port}
-use Rattle.apex_ports.specs.declared.rows.Row.TheVariants as row
-use Rattle.apex_ports.specs.Channels.{clears, last_validity_of, message_in, message_received, validity_in, validity_read}
+use Rattle.apex_ports.specs.Channels.{last_validity_of, validity_in, validity_read}
 use Rattle.apex_ports.specs.History.{entry_of}
-use Rattle.apex_ports.specs.Modes.{mode_of, mode_set, is_code_no_error, is_idle, is_restart}
-use Rattle.apex_ports.specs.Ports.{creates, is_created, is_destination_of, is_source, is_source_of, queuing_only}
-use Rattle.apex_ports.specs.ReplyTable.{clear_row, receive_row, reply_of, reply_to, row_of}
-use Rattle.apex_ports.specs.Seen.{Seen, queuing_port, seen, sample_of, waiting_of}
+use Rattle.apex_ports.specs.Modes.{mode_of, mode_set, is_code_no_error, is_restart}
+use Rattle.apex_ports.specs.Ports.{creates, is_created}
+use Rattle.apex_ports.specs.ReplyTable.{reply_of, reply_to, row_of}
+use Rattle.apex_ports.specs.Seen.{Seen, seen, sample_of, waiting_of}
 use Rattle.apex_ports.proofs.Appends.{is_created-append, last_validity_of-append, mode_of-append}
 use Rattle.apex_ports.proofs.PartitionSteps.{leaves_others}
-use Rattle.apex_ports.proofs.Stays.{IsElsewhere, LeavesPartition, LeavesChannel, and_false, leaves_channel, none_or_none, or_not}
+use Rattle.apex_ports.proofs.Stays.{LeavesPartition, LeavesChannel, and_false, none_or_none, or_not}
 use Rattle.apex_orders.specs.Commuting.{id_in, is_change, is_on, names, port_in}
 use Rattle.apex_orders.specs.Orders.{order_of}
 use Rattle.apex_orders.proofs.Alike.{IsChannelAlike, channel_along, channel_back, channel_left, channel_more}
 use Rattle.apex_orders.proofs.Leaving.{at_id, leaves_unchanged, narrowed, replies_narrowed, status_in}
 use Rattle.apex_orders.proofs.SameWays.{next_entry}
 use Rattle.apex_orders.proofs.Walks.{other_entry, same_history}
-use Rattle.apex_groups.specs.Parts.{IsFed, IsReader, id_asked}
+use Rattle.apex_groups.specs.Parts.{IsFed, id_asked}
 use Rattle.apex_groups.proofs.Exchanged.{here_inside, none_outside}
+use Rattle.apex_groups.proofs.OutsideCalls.{outside_leaves}
 
 module _ (config : Configuration) (own : ℕ → Bool) where
   -- no port, or one of a channel of the part
@@ -196,97 +195,6 @@ module _ (config : Configuration) (own : ℕ → Bool) where
       channels = λ c mine. record { accepted = refl; received = refl; taken = refl; writes = refl };
     }
 
-    -- ---- a call of a partition outside
-
-    module _ (c : ℕ) (mine : own c ≡ true) (h : History) (p : ℕ) (out : inside p ≡ false) where
-      reader : (id : ℕ) (port : Port) → port_of config p id ≡ Some port → (port.channel == c) ≡ true → IsReader port
-      reader id port found on =
-          let same : port.channel ≡ c = grind (arith, nat_tests, on) in
-          ⊎_elim (λ (here : inside p ≡ true). absurd (false≢true (sym out ∙ here))) (λ (reads : IsReader port). reads) (fed c mine p id port found same)
-
-      -- it can't put anything into the channel
-      no_source : (id : ℕ) → is_source_of c (port_of config p id) ≡ false
-      no_source id = of_port (port_of config p id) refl
-        where
-          of_port : (o : Option Port) → port_of config p id ≡ o → is_source_of c o ≡ false
-          of_port None found = refl
-          of_port (Some port) found = by_test (port.channel == c) refl
-            where
-              by_test : (b : Bool) → (port.channel == c) ≡ b → (is_source port.direction && (port.channel == c)) ≡ false
-              by_test false off = (λ i. is_source port.direction && off i) ∙ and_false (is_source port.direction)
-              by_test true on = λ i. (reader id port found on).reads i && (port.channel == c)
-
-      -- nor take anything from it: either the port lies elsewhere, or it has no queue
-      abbrev HasNoQueue : ℕ → Type 0
-      HasNoQueue id = queuing_port config (seen config h p) p id ≡ None
-
-      no_queue : (id : ℕ) → (is_destination_of c (port_of config p id) ≡ false) ⊎ HasNoQueue id
-      no_queue id = of_port (port_of config p id) refl
-        where
-          none_created : (created : Bool) (port : Port) → is_queuing_port port.kind ≡ false → queuing_only (if created then Some port else None) ≡ None
-          none_created true port is = λ i. if is i then Some port else None
-          none_created false port is = refl
-
-          of_port : (o : Option Port) → port_of config p id ≡ o → (is_destination_of c o ≡ false) ⊎ HasNoQueue id
-          of_port None found = inl refl
-          of_port (Some port) found = by_test (port.channel == c) refl
-            where
-              by_test : (b : Bool) → (port.channel == c) ≡ b → ((not (is_source port.direction) && (port.channel == c)) ≡ false) ⊎ HasNoQueue id
-              by_test false off = inl ((λ i. not (is_source port.direction) && off i) ∙ and_false (not (is_source port.direction)))
-              by_test true on = inr (ap (λ (o : Option Port). queuing_only (if is_created p id h then o else None)) found ∙ none_created (is_created p id h) port (reader id port found on).samples)
-
-      receives_none : (now : Moment) (id : ℕ) → HasNoQueue id → message_in (reply_to config h p now (call.ReceiveQueuing id)) ≡ None
-      receives_none now id none =
-          ap (λ (o : Option Port). message_in (reply_of config (seen config h p) p (if is_idle (mode_of p h) then row.Idle else receive_row (seen config h p) id o))) none
-          ∙ by_mode (is_idle (mode_of p h))
-        where
-          by_mode : (b : Bool) → message_in (reply_of config (seen config h p) p (if b then row.Idle else receive_row (seen config h p) id None)) ≡ None
-          by_mode true = refl
-          by_mode false = refl
-
-      clears_none : (now : Moment) (id : ℕ) → HasNoQueue id → is_code_no_error (reply_to config h p now (call.ClearQueuing id)) ≡ false
-      clears_none now id none =
-          ap (λ (o : Option Port). is_code_no_error (reply_of config (seen config h p) p (if is_idle (mode_of p h) then row.Idle else clear_row o))) none
-          ∙ by_mode (is_idle (mode_of p h))
-        where
-          by_mode : (b : Bool) → is_code_no_error (reply_of config (seen config h p) p (if b then row.Idle else clear_row None)) ≡ false
-          by_mode true = refl
-          by_mode false = refl
-
-      received_none : (now : Moment) (id : ℕ) → (is_destination_of c (port_of config p id) ≡ false) ⊎ HasNoQueue id
-          → message_received config c (entry_of p now (call.ReceiveQueuing id) (reply_to config h p now (call.ReceiveQueuing id))) ≡ None
-      received_none now id (inl off) = λ i. if off i then message_in (reply_to config h p now (call.ReceiveQueuing id)) else None
-      received_none now id (inr none) =
-          ap (λ o. if is_destination_of c (port_of config p id) then o else None) (receives_none now id none) ∙ none_or_none (is_destination_of c (port_of config p id))
-
-      cleared_none : (now : Moment) (id : ℕ) → (is_destination_of c (port_of config p id) ≡ false) ⊎ HasNoQueue id
-          → clears config c (entry_of p now (call.ClearQueuing id) (reply_to config h p now (call.ClearQueuing id))) ≡ false
-      cleared_none now id (inl off) =
-          (λ i. is_code_no_error (reply_to config h p now (call.ClearQueuing id)) && off i) ∙ and_false (is_code_no_error (reply_to config h p now (call.ClearQueuing id)))
-      cleared_none now id (inr none) = λ i. clears_none now id none i && is_destination_of c (port_of config p id)
-
-      quiet : (now : Moment) (asked : Call) → IsElsewhere config c p asked → LeavesChannel config c (entry_of p now asked (reply_to config h p now asked))
-      quiet now asked off = leaves_channel config c p now asked (reply_to config h p now asked) off
-
-      pub outside_leaves : (now : Moment) (asked : Call) → LeavesChannel config c (entry_of p now asked (reply_to config h p now asked))
-      outside_leaves now (call.SendQueuing id message) =
-          quiet now (call.SendQueuing id message) (record { sends = λ i. if no_source id i then Some message else None; receives = refl; clears = refl; writes = refl })
-      outside_leaves now (call.WriteSampling id message) =
-          quiet now (call.WriteSampling id message) (record { sends = refl; receives = refl; clears = refl; writes = λ i. if no_source id i then Some message else None })
-      outside_leaves now (call.ReceiveQueuing id) = record {
-        accepted = none_or_none (is_code_no_error (reply_to config h p now (call.ReceiveQueuing id)));
-        received = received_none now id (no_queue id);
-        cleared = and_false (is_code_no_error (reply_to config h p now (call.ReceiveQueuing id)));
-        written = none_or_none (is_code_no_error (reply_to config h p now (call.ReceiveQueuing id)));
-      }
-      outside_leaves now (call.ClearQueuing id) = record {
-        accepted = none_or_none (is_code_no_error (reply_to config h p now (call.ClearQueuing id)));
-        received = refl;
-        cleared = cleared_none now id (no_queue id);
-        written = none_or_none (is_code_no_error (reply_to config h p now (call.ClearQueuing id)));
-      }
-      outside_leaves now asked = quiet now asked (record { sends = refl; receives = refl; clears = refl; writes = refl })
-
     -- an entry of another partition
     other_more : (h g : History) (x : Entry) (p : ℕ) → (x.partition ≡ p → ⊥) → IsToldAlike h g p → IsToldAlike (h ++ x ∷ []) g p
     other_more h g x p apart alike =
@@ -304,7 +212,7 @@ module _ (config : Configuration) (own : ℕ → Bool) where
         let x = answered config scripts h q timed in
         record {
           partitions = λ p here. other_more h g x p (λ same. absurd (false≢true (sym out ∙ (ap inside same ∙ here)))) (alike.partitions p here);
-          channels = λ c mine. channel_along config c (h ++ x ∷ []) h g (channel_left config c h x (outside_leaves c mine h q out timed.0 timed.1)) (alike.channels c mine);
+          channels = λ c mine. channel_along config c (h ++ x ∷ []) h g (channel_left config c h x (outside_leaves config inside c (fed c mine) h q out timed.0 timed.1)) (alike.channels c mine);
         }
 
     -- the same entry

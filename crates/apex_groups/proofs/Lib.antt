@@ -12,6 +12,7 @@ pub mod MergedEnds
 pub mod Merges
 pub mod MergeSteps
 pub mod OrderLemmas
+pub mod OutsideCalls
 pub mod PartLemmas
 pub mod PartOrders
 pub mod PartSteps

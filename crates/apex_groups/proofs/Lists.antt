@@ -1,5 +1,5 @@
 -- Items of lists.
-use Rattle.apex_groups.proofs.Common.{◌≡◌, ◌⊎◌, inl, inr, ⊎_elim, ℕ, zero, suc, ◌<◌, Bool, true, false, cond, List, [], ◌∷◌, ◌++◌, length, map, Some, refl, sym, ap, subst, ◌∙◌, arith, slice_get, filter, Has}
+use Rattle.apex_groups.proofs.Common.{◌≡◌, ⊎_elim, ℕ, zero, suc, ◌<◌, Bool, true, false, cond, List, [], ◌∷◌, length, map, Some, refl, sym, ap, subst, ◌∙◌, arith, slice_get, filter, Has}
 use Rattle.apex_orders.proofs.Having.{first_or_rest, has_none, has_rest}
 
 module _ {X : Type 0} where

@@ -1,15 +1,11 @@
 -- Replies that orders show, and why a call gets some in some orders and not in others.
-use Rattle.apex_groups.proofs.Common.{◌≡◌, ℕ, ◌+◌, ◌<◌, Bool, List, [], ◌∷◌, ◌++◌, length, take, Option, Some, None, Err, refl, sym, ap, ◌∙◌, subst, take_more, slice_index_or, Configuration, IsConfiguration, History, Asked, PossibleReply, Scripts, IsBeginning, IsOrder, slice_get, next_entries, history_of, continued-append, IfSome, CanBeAnsweredWith, IsAnsweredByWith, IsUndecidedWith}
+use Rattle.apex_groups.proofs.Common.{◌≡◌, ℕ, Bool, List, ◌++◌, Option, Some, None, ap, ◌∙◌, subst, Configuration, IsConfiguration, History, Asked, PossibleReply, Scripts, IsOrder, slice_get, next_entries, history_of, IfSome}
 use Rattle.apex_types.specs.declared.reply.Reply.{Reply}
-use Rattle.apex_orders.specs.Clock.{IsClocked, IsNextDue}
+use Rattle.apex_orders.specs.Clock.{IsClocked}
 use Rattle.apex_orders.specs.Steps.{Makes}
-use Rattle.apex_orders.specs.declared.orders_fault.OrdersFault.{OrdersFault}
-use Rattle.apex_orders.proofs.ClockLemmas.{clocked_next, clocked_none}
 use Rattle.apex_orders.proofs.Completing.{IsAnswered, good_history, made_is_answered}
-use Rattle.apex_orders.proofs.SearchLemmas.{longer_is_order}
 use Rattle.apex_orders.proofs.Lists.{stays_before}
-use Rattle.apex_orders.proofs.Walks.{is_beginning, none_ordered, replies_of-append}
-use Rattle.apex_ports.specs.Sound.{IsSound}
+use Rattle.apex_orders.proofs.Walks.{is_beginning, replies_of-append}
 use Rattle.apex_groups.specs.Prelude.{replies_of}
 use Rattle.apex_groups.specs.Deciding.{HasReply, ShowsReply}
 

@@ -1,5 +1,4 @@
-use Rattle.apex_groups.proofs.Common.{◌≡◌, ◌++◌, Some, Option, sym, subst, History, next_entries, PossibleReply}
-use Rattle.apex_orders.specs.Steps.{Makes}
+use Rattle.apex_groups.proofs.Common.{Some, sym, subst, History, next_entries}
 use Rattle.apex_groups.specs.Deciding.{HasReply}
 use Rattle.apex_groups.proofs.ReasonLemmas.{has_made, has_more}
 use Rattle.apex_groups.proofs.decision.make_next.Goals as goal

@@ -1,8 +1,7 @@
-use Rattle.apex_groups.proofs.Common.{◌≡◌, ◌+◌, ◌<◌, ◌++◌, ◌∷◌, [], take, List, ℕ, length, slice_index_or, sym, ap, ◌∙◌, subst, take_more, take_all, Configuration, IsConfiguration, History, history_of, next_entries, continued-append, IsOrder}
+use Rattle.apex_groups.proofs.Common.{◌≡◌, ◌+◌, ◌<◌, ◌++◌, ◌∷◌, [], take, List, ℕ, length, slice_index_or, sym, ap, ◌∙◌, subst, take_more, take_all, Configuration, IsConfiguration, history_of, next_entries, continued-append, IsOrder}
 use Rattle.apex_orders.specs.Clock.{IsClocked}
-use Rattle.apex_orders.proofs.ClockLemmas.{clocked_next, clocked_none}
+use Rattle.apex_orders.proofs.ClockLemmas.{clocked_next}
 use Rattle.apex_orders.proofs.SearchLemmas.{longer_is_order}
-use Rattle.apex_orders.proofs.Walks.{none_ordered}
 use Rattle.apex_groups.proofs.ReasonLemmas.{shows}
 use Rattle.apex_groups.proofs.decision.reply_in.Goals as goal
 
