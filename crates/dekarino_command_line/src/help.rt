@@ -106,10 +106,10 @@ pub(crate) const ORDERS: &str = "\
 Each partition makes the calls of its script in order. Nothing else says which call comes first; moments order nothing
 between partitions, unless `--clock` says that they are of one clock. For each call, by the line of its script, it
 prints all replies that some order gives, and no others, after `*` if there are several; and for each queuing channel
-the least and the greatest of its counts in the end. Then come the number of states tried and of different ends, in a
-line for each group of partitions that shares no channel with others, and the number of calls with several replies. A
-search that meets a bound of seconds, memory or states gives up: the status is 5. Each question has a search of its own,
-and so has each such group.
+the least and the greatest of its counts in the end. Then come the number of states tried and of ends that differ in a
+count, in a line for the partitions at the ends of each channel, and the number of calls with several replies. A search
+that meets a bound of seconds, memory or states gives up: the status is 5. Each question has a search of its own, and so
+have the partitions at the ends of each channel.
 
 With --witness FOLDER, each reply of several has a file NAME_LINE_REPLY.log in FOLDER, named behind the reply: a shortest
 order that ends with that call and that reply, as a log in which `judge` finds no departure. FOLDER is made if it isn't
