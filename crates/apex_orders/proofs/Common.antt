@@ -34,7 +34,7 @@ pub use Rattle.apex_orders.specs.Points.{IsSamePoint, IsSameCalls, HasSameCounts
 pub use Rattle.apex_orders.specs.Searching.{AreDue, IsEnoughWith, IsSearched, IsGivenByAnOrder, HasMadeAll, AreEndsOf, HasMoreOrders, IsGivenUp, Keeps, Knows, Includes, AreOrders, AreApart, AreClocked, IsUnansweredAt, IsTried, HasTried, IsFound, AreFound, HasEnded, IsAnsweredAfter, IsGivenAfter, IsSearchedInVain, IsAnswer, HasTriedEnough, HasTriedFrom, AreUnansweredFrom, IsLater, IsSearch}
 pub use Rattle.apex_orders.specs.States.{IsSameChannel, IsSameState, IsSamePorts, last_shown, IsSamePartition}
 pub use Rattle.apex_orders.specs.Steps.{Makes, MakesNothing}
-pub use Rattle.apex_orders.specs.Workers.{AreContinued, AreHashed, AreGiven, HasContinued, HasContinuedFrom, HasPoint, HasTriedCall, IsContinued, IsFoundBy, IsLaterWorker, IsRange, IsReady, IsWorker, IsWorkerOf, AreWorkers, KnowsPoint, order_given, order_found, orders_known}
+pub use Rattle.apex_orders.specs.Workers.{AreContinued, AreHashed, AreGiven, HasContinued, HasContinuedFrom, HasPoint, HasTriedCall, IsContinued, IsFoundBy, IsLaterWorker, IsRange, IsReady, IsShared, IsWorker, IsWorkerOf, AreWorkers, KnowsPoint, order_given, order_found, orders_known}
 pub use Rattle.apex_orders.specs.declared.asked.Asked.{Asked}
 pub use Rattle.apex_orders.specs.declared.last_uses.LastUse.{LastUse}
 pub use Rattle.apex_orders.specs.declared.last_uses.LastUses.{LastUses}

@@ -1,8 +1,9 @@
--- A worker may go to another thread: what it saved has no value that belongs to one thread.
-use denote.Param.Send.{IsSend, sendable, view_send}
-use denote.Param.SendFields.{declared_send, as_row_send}
-use Rattle.std.proofs.Crossing.{crosses, frees, send as heap_send}
-use Rattle.std_alloc.proofs.SendSync.{Vec-send}
+-- A worker may go to another thread, and all workers may read the same: what is saved has no value that belongs to one thread.
+use denote.Param.Send.{IsSend, IsSync, sendable, view_send, view_sync, whole-keyless}
+use denote.Ref.{NamedLft}
+use denote.Param.SendFields.{declared_send, declared_sync, as_row_send, as_row_sync}
+use Rattle.std.proofs.Crossing.{crosses, frees, send as heap_send, sync as heap_sync}
+use Rattle.std_alloc.proofs.SendSync.{Vec-send, Vec-sync}
 use Rattle.std_heap.specs.contracts.Global as Heap
 use Rattle.std_heap.specs.contracts.GlobalAllocator.TheImpl.{ghosts}
 use Rattle.apex_ports.proofs.ghost_history.Log.TheSendSync as log
@@ -10,13 +11,21 @@ use Rattle.apex_ports.proofs.partition.SavedPartition.TheSendSync as partition
 use Rattle.apex_ports.proofs.partition.PortState.TheSendSync as port
 use Rattle.apex_ports.proofs.saved_channel.SavedChannel.TheSendSync as channel
 use Rattle.apex_ports.proofs.stored_messages.StoredMessages.TheSendSync as stored
+use Rattle.apex_ports.specs.contracts.ghost_history.Log as Log
 use Rattle.apex_ports.specs.contracts.ghost_history.GhostHistory as GhostHistory
 use Rattle.apex_ports.specs.contracts.ghost_history.GhostHistory.TheInside as GhostHistoryInside
 use Rattle.apex_ports.specs.contracts.ports.saved.SavedPorts as SavedPorts
 use Rattle.apex_ports.specs.contracts.ports.saved.SavedPorts.TheInside as SavedPortsInside
 use Rattle.apex_ports.specs.contracts.ports.saved.SavedState as SavedState
+use Rattle.apex_module.proofs.config.Config.TheSendSync as config
+use Rattle.apex_ports.proofs.script.Script.TheSendSync as script
+use Rattle.apex_orders.proofs.hash_index.HashIndex.TheSendSync as hashes
+use Rattle.apex_orders.proofs.last_uses.LastUses.TheSendSync as uses
+use Rattle.apex_orders.proofs.orders.Orders.TheSendSync as orders
 use Rattle.apex_orders.proofs.replies.Replies.TheSendSync as replies
 use Rattle.apex_orders.proofs.trial.Trial.TheSendSync as trial
+use Rattle.apex_orders.specs.contracts.points.Points as Points
+use Rattle.apex_orders.specs.contracts.shared.Shared as Shared
 use Rattle.apex_orders.specs.contracts.worker.FoundPoint as FoundPoint
 use Rattle.apex_orders.specs.contracts.worker.Worker as Worker
 
@@ -59,6 +68,66 @@ worker_send = declared_send Worker.the_type (
           (
             search (as_row_send, replies.the_send),
             (search (as_row_send, trial.the_send), (search (crosses, saved_ports_send), (search (sendable, crosses, as_row_send) depth 12, tt))),
+          ),
+        ),
+      ),
+    ),
+  ),
+)
+
+-- ---- what all workers read
+
+log_sync : IsSync Log.the_row
+log_sync = record { shared = λ d b o κ q. whole-keyless _ _ (λ x vs. (log.the_send).owned x vs) q d b o }
+
+ghost_history_sync : IsSync GhostHistory.the_row
+ghost_history_sync = view_sync _ _ _ _ _ (declared_sync GhostHistoryInside.the_type (log_sync, tt))
+
+state_sync : IsSync (SavedState.the_row Heap.the_row ghosts)
+state_sync = declared_sync (SavedState.the_type Heap.the_row ghosts) (
+  search (crosses, as_row_sync, Vec-sync, partition.the_sync),
+  (
+    search (crosses, as_row_sync, Vec-sync, port.the_sync),
+    (
+      search (as_row_sync, stored.the_sync Heap.the_row ghosts heap_sync),
+      (
+        search (crosses, as_row_sync, Vec-sync, channel.the_sync),
+        (search (sendable, crosses, as_row_sync, Vec-sync), tt),
+      ),
+    ),
+  ),
+)
+
+saved_ports_sync : IsSync (SavedPorts.the_row Heap.the_row ghosts)
+saved_ports_sync = view_sync _ _ _ _ _ (declared_sync (SavedPortsInside.the_type Heap.the_row ghosts)
+    (search (sendable, crosses, as_row_sync), (ghost_history_sync, (state_sync, tt))))
+
+points_sync : IsSync Points.the_row
+points_sync = declared_sync Points.the_type (
+  search (as_row_sync, hashes.the_sync),
+  (search sendable, (search (crosses, saved_ports_sync), (search sendable, tt))),
+)
+
+pub shared_sync : (κ : NamedLft) → IsSync (Shared.the_row κ)
+shared_sync κ = declared_sync (Shared.the_type κ) (
+  search (as_row_sync, heap_sync),
+  (
+    search (sendable, as_row_sync, config.the_sync),
+    (
+      search (sendable, as_row_sync, script.the_sync),
+      (
+        search sendable,
+        (
+          search (sendable, as_row_sync, uses.the_sync),
+          (
+            search (sendable, crosses, as_row_sync) depth 12,
+            (
+              search (sendable, as_row_sync, replies.the_sync),
+              (
+                search (sendable, as_row_sync, orders.the_sync),
+                (search (sendable, as_row_sync, points_sync), tt),
+              ),
+            ),
           ),
         ),
       ),

@@ -6,7 +6,7 @@ use Rattle.apex_orders.proofs.Following.{same_along}
 use Rattle.apex_orders.proofs.GrowthLemmas.{order_here}
 use Rattle.apex_orders.proofs.Having.{has_before, has_behind, has_either, has_mapped, of_mapped}
 use Rattle.apex_orders.proofs.Lists.{at_seam, before_or_last, stays_before}
-use Rattle.apex_orders.proofs.SearchLemmas.{has_tried_kept, includes_along, keeps_along, tried_kept}
+use Rattle.apex_orders.proofs.SearchLemmas.{has_tried_kept, includes_along, keeps_along, knows_kept, tried_kept}
 
 -- ---- one more point
 
@@ -65,6 +65,11 @@ module _ (config : Configuration) (scripts : Scripts) where
     here = has_behind worker.base.value (map (order_found worker) worker.found.items) (order_found worker point.one) (has_mapped (order_found worker) worker.found.items point.one point.here);
     same = subst (λ (x : Configuration × History). IsSamePoint x.0 ports.history x.1) (λ i. (configured i, (each point.one point.here).after.history i)) point.same;
   }
+
+  -- and so is a point that the search knew
+  pub known_to_search : (orders : List (List ℕ)) (worker : Worker) (h : History) → Keeps orders worker.base.value → Knows config scripts orders h → Knows config scripts (orders_known worker) h
+  known_to_search orders worker h keeps known =
+      knows_kept config scripts orders (orders_known worker) h (λ k order at. stays_before worker.base.value (map (order_found worker) worker.found.items) k order (keeps k order at)) known
 
   pub later_along : (a b c : Worker) → IsLaterWorker a b → IsLaterWorker b c → IsLaterWorker a c
   later_along a b c one two = record {
@@ -128,6 +133,12 @@ module _ (config : Configuration) (scripts : Scripts) where
       let from = of_mapped (order_found worker) worker.found.items order new in
       subst Is from.2 (found from.0 from.1))
       (has_either worker.base.value (map (order_found worker) worker.found.items) order has)
+
+pub keeps_same : (old new : List (List ℕ)) → new ≡ old → Keeps old new
+keeps_same old new same = subst (λ (orders : List (List ℕ)). Keeps old orders) (sym same) (λ k x at. at)
+
+pub includes_same : (old new : List PossibleReply) → new ≡ old → Includes old new
+includes_same old new same = subst (λ (replies : List PossibleReply). Includes old replies) (sym same) (λ x has. has)
 
 -- what more replies include, they include with others in front
 pub includes_behind : (known old new : List PossibleReply) → Includes old new → Includes (known ++ old) (known ++ new)

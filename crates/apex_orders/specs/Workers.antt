@@ -7,7 +7,7 @@ use Rattle.apex_orders.specs.declared.worker.FoundPoint.{FoundPoint}
 use Rattle.apex_orders.specs.declared.worker.Worker.{Worker}
 use Rattle.apex_orders.specs.declared.workers.Workers.{Workers}
 use Rattle.apex_orders.specs.Hashes.{hash_of}
-use Rattle.apex_orders.specs.Known.{IsAfter, IsReadyAfter, IsTrialOf}
+use Rattle.apex_orders.specs.Known.{ArePoints, IsAfter, IsReadyAfter, IsTrialOf}
 use Rattle.apex_orders.specs.LastUses.{AreOfScripts}
 use Rattle.apex_orders.specs.Lists.{Has}
 use Rattle.apex_orders.specs.Orders.{Scripts, history_of, order_at}
@@ -104,9 +104,11 @@ pub record AreWorkers (config : Configuration) (workers : Workers) : Type 0 wher
 abbrev pub IsWorkerOf : Shared → Worker → Type 0
 IsWorkerOf shared worker = IsWorker shared.clock shared.config.now shared.scripts.now worker
 
--- the last uses of channels are those by the scripts
-abbrev pub HasUses : Shared → Type 0
-HasUses shared = AreOfScripts shared.config.now shared.scripts.now shared.uses.now
+-- the last uses of channels are those by the scripts, and what is kept of the orders' points is right
+pub record IsShared (shared : Shared) : Type 0 where
+  pub uses : AreOfScripts shared.config.now shared.scripts.now shared.uses.now
+  pub orders : AreOrders shared.config.now shared.orders.now
+  pub points : ArePoints shared.config.now shared.scripts.now shared.orders.now shared.points.now
 
 -- the calls before the worker's point at the index
 abbrev pub history_given : Shared → Worker → ℕ → History

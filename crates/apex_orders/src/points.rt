@@ -150,7 +150,7 @@ pub(crate) fn is_known(
 }
 
 /// Whether one of the orders leads to the point of the trial's ports.
-fn is_among(
+pub(crate) fn is_among(
     alloc: Global,
     config: &Config,
     scripts: &[Script],

@@ -160,7 +160,8 @@ impl Search {
         requires within { self.old.points.first + count ≤ length self.old.orders }
         requires trial { IsTrialOf config.now worker.old.trial }
         ensures valid { OnOk result (IsSearch clock config.now scripts.now self.new) }
-        ensures later { OnOk result (IsLater self.old self.new) }
+        ensures orders { OnOk result (self.new.orders ≡ self.old.orders) }
+        ensures replies { OnOk result (self.new.replies ≡ self.old.replies) }
         ensures first { OnOk result (self.new.points.first ≡ self.old.points.first + count) }
         ensures worker { OnOk result (IsWorker clock config.now scripts.now worker.new) }
         ensures base { OnOk result (worker.new.base.value ≡ self.new.orders) }

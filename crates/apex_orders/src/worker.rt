@@ -7,16 +7,16 @@ ghost use Rattle.apex_orders.specs.Known.{IsTrialOf};
 ghost use Rattle.apex_orders.specs.Orders.{history_of};
 ghost use Rattle.apex_orders.specs.Points.{IsSamePoint};
 ghost use Rattle.apex_orders.specs.declared.worker.FoundPoint.{FoundPoint};
-ghost use Rattle.apex_orders.specs.Searching.{AreDue};
+ghost use Rattle.apex_orders.specs.Searching.{AreDue, Keeps};
 ghost use Rattle.apex_orders.specs.Prelude.{IsSound};
-ghost use Rattle.apex_orders.specs.Workers.{AreHashed, IsContinued, AreContinued, HasPoint, HasTriedCall, HasUses, IsLaterWorker, IsReady, IsWorkerOf, KnowsPoint, history_given, order_given};
+ghost use Rattle.apex_orders.specs.Workers.{AreHashed, IsContinued, AreContinued, HasPoint, HasTriedCall, IsLaterWorker, IsReady, IsShared, IsWorkerOf, KnowsPoint, history_given, order_given};
 
 use crate::choice::{Choice, choose, is_tried};
 use crate::hash::hash_of;
 use crate::hash_index::HashIndex;
 use crate::orders::Orders;
 use crate::point::is_same_point;
-use crate::points::{Points, move_all};
+use crate::points::{Points, is_among, move_all};
 use crate::replies::Replies;
 use crate::shared::Shared;
 use crate::step::step_into;
@@ -39,8 +39,8 @@ pub(crate) struct FoundPoint {
     pub(crate) saved: SavedPorts,
 }
 
-/// Continues from points that it is given, and shares nothing with other workers. What it finds is compared with all
-/// other points afterwards.
+/// Continues from points that it is given. It reads what the search had found before, but nothing of other workers: what it
+/// finds is compared with what they find afterwards.
 #[derive(Drop)]
 pub(crate) struct Worker {
     /// The orders that the search had found when it gave out the points; only contracts see them.
@@ -120,7 +120,8 @@ impl Worker {
     /// Tries the next calls of enough partitions after each of its points.
     pub(crate) fn run(&mut self, shared: &Shared<'_>)
         requires valid { IsWorkerOf shared.now self.old }
-        requires uses { HasUses shared.now }
+        requires shared { IsShared shared.now }
+        requires base { Keeps shared.now.orders.now self.old.base.value }
         ensures valid { OnOk self.new.result (IsWorkerOf shared.now self.new) }
         ensures later { OnOk self.new.result (IsLaterWorker self.old self.new) }
         ensures tried { OnOk self.new.result (AreContinued shared.now self.new) }
@@ -130,7 +131,8 @@ impl Worker {
 
     fn try_points(&mut self, shared: &Shared<'_>) -> Result<(), OutOfMemory>
         requires valid { IsWorkerOf shared.now self.old }
-        requires uses { HasUses shared.now }
+        requires shared { IsShared shared.now }
+        requires base { Keeps shared.now.orders.now self.old.base.value }
         ensures valid { OnOk result (IsWorkerOf shared.now self.new) }
         ensures later { OnOk result (IsLaterWorker self.old self.new) }
         ensures tried { OnOk result (AreContinued shared.now self.new) }
@@ -150,7 +152,8 @@ impl Worker {
         choice: &mut Choice,
     ) -> Result<(), OutOfMemory>
         requires valid { IsWorkerOf shared.now self.old }
-        requires uses { HasUses shared.now }
+        requires shared { IsShared shared.now }
+        requires base { Keeps shared.now.orders.now self.old.base.value }
         requires within { j < length self.old.points.items }
         ensures valid { OnOk result (IsWorkerOf shared.now self.new) }
         ensures later { OnOk result (IsLaterWorker self.old self.new) }
@@ -180,6 +183,8 @@ impl Worker {
         tried: &[bool],
     ) -> Result<(), OutOfMemory>
         requires valid { IsWorkerOf shared.now self.old }
+        requires shared { IsShared shared.now }
+        requires base { Keeps shared.now.orders.now self.old.base.value }
         requires within { j < length self.old.points.items }
         requires ready { IsReady shared.now (order_given self.old j) self.old.trial.ports }
         requires due { AreDue shared.now.clock shared.now.scripts.now
@@ -209,6 +214,8 @@ impl Worker {
         p: usize,
     ) -> Result<(), OutOfMemory>
         requires valid { IsWorkerOf shared.now self.old }
+        requires shared { IsShared shared.now }
+        requires base { Keeps shared.now.orders.now self.old.base.value }
         requires within { j < length self.old.points.items }
         requires partition { p < length shared.now.config.now.partitions }
         requires there { is_there ≡ true →
@@ -236,9 +243,11 @@ impl Worker {
         Ok(())
     }
 
-    /// Keeps the point of the trial's ports, unless the worker found it before.
+    /// Keeps the point of the trial's ports, unless it is known: to the worker, or to the search before.
     fn learn(&mut self, shared: &Shared<'_>, j: usize, p: usize) -> Result<(), OutOfMemory>
         requires valid { IsWorkerOf shared.now self.old }
+        requires shared { IsShared shared.now }
+        requires base { Keeps shared.now.orders.now self.old.base.value }
         requires within { j < length self.old.points.items }
         requires partition { p < length shared.now.config.now.partitions }
         requires history { self.old.trial.ports.history ≡ history_of shared.now.config.now
@@ -252,6 +261,18 @@ impl Worker {
     {
         let hash = hash_of(&self.trial.ports);
         if has_found(&self.found, &self.hashes, &mut self.trial, hash) {
+            return Ok(());
+        }
+        let is_known = is_among(
+            shared.alloc,
+            shared.config,
+            shared.scripts,
+            shared.orders,
+            shared.points,
+            &mut self.trial,
+            hash,
+        )?;
+        if is_known {
             return Ok(());
         }
         let saved = save(shared.alloc, &self.trial.ports, &mut self.spare)?;

@@ -1,8 +1,8 @@
 //! The workers of a search, one of which runs in a thread beside the other if there are many points.
 ghost use Rattle.std.specs.Prelude.{◌≤◌, ◌+◌, length, IfOk, OnOk, IfSome};
 ghost use Rattle.apex_orders.specs.Known.{IsTrialOf};
-ghost use Rattle.apex_orders.specs.Searching.{IsSearch};
-ghost use Rattle.apex_orders.specs.Workers.{AreContinued, AreWorkers, HasContinuedFrom, HasUses, IsLaterWorker, IsWorkerOf};
+ghost use Rattle.apex_orders.specs.Searching.{IsSearch, Keeps};
+ghost use Rattle.apex_orders.specs.Workers.{AreContinued, AreWorkers, HasContinuedFrom, IsLaterWorker, IsShared, IsWorkerOf};
 
 use crate::orders::Orders;
 use crate::search::Search;
@@ -124,6 +124,8 @@ fn try_alone(
         uses: current.uses.as_slice(),
         from: current.from,
         known: &current.replies,
+        orders: &current.orders,
+        points: &current.points,
     };
     worker.run(&shared);
     current.finish(alloc, config, scripts, clock, worker)?;
@@ -162,6 +164,8 @@ fn try_both<R: Threads + Sync>(
         uses: current.uses.as_slice(),
         from: current.from,
         known: &current.replies,
+        orders: &current.orders,
+        points: &current.points,
     };
     run_both(rt, &shared, one, other);
     current.finish(alloc, config, scripts, clock, one)?;
@@ -173,7 +177,9 @@ fn try_both<R: Threads + Sync>(
 fn run_both<R: Threads + Sync>(rt: &R, shared: &Shared<'_>, one: &mut Worker, other: &mut Worker)
     requires one { IsWorkerOf shared.now one.old }
     requires other { IsWorkerOf shared.now other.old }
-    requires uses { HasUses shared.now }
+    requires shared { IsShared shared.now }
+    requires base { Keeps shared.now.orders.now one.old.base.value }
+    requires base_too { Keeps shared.now.orders.now other.old.base.value }
     ensures valid { OnOk one.new.result (IsWorkerOf shared.now one.new) }
     ensures later { OnOk one.new.result (IsLaterWorker one.old one.new) }
     ensures tried { OnOk one.new.result (AreContinued shared.now one.new) }

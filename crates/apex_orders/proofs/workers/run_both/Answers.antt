@@ -1,8 +1,7 @@
 use denote.Param.Send.{sendable}
 use Rattle.std.proofs.Crossing.{crosses}
-use Rattle.apex_orders.proofs.Crossing.{worker_send}
-use Rattle.apex_orders.proofs.shared.Shared.TheSendSync as shared
+use Rattle.apex_orders.proofs.Crossing.{shared_sync, worker_send}
 use Rattle.apex_orders.proofs.workers.run_both.Goals as goal
 
 pub join_mut-requires-send-F : goal.join_mut-requires-send-F
-join_mut-requires-send-F g c κs within = search (shared.the_sync, worker_send, crosses, sendable) depth 8
+join_mut-requires-send-F g c κs within = search (shared_sync, worker_send, crosses, sendable) depth 8

@@ -1,26 +1,37 @@
-use Rattle.apex_orders.proofs.Common.{◌≡◌, ◌+◌, ◌-◌, ◌≤◌, List, ℕ, length, sym, ◌∙◌, subst, arith, LastUses, AreOfScripts, HasContinued, HasTriedFrom, IsLaterWorker, IsRange, Keeps}
+use Rattle.apex_orders.proofs.Common.{◌≡◌, ◌+◌, ◌-◌, ◌≤◌, List, ℕ, length, sym, ap, ◌∙◌, subst, arith, LastUses, AreOfScripts, HasContinued, HasTriedFrom, IsLaterWorker, IsRange, Keeps}
 use Rattle.std.proofs.Common.{◌/◌}
 use Rattle.apex_orders.proofs.GrowthLemmas.{still_many}
 use Rattle.apex_orders.proofs.SearchLemmas.{includes_along, keeps_along}
-use Rattle.apex_orders.proofs.WorkerLemmas.{continued_with_more, on_ok, same_range, tried_join, when_ok}
+use Rattle.apex_orders.proofs.WorkerLemmas.{continued_with_more, includes_same, keeps_same, on_ok, same_range, tried_join, when_ok}
 use Rattle.apex_orders.proofs.workers.try_both.Goals as goal
 
 pub give-requires-2-clause-within : goal.give-requires-2-clause-within
 give-requires-2-clause-within g c =
-    let start = c.args.current.now in
-    let one = c.give.new.self in
-    let first : one.points.first ≡ start.points.first + c.args.count / 2 = c.in_ok-give.ensures.first in
-    let many : start.points.first + c.args.count ≤ length one.orders = still_many start.orders one.orders (start.points.first + c.args.count) c.in_ok-give.ensures.later.orders c.requires.within in
-    omega (arith, first, many)
+    let first : c.give.new.self.points.first ≡ c.args.current.now.points.first + c.args.count / 2 = c.in_ok-give.ensures.first in
+    let within = c.requires.within in
+    let same = ap (λ (orders : List (List ℕ)). length orders) c.in_ok-give.ensures.orders in
+    omega (arith, first, within, same)
 
-pub run_both-requires-clause-uses : goal.run_both-requires-clause-uses
-run_both-requires-clause-uses g c κs inside = subst (λ (uses : List LastUses). AreOfScripts c.args.config.now c.args.scripts.now uses) (sym c.as_slice.ensures.value) c.in_ok-give-2.ensures.valid.uses
+pub run_both-requires-clause-shared : goal.run_both-requires-clause-shared
+run_both-requires-clause-shared g c κs inside =
+    let valid = c.in_ok-give-2.ensures.valid in
+    record {
+      uses = subst (λ (uses : List LastUses). AreOfScripts c.args.config.now c.args.scripts.now uses) (sym c.as_slice.ensures.value) valid.uses;
+      orders = valid.orders;
+      points = valid.points;
+    }
+
+pub run_both-requires-clause-base : goal.run_both-requires-clause-base
+run_both-requires-clause-base g c κs inside = keeps_same c.give-2.new.self.orders c.give.new.worker.base.value (c.in_ok-give.ensures.base ∙ sym c.in_ok-give-2.ensures.orders)
+
+pub run_both-requires-clause-base_too : goal.run_both-requires-clause-base_too
+run_both-requires-clause-base_too g c κs inside = keeps_same c.give-2.new.self.orders c.give-2.new.worker.base.value c.in_ok-give-2.ensures.base
 
 pub finish-requires-clause-base : goal.finish-requires-clause-base
 finish-requires-clause-base g c =
     on_ok c.run_both.new.one.result (IsLaterWorker c.give.new.worker c.run_both.new.one) (Keeps c.run_both.new.one.base.value c.give-2.new.self.orders)
     (λ (later : IsLaterWorker c.give.new.worker c.run_both.new.one).
-    subst (λ (base : List (List ℕ)). Keeps base c.give-2.new.self.orders) (sym (later.base ∙ c.in_ok-give.ensures.base)) c.in_ok-give-2.ensures.later.orders)
+    keeps_same c.run_both.new.one.base.value c.give-2.new.self.orders (c.in_ok-give-2.ensures.orders ∙ sym (later.base ∙ c.in_ok-give.ensures.base)))
     c.run_both.ensures.later
 
 pub finish-requires-2-clause-base : goal.finish-requires-2-clause-base
@@ -46,13 +57,14 @@ returns-clause-continued g c =
     let config = c.args.config.now in
     let scripts = c.args.scripts.now in
     let start = c.args.current.now in
-    let given = c.give.new.self in
     let both = c.give-2.new.self in
     let three = c.finish.new.self in
     let four = c.finish-2.new.self in
     let from = start.points.first in
     let count = c.args.count in
     let mid = from + count / 2 in
+    let same_orders : both.orders ≡ start.orders = c.in_ok-give-2.ensures.orders ∙ c.in_ok-give.ensures.orders in
+    let orders_three : Keeps start.orders three.orders = keeps_along start.orders both.orders three.orders (keeps_same start.orders both.orders same_orders) c.in_ok-finish.ensures.later.orders in
     let later = when_ok c.run_both.new.one.result (IsLaterWorker c.give.new.worker c.run_both.new.one) c.in_ok-finish.ensures.run c.run_both.ensures.later in
     let later_too = when_ok c.run_both.new.other.result (IsLaterWorker c.give-2.new.worker c.run_both.new.other) c.in_ok-finish-2.ensures.run c.run_both.ensures.later_too in
     let one : HasTriedFrom c.args.clock config scripts three.orders three.replies from mid =
@@ -63,23 +75,16 @@ returns-clause-continued g c =
     let two : HasTriedFrom c.args.clock config scripts four.orders four.replies mid (from + count) =
     c.in_ok-finish-2.ensures.tried mid (from + count) (same_range mid (from + count) c.give-2.new.worker c.run_both.new.other later_too range) in
     let within = c.requires.within in
-    let few : mid ≤ length three.orders =
-    still_many start.orders three.orders mid
-    (keeps_along start.orders c.give.new.self.orders three.orders c.in_ok-give.ensures.later.orders
-    (keeps_along c.give.new.self.orders c.give-2.new.self.orders three.orders c.in_ok-give-2.ensures.later.orders c.in_ok-finish.ensures.later.orders))
-    (omega (arith, within)) in
+    let few : mid ≤ length three.orders = still_many start.orders three.orders mid orders_three (omega (arith, within)) in
     let first_two = c.in_ok-give-2.ensures.first in
     let first_three = c.in_ok-finish.ensures.first in
     let first_four = c.in_ok-finish-2.ensures.first in
     record {
       valid = c.in_ok-finish-2.ensures.valid;
       later = record {
-        orders = keeps_along start.orders given.orders four.orders c.in_ok-give.ensures.later.orders
-            (keeps_along given.orders both.orders four.orders c.in_ok-give-2.ensures.later.orders
-            (keeps_along both.orders three.orders four.orders c.in_ok-finish.ensures.later.orders c.in_ok-finish-2.ensures.later.orders));
-        replies = includes_along start.replies given.replies four.replies c.in_ok-give.ensures.later.replies
-            (includes_along given.replies both.replies four.replies c.in_ok-give-2.ensures.later.replies
-            (includes_along both.replies three.replies four.replies c.in_ok-finish.ensures.later.replies c.in_ok-finish-2.ensures.later.replies));
+        orders = keeps_along start.orders three.orders four.orders orders_three c.in_ok-finish-2.ensures.later.orders;
+        replies = includes_along start.replies both.replies four.replies (includes_same start.replies both.replies (c.in_ok-give-2.ensures.replies ∙ c.in_ok-give.ensures.replies))
+            (includes_along both.replies three.replies four.replies c.in_ok-finish.ensures.later.replies c.in_ok-finish-2.ensures.later.replies);
       };
       first = first_four ∙ (first_three ∙ (first_two ∙ last));
       tried = tried_join c.args.clock config scripts three.orders four.orders three.replies four.replies from mid (from + count) c.in_ok-finish-2.ensures.later.orders c.in_ok-finish-2.ensures.later.replies few one two;

@@ -25,9 +25,6 @@ returns-clause-valid c =
       uses = was.uses;
     }
 
-pub returns-clause-later : goal.returns-clause-later
-returns-clause-later c = record { orders = λ k x at. at; replies = λ x has. has }
-
 -- a worker that has found nothing knows the orders that it was given
 none_known : (worker : Worker) (orders : List (List ℕ)) → worker.base.value ≡ orders → worker.found.items ≡ [] → orders_known worker ≡ orders
 none_known worker orders base none =

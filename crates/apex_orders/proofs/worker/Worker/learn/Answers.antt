@@ -1,6 +1,6 @@
 use Rattle.apex_orders.proofs.Common.{◌≡◌, ◌+◌, ◌++◌, ◌∷◌, [], List, ℕ, map, refl, ap, sym, ◌∙◌, subst, Configuration, PortsView, FoundPoint, Worker, Has, IsClocked, hash_of, IsOrder, history_of, Knows, AreOrders, AreClocked, AreHashed, HasPoint, IsFoundBy, Keeps, order_given, order_found, orders_known}
 use Rattle.apex_orders.proofs.SearchLemmas.{clocked_push, keeps_push, knows_push, longer_is_order, orders_push}
-use Rattle.apex_orders.proofs.WorkerLemmas.{found_push, given_known, hashes_push, known_push, point_known}
+use Rattle.apex_orders.proofs.WorkerLemmas.{found_push, given_known, hashes_push, known_push, known_to_search, point_known}
 use Rattle.apex_orders.proofs.worker.Worker.learn.Goals as goal
 
 pub has_found-requires-clause-hashed : goal.has_found-requires-clause-hashed
@@ -34,6 +34,42 @@ returns-then-has_found-clause-known c =
     let point : HasPoint c.args.self.now.found.items c.args.self.now.trial.ports = c.has_found.ensures.found.0 c.if-has_found.true in
     point_known c.args.shared.now.config.now c.args.shared.now.scripts.now c.args.self.now c.args.self.now.trial.ports was.found was.trial.ports point
 
+pub is_among-requires-clause-trial : goal.is_among-requires-clause-trial
+is_among-requires-clause-trial c =
+    let was = c.requires.valid in
+    record { ports = ap (λ (v : PortsView). v.config) c.has_found.ensures.ports ∙ was.trial.ports; other = c.has_found.ensures.other ∙ was.trial.other }
+
+pub is_among-requires-clause-hash : goal.is_among-requires-clause-hash
+is_among-requires-clause-hash c =
+    let was = c.requires.valid in
+    c.hash_of-hash.ensures ∙ (λ i. hash_of (was.trial.ports i) (sym c.has_found.ensures.ports i).history)
+
+pub returns-then-is_known-clause-valid : goal.returns-then-is_known-clause-valid
+returns-then-is_known-clause-valid c =
+    let was = c.requires.valid in
+    record {
+      all = was.all;
+      trial = c.is_among.ensures.trial;
+      given = record { within = was.given.within; room = was.given.room; each = was.given.each };
+      found = λ one has. let is = was.found one has in record { before = is.before; partition = is.partition; hash = is.hash; after = is.after };
+      hashed = was.hashed;
+      orders = was.orders;
+      clocked = was.clocked;
+      replies = was.replies;
+    }
+
+pub returns-then-is_known-clause-later : goal.returns-then-is_known-clause-later
+returns-then-is_known-clause-later c = record { base = refl; first = refl; points = refl; orders = λ k x at. at; replies = λ x has. has }
+
+pub returns-then-is_known-clause-known : goal.returns-then-is_known-clause-known
+returns-then-is_known-clause-known c =
+    let config = c.args.shared.now.config.now in
+    let scripts = c.args.shared.now.scripts.now in
+    let old = c.args.self.now in
+    let h = old.trial.ports.history in
+    let found = subst (λ (v : PortsView). Knows config scripts c.args.shared.now.orders.now v.history) c.has_found.ensures.ports (c.in_ok-is_known.ensures.known.0 c.if-is_known.true) in
+    known_to_search config scripts c.args.shared.now.orders.now old h c.requires.base found
+
 -- the point that is kept
 module _ (old : Worker) (j p hash : ℕ) (saved : PortsView) where
   abbrev pub new_point : FoundPoint
@@ -54,7 +90,7 @@ returns-clause-valid c =
     let longer = order ++ c.args.p ∷ [] in
     let ports = old.trial.ports in
     let saved = c.in_ok-saved.saved in
-    let is_saved : saved ≡ ports = c.in_ok-saved.ensures ∙ c.has_found.ensures.ports in
+    let is_saved : saved ≡ ports = c.in_ok-saved.ensures ∙ (c.is_among.ensures.ports ∙ c.has_found.ensures.ports) in
     let hash = c.hash_of-hash.result in
     let one = new_point old c.args.j c.args.p hash saved in
     let hashed : hash ≡ hash_of config saved.history = c.hash_of-hash.ensures ∙ (λ i. hash_of (was.trial.ports i) (sym is_saved i).history) in
@@ -67,7 +103,7 @@ returns-clause-valid c =
     let mine : IsFoundBy config scripts old one = record { before = c.requires.within; partition = c.requires.partition; hash = hashed; after = record { configured = configured; history = leads } } in
     record {
       all = was.all;
-      trial = record { ports = ap (λ (v : PortsView). v.config) c.has_found.ensures.ports ∙ was.trial.ports; other = c.has_found.ensures.other ∙ was.trial.other };
+      trial = c.is_among.ensures.trial;
       given = record { within = was.given.within; room = was.given.room; each = was.given.each };
       found = λ other has.
           let is = found_push config scripts old old.found.items one other was.found mine (subst (λ (points : List FoundPoint). Has points other) items has) in

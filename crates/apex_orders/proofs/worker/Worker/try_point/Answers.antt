@@ -16,7 +16,7 @@ choose-requires-clause-uses c =
     let was = c.requires.valid in
     let given = given_at c.args.shared.now.config.now c.args.shared.now.scripts.now c.args.self.now c.args.j c.index.result.now was.given c.requires.within c.index.ensures in
     let after = restored c.args.shared.now.config.now c.args.shared.now.scripts.now (order_given c.args.self.now c.args.j) c.index.result.now c.restore.new.self given c.restore.ensures.restored in
-    subst (λ (config : Configuration). AreOfScripts config c.args.shared.now.scripts.now c.args.shared.now.uses.now) (sym after.configured) c.requires.uses
+    subst (λ (config : Configuration). AreOfScripts config c.args.shared.now.scripts.now c.args.shared.now.uses.now) (sym after.configured) c.requires.shared.uses
 
 pub try_those-requires-clause-valid : goal.try_those-requires-clause-valid
 try_those-requires-clause-valid c =

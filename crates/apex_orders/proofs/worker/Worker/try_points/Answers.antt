@@ -1,6 +1,9 @@
-use Rattle.apex_orders.proofs.Common.{◌≡◌, ◌++◌, ⊎_elim, ℕ, sym, subst, arith, cases_eq, IsContinued, order_given, orders_known}
+use Rattle.apex_orders.proofs.Common.{◌≡◌, ◌++◌, ⊎_elim, ℕ, sym, subst, arith, cases_eq, IsContinued, Keeps, order_given, orders_known}
 use Rattle.apex_orders.proofs.WorkerLemmas.{enough_kept, includes_behind, later_along, same_given}
 use Rattle.apex_orders.proofs.worker.Worker.try_points.Goals as goal
+
+pub try_point-requires-clause-base : goal.try_point-requires-clause-base
+try_point-requires-clause-base c = subst (Keeps c.args.shared.now.orders.now) (sym c.loop-j.invariant.later.base) c.requires.base
 
 pub loop-j-preserved : goal.loop-j-preserved
 loop-j-preserved c =
