@@ -4,6 +4,7 @@ import os
 import re
 import signal
 import subprocess
+import threading
 
 import crates
 import usage
@@ -33,7 +34,8 @@ class Scripts:
 
     def __init__(self, root, counts, clock, is_whole):
         self.root, self.counts, self.clock, self.is_whole, self.minutes = root, counts, clock, is_whole, {}
-        self.running = set()
+        # The scripts that run. Whoever begins or ends one holds the lock, so that none is left out.
+        self.running, self.lock = set(), threading.RLock()
         # (variables that would change where the scripts find their parts)
         self.environment = {it: text for it, text in os.environ.items() if it not in ("CDPATH", "PYTHONSAFEPATH")}
 
@@ -62,10 +64,11 @@ class Scripts:
         if self.clock.is_up():
             self.counts.fails(f"tests/{name} was not run: the {self.clock.minutes:g} minutes were up")
             return
-        ran = subprocess.Popen([f"{self.root}/tests/{name}", *words], cwd=self.root, env=self.environment,
-                               stdin=subprocess.DEVNULL, stdout=subprocess.PIPE, stderr=subprocess.STDOUT,
-                               universal_newlines=True, errors="replace", start_new_session=True)
-        self.running.add(ran.pid)
+        with self.lock:
+            ran = subprocess.Popen([f"{self.root}/tests/{name}", *words], cwd=self.root, env=self.environment,
+                                   stdin=subprocess.DEVNULL, stdout=subprocess.PIPE, stderr=subprocess.STDOUT,
+                                   universal_newlines=True, errors="replace", start_new_session=True)
+            self.running.add(ran.pid)
         cancel = self.clock.when_up(lambda: usage.kill_group(ran.pid))
         text = ran.stdout.read()
         self.minutes[f"tests/{name}"] = usage.waited(ran) / 60
@@ -74,7 +77,9 @@ class Scripts:
         self.tell(name, ran.returncode, text)
 
     def end(self):
-        """Ends the scripts that run. Each is in a session of its own, so Ctrl-C does not reach it."""
+        """Ends the scripts that run, before the process itself ends: no other can begin any more. Each is in a session of its
+        own, so Ctrl-C does not reach it."""
+        self.lock.acquire()
         for it in list(self.running):
             with contextlib.suppress(OSError):
                 os.killpg(it, signal.SIGTERM)
