@@ -56,7 +56,7 @@ struct EndTable {
 }
 
 impl EndTable {
-    /// A table for so many ends.
+    /// An empty table with a bucket for each of `count` ends.
     fn new(alloc: Global, count: usize) -> Result<EndTable, AllocError> {
         let last = vec![in alloc; NOWHERE; count]?;
         Ok(EndTable {

@@ -105,7 +105,7 @@ saved_ports_sync = view_sync _ _ _ _ _ (declared_sync (SavedPortsInside.the_type
 points_sync : IsSync Points.the_row
 points_sync = declared_sync Points.the_type (
   search (as_row_sync, hashes.the_sync),
-  (search sendable, (search (crosses, saved_ports_sync), (search sendable, tt))),
+  (search sendable, (search sendable, (search sendable, (search (crosses, saved_ports_sync), (search sendable, tt))))),
 )
 
 pub shared_sync : (κ : NamedLft) → IsSync (Shared.the_row κ)

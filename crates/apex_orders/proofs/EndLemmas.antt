@@ -120,6 +120,17 @@ given_up_none clock can_stop config scripts bound (Err OutOfMemory) is = tt
 given_up_none clock can_stop config scripts bound (Err TooManyStates) is = absurd (cc)
 given_up_none clock can_stop config scripts bound (Err Stopped) is = absurd (cc)
 
+-- and what is given up for the same fault is given up too
+pub given_up_too : (X : Type 0) {Y : Type 0} (clock : Bool) (can_stop : Type 0) (config : Configuration) (scripts : Scripts) (bound : ℕ) (fault : OrdersFault) (r : Result Y OrdersFault)
+    → IsGivenUp {X = X} clock can_stop config scripts bound (Err fault) → IsErrAnd r (λ other. other ≡ fault) → IsGivenUp clock can_stop config scripts bound r
+given_up_too X clock can_stop config scripts bound fault (Ok x) given_up is = tt
+given_up_too X {Y} clock can_stop config scripts bound fault (Err other) given_up is = of_fault other fault is given_up
+  where
+    of_fault : (one two : OrdersFault) → one ≡ two → IsGivenUp {X = X} clock can_stop config scripts bound (Err two) → IsGivenUp {X = Y} clock can_stop config scripts bound (Err one)
+    of_fault TooManyStates two same given_up = subst (λ (f : OrdersFault). IsGivenUp {X = X} clock can_stop config scripts bound (Err f)) (sym same) given_up
+    of_fault OutOfMemory two same given_up = tt
+    of_fault Stopped two same given_up = subst (λ (f : OrdersFault). IsGivenUp {X = X} clock can_stop config scripts bound (Err f)) (sym same) given_up
+
 -- if a search is given up, the outcomes are undecided
 pub undecided_of : (X Y : Type 0) (clock : Bool) (can_stop : Type 0) (config : Configuration) (scripts : Scripts) → IsConfiguration config → (bound : ℕ) (fault : OrdersFault)
     → IsGivenUp {X = X} clock can_stop config scripts bound (Err fault) → IsUndecidedWith {X = Y} clock can_stop config scripts bound (Err fault)

@@ -75,10 +75,10 @@ module _ (scripts : Scripts) where
   left (suc n) h = left n h + (length (script_of scripts n) - length (entries_of n h))
 
   module _ (h : History) (e : Entry) (more : length (entries_of e.partition h) < length (script_of scripts e.partition)) where
-    same_made : (q : ℕ) → e.partition ≢ q → length (entries_of q (h ++ e ∷ [])) ≡ length (entries_of q h)
+    pub same_made : (q : ℕ) → e.partition ≢ q → length (entries_of q (h ++ e ∷ [])) ≡ length (entries_of q h)
     same_made q apart = ap (λ (es : List Entry). length es) (entries_of-append q h (e ∷ []) ∙ (ap (λ (es : List Entry). entries_of q h ++ es) (other_entry q e apart) ∙ append-nil (entries_of q h)))
 
-    one_made : length (entries_of e.partition (h ++ e ∷ [])) ≡ suc (length (entries_of e.partition h))
+    pub one_made : length (entries_of e.partition (h ++ e ∷ [])) ≡ suc (length (entries_of e.partition h))
     one_made =
         let q = e.partition in
         let split = ap (λ (es : List Entry). length es) (entries_of-append q h (e ∷ []) ∙ ap (λ (es : List Entry). entries_of q h ++ es) (own_entry q e refl)) in

@@ -1,5 +1,5 @@
 -- The known points, with one more, and without the first that were saved.
-use Rattle.apex_orders.proofs.Common.{◌≡◌, ⊎_elim, ℕ, ◌+◌, ◌-◌, ◌≤◌, List, [], ◌∷◌, ◌++◌, length, Bor, Option, Some, None, sym, ap, ◌∙◌, subst, arith, length-append, slice_get, IfSome, slice_get_within, Configuration, PortsView, IsAfter, ArePoints, hash_of, AreHashes, Scripts, history_of, order_at}
+use Rattle.apex_orders.proofs.Common.{◌≡◌, ⊎_elim, ℕ, ◌+◌, ◌-◌, ◌≤◌, List, [], ◌∷◌, ◌++◌, length, Some, sym, ap, ◌∙◌, subst, arith, length-append, slice_get, slice_get_within, Configuration, PortsView, IsAfter, ArePoints, IsSameLevel, hash_of, AreHashes, Scripts, history_of, order_at}
 use Rattle.apex_orders.specs.declared.points.Points.{Points}
 use Rattle.apex_orders.proofs.GrowthLemmas.{order_here}
 use Rattle.apex_orders.proofs.Lists.{at_behind, before_or_last, stays_before}
@@ -7,17 +7,23 @@ use Rattle.apex_orders.proofs.HashLemmas.{hashed_push}
 
 module _ (config : Configuration) (scripts : Scripts) (orders : List (List ℕ)) (old new : Points) (are : ArePoints config scripts orders old) where
   pub points_push : (order : List ℕ) (ports : PortsView) (hash : ℕ) → IsAfter config scripts order ports → hash ≡ hash_of config (history_of config scripts order)
-      → new.first ≡ old.first → new.hashes ≡ old.hashes ++ hash ∷ [] → new.saved.items ≡ old.saved.items ++ ports ∷ []
+      → IsSameLevel old new → new.hashes ≡ old.hashes ++ hash ∷ [] → new.saved.items ≡ old.saved.items ++ ports ∷ []
       → ArePoints config scripts (orders ++ order ∷ []) new
-  points_push order ports hash after is first hashes saved = record {
-    hashed = subst (λ (ms : List ℕ). AreHashes config scripts (orders ++ order ∷ []) ms) (sym hashes) (hashed_push config scripts orders old.hashes order hash are.hashed is);
+  points_push order ports hash after is level hashes saved = record {
+    hashed = subst (λ (x : ℕ × List ℕ). AreHashes config scripts (orders ++ order ∷ []) x.0 x.1) (λ i. (sym level.next i, sym hashes i)) (hashed_push config scripts orders old.next old.hashes order hash are.hashed is);
+    level =
+        let was = are.level in
+        let first = level.first in
+        let next = level.next in
+        omega (arith, was, first, next);
     count =
         let count = are.count in
+        let first = level.first in
         let longer = ap (λ (ps : List PortsView). length ps) saved in
         omega (arith, count, first, longer, length-append old.saved.items (ports ∷ []), length-append orders (order ∷ []));
     each = λ j one other at listed.
         let here : slice_get (old.saved.items ++ ports ∷ []) j ≡ Some one = ap (λ (ps : List PortsView). slice_get ps j) (sym saved) ∙ at in
-        let there : slice_get (orders ++ order ∷ []) (old.first + j) ≡ Some other = ap (λ (n : ℕ). slice_get (orders ++ order ∷ []) (n + j)) (sym first) ∙ listed in
+        let there : slice_get (orders ++ order ∷ []) (old.first + j) ≡ Some other = ap (λ (n : ℕ). slice_get (orders ++ order ∷ []) (n + j)) (sym level.first) ∙ listed in
         let count = are.count in
         ⊎_elim
         (λ (before : slice_get old.saved.items j ≡ Some one).
@@ -38,18 +44,19 @@ module _ (config : Configuration) (scripts : Scripts) (orders : List (List ℕ))
   }
 
   -- what is saved for the index belongs to the order there
-  pub saved_here : (k : ℕ) (order : List ℕ) (r : Option (Bor PortsView)) → slice_get orders k ≡ Some order → IfSome r (λ _. old.first ≤ k)
-      → IfSome r (λ ports. slice_get old.saved.items (k - old.first) ≡ Some ports.now) → IfSome r (λ ports. IsAfter config scripts order ports.now)
-  saved_here k order None at index is = tt
-  saved_here k order (Some lent) at index is =
-      let there : old.first + (k - old.first) ≡ k = omega (arith, index) in
-      are.each (k - old.first) lent.now order is (ap (λ (n : ℕ). slice_get orders n) there ∙ at)
+  pub saved_here : (k : ℕ) (order : List ℕ) (ports : PortsView) → slice_get orders k ≡ Some order → old.first ≤ k → slice_get old.saved.items (k - old.first) ≡ Some ports
+      → IsAfter config scripts order ports
+  saved_here k order ports at past is =
+      let there : old.first + (k - old.first) ≡ k = omega (arith, past) in
+      are.each (k - old.first) ports order is (ap (λ (n : ℕ). slice_get orders n) there ∙ at)
 
   -- the first saved ports, and those that are left
-  module _ (given : List PortsView) (count : ℕ) (saved : old.saved.items ≡ given ++ new.saved.items) (many : length given ≡ count) (first : new.first ≡ old.first + count) (hashes : new.hashes ≡ old.hashes) where
+  module _ (given : List PortsView) (count : ℕ) (saved : old.saved.items ≡ given ++ new.saved.items) (many : length given ≡ count) (first : new.first ≡ old.first + count) (next : new.next ≡ old.next) (hashes : new.hashes ≡ old.hashes)
+      (within : old.first + count ≤ old.next) where
     pub points_left : ArePoints config scripts orders new
     points_left = record {
-      hashed = subst (λ (ms : List ℕ). AreHashes config scripts orders ms) (sym hashes) are.hashed;
+      hashed = subst (λ (x : ℕ × List ℕ). AreHashes config scripts orders x.0 x.1) (λ i. (sym next i, sym hashes i)) are.hashed;
+      level = omega (arith, first, next, within);
       count =
           let count_all = are.count in
           let split = ap (λ (ps : List PortsView). length ps) saved in

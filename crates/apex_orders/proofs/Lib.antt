@@ -16,6 +16,7 @@ pub mod HashLemmas
 pub mod Having
 pub mod KnownLemmas
 pub mod Leaving
+pub mod Levels
 pub mod Lists
 pub mod SameWays
 pub mod SearchLemmas

@@ -179,3 +179,7 @@ keeps_within old new k x keeps at = (k, keeps k x at)
 pub without : (o : Option (List ℕ)) (P : Type 0) (R : List ℕ → Type 0) → ((order : List ℕ) → o ≡ Some order → ⊥) → MatchOption o P R → P
 without None P R never is = is
 without (Some order) P R never is = absurd (never order refl)
+
+pub none_of : {X : Type 0} (o : Option X) → ((x : X) → o ≡ Some x → ⊥) → o ≡ None
+none_of None never = refl
+none_of (Some x) never = absurd (never x refl)

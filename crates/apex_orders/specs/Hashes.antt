@@ -73,8 +73,8 @@ channels_below config hash (suc c) history =
 abbrev pub hash_of : Configuration → History → ℕ
 hash_of config history = channels_below config (shown_hash config history) (length config.channels) history
 
--- each order has the hash of its point
-pub record AreHashes (config : Configuration) (scripts : Scripts) (orders : List (List ℕ)) (hashes : List ℕ) : Type 0 where
-  pub count : length hashes ≡ length orders
-  pub each : (k : ℕ) (order : List ℕ) → slice_get orders k ≡ Some order
+-- each order from the index on has the hash of its point
+pub record AreHashes (config : Configuration) (scripts : Scripts) (orders : List (List ℕ)) (from : ℕ) (hashes : List ℕ) : Type 0 where
+  pub count : from + length hashes ≡ length orders
+  pub each : (k : ℕ) (order : List ℕ) → slice_get orders (from + k) ≡ Some order
       → slice_get hashes k ≡ Some (hash_of config (history_of config scripts order))

@@ -1,5 +1,5 @@
 -- The points that orders lead to.
-use Rattle.std.specs.Prelude.{ℕ, ◌≡◌, ◌<◌, length}
+use Rattle.std.specs.Prelude.{ℕ, zero, suc, ◌≡◌, ◌<◌, ◌+◌, length}
 use Rattle.apex_orders.specs.Prelude.{Configuration, accepted_on, received_on, cleared_on, count_of, History, entries_of}
 use Rattle.apex_orders.specs.States.{IsSameState}
 
@@ -24,3 +24,12 @@ pub record IsSamePoint (config : Configuration) (history other : History) : Type
   pub calls : IsSameCalls config history other
   pub counts : IsSameCounts config history other
   pub state : IsSameState config history other
+
+-- the number of calls that the first partitions made
+abbrev pub made_below : ℕ → History → ℕ
+made_below zero history = 0
+made_below (suc p) history = made_below p history + count_of (entries_of p history)
+
+-- the number of calls that were made
+abbrev pub calls_made : Configuration → History → ℕ
+calls_made config history = made_below (length config.partitions) history

@@ -8,7 +8,7 @@ use Rattle.apex_orders.specs.declared.orders_fault.OrdersFault.TheVariants.{TooM
 use Rattle.apex_orders.specs.declared.search.Search.{Search}
 use Rattle.apex_orders.specs.Clock.{IsClocked, IsNextDue}
 use Rattle.apex_orders.specs.Enough.{IsEnough, HasNext}
-use Rattle.apex_orders.specs.Known.{ArePoints}
+use Rattle.apex_orders.specs.Known.{AreLevels, ArePoints}
 use Rattle.apex_orders.specs.LastUses.{AreOfScripts}
 use Rattle.apex_orders.specs.Orders.{Scripts, script_of, AreShort, IsOrder, history_of}
 use Rattle.apex_orders.specs.Outcomes.{Answers, IsAnsweredByWith}
@@ -82,8 +82,13 @@ pub record IsSearch (clock : Bool) (config : Configuration) (scripts : Scripts) 
   pub clocked : AreClocked clock config scripts current.orders
   pub apart : AreApart config scripts current.orders
   pub points : ArePoints config scripts current.orders current.points
+  pub levels : AreLevels config scripts current.orders current.points.first current.points.next current.points.calls
   pub found : AreFound clock config scripts current.replies
   pub uses : AreOfScripts config scripts current.uses.items
+
+-- unless the search is complete, points of the present level are left
+abbrev pub HasLevel : Search → Type 0
+HasLevel current = current.points.first < length current.orders → current.points.first < current.points.next
 
 -- nothing that was found is lost
 pub record IsLater (old new : Search) : Type 0 where

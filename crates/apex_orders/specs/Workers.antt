@@ -1,6 +1,8 @@
 -- What the parts of a search find that can run in threads of their own.
-use Rattle.std.specs.Prelude.{ℕ, Bool, ◌≡◌, ◌<◌, ◌≤◌, ◌+◌, ◌^◌, List, [], ◌∷◌, ◌++◌, length, map, slice_get, Some, IfSome}
+use Rattle.std.specs.Prelude.{ℕ, suc, Bool, ◌≡◌, ◌⊎◌, ◌<◌, ◌≤◌, ◌+◌, ◌^◌, List, [], ◌∷◌, ◌++◌, length, map, slice_get, Option, Some, IfSome}
 use Rattle.apex_orders.specs.Prelude.{Configuration, History, PortsView}
+use Rattle.apex_orders.specs.declared.asked.Asked.{Asked}
+use Rattle.apex_orders.specs.declared.rounds.Rounds.{Rounds}
 use Rattle.apex_orders.specs.declared.replies.PossibleReply.{PossibleReply}
 use Rattle.apex_orders.specs.declared.shared.Shared.{Shared}
 use Rattle.apex_orders.specs.declared.worker.FoundPoint.{FoundPoint}
@@ -11,8 +13,9 @@ use Rattle.apex_orders.specs.Known.{ArePoints, IsAfter, IsReadyAfter, IsTrialOf}
 use Rattle.apex_orders.specs.LastUses.{AreOfScripts}
 use Rattle.apex_orders.specs.Lists.{Has}
 use Rattle.apex_orders.specs.Orders.{Scripts, history_of, order_at}
-use Rattle.apex_orders.specs.Points.{IsSamePoint}
-use Rattle.apex_orders.specs.Searching.{AreOrders, AreClocked, AreFound, HasTriedEnough, HasTriedFrom, Includes, IsLater, IsSearch, IsTried, Keeps, Knows}
+use Rattle.apex_orders.specs.Points.{IsSamePoint, calls_made}
+use Rattle.apex_orders.specs.Searching.{AreOrders, AreClocked, AreFound, HasLevel, HasTried, HasTriedEnough, HasTriedFrom, Includes, IsLater, IsSearch, IsTried, IsUnansweredAt, Keeps, Knows}
+use Rattle.apex_orders.specs.Steps.{Makes}
 use Rattle.apex_orders.specs.declared.search.Search.{Search}
 
 -- ---- orders
@@ -55,6 +58,7 @@ pub record IsFoundBy (config : Configuration) (scripts : Scripts) (worker : Work
   pub partition : one.partition < length config.partitions
   pub hash : one.hash ≡ hash_of config one.saved.history
   pub after : IsAfter config scripts (order_found worker one) one.saved
+  pub made : calls_made config one.saved.history ≡ suc (calls_made config (history_of config scripts (order_given worker one.before)))
 
 -- the invariant of a worker
 pub record IsWorker (clock : Bool) (config : Configuration) (scripts : Scripts) (worker : Worker) : Type 0 where
@@ -86,6 +90,11 @@ pub record IsRange (from to : ℕ) (worker : Worker) : Type 0 where
   pub first : worker.first ≡ from
   pub last : worker.first + length worker.points.items ≡ to
 
+-- so many calls were made before each of its points
+abbrev pub HasMade : Configuration → Scripts → ℕ → Worker → Type 0
+HasMade config scripts calls worker =
+    (j : ℕ) → j < length worker.points.items → calls_made config (history_of config scripts (order_given worker j)) ≡ calls
+
 -- the search continued from so many more of its points
 pub record HasContinuedFrom (clock : Bool) (config : Configuration) (scripts : Scripts) (count : ℕ) (old new : Search) : Type 0 where
   pub valid : IsSearch clock config scripts new
@@ -97,6 +106,15 @@ pub record HasContinuedFrom (clock : Bool) (config : Configuration) (scripts : S
 pub record AreWorkers (config : Configuration) (workers : Workers) : Type 0 where
   pub first : IsTrialOf config workers.first.trial
   pub second : IfSome workers.second (λ worker. IsTrialOf config worker.trial)
+
+-- all points up to the first that is left are tried, and none of their orders answers the question
+pub record IsUnderWay (clock : Bool) (config : Configuration) (scripts : Scripts) (asked : Option Asked) (rounds : Rounds) : Type 0 where
+  pub first : Has rounds.current.orders []
+  pub valid : IsSearch clock config scripts rounds.current
+  pub level : HasLevel rounds.current
+  pub workers : AreWorkers config rounds.workers
+  pub unanswered : (k : ℕ) → k < rounds.current.points.first → IsUnansweredAt clock config scripts asked rounds.current.orders k
+  pub tried : (k : ℕ) → k < rounds.current.points.first → HasTried clock config scripts rounds.current.orders rounds.current.replies k
 
 -- ---- by what all workers read
 
@@ -121,6 +139,13 @@ IsReady shared order ports = IsReadyAfter shared.config.now shared.scripts.now o
 -- the history's point is known
 abbrev pub KnowsPoint : Shared → Worker → History → Type 0
 KnowsPoint shared worker history = Knows shared.config.now shared.scripts.now (orders_known worker) history
+
+-- the partition's next call was made, and its reply was known before, or is the only new one
+pub record IsAnswered (shared : Shared) (ports : PortsView) (p : ℕ) (old new : List PossibleReply) : Type 0 where
+  pub one : PossibleReply
+  pub makes : Makes ports.config shared.scripts.now ports.history p one
+  pub added : Has (shared.known.now ++ new) one
+  pub only : (other : PossibleReply) → Has new other → Has old other ⊎ (other ≡ one)
 
 -- the partition's next call after the order was tried
 abbrev pub HasTriedCall : Shared → Worker → List ℕ → ℕ → Type 0

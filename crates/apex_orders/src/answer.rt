@@ -1,15 +1,14 @@
 //! The order that answers a question.
-ghost use Rattle.std.specs.Prelude.{◌≡◌, ◌<◌, ◌≤◌, ◌+◌, ◌↔◌, length, IsTrue, IfOk, OnOk, IfSome, MatchOption, Some};
+ghost use Rattle.std.specs.Prelude.{◌≡◌, ◌<◌, ◌≤◌, ◌+◌, ◌↔◌, length, IsTrue, IfOk, OnOk, MatchOption, Some};
 ghost use Rattle.apex_orders.specs.Prelude.{option_copied};
 ghost use Rattle.apex_orders.specs.Known.{IsAfter, IsTrialOf};
-ghost use Rattle.apex_orders.specs.Orders.{IsOrder, order_at};
+ghost use Rattle.apex_orders.specs.Orders.{order_at};
 ghost use Rattle.apex_orders.specs.Searching.{AreUnansweredFrom, IsAnswer, IsAnsweredAfter, IsSearch, IsUnansweredAt};
 
 use crate::asked::Asked;
 use crate::choice::is_due;
 use crate::order::PackedOrder;
 use crate::orders::Orders;
-use crate::points::go_to;
 use crate::search::Search;
 use crate::step::step;
 use crate::trial::Trial;
@@ -32,6 +31,7 @@ pub(crate) fn first_answer(
     trial: &mut Trial,
 ) -> Result<Option<PackedOrder>, OutOfMemory>
     requires valid { IsSearch clock config.now scripts.now current.now }
+    requires past { current.now.points.first ≤ from }
     requires within { from + count ≤ length current.now.orders }
     requires trial { IsTrialOf config.now trial.old }
     ensures answer { let asked = option_copied asked.entry in
@@ -74,6 +74,7 @@ fn answer_after(
     trial: &mut Trial,
 ) -> Result<Option<PackedOrder>, OutOfMemory>
     requires valid { IsSearch clock config.now scripts.now current.now }
+    requires past { current.now.points.first ≤ i }
     requires within { i < length current.now.orders }
     requires trial { IsTrialOf config.now trial.old }
     ensures answer { IfOk result (λ answer. MatchOption answer
@@ -88,9 +89,7 @@ fn answer_after(
     let orders = &current.orders;
     let saved = current.points.saved_at(i);
     let ports = &mut trial.ports;
-    if !gives(
-        alloc, config, scripts, clock, asked, orders, i, saved, ports,
-    )? {
+    if !gives(config, scripts, clock, asked, orders, i, saved, ports) {
         return Ok(None);
     }
     let order = current.orders.order(alloc, i)?;
@@ -100,33 +99,29 @@ fn answer_after(
 
 /// Whether the asked call is its partition's next after the order at the index and gets an admitted reply.
 fn gives(
-    alloc: Global,
     config: &Config,
     scripts: &[Script],
     clock: bool,
     asked: &Asked,
     orders: &Orders,
     index: usize,
-    saved: Option<&SavedPorts>,
+    saved: &SavedPorts,
     ports: &mut Ports,
-) -> Result<bool, OutOfMemory>
+) -> bool
     requires scripts { length scripts.now ≡ length config.now.partitions }
     requires partition { asked.now.partition < length config.now.partitions }
-    requires index { index < length orders.now }
-    requires order { IsOrder config.now (order_at orders.now index) }
-    requires saved { IfSome saved
-        (λ one. IsAfter config.now scripts.now (order_at orders.now index) one.now) }
+    requires saved { IsAfter config.now scripts.now (order_at orders.now index) saved.now }
     requires config { ports.old.config ≡ config.now }
-    ensures given { IfOk result (λ given. IsTrue given
-        ↔ IsAnsweredAfter clock config.now scripts.now asked.now (order_at orders.now index)) }
+    ensures given { IsTrue result
+        ↔ IsAnsweredAfter clock config.now scripts.now asked.now (order_at orders.now index) }
     ensures config { ports.new.config ≡ config.now }
 {
-    go_to(alloc, config, scripts, orders, index, saved, ports)?;
+    ports.restore(saved);
     if clock && !is_due(ports, scripts, asked.partition) {
-        return Ok(false);
+        return false;
     }
     match step(ports, scripts, asked.partition) {
-        None => Ok(false),
-        Some(one) => Ok(asked.is_answered_by(&one)),
+        None => false,
+        Some(one) => asked.is_answered_by(&one),
     }
 }

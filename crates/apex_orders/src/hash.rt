@@ -1,7 +1,6 @@
 //! Hashes of points, which distinguish most points without a comparison.
 ghost use Rattle.std.specs.Prelude.{◌≡◌, ◌<◌, length};
 ghost use Rattle.apex_orders.specs.Prelude.{option_copied, waiting_on};
-ghost use Rattle.apex_orders.specs.States.{last_shown};
 ghost use Rattle.apex_orders.specs.Hashes.{hash_of, mix, calls_hash, shown_hash, shown_from, messages_hash, message_hash, bytes_hash};
 
 use apex_ports::Ports;

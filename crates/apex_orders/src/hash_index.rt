@@ -1,5 +1,5 @@
 //! Hashes in the order in which they were found, with a table to look them up.
-ghost use Rattle.std.specs.Prelude.{◌≡◌, ◌<◌, ◌≤◌, ◌+◌, ◌++◌, ◌∷◌, [], ◌^◌, ℕ, length, slice_get, slice_index_or, Some, IfOk, OnOk};
+ghost use Rattle.std.specs.Prelude.{◌≡◌, ◌<◌, ◌≤◌, ◌+◌, ◌++◌, ◌∷◌, [], ◌^◌, ℕ, length, slice_get, Some, IfOk, OnOk};
 ghost use Rattle.apex_orders.specs.Buckets.{bucket_of, AreChained, AreFiled, AreFiledBelow, AreNone, IsLastOf, IsUpToLast};
 
 use apex_types::OutOfMemory;
@@ -42,6 +42,15 @@ impl HashIndex {
             earlier: Vec::new(alloc),
             last,
         })
+    }
+
+    /// Removes all hashes, and keeps their memory.
+    pub(crate) fn clear(&mut self)
+        ensures { self.new ≡ [] }
+    {
+        self.hashes.clear();
+        self.earlier.clear();
+        self.last.as_mut_slice().fill(0);
     }
 
     /// Adds a hash. There is room for 2^32 - 1 of them.

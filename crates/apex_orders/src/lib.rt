@@ -20,6 +20,7 @@ mod points;
 mod progress;
 mod replay;
 mod replies;
+mod rounds;
 pub mod same_state;
 mod search;
 mod shared;

@@ -11,7 +11,7 @@ use crate::orders_fault::OrdersFault;
 use crate::progress::{NoProgress, Progress};
 use crate::replay::replay;
 use crate::replies::PossibleReply;
-use crate::search::search_points;
+use crate::rounds::search_points;
 use apex_module::Config;
 use apex_ports::{Ports, Script};
 use apex_types::OutOfMemory;

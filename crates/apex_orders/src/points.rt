@@ -1,28 +1,31 @@
 //! The known points: their hashes, and the ports at those from which the search has yet to continue.
-ghost use Rattle.std.specs.Prelude.{◌≡◌, ◌+◌, ◌-◌, ◌<◌, ◌≤◌, ◌↔◌, ◌++◌, [], ◌∷◌, length, IfOk, OnOk, IfSome, IsTrue, slice_get, Some};
-ghost use Rattle.apex_orders.specs.Prelude.{IsSound};
-ghost use Rattle.apex_orders.specs.Known.{ArePoints, IsAfter, IsTrialOf};
+ghost use Rattle.std.specs.Prelude.{◌≡◌, ◌+◌, ◌-◌, ◌<◌, ◌≤◌, ◌↔◌, ◌++◌, [], ◌∷◌, length, IfOk, OnOk, IsTrue, slice_get, Some};
+ghost use Rattle.apex_orders.specs.Known.{ArePoints, IsSameLevel, IsTrialOf, KnowsFrom};
 ghost use Rattle.apex_orders.specs.Hashes.{hash_of};
-ghost use Rattle.apex_orders.specs.Orders.{Scripts, IsOrder, history_of, order_at};
-ghost use Rattle.apex_orders.specs.Points.{IsSamePoint};
-ghost use Rattle.apex_orders.specs.Searching.{Knows, AreOrders};
+ghost use Rattle.apex_orders.specs.Orders.{Scripts};
 
-use crate::hash::hash_of;
 use crate::hash_index::HashIndex;
 use crate::orders::Orders;
 use crate::point::is_same_point;
-use crate::replay::replay;
 use crate::trial::Trial;
 use apex_module::Config;
 use apex_ports::{Ports, SavedPorts, Script};
 use apex_types::OutOfMemory;
 use std::alloc::Global;
 use std::collections::VecDeque;
+use std::mem;
 
-/// The hashes of all known points, and the ports at those from the index `first` on.
+/// What is kept of the points, which are found by levels: those after the same number of calls are a level. Points of
+/// different levels differ, so hashes are kept of the next level alone.
 #[derive(Drop)]
 pub(crate) struct Points {
+    /// The hashes of the points of the next level.
     pub(crate) hashes: HashIndex,
+    /// The index of the first point of the next level.
+    pub(crate) next: usize,
+    /// The number of calls before each point of the present level.
+    pub(crate) calls: usize,
+    /// The index of the first point whose ports are saved.
     pub(crate) first: usize,
     pub(crate) saved: VecDeque<SavedPorts>,
     /// About how many bytes the saved ports take.
@@ -33,16 +36,19 @@ impl Points {
     /// Only the point before the first call.
     pub(crate) fn new(alloc: Global, config: &Config) -> Result<Points, OutOfMemory>
         ensures first { IfOk result (λ points. points.first ≡ 0) }
+        ensures next { IfOk result (λ points. points.next ≡ 1) }
+        ensures calls { IfOk result (λ points. points.calls ≡ 0) }
         ensures points { IfOk result (λ points. (scripts : Scripts) →
             ArePoints config.now scripts ([] ∷ []) points) }
     {
         let ports = Ports::new(alloc, config.copy()?)?;
-        let mut hashes = HashIndex::new(alloc)?;
-        hashes.push(alloc, hash_of(&ports))?;
+        let hashes = HashIndex::new(alloc)?;
         let mut saved = VecDeque::new(alloc);
         saved.push_back(ports.save(alloc)?)?;
         Ok(Points {
             hashes,
+            next: 1,
+            calls: 0,
             first: 0,
             saved,
             bytes: 0,
@@ -58,6 +64,8 @@ impl Points {
             (self.old.saved.items ≡ to.new.items ++ self.new.saved.items) }
         ensures count { OnOk result (length to.new.items ≡ count) }
         ensures first { OnOk result (self.new.first ≡ self.old.first + count) }
+        ensures next { OnOk result (self.new.next ≡ self.old.next) }
+        ensures calls { OnOk result (self.new.calls ≡ self.old.calls) }
         ensures hashes { OnOk result (self.new.hashes ≡ self.old.hashes) }
     {
         for _ in 0..count {
@@ -76,7 +84,7 @@ impl Points {
         saved: SavedPorts,
         hash: u64,
     ) -> Result<(), OutOfMemory>
-        ensures first { self.new.first ≡ self.old.first }
+        ensures level { IsSameLevel self.old self.new }
         ensures hashes { OnOk result (self.new.hashes ≡ self.old.hashes ++ hash ∷ []) }
         ensures saved { OnOk result
             (self.new.saved.items ≡ self.old.saved.items ++ saved ∷ []) }
@@ -95,35 +103,34 @@ impl Points {
         }
     }
 
-    /// The ports saved at the index, if there are any.
-    pub(crate) fn saved_at(&self, k: usize) -> Option<&SavedPorts>
-        ensures index { IfSome result (λ _. self.now.first ≤ k) }
-        ensures ports { IfSome result (λ ports.
-            slice_get self.now.saved.items (k - self.now.first) ≡ Some ports.now) }
+    /// The ports saved for the point at the index.
+    pub(crate) fn saved_at(&self, index: usize) -> &SavedPorts
+        requires past { self.now.first ≤ index }
+        requires within { index < self.now.first + length self.now.saved.items }
+        ensures { slice_get self.now.saved.items (index - self.now.first) ≡ Some result.now }
     {
-        if k < self.first {
-            return None;
-        }
-        self.saved.get(k - self.first)
+        self.saved.get(index - self.first).unwrap()
     }
 }
 
-/// Moves all saved ports to another list.
+/// Moves all saved ports to another list, the longer of which takes in the other's.
 pub(crate) fn move_all(
     from: &mut Vec<SavedPorts>,
     to: &mut Vec<SavedPorts>,
 ) -> Result<(), OutOfMemory>
     ensures { OnOk result (from.new.items ≡ []) }
 {
+    if to.len() < from.len() {
+        mem::swap(from, to);
+    }
     while let Some(ports) = from.pop() {
         to.push(ports)?;
     }
     Ok(())
 }
 
-/// Whether one of the orders leads to the point of the saved ports, which has this hash.
+/// Whether one of the next level's orders leads to the point of the saved ports, which has this hash.
 pub(crate) fn is_known(
-    alloc: Global,
     config: &Config,
     scripts: &[Script],
     orders: &Orders,
@@ -131,85 +138,50 @@ pub(crate) fn is_known(
     saved: &SavedPorts,
     hash: u64,
     trial: &mut Trial,
-) -> Result<bool, OutOfMemory>
-    requires scripts { length scripts.now ≡ length config.now.partitions }
+) -> bool
     requires trial { IsTrialOf config.now trial.old }
-    requires orders { AreOrders config.now orders.now }
     requires points { ArePoints config.now scripts.now orders.now points.now }
     requires saved { saved.now.config ≡ config.now }
     requires hash { hash ≡ hash_of config.now saved.now.history }
-    ensures known { IfOk result (λ known.
-        IsTrue known ↔ Knows config.now scripts.now orders.now saved.now.history) }
-    ensures trial { OnOk result (IsTrialOf config.now trial.new) }
+    ensures known { IsTrue result ↔ KnowsFrom config.now scripts.now orders.now points.now.next
+        saved.now.history }
+    ensures trial { IsTrialOf config.now trial.new }
 {
     if points.hashes.up_to_last(hash) == 0 {
-        return Ok(false);
+        return false;
     }
     trial.ports.restore(saved);
-    is_among(alloc, config, scripts, orders, points, trial, hash)
+    is_among(config, scripts, orders, points, trial, hash)
 }
 
-/// Whether one of the orders leads to the point of the trial's ports.
+/// Whether one of the next level's orders leads to the point of the trial's ports.
 pub(crate) fn is_among(
-    alloc: Global,
     config: &Config,
     scripts: &[Script],
     orders: &Orders,
     points: &Points,
     trial: &mut Trial,
     hash: u64,
-) -> Result<bool, OutOfMemory>
-    requires scripts { length scripts.now ≡ length config.now.partitions }
+) -> bool
     requires trial { IsTrialOf config.now trial.old }
-    requires orders { AreOrders config.now orders.now }
     requires points { ArePoints config.now scripts.now orders.now points.now }
     requires hash { hash ≡ hash_of config.now trial.old.ports.history }
-    ensures known { IfOk result (λ known.
-        IsTrue known ↔ Knows config.now scripts.now orders.now trial.old.ports.history) }
+    ensures known { IsTrue result ↔ KnowsFrom config.now scripts.now orders.now points.now.next
+        trial.old.ports.history }
     ensures ports { trial.new.ports ≡ trial.old.ports }
     ensures trial { IsTrialOf config.now trial.new }
 {
+    let states = orders.len();
     let mut count = points.hashes.up_to_last(hash);
     while count > 0 {
         let k = count - 1;
-        let saved = points.saved_at(k);
-        let other = &mut trial.other;
-        go_to(alloc, config, scripts, orders, k, saved, other)?;
+        let index = points.next + k;
+        prove!(index < states);
+        trial.other.restore(points.saved_at(index));
         if is_same_point(&trial.ports, &trial.other) {
-            return Ok(true);
+            return true;
         }
         count = points.hashes.up_to_earlier(hash, k);
     }
-    Ok(false)
-}
-
-/// Sets the ports to what the order at the index leads to: the saved ports, or else new ports on which it is run.
-pub(crate) fn go_to(
-    alloc: Global,
-    config: &Config,
-    scripts: &[Script],
-    orders: &Orders,
-    index: usize,
-    saved: Option<&SavedPorts>,
-    ports: &mut Ports,
-) -> Result<(), OutOfMemory>
-    requires scripts { length scripts.now ≡ length config.now.partitions }
-    requires index { index < length orders.now }
-    requires order { IsOrder config.now (order_at orders.now index) }
-    requires saved { IfSome saved
-        (λ one. IsAfter config.now scripts.now (order_at orders.now index) one.now) }
-    requires config { ports.old.config ≡ config.now }
-    ensures after { OnOk result
-        (IsAfter config.now scripts.now (order_at orders.now index) ports.new) }
-    ensures sound { OnOk result (IsSound ports.new.config ports.new.history) }
-    ensures config { ports.new.config ≡ config.now }
-{
-    match saved {
-        Some(saved) => ports.restore(saved),
-        None => {
-            let order = orders.order(alloc, index)?;
-            *ports = replay(alloc, config, scripts, &order)?;
-        }
-    }
-    Ok(())
+    false
 }

@@ -29,33 +29,3 @@ impl Progress for NoProgress {
         true
     }
 }
-
-/// The points after the same number of calls, which are adjacent among those found.
-#[derive(Drop)]
-pub(crate) struct Level {
-    depth: usize,
-    /// The index after the last of them.
-    pub(crate) end: usize,
-}
-
-impl Level {
-    /// Only the point before the first call.
-    pub(crate) fn new() -> Level {
-        Level { depth: 0, end: 1 }
-    }
-
-    /// Goes on to the next level if the index is not in this one.
-    pub(crate) fn reach(&mut self, index: usize, states: usize) {
-        if index >= self.end {
-            self.depth = self.depth.saturating_add(1);
-            self.end = states;
-        }
-    }
-
-    /// Reports how far the search is. Returns whether it is to go on.
-    pub(crate) fn goes_on<P: Progress>(&self, progress: &mut P, states: usize, bytes: usize) -> bool
-        ensures { result ≡ false → P.CanStop }
-    {
-        progress.level(self.depth, states, bytes)
-    }
-}

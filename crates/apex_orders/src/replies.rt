@@ -3,9 +3,13 @@ ghost use Rattle.std.specs.Prelude.{◌≡◌, ◌⊎◌, ◌↔◌, ◌++◌, �
 ghost use Rattle.apex_orders.specs.declared.replies.PossibleReply.{PossibleReply};
 ghost use Rattle.apex_orders.specs.Lists.{Has};
 ghost use Rattle.apex_orders.specs.Searching.{Includes};
+ghost use Rattle.apex_orders.specs.Steps.{IsShort, possible};
+ghost use Rattle.apex_ports.specs.Noted.{reply_by};
 
 use crate::hash::mix;
 use crate::hash_index::HashIndex;
+use crate::step::MadeCall;
+use apex_ports::ReplyRef;
 use apex_types::{OutOfMemory, Reply};
 use std::alloc::Global;
 use std::marker::Model;
@@ -60,48 +64,58 @@ impl Replies {
         })
     }
 
+    /// Removes all replies, and keeps their memory.
+    pub(crate) fn clear(&mut self)
+        ensures { self.new ≡ [] }
+    {
+        self.found.clear();
+        self.hashes.clear();
+    }
+
     /// Adds the reply, unless it is there already.
     pub(crate) fn add(&mut self, alloc: Global, one: &PossibleReply) -> Result<(), OutOfMemory>
         ensures { OnOk result ((other : PossibleReply) →
             Has self.new other ↔ (Has self.old other ⊎ (other ≡ one.now))) }
     {
-        let hash = reply_hash(one);
-        if self.has(one, hash) {
+        let made = MadeCall::of(one);
+        let hash = reply_hash(made);
+        if self.has(made, hash) {
             return Ok(());
         }
-        self.push(alloc, one, hash)?;
+        self.push(alloc, one.copy(), hash)?;
         Ok(())
     }
 
-    /// Adds the reply, unless it is there already, or among the known ones.
+    /// Adds the reply to the call, unless it is there already, or among the known ones.
     pub(crate) fn add_unless_known(
         &mut self,
         alloc: Global,
         known: &Replies,
-        one: &PossibleReply,
+        made: MadeCall<'_>,
     ) -> Result<(), OutOfMemory>
+        requires { IsShort made }
         ensures kept { OnOk result (Includes self.old self.new) }
-        ensures added { OnOk result (Has (known.now ++ self.new) one.now) }
+        ensures added { OnOk result (Has (known.now ++ self.new) (possible made.entry)) }
         ensures only { OnOk result ((other : PossibleReply) →
-            Has self.new other → Has self.old other ⊎ (other ≡ one.now)) }
+            Has self.new other → Has self.old other ⊎ (other ≡ possible made.entry)) }
     {
-        let hash = reply_hash(one);
-        if known.has(one, hash) || self.has(one, hash) {
+        let hash = reply_hash(made);
+        if known.has(made, hash) || self.has(made, hash) {
             return Ok(());
         }
-        self.push(alloc, one, hash)?;
+        self.push(alloc, made.to_possible(), hash)?;
         Ok(())
     }
 
-    /// Whether the reply, which has this hash, is among them.
-    fn has(&self, one: &PossibleReply, hash: u64) -> bool
-        ensures { IsTrue result → Has self.now one.now }
+    /// Whether the reply to the call, which has this hash, is among them.
+    fn has(&self, made: MadeCall<'_>, hash: u64) -> bool
+        ensures { IsTrue result → Has self.now (possible made.entry) }
     {
         let mut count = self.hashes.up_to_last(hash);
         while count > 0 {
             let k = count - 1;
             if let Some(known) = self.found.get(k) {
-                if is_same_possible(known, one) {
+                if is_reply_to(known, made) {
                     return true;
                 }
             }
@@ -111,11 +125,11 @@ impl Replies {
     }
 
     /// Adds the reply with its hash.
-    fn push(&mut self, alloc: Global, one: &PossibleReply, hash: u64) -> Result<(), OutOfMemory>
-        ensures { OnOk result (self.new ≡ self.old ++ one.now ∷ []) }
+    fn push(&mut self, alloc: Global, one: PossibleReply, hash: u64) -> Result<(), OutOfMemory>
+        ensures { OnOk result (self.new ≡ self.old ++ one ∷ []) }
     {
         self.hashes.push(alloc, hash)?;
-        self.found.push(one.copy())?;
+        self.found.push(one)?;
         Ok(())
     }
 
@@ -150,12 +164,12 @@ impl Replies {
 }
 
 /// A number that is the same for equal replies to one call.
-fn reply_hash(one: &PossibleReply) -> u64 {
-    let call = mix(one.partition as u64, one.index as u64);
-    match &one.reply {
-        Reply::Received(message) => bytes_hash(call, message.bytes()),
-        Reply::Read { message, .. } => bytes_hash(call, message.bytes()),
-        Reply::QueuingStatus { waiting, .. } => mix(call, *waiting as u64),
+fn reply_hash(made: MadeCall<'_>) -> u64 {
+    let call = mix(made.partition as u64, made.index as u64);
+    match made.reply {
+        ReplyRef::Received(message) => bytes_hash(call, message),
+        ReplyRef::Read { message, .. } => bytes_hash(call, message),
+        ReplyRef::QueuingStatus { waiting, .. } => mix(call, waiting as u64),
         _ => call,
     }
 }
@@ -168,11 +182,71 @@ fn bytes_hash(before: u64, bytes: &[u8]) -> u64 {
     hash
 }
 
-/// Whether they are equal.
-fn is_same_possible(a: &PossibleReply, b: &PossibleReply) -> bool
-    ensures { IsTrue result ↔ (a.now ≡ b.now) }
+/// Whether it is the reply to the call.
+fn is_reply_to(one: &PossibleReply, made: MadeCall<'_>) -> bool
+    ensures { IsTrue result ↔ (one.now ≡ possible made.entry) }
 {
-    a.index == b.index && a.partition == b.partition && is_same_reply(&a.reply, &b.reply)
+    one.index == made.index
+        && one.partition == made.partition
+        && is_same_by_reference(ReplyRef::of(&one.reply), made.reply)
+}
+
+/// Whether they are equal.
+fn is_same_by_reference(a: ReplyRef<'_>, b: ReplyRef<'_>) -> bool
+    ensures { IsTrue result ↔ (reply_by a.entry ≡ reply_by b.entry) }
+{
+    match (a, b) {
+        (ReplyRef::NotMade, ReplyRef::NotMade) => true,
+        (ReplyRef::Code(code), ReplyRef::Code(other)) => code == other,
+        (ReplyRef::Id(id), ReplyRef::Id(other)) => id == other,
+        (ReplyRef::Received(message), ReplyRef::Received(other)) => message == other,
+        (
+            ReplyRef::Read { message, validity },
+            ReplyRef::Read {
+                message: other,
+                validity: other_validity,
+            },
+        ) => validity == other_validity && message == other,
+        (
+            ReplyRef::QueuingStatus {
+                waiting,
+                depth,
+                size,
+                direction,
+            },
+            ReplyRef::QueuingStatus {
+                waiting: other_waiting,
+                depth: other_depth,
+                size: other_size,
+                direction: other_direction,
+            },
+        ) => {
+            waiting == other_waiting
+                && depth == other_depth
+                && size == other_size
+                && direction == other_direction
+        }
+        (
+            ReplyRef::SamplingStatus {
+                refresh,
+                size,
+                direction,
+                last,
+            },
+            ReplyRef::SamplingStatus {
+                refresh: other_refresh,
+                size: other_size,
+                direction: other_direction,
+                last: other_last,
+            },
+        ) => {
+            refresh == other_refresh
+                && size == other_size
+                && direction == other_direction
+                && last == other_last
+        }
+        _ => false,
+    }
 }
 
 /// Whether they are equal.

@@ -2,14 +2,19 @@
 
 // Lists grow by doubling, so on average they have room for half as many again.
 
-/// What a known point takes in lists, in bytes: its last call, its hash and where the hash is found.
-const LISTED: usize = 36;
+/// What a known point takes in lists, in bytes: its last call.
+const LISTED: usize = 12;
+
+/// What a point of the next level takes in lists besides, in bytes: its hash and where the hash is found.
+const HASHED: usize = 30;
 
 /// What a reply takes in a list, in bytes: a message of the greatest length is part of it.
 const REPLY: usize = 1_600;
 
-/// The bytes that this many points and replies take in lists.
-pub(crate) fn size_of(points: usize, replies: usize) -> usize {
-    let listed = points.saturating_mul(LISTED);
-    listed.saturating_add(replies.saturating_mul(REPLY))
+/// About how many bytes lists take for so many points, so many of them of the next level, and so many replies.
+pub(crate) fn size_of(points: usize, hashed: usize, replies: usize) -> usize {
+    points
+        .saturating_mul(LISTED)
+        .saturating_add(hashed.saturating_mul(HASHED))
+        .saturating_add(replies.saturating_mul(REPLY))
 }

@@ -6,7 +6,7 @@ use crate::asked::Asked;
 use crate::order::Order;
 use crate::orders_fault::OrdersFault;
 use crate::progress::{NoProgress, Progress};
-use crate::search::search_points;
+use crate::rounds::search_points;
 use apex_module::Config;
 use apex_ports::Script;
 use std::alloc::Global;

@@ -1,15 +1,16 @@
 //! A part of a search that can run in a thread of its own.
-ghost use Rattle.std.specs.Prelude.{◌≡◌, ◌<◌, ◌≤◌, ◌+◌, ◌++◌, [], ◌∷◌, ℕ, true, length, slice_get, Some, IfOk, OnOk, IsTrue, ◌↔◌};
+ghost use Rattle.std.specs.Prelude.{◌≡◌, ◌<◌, ◌≤◌, ◌+◌, ◌++◌, [], ◌∷◌, ℕ, suc, true, false, length, slice_get, Some, IfOk, OnOk, IsTrue, ◌↔◌};
 ghost use Rattle.apex_orders.specs.Choices.{is_tried};
 ghost use Rattle.apex_orders.specs.Clock.{IsClocked, IsNextDue};
 ghost use Rattle.apex_orders.specs.Hashes.{hash_of};
 ghost use Rattle.apex_orders.specs.Known.{IsTrialOf};
-ghost use Rattle.apex_orders.specs.Orders.{history_of};
-ghost use Rattle.apex_orders.specs.Points.{IsSamePoint};
+ghost use Rattle.apex_orders.specs.Orders.{history_of, next_entries, script_of};
+ghost use Rattle.apex_orders.specs.Points.{IsSamePoint, calls_made};
 ghost use Rattle.apex_orders.specs.declared.worker.FoundPoint.{FoundPoint};
-ghost use Rattle.apex_orders.specs.Searching.{AreDue, Keeps};
+ghost use Rattle.apex_orders.specs.Searching.{AreDue, Includes, Keeps};
+ghost use Rattle.apex_orders.specs.Steps.{MakesNothing};
 ghost use Rattle.apex_orders.specs.Prelude.{IsSound};
-ghost use Rattle.apex_orders.specs.Workers.{AreHashed, IsContinued, AreContinued, HasPoint, HasTriedCall, IsLaterWorker, IsReady, IsShared, IsWorkerOf, KnowsPoint, history_given, order_given};
+ghost use Rattle.apex_orders.specs.Workers.{AreHashed, IsContinued, AreContinued, HasPoint, HasTriedCall, IsAnswered, IsLaterWorker, IsReady, IsShared, IsWorkerOf, KnowsPoint, history_given, order_given};
 
 use crate::choice::{Choice, choose, is_tried};
 use crate::hash::hash_of;
@@ -19,11 +20,11 @@ use crate::point::is_same_point;
 use crate::points::{Points, is_among, move_all};
 use crate::replies::Replies;
 use crate::shared::Shared;
-use crate::step::step_into;
+use crate::step::make_next;
 use crate::trial::Trial;
 use apex_module::Config;
 use apex_ports::{Ports, SavedPorts};
-use apex_types::OutOfMemory;
+use apex_types::{MESSAGE_LIMIT, OutOfMemory};
 use std::alloc::Global;
 use std::collections::VecDeque;
 use std::snapshot::Snapshot;
@@ -89,7 +90,6 @@ impl Worker {
     /// Takes over the first points from which the search has yet to continue.
     pub(crate) fn begin(
         &mut self,
-        alloc: Global,
         orders: &Orders,
         points: &mut Points,
         count: usize,
@@ -102,6 +102,8 @@ impl Worker {
             ≡ self.new.points.items ++ points.new.saved.items) }
         ensures count { OnOk result (length self.new.points.items ≡ count) }
         ensures rest { OnOk result (points.new.first ≡ points.old.first + count) }
+        ensures next { OnOk result (points.new.next ≡ points.old.next) }
+        ensures calls { OnOk result (points.new.calls ≡ points.old.calls) }
         ensures hashes { OnOk result (points.new.hashes ≡ points.old.hashes) }
         ensures found { OnOk result (self.new.found.items ≡ []) }
         ensures unhashed { OnOk result (self.new.hashes ≡ []) }
@@ -112,8 +114,8 @@ impl Worker {
         self.base = Snapshot::of(orders);
         self.first = points.first;
         self.found.clear();
-        self.hashes = HashIndex::new(alloc)?;
-        self.replies = Replies::new(alloc)?;
+        self.hashes.clear();
+        self.replies.clear();
         points.take(count, &mut self.points)
     }
 
@@ -228,17 +230,10 @@ impl Worker {
     {
         let trial = &mut self.trial;
         return_to(&mut trial.ports, &self.points[j], is_there);
-        if !step_into(
-            &mut trial.ports,
-            shared.scripts,
-            p,
-            &mut trial.reply,
-            &mut trial.buffer,
-        ) {
+        let replies = &mut self.replies;
+        if !answer_next(shared, p, &mut trial.ports, &mut trial.buffer, replies)? {
             return Ok(());
         }
-        self.replies
-            .add_unless_known(shared.alloc, shared.known, &self.trial.reply)?;
         self.learn(shared, j, p)?;
         Ok(())
     }
@@ -254,6 +249,8 @@ impl Worker {
             shared.now.scripts.now (order_given self.old j ++ p ∷ []) }
         requires clocked { IsClocked shared.now.clock shared.now.scripts.now
             self.old.trial.ports.history }
+        requires made { calls_made shared.now.config.now self.old.trial.ports.history
+            ≡ suc (calls_made shared.now.config.now (history_given shared.now self.old j)) }
         ensures valid { OnOk result (IsWorkerOf shared.now self.new) }
         ensures later { OnOk result (IsLaterWorker self.old self.new) }
         ensures known { OnOk result
@@ -263,16 +260,14 @@ impl Worker {
         if has_found(&self.found, &self.hashes, &mut self.trial, hash) {
             return Ok(());
         }
-        let is_known = is_among(
-            shared.alloc,
+        if is_among(
             shared.config,
             shared.scripts,
             shared.orders,
             shared.points,
             &mut self.trial,
             hash,
-        )?;
-        if is_known {
+        ) {
             return Ok(());
         }
         let saved = save(shared.alloc, &self.trial.ports, &mut self.spare)?;
@@ -285,6 +280,37 @@ impl Worker {
         })?;
         Ok(())
     }
+}
+
+/// Makes the partition's next call, and adds its reply, unless that is known. Returns whether there was a call to make. The
+/// buffer has room for any message.
+fn answer_next(
+    shared: &Shared<'_>,
+    p: usize,
+    ports: &mut Ports,
+    buffer: &mut [u8],
+    replies: &mut Replies,
+) -> Result<bool, OutOfMemory>
+    requires partition { p < length ports.old.config.partitions }
+    requires room { MESSAGE_LIMIT ≤ length buffer.old }
+    requires scripts { length shared.now.scripts.now ≡ length ports.old.config.partitions }
+    requires sound { IsSound ports.old.config ports.old.history }
+    ensures config { ports.new.config ≡ ports.old.config }
+    ensures history { ports.new.history ≡ ports.old.history
+        ++ next_entries ports.old.config shared.now.scripts.now ports.old.history p }
+    ensures nothing { IfOk result (λ made. made ≡ false →
+        MakesNothing ports.old.config shared.now.scripts.now ports.old.history p) }
+    ensures unchanged { IfOk result (λ made. made ≡ false → replies.new ≡ replies.old) }
+    ensures answered { IfOk result (λ made. made ≡ true →
+        IsAnswered shared.now ports.old p replies.old replies.new) }
+    ensures kept { OnOk result (Includes replies.old replies.new) }
+    ensures short { length (script_of shared.now.scripts.now p) ≤ usize.MAX }
+{
+    let Some(made) = make_next(ports, shared.scripts, p, buffer) else {
+        return Ok(false);
+    };
+    replies.add_unless_known(shared.alloc, shared.known, made)?;
+    Ok(true)
 }
 
 /// Saves the ports, in memory that is spare if there is some.

@@ -1,5 +1,5 @@
 //! The workers of a search, one of which runs in a thread beside the other if there are many points.
-ghost use Rattle.std.specs.Prelude.{◌≤◌, ◌+◌, length, IfOk, OnOk, IfSome};
+ghost use Rattle.std.specs.Prelude.{◌≤◌, ◌+◌, IfOk, OnOk, IfSome};
 ghost use Rattle.apex_orders.specs.Known.{IsTrialOf};
 ghost use Rattle.apex_orders.specs.Searching.{IsSearch, Keeps};
 ghost use Rattle.apex_orders.specs.Workers.{AreContinued, AreWorkers, HasContinuedFrom, IsLaterWorker, IsShared, IsWorkerOf};
@@ -54,7 +54,7 @@ impl Workers {
     ) -> Result<(), OutOfMemory>
         requires workers { AreWorkers config.now self.old }
         requires valid { IsSearch clock config.now scripts.now current.old }
-        requires within { current.old.points.first + count ≤ length current.old.orders }
+        requires within { current.old.points.first + count ≤ current.old.points.next }
         ensures workers { OnOk result (AreWorkers config.now self.new) }
         ensures continued { OnOk result
             (HasContinuedFrom clock config.now scripts.now count current.old current.new) }
@@ -110,12 +110,12 @@ fn try_alone(
 ) -> Result<(), OutOfMemory>
     requires trial { IsTrialOf config.now worker.old.trial }
     requires valid { IsSearch clock config.now scripts.now current.old }
-    requires within { current.old.points.first + count ≤ length current.old.orders }
+    requires within { current.old.points.first + count ≤ current.old.points.next }
     ensures trial { OnOk result (IsTrialOf config.now worker.new.trial) }
     ensures continued { OnOk result
         (HasContinuedFrom clock config.now scripts.now count current.old current.new) }
 {
-    current.give(alloc, config, scripts, clock, count, worker)?;
+    current.give(config, scripts, clock, count, worker)?;
     let shared = Shared {
         alloc,
         config,
@@ -147,15 +147,15 @@ fn try_both<R: Threads + Sync>(
     requires one { IsTrialOf config.now one.old.trial }
     requires other { IsTrialOf config.now other.old.trial }
     requires valid { IsSearch clock config.now scripts.now current.old }
-    requires within { current.old.points.first + count ≤ length current.old.orders }
+    requires within { current.old.points.first + count ≤ current.old.points.next }
     ensures one { OnOk result (IsTrialOf config.now one.new.trial) }
     ensures other { OnOk result (IsTrialOf config.now other.new.trial) }
     ensures continued { OnOk result
         (HasContinuedFrom clock config.now scripts.now count current.old current.new) }
 {
     let half = count / 2;
-    current.give(alloc, config, scripts, clock, half, one)?;
-    current.give(alloc, config, scripts, clock, count - half, other)?;
+    current.give(config, scripts, clock, half, one)?;
+    current.give(config, scripts, clock, count - half, other)?;
     let shared = Shared {
         alloc,
         config,

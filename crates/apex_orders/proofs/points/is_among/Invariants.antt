@@ -6,7 +6,7 @@ invariant-loop-count l = record {
   ports : l.trial.ports ≡ l.initial.trial.ports;
   trial : IsTrialOf l.config l.trial;
   here : (k : ℕ) → l.count ≡ k + 1 → slice_get l.points.hashes k ≡ Some l.hash;
-  others : (n : ℕ) (order : List ℕ) → l.count ≤ n → slice_get l.orders n ≡ Some order
+  others : (n : ℕ) (order : List ℕ) → l.count ≤ n → slice_get l.orders (l.points.next + n) ≡ Some order
       → IsSamePoint l.config l.initial.trial.ports.history (history_of l.config l.scripts order) → ⊥;
 }
 

@@ -1,4 +1,5 @@
-use Rattle.apex_orders.proofs.Common.{List, sym, ◌∙◌, subst, LastUses, AreOfScripts, IsLaterWorker, Keeps}
+use Rattle.apex_orders.proofs.Common.{ℕ, List, sym, ◌∙◌, subst, LastUses, AreOfScripts, HasMade, IsLaterWorker, Keeps}
+use Rattle.apex_orders.proofs.Levels.{still_made}
 use Rattle.apex_orders.proofs.SearchLemmas.{includes_along, keeps_along}
 use Rattle.apex_orders.proofs.WorkerLemmas.{includes_same, keeps_same, on_ok, same_range, when_ok}
 use Rattle.apex_orders.proofs.workers.try_alone.Goals as goal
@@ -24,6 +25,16 @@ finish-requires-clause-base c =
     (λ (later : IsLaterWorker c.give.new.worker c.run.new.self). keeps_same c.run.new.self.base.value c.give.new.self.orders (sym (later.base ∙ c.in_ok-give.ensures.base)))
     c.run.ensures.later
 
+pub finish-requires-clause-made : goal.finish-requires-clause-made
+finish-requires-clause-made c =
+    let config = c.args.config.now in
+    let scripts = c.args.scripts.now in
+    let calls = c.give.new.self.points.calls in
+    on_ok c.run.new.self.result (IsLaterWorker c.give.new.worker c.run.new.self) (HasMade config scripts calls c.run.new.self)
+    (λ (later : IsLaterWorker c.give.new.worker c.run.new.self). still_made config scripts calls c.give.new.worker c.run.new.self later
+    (subst (λ (n : ℕ). HasMade config scripts n c.give.new.worker) (sym c.in_ok-give.ensures.calls) c.in_ok-give.ensures.made))
+    c.run.ensures.later
+
 pub returns-clause-continued : goal.returns-clause-continued
 returns-clause-continued c =
     let start = c.args.current.now in
@@ -36,6 +47,6 @@ returns-clause-continued c =
         orders = keeps_along start.orders given.orders c.finish.new.self.orders (keeps_same start.orders given.orders c.in_ok-give.ensures.orders) finished.orders;
         replies = includes_along start.replies given.replies c.finish.new.self.replies (includes_same start.replies given.replies c.in_ok-give.ensures.replies) finished.replies;
       };
-      first = c.in_ok-finish.ensures.first ∙ c.in_ok-give.ensures.first;
+      first = c.in_ok-finish.ensures.level.first ∙ c.in_ok-give.ensures.first;
       tried = c.in_ok-finish.ensures.tried _ _ (same_range _ _ c.give.new.worker c.run.new.self later c.in_ok-give.ensures.range);
     }

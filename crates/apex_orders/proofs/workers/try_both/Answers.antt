@@ -1,6 +1,7 @@
-use Rattle.apex_orders.proofs.Common.{◌≡◌, ◌+◌, ◌-◌, ◌≤◌, List, ℕ, length, sym, ap, ◌∙◌, subst, arith, LastUses, AreOfScripts, HasContinued, HasTriedFrom, IsLaterWorker, IsRange, Keeps}
+use Rattle.apex_orders.proofs.Common.{◌≡◌, ◌+◌, ◌-◌, ◌≤◌, List, ℕ, length, sym, ◌∙◌, subst, arith, LastUses, AreOfScripts, HasContinued, HasMade, HasTriedFrom, IsLaterWorker, IsRange, Keeps}
 use Rattle.std.proofs.Common.{◌/◌}
 use Rattle.apex_orders.proofs.GrowthLemmas.{still_many}
+use Rattle.apex_orders.proofs.Levels.{still_made}
 use Rattle.apex_orders.proofs.SearchLemmas.{includes_along, keeps_along}
 use Rattle.apex_orders.proofs.WorkerLemmas.{continued_with_more, includes_same, keeps_same, on_ok, same_range, tried_join, when_ok}
 use Rattle.apex_orders.proofs.workers.try_both.Goals as goal
@@ -9,7 +10,7 @@ pub give-requires-2-clause-within : goal.give-requires-2-clause-within
 give-requires-2-clause-within g c =
     let first : c.give.new.self.points.first ≡ c.args.current.now.points.first + c.args.count / 2 = c.in_ok-give.ensures.first in
     let within = c.requires.within in
-    let same = ap (λ (orders : List (List ℕ)). length orders) c.in_ok-give.ensures.orders in
+    let same = c.in_ok-give.ensures.next in
     omega (arith, first, within, same)
 
 pub run_both-requires-clause-shared : goal.run_both-requires-clause-shared
@@ -52,6 +53,26 @@ finish-requires-2-clause-tried g c =
     (continued_with_more config scripts c.args.clock known more worker c.in_ok-finish.ensures.later.replies)
     c.run_both.ensures.tried_too
 
+pub finish-requires-clause-made : goal.finish-requires-clause-made
+finish-requires-clause-made g c =
+    let config = c.args.config.now in
+    let scripts = c.args.scripts.now in
+    let calls = c.give-2.new.self.points.calls in
+    on_ok c.run_both.new.one.result (IsLaterWorker c.give.new.worker c.run_both.new.one) (HasMade config scripts calls c.run_both.new.one)
+    (λ (later : IsLaterWorker c.give.new.worker c.run_both.new.one). still_made config scripts calls c.give.new.worker c.run_both.new.one later
+    (subst (λ (n : ℕ). HasMade config scripts n c.give.new.worker) (sym (c.in_ok-give-2.ensures.calls ∙ c.in_ok-give.ensures.calls)) c.in_ok-give.ensures.made))
+    c.run_both.ensures.later
+
+pub finish-requires-2-clause-made : goal.finish-requires-2-clause-made
+finish-requires-2-clause-made g c =
+    let config = c.args.config.now in
+    let scripts = c.args.scripts.now in
+    let calls = c.finish.new.self.points.calls in
+    on_ok c.run_both.new.other.result (IsLaterWorker c.give-2.new.worker c.run_both.new.other) (HasMade config scripts calls c.run_both.new.other)
+    (λ (later : IsLaterWorker c.give-2.new.worker c.run_both.new.other). still_made config scripts calls c.give-2.new.worker c.run_both.new.other later
+    (subst (λ (n : ℕ). HasMade config scripts n c.give-2.new.worker) (sym (c.in_ok-finish.ensures.level.calls ∙ c.in_ok-give-2.ensures.calls)) c.in_ok-give-2.ensures.made))
+    c.run_both.ensures.later_too
+
 pub returns-clause-continued : goal.returns-clause-continued
 returns-clause-continued g c =
     let config = c.args.config.now in
@@ -75,10 +96,11 @@ returns-clause-continued g c =
     let two : HasTriedFrom c.args.clock config scripts four.orders four.replies mid (from + count) =
     c.in_ok-finish-2.ensures.tried mid (from + count) (same_range mid (from + count) c.give-2.new.worker c.run_both.new.other later_too range) in
     let within = c.requires.within in
-    let few : mid ≤ length three.orders = still_many start.orders three.orders mid orders_three (omega (arith, within)) in
+    let hashed = c.requires.valid.points.hashed.count in
+    let few : mid ≤ length three.orders = still_many start.orders three.orders mid orders_three (omega (arith, within, hashed)) in
     let first_two = c.in_ok-give-2.ensures.first in
-    let first_three = c.in_ok-finish.ensures.first in
-    let first_four = c.in_ok-finish-2.ensures.first in
+    let first_three = c.in_ok-finish.ensures.level.first in
+    let first_four = c.in_ok-finish-2.ensures.level.first in
     record {
       valid = c.in_ok-finish-2.ensures.valid;
       later = record {

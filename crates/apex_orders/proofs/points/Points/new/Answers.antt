@@ -1,24 +1,28 @@
-use Rattle.apex_orders.proofs.Common.{◌≡◌, [], List, ℕ, length, refl, sym, ap, ◌∙◌, subst, arith, PortsView, IsAfter, ArePoints, hash_of, AreHashes}
-use Rattle.apex_orders.specs.declared.points.Points.{Points}
-use Rattle.apex_orders.proofs.KnownLemmas.{points_push}
+use Rattle.apex_orders.proofs.Common.{◌≡◌, ◌+◌, ◌++◌, zero, suc, [], ◌∷◌, List, ℕ, Some, length, sym, ap, ◌∙◌, subst, arith, slice_get, slice_get_within, Configuration, PortsView, Scripts, IsAfter, AreHashes}
 use Rattle.apex_orders.proofs.points.Points.new.Goals as goal
+
+first_after : (config : Configuration) (scripts : Scripts) (ports one : PortsView) (order : List ℕ) (j : ℕ) → IsAfter config scripts [] ports → slice_get (ports ∷ []) j ≡ Some one → slice_get ([] ∷ []) j ≡ Some order
+    → IsAfter config scripts order one
+first_after config scripts ports one order zero after at listed =
+    let same : ports ≡ one = cc in
+    let none : [] ≡ order = cc in
+    subst (λ (x : List ℕ × PortsView). IsAfter config scripts x.0 x.1) (λ i. (none i, same i)) after
+first_after config scripts ports one order (suc j) after at listed = absurd (cc)
 
 pub returns-clause-points : goal.returns-clause-points
 returns-clause-points c = λ scripts.
     let config = c.args.config.now in
     let ports = c.in_ok-save.field-0 in
-    let none : Points = record { hashes = c.in_ok-hashes.hashes; first = 0; saved = c.new-saved.result; bytes = 0 } in
-    let one : Points = record { hashes = c.push.new.self; first = 0; saved = c.push_back.new.self; bytes = 0 } in
-    let unhashed : AreHashes config scripts [] [] = record { count = refl; each = λ k order at. absurd (cc) } in
-    let known : ArePoints config scripts [] none = record {
-      hashed = subst (λ (ms : List ℕ). AreHashes config scripts [] ms) (sym c.in_ok-hashes.ensures) unhashed;
-      count = let empty = ap (λ (ps : List PortsView). length ps) c.new-saved.ensures.items in omega (arith, empty);
-      each = λ j view order at listed. absurd (cc);
-    } in
-    let configured : c.in_ok-ports.ports.config ≡ config = c.in_ok-ports.ensures.config ∙ c.in_ok-copy.ensures in
+    let saved : c.push_back.new.self.items ≡ ports ∷ [] = c.in_ok-push_back.ensures.items ∙ ap (λ (ps : List PortsView). ps ++ ports ∷ []) c.new-saved.ensures.items in
     let after : IsAfter config scripts [] ports = record {
-      configured = ap (λ (v : PortsView). v.config) c.in_ok-save.ensures ∙ configured;
+      configured = ap (λ (v : PortsView). v.config) c.in_ok-save.ensures ∙ (c.in_ok-ports.ensures.config ∙ c.in_ok-copy.ensures);
       history = ap (λ (v : PortsView). v.history) c.in_ok-save.ensures ∙ c.in_ok-ports.ensures.history;
     } in
-    let hash : c.hash_of.result ≡ hash_of config [] = c.hash_of.ensures ∙ (λ i. hash_of (configured i) (c.in_ok-ports.ensures.history i)) in
-    points_push config scripts [] none one known [] ports c.hash_of.result after hash refl c.in_ok-push.ensures c.in_ok-push_back.ensures.items
+    record {
+      hashed = subst (λ (hashes : List ℕ). AreHashes config scripts ([] ∷ []) 1 hashes) (sym c.in_ok-hashes.ensures) (record { count = omega arith; each = λ k order at. absurd (let within = slice_get_within ([] ∷ []) (1 + k) order at in omega (arith, within)) });
+      level = omega arith;
+      count = let one = ap (λ (ps : List PortsView). length ps) saved in omega (arith, one);
+      each = λ j one order at listed.
+          let index : 0 + j ≡ j = omega arith in
+          first_after config scripts ports one order j after (subst (λ (ps : List PortsView). slice_get ps j ≡ Some one) saved at) (ap (λ (n : ℕ). slice_get ([] ∷ []) n) (sym index) ∙ listed);
+    }

@@ -6,5 +6,7 @@ invariant-loop l = record {
   taken : l.fn.self.saved.items ≡ l.to.items ++ l.self.saved.items;
   count : length l.to.items ≡ l.counter;
   first : l.self.first ≡ l.fn.self.first;
+  next : l.self.next ≡ l.fn.self.next;
+  calls : l.self.calls ≡ l.fn.self.calls;
   hashes : l.self.hashes ≡ l.fn.self.hashes;
 }

@@ -1,4 +1,4 @@
-use Rattle.apex_orders.proofs.Common.{◌≡◌, Bool, ◌^◌, inl, inr, ⊎_elim, ◌+◌, ◌<◌, ◌++◌, ◌∷◌, [], List, ℕ, Option, Some, None, length, drop, map, option_to_list, refl, sym, ap, ◌∙◌, subst, arith, Configuration, History, FoundPoint, Worker, Scripts, Has, Keeps, Knows, IsAfter, IsClocked, IsFoundBy, IsWorker, history_of, order_at, order_found, orders_known}
+use Rattle.apex_orders.proofs.Common.{◌≡◌, Bool, ◌^◌, inl, inr, ⊎_elim, ◌+◌, ◌<◌, ◌++◌, ◌∷◌, [], List, ℕ, suc, Option, Some, None, length, drop, map, option_to_list, refl, sym, ap, ◌∙◌, subst, arith, Configuration, History, FoundPoint, Worker, Scripts, Has, Keeps, Knows, IsAfter, IsClocked, IsFoundBy, IsWorker, history_of, order_at, order_found, orders_known}
 use Rattle.apex_orders.proofs.Following.{same_self}
 use Rattle.apex_orders.proofs.GrowthLemmas.{order_kept, still_within}
 use Rattle.apex_orders.proofs.Having.{first_or_rest, has_behind, has_mapped, has_none, has_rest}
@@ -80,6 +80,14 @@ learn-requires-clause-clocked c =
     clocked c.args.clock c.args.config.now c.args.scripts.now c.args.worker.now c.in-Some.one c.loop-one.worker.found.items c.pop_front.new.self.items c.loop-one.self.orders c.loop-one.worker.first
     c.requires.worker c.in-Some.ensures.items was.left (keeps_along c.args.worker.now.base.value c.args.self.now.orders c.loop-one.self.orders c.requires.base was.later.orders) was.index
 
+pub learn-requires-clause-made : goal.learn-requires-clause-made
+learn-requires-clause-made c =
+    let was = c.loop-one.invariant in
+    let old = c.args.worker.now in
+    let own = mine c.args.clock c.args.config.now c.args.scripts.now old c.in-Some.one c.loop-one.worker.found.items c.pop_front.new.self.items c.loop-one.self.orders c.loop-one.worker.first
+    c.requires.worker c.in-Some.ensures.items was.left (keeps_along old.base.value c.args.self.now.orders c.loop-one.self.orders c.requires.base was.later.orders) was.index in
+    own.made ∙ ap suc (c.requires.made c.in-Some.one.before own.before ∙ sym was.level.calls)
+
 pub loop-one-preserved : goal.loop-one-preserved
 loop-one-preserved c =
     let config = c.args.config.now in
@@ -102,7 +110,7 @@ loop-one-preserved c =
         orders = keeps_along start.orders before.orders after.orders was.later.orders now.later.orders;
         replies = includes_along start.replies before.replies after.replies was.later.replies now.later.replies;
       };
-      first = now.first ∙ was.first;
+      level = record { first = now.level.first ∙ was.level.first; next = now.level.next ∙ was.level.next; calls = now.level.calls ∙ was.level.calls };
       index = was.index;
       trial = now.trial;
       left = λ x has. was.left x (subst (λ (xs : List FoundPoint). Has xs x) (sym popped) (has_rest one rest x has));

@@ -1,12 +1,12 @@
 use Rattle.std.specs.VecDeque.{deque_len}
-use Rattle.apex_orders.proofs.Common.{◌≡◌, ◌⊎◌, FoundPoint, Has, Includes, IsTrialOf, IsLater, IsSearch, Knows, history_of, order_found}
+use Rattle.apex_orders.proofs.Common.{◌≡◌, ◌⊎◌, FoundPoint, Has, Includes, IsSameLevel, IsTrialOf, IsLater, IsSearch, Knows, history_of, order_found}
 use Rattle.apex_orders.proofs.search.Search.add_points.Given as goal
 
 abbrev pub invariant-loop-one : goal.invariant-loop-one
 invariant-loop-one l = record {
   valid : IsSearch l.clock l.config l.scripts l.self;
   later : IsLater l.initial.self l.self;
-  first : l.self.points.first ≡ l.initial.self.points.first;
+  level : IsSameLevel l.initial.self.points l.self.points;
   index : l.worker.first ≡ l.initial.worker.first;
   trial : IsTrialOf l.config l.worker.trial;
   left : Includes l.worker.found.items l.initial.worker.found.items;

@@ -1,4 +1,4 @@
-use Rattle.apex_orders.proofs.Common.{◌≡◌, ⊎_elim, ◌+◌, ◌++◌, ◌-◌, ◌<◌, ℕ, Some, length, sym, ap, ◌∙◌, subst, arith, slice_get, Has, IsWorker, HasContinued, HasTriedEnough, Keeps, order_given, orders_known}
+use Rattle.apex_orders.proofs.Common.{◌≡◌, ⊎_elim, ◌+◌, ◌++◌, ◌-◌, ◌<◌, ℕ, Some, length, sym, ap, ◌∙◌, subst, arith, slice_get, Has, IsWorker, HasContinued, HasMade, HasTriedEnough, Keeps, order_given, orders_known}
 use Rattle.apex_orders.proofs.GrowthLemmas.{order_here}
 use Rattle.apex_orders.proofs.Having.{has_either}
 use Rattle.apex_orders.proofs.WorkerLemmas.{tried_along, when_ok}
@@ -14,6 +14,7 @@ add_points-requires-clause-valid c =
       clocked = was.clocked;
       apart = was.apart;
       points = was.points;
+      levels = was.levels;
       found = λ one has. ⊎_elim (λ (before : Has c.args.self.now.replies one). was.found one before) (λ (new : Has c.args.worker.now.replies one). worker.replies one new) (c.in_ok-add_all.ensures.only one has);
       uses = was.uses;
     }
@@ -24,6 +25,10 @@ add_points-requires-clause-worker c =
 
 pub add_points-requires-clause-base : goal.add_points-requires-clause-base
 add_points-requires-clause-base c = when_ok c.args.worker.now.result (Keeps c.args.worker.now.base.value c.args.self.now.orders) (sym c.is_err.ensures.value ∙ c.if-is_err.false) c.requires.base
+
+pub add_points-requires-clause-made : goal.add_points-requires-clause-made
+add_points-requires-clause-made c =
+    when_ok c.args.worker.now.result (HasMade c.args.config.now c.args.scripts.now c.args.self.now.points.calls c.args.worker.now) (sym c.is_err.ensures.value ∙ c.if-is_err.false) c.requires.made
 
 pub returns-clause-later : goal.returns-clause-later
 returns-clause-later c =

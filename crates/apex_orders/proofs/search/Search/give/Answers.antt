@@ -1,14 +1,17 @@
-use Rattle.apex_orders.proofs.Common.{◌≡◌, ◌+◌, ◌++◌, [], List, ℕ, length, map, refl, sym, ap, ◌∙◌, subst, arith, append-nil, FoundPoint, Worker, Has, AreOrders, AreClocked, AreFound, AreHashed, IsAfter, IsTrialOf, order_at, order_found, orders_known}
+use Rattle.apex_orders.proofs.Common.{◌≡◌, ◌+◌, ◌++◌, [], List, ℕ, length, map, refl, sym, ap, ◌∙◌, subst, arith, append-nil, FoundPoint, Worker, Has, AreLevels, AreOrders, AreClocked, AreFound, AreHashed, IsAfter, IsTrialOf, calls_made, history_of, order_at, order_found, orders_known}
+use Rattle.apex_orders.proofs.GrowthLemmas.{order_here}
 use Rattle.apex_orders.proofs.Having.{has_none}
 use Rattle.apex_orders.proofs.KnownLemmas.{points_given, points_left}
 use Rattle.apex_orders.proofs.SearchLemmas.{none_found}
+use Rattle.apex_orders.proofs.Levels.{levels_left}
 use Rattle.apex_orders.proofs.search.Search.give.Goals as goal
 
 pub begin-requires-clause-count : goal.begin-requires-clause-count
 begin-requires-clause-count c =
     let count = c.requires.valid.points.count in
+    let hashed = c.requires.valid.points.hashed.count in
     let within = c.requires.within in
-    omega (arith, count, within)
+    omega (arith, count, hashed, within)
 
 pub returns-clause-valid : goal.returns-clause-valid
 returns-clause-valid c =
@@ -20,7 +23,9 @@ returns-clause-valid c =
       orders = was.orders;
       clocked = was.clocked;
       apart = was.apart;
-      points = points_left c.args.config.now c.args.scripts.now old.orders old.points c.begin.new.points was.points c.begin.new.self.points.items c.args.count begun.given begun.count begun.rest begun.hashes;
+      points = points_left c.args.config.now c.args.scripts.now old.orders old.points c.begin.new.points was.points c.begin.new.self.points.items c.args.count begun.given begun.count begun.rest begun.next begun.hashes c.requires.within;
+      levels = subst (λ (x : ℕ × ℕ × ℕ). AreLevels c.args.config.now c.args.scripts.now old.orders x.0 x.1 x.2) (λ i. (sym begun.rest i, sym begun.next i, sym begun.calls i))
+          (levels_left c.args.config.now c.args.scripts.now old.orders old.points.first old.points.next old.points.calls was.levels c.args.count);
       found = was.found;
       uses = was.uses;
     }
@@ -48,14 +53,15 @@ returns-clause-worker c =
             let first = begun.first in
             let base = ap (λ (orders : List (List ℕ)). length orders) begun.base in
             let within = c.requires.within in
-            omega (arith, count, first, base, within);
+            let hashed = was.points.hashed.count in
+            omega (arith, count, first, base, within, hashed);
         room =
             let base = ap (λ (orders : List (List ℕ)). length orders) begun.base in
             let len = c.len-orders.ensures in
             omega (arith, base, len);
         each = λ j ports at.
             subst (λ (x : List (List ℕ) × ℕ). IsAfter config scripts (order_at x.0 (x.1 + j)) ports) (λ i. (sym begun.base i, sym begun.first i))
-            (points_given config scripts old.orders old.points c.begin.new.points was.points new.points.items c.args.count begun.given begun.count begun.rest begun.hashes j ports at);
+            (points_given config scripts old.orders old.points c.begin.new.points was.points new.points.items c.args.count begun.given begun.count begun.rest begun.next begun.hashes c.requires.within j ports at);
       };
       found = λ one has. absurd (has_none one (subst (λ (points : List FoundPoint). Has points one) begun.found has));
       hashed = subst (λ (x : List FoundPoint × List ℕ). AreHashed config x.0 x.1) (λ i. (sym begun.found i, sym begun.unhashed i)) (record { count = refl; each = λ k one at. absurd (cc); configured = λ k one at. absurd (cc) });
@@ -68,3 +74,17 @@ pub returns-clause-range : goal.returns-clause-range
 returns-clause-range c =
     let begun = c.in_ok-begin.ensures in
     record { first = begun.first; last = let first = begun.first in let count = begun.count in omega (arith, first, count) }
+
+pub returns-clause-made : goal.returns-clause-made
+returns-clause-made c j below =
+    let begun = c.in_ok-begin.ensures in
+    let config = c.args.config.now in
+    let scripts = c.args.scripts.now in
+    let old = c.args.self.now in
+    let was = c.requires.valid in
+    let count = begun.count in
+    let within = c.requires.within in
+    let hashed = was.points.hashed.count in
+    let k = old.points.first + j in
+    subst (λ (x : List (List ℕ) × ℕ). calls_made config (history_of config scripts (order_at x.0 (x.1 + j))) ≡ old.points.calls) (λ i. (sym begun.base i, sym begun.first i))
+    (was.levels.here k (order_at old.orders k) (omega arith) (omega (arith, below, count, within)) (order_here old.orders k (omega (arith, below, count, within, hashed))))

@@ -1,4 +1,5 @@
-use Rattle.apex_orders.proofs.Common.{◌≡◌, ◌+◌, ◌++◌, ◌∷◌, [], List, ℕ, map, refl, ap, sym, ◌∙◌, subst, Configuration, PortsView, FoundPoint, Worker, Has, IsClocked, hash_of, IsOrder, history_of, Knows, AreOrders, AreClocked, AreHashed, HasPoint, IsFoundBy, Keeps, order_given, order_found, orders_known}
+use Rattle.apex_orders.proofs.Common.{◌≡◌, ◌+◌, ◌++◌, ◌∷◌, [], List, ℕ, map, refl, ap, sym, ◌∙◌, subst, Configuration, PortsView, FoundPoint, Worker, Has, IsClocked, hash_of, IsOrder, history_of, calls_made, Knows, KnowsFrom, AreOrders, AreClocked, AreHashed, HasPoint, IsFoundBy, Keeps, order_given, order_found, orders_known}
+use Rattle.apex_orders.proofs.Levels.{knows_of}
 use Rattle.apex_orders.proofs.SearchLemmas.{clocked_push, keeps_push, knows_push, longer_is_order, orders_push}
 use Rattle.apex_orders.proofs.WorkerLemmas.{found_push, given_known, hashes_push, known_push, known_to_search, point_known}
 use Rattle.apex_orders.proofs.worker.Worker.learn.Goals as goal
@@ -18,7 +19,7 @@ returns-then-has_found-clause-valid c =
       all = was.all;
       trial = record { ports = ap (λ (v : PortsView). v.config) c.has_found.ensures.ports ∙ was.trial.ports; other = c.has_found.ensures.other ∙ was.trial.other };
       given = record { within = was.given.within; room = was.given.room; each = was.given.each };
-      found = λ one has. let is = was.found one has in record { before = is.before; partition = is.partition; hash = is.hash; after = is.after };
+      found = λ one has. let is = was.found one has in record { before = is.before; partition = is.partition; hash = is.hash; after = is.after; made = is.made };
       hashed = was.hashed;
       orders = was.orders;
       clocked = was.clocked;
@@ -44,31 +45,31 @@ is_among-requires-clause-hash c =
     let was = c.requires.valid in
     c.hash_of-hash.ensures ∙ (λ i. hash_of (was.trial.ports i) (sym c.has_found.ensures.ports i).history)
 
-pub returns-then-is_known-clause-valid : goal.returns-then-is_known-clause-valid
-returns-then-is_known-clause-valid c =
+pub returns-then-is_among-clause-valid : goal.returns-then-is_among-clause-valid
+returns-then-is_among-clause-valid c =
     let was = c.requires.valid in
     record {
       all = was.all;
       trial = c.is_among.ensures.trial;
       given = record { within = was.given.within; room = was.given.room; each = was.given.each };
-      found = λ one has. let is = was.found one has in record { before = is.before; partition = is.partition; hash = is.hash; after = is.after };
+      found = λ one has. let is = was.found one has in record { before = is.before; partition = is.partition; hash = is.hash; after = is.after; made = is.made };
       hashed = was.hashed;
       orders = was.orders;
       clocked = was.clocked;
       replies = was.replies;
     }
 
-pub returns-then-is_known-clause-later : goal.returns-then-is_known-clause-later
-returns-then-is_known-clause-later c = record { base = refl; first = refl; points = refl; orders = λ k x at. at; replies = λ x has. has }
+pub returns-then-is_among-clause-later : goal.returns-then-is_among-clause-later
+returns-then-is_among-clause-later c = record { base = refl; first = refl; points = refl; orders = λ k x at. at; replies = λ x has. has }
 
-pub returns-then-is_known-clause-known : goal.returns-then-is_known-clause-known
-returns-then-is_known-clause-known c =
+pub returns-then-is_among-clause-known : goal.returns-then-is_among-clause-known
+returns-then-is_among-clause-known c =
     let config = c.args.shared.now.config.now in
     let scripts = c.args.shared.now.scripts.now in
     let old = c.args.self.now in
     let h = old.trial.ports.history in
-    let found = subst (λ (v : PortsView). Knows config scripts c.args.shared.now.orders.now v.history) c.has_found.ensures.ports (c.in_ok-is_known.ensures.known.0 c.if-is_known.true) in
-    known_to_search config scripts c.args.shared.now.orders.now old h c.requires.base found
+    let found = subst (λ (v : PortsView). KnowsFrom config scripts c.args.shared.now.orders.now c.args.shared.now.points.now.next v.history) c.has_found.ensures.ports (c.is_among.ensures.known.0 c.if-is_among.true) in
+    known_to_search config scripts c.args.shared.now.orders.now old h c.requires.base (knows_of config scripts c.args.shared.now.orders.now c.args.shared.now.points.now.next h found)
 
 -- the point that is kept
 module _ (old : Worker) (j p hash : ℕ) (saved : PortsView) where
@@ -100,14 +101,14 @@ returns-clause-valid c =
     let more = pushed old c.args.j c.args.p hash saved c.push_back.new.self.items items in
     let is_order : IsOrder config longer =
     longer_is_order config scripts order c.args.p (was.orders (old.first + c.args.j) order (given_known config scripts old c.args.j was.given c.requires.within)) c.requires.partition in
-    let mine : IsFoundBy config scripts old one = record { before = c.requires.within; partition = c.requires.partition; hash = hashed; after = record { configured = configured; history = leads } } in
+    let mine : IsFoundBy config scripts old one = record { before = c.requires.within; partition = c.requires.partition; hash = hashed; after = record { configured = configured; history = leads }; made = ap (λ (v : PortsView). calls_made config v.history) is_saved ∙ c.requires.made } in
     record {
       all = was.all;
       trial = c.is_among.ensures.trial;
       given = record { within = was.given.within; room = was.given.room; each = was.given.each };
       found = λ other has.
           let is = found_push config scripts old old.found.items one other was.found mine (subst (λ (points : List FoundPoint). Has points other) items has) in
-          record { before = is.before; partition = is.partition; hash = is.hash; after = is.after };
+          record { before = is.before; partition = is.partition; hash = is.hash; after = is.after; made = is.made };
       hashed = subst (λ (x : List FoundPoint × List ℕ). AreHashed config x.0 x.1) (λ i. (sym items i, sym c.in_ok-push.ensures i)) (hashes_push config old.found.items old.hashes one hash was.hashed hashed configured);
       orders = subst (AreOrders config) (sym more) (orders_push config scripts (orders_known old) longer was.orders is_order);
       clocked = subst (AreClocked c.args.shared.now.clock config scripts) (sym more)

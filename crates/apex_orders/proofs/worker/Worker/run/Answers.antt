@@ -10,7 +10,7 @@ returns-clause-valid c =
       all = is.all;
       trial = is.trial;
       given = record { within = is.given.within; room = is.given.room; each = is.given.each };
-      found = λ one has. let own = is.found one has in record { before = own.before; partition = own.partition; hash = own.hash; after = own.after };
+      found = λ one has. let own = is.found one has in record { before = own.before; partition = own.partition; hash = own.hash; after = own.after; made = own.made };
       hashed = is.hashed;
       orders = is.orders;
       clocked = is.clocked;

@@ -27,7 +27,7 @@ try_those-requires-clause-valid c =
       all = was.all;
       trial = record { ports = after.configured; other = was.trial.other };
       given = record { within = was.given.within; room = was.given.room; each = was.given.each };
-      found = λ one has. let is = was.found one has in record { before = is.before; partition = is.partition; hash = is.hash; after = is.after };
+      found = λ one has. let is = was.found one has in record { before = is.before; partition = is.partition; hash = is.hash; after = is.after; made = is.made };
       hashed = was.hashed;
       orders = was.orders;
       clocked = was.clocked;

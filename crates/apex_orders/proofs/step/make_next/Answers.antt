@@ -1,6 +1,7 @@
-use Rattle.apex_orders.proofs.Common.{◌≡◌, ◌<◌, ◌≤◌, ◌-◌, ◌^◌, ◌++◌, ◌∷◌, [], length, List, Some, rules, arith, ap, sym, ◌∙◌, append-nil, slice_get, Call, Moment, count_of, History, entry_of, entries_of, reply_to, at_index, next_entries}
+use Rattle.apex_orders.proofs.Common.{◌≡◌, ◌<◌, ◌≤◌, ◌-◌, ◌^◌, ◌++◌, ◌∷◌, [], length, List, Some, rules, arith, refl, ap, sym, ◌∙◌, append-nil, slice_get, Call, Moment, count_of, History, entry_of, entries_of, reply_to, at_index, next_entries}
+use Rattle.apex_ports.specs.Noted.{reply_by}
 use Rattle.apex_orders.proofs.StepLemmas.{makes_nothing, whole_count, makes_next}
-use Rattle.apex_orders.proofs.step.step_into.Goals as goal
+use Rattle.apex_orders.proofs.step.make_next.Goals as goal
 
 nothing_next : (c : goal.Then-index-len) → next_entries c.args.ports.now.config c.args.scripts.now c.args.ports.now.history c.args.p ≡ []
 nothing_next c =
@@ -14,10 +15,10 @@ nothing_next c =
 pub returns-then-index-len-clause-history : goal.returns-then-index-len-clause-history
 returns-then-index-len-clause-history c = sym (ap (λ (es : History). c.args.ports.now.history ++ es) (nothing_next c) ∙ append-nil c.args.ports.now.history)
 
-pub returns-then-index-len-clause-nothing : goal.returns-then-index-len-clause-nothing
-returns-then-index-len-clause-nothing c = λ is. nothing_next c
+pub returns-then-index-len-clause-call : goal.returns-then-index-len-clause-call
+returns-then-index-len-clause-call c = nothing_next c
 
-whole : (c : goal.After-slice_known-2-1) → c.calls-index.result ≡ length (entries_of c.args.p c.args.ports.now.history)
+whole : (c : goal.After-answer-reply) → c.calls-index.result ≡ length (entries_of c.args.p c.args.ports.now.history)
 whole c =
     let script = c.index-scripts-p.result in
     let within : c.args.p < length c.args.scripts.now = omega arith in
@@ -25,8 +26,8 @@ whole c =
     let few : c.calls-index.result < 2 ^ 64 - 1 = omega (arith, c.if-index-len.false, c.len.type_inv) in
     whole_count c.args.ports.now.config c.args.scripts.now c.args.ports.now.history c.args.p script here c.calls-index.result c.calls-index.ensures few
 
-made_next : (c : goal.After-slice_known-2-1) → next_entries c.args.ports.now.config c.args.scripts.now c.args.ports.now.history c.args.p
-    ≡ entry_of c.args.p c.index.result.now.0 c.index.result.now.1 c.copy_to.new.reply ∷ []
+made_next : (c : goal.After-answer-reply) → next_entries c.args.ports.now.config c.args.scripts.now c.args.ports.now.history c.args.p
+    ≡ entry_of c.args.p c.index.result.now.0 c.index.result.now.1 (reply_by c.answer-reply.result) ∷ []
 made_next c =
     let script = c.index-scripts-p.result in
     let timed = c.index.result.now in
@@ -35,8 +36,7 @@ made_next c =
     let inside : c.calls-index.result < length c.script.inside.calls.items = search rules in
     let at : slice_get script c.calls-index.result ≡ Some timed =
     ap (λ (calls : List (Moment × Call)). slice_get calls c.calls-index.result) (sym c.script.view_is) ∙ at_index c.script.inside.calls.items c.calls-index.result timed inside c.index.ensures in
-    let reply = c.copy_to.ensures
-    ∙ (c.answer-reply.ensures.reply ∙ ap (λ (it : Call). reply_to c.args.ports.now.config c.args.ports.now.history c.args.p timed.0 it) c.of.ensures.call) in
+    let reply = c.answer-reply.ensures.reply ∙ ap (λ (it : Call). reply_to c.args.ports.now.config c.args.ports.now.history c.args.p timed.0 it) c.of.ensures.call in
     makes_next c.args.ports.now.config c.args.scripts.now c.args.ports.now.history c.args.p script here c.calls-index.result timed (whole c) at
     ∙ ap (λ r. entry_of c.args.p timed.0 timed.1 r ∷ []) (sym reply)
 
@@ -44,12 +44,12 @@ pub returns-clause-history : goal.returns-clause-history
 returns-clause-history c =
     let at = c.index.result.now.0 in
     c.answer-reply.ensures.entry
-    ∙ (λ i. c.args.ports.now.history ++ entry_of c.args.p at (c.of.ensures.call i) (sym c.copy_to.ensures i) ∷ [])
+    ∙ (λ i. c.args.ports.now.history ++ entry_of c.args.p at (c.of.ensures.call i) (reply_by c.answer-reply.result) ∷ [])
     ∙ ap (λ (es : History). c.args.ports.now.history ++ es) (sym (made_next c))
 
 pub returns-clause-call : goal.returns-clause-call
-returns-clause-call c = λ is. record {
-  partition = search rules;
+returns-clause-call c = record {
+  partition = refl;
   index = whole c;
   at = c.index.result.now.0;
   call = c.index.result.now.1;

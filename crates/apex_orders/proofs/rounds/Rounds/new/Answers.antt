@@ -1,0 +1,14 @@
+use Rattle.apex_orders.proofs.Common.{arith}
+use Rattle.apex_orders.proofs.rounds.Rounds.new.Goals as goal
+
+pub returns-clause-under_way : goal.returns-clause-under_way
+returns-clause-under_way c clock =
+    let first = c.in_ok-current.ensures.unsearched in
+    record {
+      first = c.in_ok-current.ensures.first;
+      valid = c.in_ok-current.ensures.valid clock;
+      level = c.in_ok-current.ensures.level;
+      workers = c.in_ok-workers.ensures;
+      unanswered = λ k below. absurd (omega (arith, below, first));
+      tried = λ k below. absurd (omega (arith, below, first));
+    }
