@@ -8,6 +8,7 @@ import crates
 import usage
 
 ENDED = re.compile(r"rt: (\w+)(: its tests are)? (?:is )?(proved|NOT PROVED|kept)\b")
+FAILED = re.compile(r"rt: .*(NOT PROVED|FAILED)")
 CLOSING = re.compile(r"(\d+) passed, (\d+) failed")
 
 
@@ -23,6 +24,7 @@ class Gate:
         and failed; parts: the names of each crate and of the tests of each."""
         self.kit, self.folder, self.log, self.usage, self.counts, self.parts = kit, folder, log, usage_of, counts, parts
         self.block, self.closing, self.proved, self.seconds, self.lock = None, None, 0, 0, threading.Lock()
+        self.failures = []
 
     def run(self, clock, shown):
         """Runs it in the time that the clock leaves, and shows its progress. Returns whether all passed."""
@@ -34,8 +36,13 @@ class Gate:
             return False
         passed, failed = map(int, self.closing)
         self.counts.passes(passed)
-        self.counts.adds_failures(max(failed, 1) if status else failed)
-        return self.counts.failed == 0
+        self.counts.adds_failures(max(failed, 1) if status else failed, self.failures)
+        if self.counts.failed:
+            return False
+        # (of tests that passed in an earlier run, rt says nothing)
+        for it in [it for it in self.parts if it not in shown.done]:
+            self.end(it, "are kept")
+        return True
 
     def why_unfinished(self, status, clock):
         if clock.is_up():
@@ -74,6 +81,8 @@ class Gate:
     def take(self, line):
         """Shows the line now, or holds it back until its crate has ended, or keeps it as the closing line."""
         closing, ended = CLOSING.fullmatch(line), ENDED.match(line)
+        if FAILED.match(line):
+            self.failures.append(line)
         if closing:
             self.closing = closing.groups()
         elif line.startswith("== "):

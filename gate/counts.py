@@ -1,6 +1,10 @@
-"""The counts of a verification, and its time."""
+"""The counts of a verification, what failed, and its time."""
 import threading
 import time
+
+# How many lines of what a failed part printed are repeated at the end, and how many characters of a line.
+LAST_LINES = 12
+LINE_LIMIT = 400
 
 
 class Counts:
@@ -8,6 +12,7 @@ class Counts:
 
     def __init__(self):
         self.passed = self.failed = self.skipped = 0
+        self.failures = []
         self.lock = threading.Lock()
 
     def say(self, line):
@@ -18,13 +23,18 @@ class Counts:
         with self.lock:
             self.passed += count
 
-    def adds_failures(self, count):
+    def adds_failures(self, count, lines=()):
+        """The lines are repeated at the end."""
         with self.lock:
             self.failed += count
+            self.failures += lines
 
-    def fails(self, line):
-        self.adds_failures(1)
-        self.say(f"test: FAILED: {line}")
+    def fails(self, line, printed=""):
+        """printed: what the part that failed has printed."""
+        line = f"test: FAILED: {line}"
+        self.say(line)
+        last = printed.splitlines()[-LAST_LINES:]
+        self.adds_failures(1, [line, *(f"    {it}" for it in last)])
 
     def skips(self, line, count=1):
         with self.lock:
@@ -32,8 +42,10 @@ class Counts:
         self.say(f"test: SKIPPED: {line}")
 
     def closing(self):
+        """Returns the lines at the end: what failed, and the counts."""
+        failures = [it[:LINE_LIMIT] for it in self.failures]
         skipped = f", {self.skipped} skipped" if self.skipped else ""
-        return f"{self.passed} passed, {self.failed} failed{skipped}"
+        return "\n".join([*failures, f"{self.passed} passed, {self.failed} failed{skipped}"])
 
 
 class Clock:

@@ -96,6 +96,6 @@ class Scripts:
                 self.counts.skips(f"tests/{name}")
         elif status:
             was_up = f", since the {self.clock.minutes:g} minutes were up" if status < 0 and self.clock.is_up() else ""
-            self.counts.fails(f"tests/{name} ended with the status {status}{was_up}")
+            self.counts.fails(f"tests/{name} ended with the status {status}{was_up}", said)
         else:
             self.counts.passes()
