@@ -24,6 +24,8 @@ use Rattle.apex_orders.proofs.last_uses.LastUses.TheSendSync as uses
 use Rattle.apex_orders.proofs.orders.Orders.TheSendSync as orders
 use Rattle.apex_orders.proofs.replies.Replies.TheSendSync as replies
 use Rattle.apex_orders.proofs.trial.Trial.TheSendSync as trial
+use Rattle.apex_orders.specs.contracts.boxed_ports.BoxedPorts as BoxedPorts
+use Rattle.apex_orders.specs.contracts.boxed_ports.BoxedPorts.TheInside as BoxedPortsInside
 use Rattle.apex_orders.specs.contracts.points.Points as Points
 use Rattle.apex_orders.specs.contracts.shared.Shared as Shared
 use Rattle.apex_orders.specs.contracts.worker.FoundPoint as FoundPoint
@@ -47,12 +49,15 @@ state_send = declared_send (SavedState.the_type Heap.the_row ghosts) (
   ),
 )
 
-pub saved_ports_send : IsSend (SavedPorts.the_row Heap.the_row ghosts)
+saved_ports_send : IsSend (SavedPorts.the_row Heap.the_row ghosts)
 saved_ports_send = view_send _ _ _ _ _ (declared_send (SavedPortsInside.the_type Heap.the_row ghosts)
     (search (sendable, crosses, as_row_send), (ghost_history_send, (state_send, tt))))
 
+boxed_ports_send : IsSend BoxedPorts.the_row
+boxed_ports_send = view_send _ _ _ _ _ (declared_send BoxedPortsInside.the_type (search (crosses, saved_ports_send), (search sendable, tt)))
+
 found_point_send : IsSend FoundPoint.the_row
-found_point_send = declared_send FoundPoint.the_type (search sendable, (search sendable, (search sendable, (saved_ports_send, tt))))
+found_point_send = declared_send FoundPoint.the_type (search sendable, (search sendable, (search sendable, (boxed_ports_send, tt))))
 
 pub worker_send : IsSend Worker.the_row
 worker_send = declared_send Worker.the_type (
@@ -60,14 +65,14 @@ worker_send = declared_send Worker.the_type (
   (
     search sendable,
     (
-      search (crosses, saved_ports_send),
+      search (crosses, boxed_ports_send),
       (
         search (crosses, found_point_send),
         (
           search (sendable, crosses, as_row_send) depth 12,
           (
             search (as_row_send, replies.the_send),
-            (search (as_row_send, trial.the_send), (search (crosses, saved_ports_send), (search (sendable, crosses, as_row_send) depth 12, tt))),
+            (search (as_row_send, trial.the_send), (search (crosses, boxed_ports_send), (search (sendable, crosses, as_row_send) depth 12, tt))),
           ),
         ),
       ),
@@ -102,10 +107,13 @@ saved_ports_sync : IsSync (SavedPorts.the_row Heap.the_row ghosts)
 saved_ports_sync = view_sync _ _ _ _ _ (declared_sync (SavedPortsInside.the_type Heap.the_row ghosts)
     (search (sendable, crosses, as_row_sync), (ghost_history_sync, (state_sync, tt))))
 
+boxed_ports_sync : IsSync BoxedPorts.the_row
+boxed_ports_sync = view_sync _ _ _ _ _ (declared_sync BoxedPortsInside.the_type (search (crosses, saved_ports_sync), (search sendable, tt)))
+
 points_sync : IsSync Points.the_row
 points_sync = declared_sync Points.the_type (
   search (as_row_sync, hashes.the_sync),
-  (search sendable, (search sendable, (search sendable, (search (crosses, saved_ports_sync), (search sendable, tt))))),
+  (search sendable, (search sendable, (search sendable, (search (crosses, boxed_ports_sync), (search sendable, tt))))),
 )
 
 pub shared_sync : (κ : NamedLft) → IsSync (Shared.the_row κ)

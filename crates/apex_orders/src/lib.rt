@@ -4,6 +4,7 @@
 
 mod answer;
 pub mod asked;
+mod boxed_ports;
 mod choice;
 pub mod clock_law;
 mod commuting;

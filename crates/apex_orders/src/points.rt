@@ -4,6 +4,7 @@ ghost use Rattle.apex_orders.specs.Known.{ArePoints, IsSameLevel, IsTrialOf, Kno
 ghost use Rattle.apex_orders.specs.Hashes.{hash_of};
 ghost use Rattle.apex_orders.specs.Orders.{Scripts};
 
+use crate::boxed_ports::BoxedPorts;
 use crate::hash_index::HashIndex;
 use crate::orders::Orders;
 use crate::point::is_same_point;
@@ -27,7 +28,7 @@ pub(crate) struct Points {
     pub(crate) calls: usize,
     /// The index of the first point whose ports are saved.
     pub(crate) first: usize,
-    pub(crate) saved: VecDeque<SavedPorts>,
+    pub(crate) saved: VecDeque<BoxedPorts>,
     /// About how many bytes the saved ports take.
     pub(crate) bytes: usize,
 }
@@ -44,7 +45,7 @@ impl Points {
         let ports = Ports::new(alloc, config.copy()?)?;
         let hashes = HashIndex::new(alloc)?;
         let mut saved = VecDeque::new(alloc);
-        saved.push_back(ports.save(alloc)?)?;
+        saved.push_back(BoxedPorts::save(alloc, &ports)?)?;
         Ok(Points {
             hashes,
             next: 1,
@@ -56,7 +57,7 @@ impl Points {
     }
 
     /// Moves the first saved ports to the list, which is empty.
-    pub(crate) fn take(&mut self, count: usize, to: &mut Vec<SavedPorts>) -> Result<(), OutOfMemory>
+    pub(crate) fn take(&mut self, count: usize, to: &mut Vec<BoxedPorts>) -> Result<(), OutOfMemory>
         requires count { count ≤ length self.old.saved.items }
         requires room { self.old.first + count ≤ usize.MAX }
         requires empty { to.old.items ≡ [] }
@@ -81,7 +82,7 @@ impl Points {
     pub(crate) fn push(
         &mut self,
         alloc: Global,
-        saved: SavedPorts,
+        saved: BoxedPorts,
         hash: u64,
     ) -> Result<(), OutOfMemory>
         ensures level { IsSameLevel self.old self.new }
@@ -99,7 +100,7 @@ impl Points {
     pub(crate) fn first_bytes(&self) -> usize {
         match self.saved.get(0) {
             None => 0,
-            Some(saved) => saved.bytes(),
+            Some(ports) => ports.bytes(),
         }
     }
 
@@ -109,14 +110,14 @@ impl Points {
         requires within { index < self.now.first + length self.now.saved.items }
         ensures { slice_get self.now.saved.items (index - self.now.first) ≡ Some result.now }
     {
-        self.saved.get(index - self.first).unwrap()
+        self.saved.get(index - self.first).unwrap().saved()
     }
 }
 
 /// Moves all saved ports to another list, the longer of which takes in the other's.
 pub(crate) fn move_all(
-    from: &mut Vec<SavedPorts>,
-    to: &mut Vec<SavedPorts>,
+    from: &mut Vec<BoxedPorts>,
+    to: &mut Vec<BoxedPorts>,
 ) -> Result<(), OutOfMemory>
     ensures { OnOk result (from.new.items ≡ []) }
 {
@@ -129,13 +130,24 @@ pub(crate) fn move_all(
     Ok(())
 }
 
+/// Adds saved ports that are not used to the list.
+pub(crate) fn add_unused(
+    spare: &mut Vec<BoxedPorts>,
+    unused: Option<BoxedPorts>,
+) -> Result<(), OutOfMemory> {
+    if let Some(ports) = unused {
+        spare.push(ports)?;
+    }
+    Ok(())
+}
+
 /// Whether one of the next level's orders leads to the point of the saved ports, which has this hash.
 pub(crate) fn is_known(
     config: &Config,
     scripts: &[Script],
     orders: &Orders,
     points: &Points,
-    saved: &SavedPorts,
+    saved: &BoxedPorts,
     hash: u64,
     trial: &mut Trial,
 ) -> bool
@@ -150,7 +162,7 @@ pub(crate) fn is_known(
     if points.hashes.up_to_last(hash) == 0 {
         return false;
     }
-    trial.ports.restore(saved);
+    trial.ports.restore(saved.saved());
     is_among(config, scripts, orders, points, trial, hash)
 }
 

@@ -171,7 +171,7 @@ impl Rounds {
         let current = &mut self.current;
         self.workers
             .try_points(rt, alloc, config, scripts, clock, count, current)?;
-        self.current.end_level(alloc, config, scripts, clock)?;
+        self.current.end_level(config, scripts, clock);
         Ok(())
     }
 

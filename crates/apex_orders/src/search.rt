@@ -10,10 +10,10 @@ ghost use Rattle.apex_orders.specs.Searching.{HasLevel, HasTriedFrom, IsLater, I
 ghost use Rattle.apex_orders.specs.Workers.{HasContinued, HasMade, IsRange, IsWorker, orders_known};
 
 use crate::asked::Asked;
-use crate::hash_index::HashIndex;
+use crate::boxed_ports::BoxedPorts;
 use crate::last_uses::{LastUses, last_uses};
 use crate::orders::Orders;
-use crate::points::{Points, is_known};
+use crate::points::{Points, add_unused, is_known};
 use crate::replies::Replies;
 use crate::sizes::size_of;
 use crate::trial::Trial;
@@ -91,28 +91,21 @@ impl Search {
     }
 
     /// Goes on to the next level, if all points of this one were given out.
-    pub(crate) fn end_level(
-        &mut self,
-        alloc: Global,
-        config: &Config,
-        scripts: &[Script],
-        clock: bool,
-    ) -> Result<(), OutOfMemory>
+    pub(crate) fn end_level(&mut self, config: &Config, scripts: &[Script], clock: bool)
         requires { IsSearch clock config.now scripts.now self.old }
-        ensures valid { OnOk result (IsSearch clock config.now scripts.now self.new) }
-        ensures level { OnOk result (HasLevel self.new) }
-        ensures first { OnOk result (self.new.points.first ≡ self.old.points.first) }
-        ensures orders { OnOk result (self.new.orders ≡ self.old.orders) }
-        ensures replies { OnOk result (self.new.replies ≡ self.old.replies) }
+        ensures valid { IsSearch clock config.now scripts.now self.new }
+        ensures level { HasLevel self.new }
+        ensures first { self.new.points.first ≡ self.old.points.first }
+        ensures orders { self.new.orders ≡ self.old.orders }
+        ensures replies { self.new.replies ≡ self.old.replies }
     {
         let states = self.orders.len();
         if self.points.first < self.points.next || self.points.next >= states {
-            return Ok(());
+            return;
         }
-        self.points.hashes = HashIndex::new(alloc)?;
+        self.points.hashes.clear();
         self.points.next = states;
         self.points.calls += 1;
-        Ok(())
     }
 
     /// Gives the worker the first points from which the search has yet to continue.
@@ -204,12 +197,14 @@ impl Search {
         while let Some(one) = worker.found.pop_front() {
             let i = worker.first + one.before;
             let trial = &mut worker.trial;
-            self.learn(alloc, config, scripts, clock, i, one, trial)?;
+            let unused = self.learn(alloc, config, scripts, clock, i, one, trial)?;
+            add_unused(&mut worker.spare, unused)?;
         }
         Ok(())
     }
 
-    /// Keeps the order at the index followed by the partition's call, unless another order leads to the same point.
+    /// Keeps the order at the index followed by the partition's call, unless another order leads to the same point. Returns the
+    /// saved ports if it does not keep them.
     fn learn(
         &mut self,
         alloc: Global,
@@ -219,7 +214,7 @@ impl Search {
         i: usize,
         one: FoundPoint,
         trial: &mut Trial,
-    ) -> Result<(), OutOfMemory>
+    ) -> Result<Option<BoxedPorts>, OutOfMemory>
         requires valid { IsSearch clock config.now scripts.now self.old }
         requires within { i < length self.old.orders }
         requires partition { one.partition < length config.now.partitions }
@@ -238,12 +233,12 @@ impl Search {
     {
         let (orders, points) = (&self.orders, &self.points);
         if is_known(config, scripts, orders, points, &one.saved, one.hash, trial) {
-            return Ok(());
+            return Ok(Some(one.saved));
         }
         let partitions = config.partitions();
         prove!(one.partition < partitions);
         self.points.push(alloc, one.saved, one.hash)?;
         self.orders.push(i, one.partition)?;
-        Ok(())
+        Ok(None)
     }
 }

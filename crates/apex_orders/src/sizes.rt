@@ -11,7 +11,7 @@ const HASHED: usize = 30;
 /// What a reply takes in a list, in bytes: a message of the greatest length is part of it.
 const REPLY: usize = 1_600;
 
-/// About how many bytes lists take for so many points, so many of them of the next level, and so many replies.
+/// About how many bytes the lists take that hold the points, the hashes of the next level and the replies.
 pub(crate) fn size_of(points: usize, hashed: usize, replies: usize) -> usize {
     points
         .saturating_mul(LISTED)

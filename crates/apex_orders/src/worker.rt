@@ -12,6 +12,7 @@ ghost use Rattle.apex_orders.specs.Steps.{MakesNothing};
 ghost use Rattle.apex_orders.specs.Prelude.{IsSound};
 ghost use Rattle.apex_orders.specs.Workers.{AreHashed, IsContinued, AreContinued, HasPoint, HasTriedCall, IsAnswered, IsLaterWorker, IsReady, IsShared, IsWorkerOf, KnowsPoint, history_given, order_given};
 
+use crate::boxed_ports::BoxedPorts;
 use crate::choice::{Choice, choose, is_tried};
 use crate::hash::hash_of;
 use crate::hash_index::HashIndex;
@@ -23,7 +24,7 @@ use crate::shared::Shared;
 use crate::step::make_next;
 use crate::trial::Trial;
 use apex_module::Config;
-use apex_ports::{Ports, SavedPorts};
+use apex_ports::Ports;
 use apex_types::{MESSAGE_LIMIT, OutOfMemory};
 use std::alloc::Global;
 use std::collections::VecDeque;
@@ -37,7 +38,7 @@ pub(crate) struct FoundPoint {
     /// The partition that makes the call.
     pub(crate) partition: usize,
     pub(crate) hash: u64,
-    pub(crate) saved: SavedPorts,
+    pub(crate) saved: BoxedPorts,
 }
 
 /// Continues from points that it is given. It reads what the search had found before, but nothing of other workers: what it
@@ -49,7 +50,7 @@ pub(crate) struct Worker {
     /// The index of the order to the first point.
     pub(crate) first: usize,
     /// The points from which it continues.
-    pub(crate) points: Vec<SavedPorts>,
+    pub(crate) points: Vec<BoxedPorts>,
     /// The points that it found, each once, and their hashes.
     pub(crate) found: VecDeque<FoundPoint>,
     pub(crate) hashes: HashIndex,
@@ -57,7 +58,7 @@ pub(crate) struct Worker {
     pub(crate) replies: Replies,
     pub(crate) trial: Trial,
     /// What was saved before, whose memory is used again.
-    pub(crate) spare: Vec<SavedPorts>,
+    pub(crate) spare: Vec<BoxedPorts>,
     /// Whether it has tried all.
     pub(crate) result: Result<(), OutOfMemory>,
 }
@@ -162,7 +163,7 @@ impl Worker {
         ensures tried { OnOk result
             (IsContinued shared.now self.new (order_given self.old j)) }
     {
-        self.trial.ports.restore(&self.points[j]);
+        self.trial.ports.restore(self.points[j].saved());
         choose(
             shared.alloc,
             &self.trial.ports,
@@ -317,18 +318,18 @@ fn answer_next(
 fn save(
     alloc: Global,
     ports: &Ports,
-    spare: &mut Vec<SavedPorts>,
-) -> Result<SavedPorts, OutOfMemory>
+    spare: &mut Vec<BoxedPorts>,
+) -> Result<BoxedPorts, OutOfMemory>
     ensures { IfOk result (λ saved. saved ≡ ports.now) }
 {
     match spare.pop() {
-        None => ports.save(alloc),
-        Some(old) => ports.save_over(old),
+        None => BoxedPorts::save(alloc, ports),
+        Some(old) => old.save_over(alloc, ports),
     }
 }
 
 /// Sets the ports to what was saved, unless they are there already.
-fn return_to(ports: &mut Ports, saved: &SavedPorts, is_there: bool)
+fn return_to(ports: &mut Ports, saved: &BoxedPorts, is_there: bool)
     requires config { saved.now.config ≡ ports.old.config }
     requires there { is_there ≡ true → ports.old.history ≡ saved.now.history }
     requires sound { is_there ≡ true → IsSound ports.old.config ports.old.history }
@@ -337,7 +338,7 @@ fn return_to(ports: &mut Ports, saved: &SavedPorts, is_there: bool)
     ensures sound { IsSound ports.new.config ports.new.history }
 {
     if !is_there {
-        ports.restore(saved);
+        ports.restore(saved.saved());
     }
 }
 
@@ -377,7 +378,7 @@ fn is_point_at(found: &VecDeque<FoundPoint>, k: usize, trial: &mut Trial) -> boo
     match found.get(k) {
         None => false,
         Some(one) => {
-            trial.other.restore(&one.saved);
+            trial.other.restore(one.saved.saved());
             is_same_point(&trial.ports, &trial.other)
         }
     }

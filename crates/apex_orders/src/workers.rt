@@ -12,6 +12,7 @@ use apex_module::Config;
 use apex_ports::Script;
 use apex_types::OutOfMemory;
 use std::alloc::Global;
+use std::mem;
 use std::thread::{Threads, join_mut};
 
 /// From how many points on two workers share them: for fewer, a thread costs more than it saves.
@@ -153,6 +154,8 @@ fn try_both<R: Threads + Sync>(
     ensures continued { OnOk result
         (HasContinuedFrom clock config.now scripts.now count current.old current.new) }
 {
+    // (the search knows more of what the second finds, so that one has memory to spare for the first)
+    mem::swap(&mut one.spare, &mut other.spare);
     let half = count / 2;
     current.give(config, scripts, clock, half, one)?;
     current.give(config, scripts, clock, count - half, other)?;

@@ -19,7 +19,7 @@ returns-clause-valid c =
       clocked = was.clocked;
       apart = was.apart;
       points = record {
-        hashed = subst (λ (x : ℕ × List ℕ). AreHashes config scripts orders x.0 x.1) (λ i. (sym states i, sym c.in_ok-self.ensures i)) (record {
+        hashed = subst (λ (x : ℕ × List ℕ). AreHashes config scripts orders x.0 x.1) (λ i. (sym states i, sym c.clear.ensures i)) (record {
           count = omega arith;
           each = λ k order at. absurd (let within = slice_get_within orders (length orders + k) order at in omega (arith, within));
         });
