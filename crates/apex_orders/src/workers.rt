@@ -156,9 +156,10 @@ fn try_both<R: Threads + Sync>(
 {
     // (the search knows more of what the second finds, so that one has memory to spare for the first)
     mem::swap(&mut one.spare, &mut other.spare);
-    let half = count / 2;
-    current.give(config, scripts, clock, half, one)?;
-    current.give(config, scripts, clock, count - half, other)?;
+    // (the first's processor also adds what is found, and so has less of the points in its cache)
+    let fewer = count / 20 * 9;
+    current.give(config, scripts, clock, fewer, one)?;
+    current.give(config, scripts, clock, count - fewer, other)?;
     let shared = Shared {
         alloc,
         config,
