@@ -156,10 +156,10 @@ fn try_both<R: Threads + Sync>(
 {
     // (the search knows more of what the second finds, so that one has memory to spare for the first)
     mem::swap(&mut one.spare, &mut other.spare);
-    // (the first's processor also adds what is found, and so has less of the points in its cache)
-    let fewer = count / 20 * 9;
-    current.give(config, scripts, clock, fewer, one)?;
-    current.give(config, scripts, clock, count - fewer, other)?;
+    // (this thread, in which the other runs, also adds what is found, and so has less of the points in its cache)
+    let more = count / 20 * 11;
+    current.give(config, scripts, clock, more, one)?;
+    current.give(config, scripts, clock, count - more, other)?;
     let shared = Shared {
         alloc,
         config,
