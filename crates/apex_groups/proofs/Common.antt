@@ -17,4 +17,5 @@ pub use Rattle.apex_groups.specs.Counts.{AreSameTotals, HasSameTotals, HasSuchTo
 pub use Rattle.apex_groups.specs.Groups.{AreExchanged, IsPart, list_of, AreApart, HasItsChannels, group_of, HasNone, in_group}
 pub use Rattle.apex_groups.specs.LogParts.{AreWhole, IsOfGroups}
 pub use Rattle.apex_groups.specs.Merging.{AreAdded, AreCounted, AreEndsAdded, AreNextPast, EndsAlike, IsBefore, IsClockedWay, IsEndOfPart, IsFirst, IsFirstUntil, IsFoundBefore, IsMerged, IsPast, IsWholeOf, moment_of, next_moment, next_of}
-pub use Rattle.apex_groups.specs.ScriptParts.{AreRepliesBelow, ShowCountsBelow, IsAnswerOf, IsFoundOf, IsUndecidedApart}
+pub use Rattle.apex_groups.specs.ScriptParts.{AreRepliesBelow, ShowCountsBelow, IsFoundOf, IsUndecidedApart}
+pub use Rattle.apex_groups.specs.Answers.{AreAnswersOf, AreKnown, AreOfPart, AreOrdersOf, ArePicked, ArePut, Found, IsMergedAnswer, IsOrderOf, IsPut}

@@ -1,6 +1,7 @@
 -- Ends that are asked for.
-use Rattle.apex_groups.proofs.Common.{◌≡◌, ℕ, Bool, List, slice_index_or, Option, Some, None, subst, sym, ◌∙◌, slice_get, get_or_from_slice_get, Configuration, History, Has, Scripts, history_of, HasSameTotals, ShowAllCounts}
-use Rattle.apex_groups.specs.Ends.{Compares, FindsEnd, HasSuchEnd, IsSuchEnd, LeadsToEnd, count_after}
+use Rattle.apex_groups.proofs.Common.{◌≡◌, ◌++◌, ◌∷◌, [], ⊎_elim, ℕ, Bool, List, length, Option, Some, None, ap, subst, sym, ◌∙◌, slice_get, Configuration, History, Scripts, history_of, HasSameTotals, ShowAllCounts}
+use Rattle.apex_orders.proofs.Lists.{before_or_last}
+use Rattle.apex_groups.specs.Ends.{AreEndAnswers, Compares, FindEnds, FindsEnd, IsEndAnswer, IsSuchEnd, count_after}
 use Rattle.apex_groups.specs.declared.asked_end.AskedEnd.{AskedEnd}
 use Rattle.apex_groups.specs.declared.asked_end.Count.{Count}
 use Rattle.apex_groups.specs.declared.asked_end.Count.TheVariants as count
@@ -18,33 +19,38 @@ such_too : (config : Configuration) (asked : AskedEnd) (history other : History)
 such_too config asked history other same such =
     subst (λ (n : ℕ). Compares asked.comparison n asked.number) (same_count config history other asked.channel asked.count same) such
 
-pub leads_there : (clock : Bool) (config : Configuration) (scripts : Scripts) (asked : AskedEnd) (ends : List (List ℕ)) (index : ℕ) (order : List ℕ) → ShowAllCounts clock config scripts ends
-    → FindsEnd config scripts asked ends (Some index) → order ≡ slice_index_or ends index order → LeadsToEnd clock config scripts asked order
-leads_there clock config scripts asked ends index order show finds is =
-    let same : finds.0 ≡ order = sym (is ∙ get_or_from_slice_get ends index finds.0 order finds.1) in
-    let has : Has ends order = (index, subst (λ (one : List ℕ). slice_get ends index ≡ Some one) same finds.1) in
-    record {
-      is_way = show.ways order has;
-      clocked = show.clocked order has;
-      such = subst (λ (one : List ℕ). IsSuchEnd config asked (history_of config scripts one)) same finds.2;
-    }
+pub is_end_answer : (clock : Bool) (config : Configuration) (scripts : Scripts) (ends : List (List ℕ)) → ShowAllCounts clock config scripts ends
+    → (asked : AskedEnd) (answer : Option (List ℕ)) → FindsEnd config scripts ends asked answer → IsEndAnswer clock config scripts asked answer
+is_end_answer clock config scripts ends show asked (Some order) finds = record {
+  found = record { is_way = show.ways order finds.0; clocked = show.clocked order finds.0; such = finds.1 };
+  never = tt;
+}
+is_end_answer clock config scripts ends show asked None finds = record {
+  found = tt;
+  never = λ has.
+      let shown = show.counts has.way has.is_way has.clocked asked.channel has.channel in
+      finds has.channel shown.order shown.here (such_too config asked has.way (history_of config scripts shown.order) shown.same has.such);
+}
 
-pub none_there : (clock : Bool) (config : Configuration) (scripts : Scripts) (asked : AskedEnd) (ends : List (List ℕ)) → ShowAllCounts clock config scripts ends
-    → FindsEnd config scripts asked ends None → ¬ HasSuchEnd clock config scripts asked
-none_there clock config scripts asked ends show none has =
-    let shown = show.counts has.way has.is_way has.clocked asked.channel has.channel in
-    none shown.order shown.here (such_too config asked has.way (history_of config scripts shown.order) shown.same has.such)
+-- the same of all answers, and of the values that a search hands on
+pub are_end_answers : (clock : Bool) (config : Configuration) (scripts now : Scripts) (ends listed : List (List ℕ)) (asked : List AskedEnd) (answers : List (Option (List ℕ)))
+    → now ≡ scripts → listed ≡ ends → ShowAllCounts clock config scripts ends → FindEnds config now listed asked answers → AreEndAnswers clock config scripts asked answers
+are_end_answers clock config scripts now ends listed asked answers same lists show find = record {
+  count = find.count;
+  each = λ k one answer at here.
+      is_end_answer clock config scripts ends show one answer
+      (subst (λ (both : Scripts × List (List ℕ)). FindsEnd config both.0 both.1 one answer) (λ i. (same i, lists i)) (find.each k one answer at here));
+}
 
--- the same of the values that a search hands on
-module _ (clock : Bool) (config : Configuration) (scripts now : Scripts) (asked : AskedEnd) (ends listed : List (List ℕ)) (found : Option ℕ)
-    (same : now ≡ scripts) (lists : listed ≡ ends) (show : ShowAllCounts clock config scripts ends) (finds : FindsEnd config now asked listed found) where
-  finds_in : FindsEnd config scripts asked ends found
-  finds_in =
-      subst (λ (orders : List (List ℕ)). FindsEnd config scripts asked orders found) lists
-      (subst (λ (own : Scripts). FindsEnd config own asked listed found) same finds)
-
-  pub leads_after : (index : ℕ) (order : List ℕ) → found ≡ Some index → order ≡ slice_index_or ends index order → LeadsToEnd clock config scripts asked order
-  leads_after index order is value = leads_there clock config scripts asked ends index order show (subst (FindsEnd config scripts asked ends) is finds_in) value
-
-  pub none_after : found ≡ None → ¬ HasSuchEnd clock config scripts asked
-  none_after is = none_there clock config scripts asked ends show (subst (FindsEnd config scripts asked ends) is finds_in)
+-- one more answer
+pub one_more_end : (config : Configuration) (scripts : Scripts) (orders : List (List ℕ)) (asked : List AskedEnd) (answers : List (Option (List ℕ))) (one : AskedEnd) (answer : Option (List ℕ))
+    → slice_get asked (length answers) ≡ Some one → FindsEnd config scripts orders one answer
+    → ((k : ℕ) (other : AskedEnd) (given : Option (List ℕ)) → slice_get asked k ≡ Some other → slice_get answers k ≡ Some given → FindsEnd config scripts orders other given)
+    → (k : ℕ) (other : AskedEnd) (given : Option (List ℕ)) → slice_get asked k ≡ Some other → slice_get (answers ++ answer ∷ []) k ≡ Some given → FindsEnd config scripts orders other given
+one_more_end config scripts orders asked answers one answer here finds each k other given at now = ⊎_elim
+    (λ (before : slice_get answers k ≡ Some given). each k other given at before)
+    (λ (last : (k ≡ length answers) × (answer ≡ given)).
+    let both : Some one ≡ Some other = sym here ∙ (sym (ap (slice_get asked) last.0) ∙ at) in
+    let same : one ≡ other = cc in
+    subst (λ (pair : AskedEnd × Option (List ℕ)). FindsEnd config scripts orders pair.0 pair.1) (λ i. (same i, last.1 i)) finds)
+    (before_or_last answers answer k given now)

@@ -1,5 +1,6 @@
 pub mod Common
 pub mod AlikeInside
+pub mod AnswerLemmas
 pub mod DifferentEnds
 pub mod EndLemmas
 pub mod Exchanged
@@ -13,6 +14,7 @@ pub mod Merges
 pub mod MergeSteps
 pub mod OrderLemmas
 pub mod OutsideCalls
+pub mod PartAnswers
 pub mod PartLemmas
 pub mod PartOrders
 pub mod PartSteps

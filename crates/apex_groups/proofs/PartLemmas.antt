@@ -1,6 +1,6 @@
 -- The scripts of the partitions inside lead to what all scripts lead to inside.
-use Rattle.apex_groups.proofs.Common.{◌≡◌, ⊎_elim, ℕ, ◌<◌, ◌≤◌, Bool, true, false, List, [], length, map, take, Ok, Err, Result, Option, refl, sym, ap, ◌∙◌, subst, arith, IfOk, IfSome, IfNone, slice_get, cases_lt, take_all, Configuration, Entry, History, entries_of, IsPart, Asked, PossibleReply, Scripts, script_of, calls_of, IsBeginning, ShowAllCounts, IsEndOfPart, Has, false≢true}
-use Rattle.apex_groups.proofs.Common.{AreRepliesWith, CanBeAnsweredWith, CanOccurWith, HasMorePointsWith, IsAnsweredByWith, IsUndecidedWith, IsUndecidedApart, unclocked, IsAnswerOf, IsFoundOf}
+use Rattle.apex_groups.proofs.Common.{◌≡◌, ⊎_elim, ℕ, ◌<◌, ◌≤◌, Bool, true, false, List, [], length, map, take, Ok, Err, Result, refl, sym, ap, ◌∙◌, subst, arith, IfOk, slice_get, cases_lt, take_all, Configuration, Entry, History, entries_of, IsPart, PossibleReply, Scripts, script_of, calls_of, IsBeginning, ShowAllCounts, IsEndOfPart, Has, false≢true}
+use Rattle.apex_groups.proofs.Common.{AreRepliesWith, CanOccurWith, HasMorePointsWith, IsUndecidedWith, IsUndecidedApart, unclocked, IsFoundOf}
 use Rattle.apex_types.specs.declared.call.Call.{Call}
 use Rattle.apex_types.specs.declared.moment.Moment.{Moment}
 use Rattle.apex_groups.proofs.Exchanged.{here_inside, no_list, none_outside}
@@ -36,11 +36,6 @@ module _ (config : Configuration) (inside : ℕ → Bool) (scripts part : Script
       → IfOk result (IsFoundOf clock config inside scripts)
   found_of clock (Ok found) replies ends = record { part = part; is = is; replies = replies; ends = ends }
   found_of clock (Err fault) replies ends = replies
-
-  pub answer_of : (clock : Bool) (asked : Asked) (result : Result (Option (List ℕ)) OrdersFault) → IfOk result (λ answer. IfSome answer (λ order. IsAnsweredByWith clock config part asked order))
-      → IfOk result (λ answer. IfNone answer (CanBeAnsweredWith clock config part asked → ⊥)) → IfOk result (IsAnswerOf clock config inside scripts asked)
-  answer_of clock asked (Ok answer) found never = record { part = part; is = is; found = found; never = never }
-  answer_of clock asked (Err fault) found never = found
 
   -- ---- beginnings
 

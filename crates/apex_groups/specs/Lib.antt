@@ -1,4 +1,5 @@
 pub mod Prelude
+pub mod Answers
 pub mod Counts
 pub mod Deciding
 pub mod Ends

@@ -1,6 +1,6 @@
 -- What is found for the scripts of each part.
-use Rattle.std.specs.Prelude.{ℕ, ◌<◌, ◌↔◌, Bool, List, length, Option, IfSome, IfNone, Result, Err, false, ◌≡◌}
-use Rattle.apex_groups.specs.Prelude.{Configuration, History, Scripts, IsWay, AreRepliesWith, CanBeAnsweredWith, CanOccurWith, HasMorePointsWith, IsAnsweredByWith, Has, Asked, PossibleReply}
+use Rattle.std.specs.Prelude.{ℕ, ◌<◌, ◌↔◌, Bool, List, length, Result, Err, false, ◌≡◌}
+use Rattle.apex_groups.specs.Prelude.{Configuration, History, Scripts, IsWay, AreRepliesWith, CanOccurWith, HasMorePointsWith, Has, PossibleReply}
 use Rattle.apex_orders.specs.Clock.{IsClocked}
 use Rattle.apex_groups.specs.Counts.{ShowAllCounts, ShowsCounts}
 use Rattle.apex_groups.specs.Groups.{IsPart, group_of}
@@ -19,13 +19,6 @@ pub record IsFoundOf (clock : Bool) (config : Configuration) (inside : ℕ → B
   pub is : IsPart inside scripts part
   pub replies : AreRepliesWith clock config part found.replies.items
   pub ends : ShowAllCounts clock config part found.ends.items
-
--- what an answer says about the scripts of the partitions inside
-pub record IsAnswerOf (clock : Bool) (config : Configuration) (inside : ℕ → Bool) (scripts : Scripts) (asked : Asked) (answer : Option (List ℕ)) : Type 0 where
-  pub part : Scripts
-  pub is : IsPart inside scripts part
-  pub found : IfSome answer (λ order. IsAnsweredByWith clock config part asked order)
-  pub never : IfNone answer (¬ CanBeAnsweredWith clock config part asked)
 
 -- it is undecided only as a search of all scripts may be; with the clock, nothing is said of a part with too many points
 abbrev pub IsUndecidedApart : {X : Type 0} → Bool → Type 0 → Configuration → Scripts → ℕ → Result X OrdersFault → Type 0

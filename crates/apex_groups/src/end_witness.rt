@@ -1,7 +1,7 @@
-//! An order of all calls that leads to an end.
-ghost use Rattle.std.specs.Prelude.{◌≡◌, ◌<◌, ◌↔◌, length, IfOk, IfSome, IfNone, IsTrue};
+//! Orders of all calls that lead to ends.
+ghost use Rattle.std.specs.Prelude.{◌≡◌, ◌<◌, ◌↔◌, length, IfOk, IsTrue};
 ghost use Rattle.apex_groups.specs.Prelude.{history_of, IsUndecidedWith};
-ghost use Rattle.apex_groups.specs.Ends.{FindsEnd, HasSuchEnd, IsSuchEnd, LeadsToEnd};
+ghost use Rattle.apex_groups.specs.Ends.{AreEndAnswers, FindEnds, FindsEnd, IsSuchEnd};
 
 use crate::after::ports_after;
 use crate::asked_end::AskedEnd;
@@ -10,65 +10,86 @@ use apex_module::Config;
 use apex_orders::{Order, OrdersFault, Progress};
 use apex_ports::Script;
 use apex_types::OutOfMemory;
-use std::alloc::Global;
+use std::alloc::{AllocError, Global};
 use std::thread::Threads;
 
-/// An order of all calls that leads to the end that is asked for; `None` if no order does, or if there is no such
-/// channel. With `clock`, the moments of all partitions are of one clock, as for `all_outcomes_apart`. All ends are
-/// searched. The scripts change only during the search.
-pub fn order_to_end<R: Threads + Sync, P: Progress>(
+/// For each question an order of all calls that leads to the end that is asked for; `None` if no order does, or if there
+/// is no such channel. With `clock`, the moments of all partitions are of one clock, as for `all_outcomes_apart`. One
+/// search of all ends answers all questions. The scripts change only during the search.
+pub fn orders_to_ends<R: Threads + Sync, P: Progress>(
     rt: &R,
     alloc: Global,
     config: &Config,
     scripts: &mut [Script],
     clock: bool,
-    asked: &AskedEnd,
+    asked: &[AskedEnd],
     bound: usize,
     progress: &mut P,
-) -> Result<Option<Order>, OrdersFault>
+) -> Result<Vec<Option<Order>>, OrdersFault>
     requires { length scripts.old ≡ length config.now.partitions }
     ensures same { scripts.new ≡ scripts.old }
-    ensures found { IfOk result
-        (λ answer. IfSome answer (λ order.
-        LeadsToEnd clock config.now scripts.old asked.now order)) }
-    ensures never { IfOk result
-        (λ answer. IfNone answer (¬ HasSuchEnd clock config.now scripts.old asked.now)) }
+    ensures answers { IfOk result (λ answers.
+        AreEndAnswers clock config.now scripts.old asked.now answers.items) }
     ensures undecided { IsUndecidedWith clock P.CanStop config.now scripts.old bound result }
 {
-    if asked.channel >= config.channels() {
-        return Ok(None);
+    if asked.is_empty() {
+        return Ok(Vec::new(alloc));
     }
-    let mut found = match all_outcomes_apart(rt, alloc, config, scripts, clock, bound, progress) {
+    let found = match all_outcomes_apart(rt, alloc, config, scripts, clock, bound, progress) {
         Err(fault) => return Err(fault),
         Ok(found) => found,
     };
-    let first = first_to_end(alloc, config, scripts, found.ends.as_slice(), asked)?;
-    match first {
-        Some(index) => Ok(Some(found.ends.remove(index))),
-        None => Ok(None),
-    }
+    let answers = answers_among(alloc, config, scripts, found.ends.as_slice(), asked)?;
+    Ok(answers)
 }
 
-/// The index of the first of the orders that leads to the end.
+/// The first of the orders that leads to each end.
+fn answers_among(
+    alloc: Global,
+    config: &Config,
+    scripts: &[Script],
+    orders: &[Order],
+    asked: &[AskedEnd],
+) -> Result<Vec<Option<Order>>, OutOfMemory>
+    requires { length scripts.now ≡ length config.now.partitions }
+    ensures { IfOk result (λ answers.
+        FindEnds config.now scripts.now orders.now asked.now answers.items) }
+{
+    let mut answers = Vec::with_capacity(alloc, asked.len())?;
+    for one in asked {
+        answers.push(first_to_end(alloc, config, scripts, orders, one)?)?;
+    }
+    Ok(answers)
+}
+
+/// The first of the orders that leads to the end; `None` if there is no such channel.
 fn first_to_end(
     alloc: Global,
     config: &Config,
     scripts: &[Script],
     orders: &[Order],
     asked: &AskedEnd,
-) -> Result<Option<usize>, OutOfMemory>
-    requires scripts { length scripts.now ≡ length config.now.partitions }
-    requires channel { asked.now.channel < length config.now.channels }
-    ensures found { IfOk result (FindsEnd config.now scripts.now asked.now orders.now) }
-    ensures within { IfOk result
-        (λ answer. IfSome answer (λ index. index < length orders.now)) }
+) -> Result<Option<Order>, OutOfMemory>
+    requires { length scripts.now ≡ length config.now.partitions }
+    ensures { IfOk result (FindsEnd config.now scripts.now orders.now asked.now) }
 {
-    for (index, order) in orders.iter().enumerate() {
+    if asked.channel >= config.channels() {
+        return Ok(None);
+    }
+    for order in orders {
         if leads_to(alloc, config, scripts, order, asked)? {
-            return Ok(Some(index));
+            return Ok(Some(copy_of(alloc, order)?));
         }
     }
     Ok(None)
+}
+
+/// The same order.
+fn copy_of(alloc: Global, order: &Order) -> Result<Order, AllocError>
+    ensures { IfOk result (λ copy. copy ≡ order.now) }
+{
+    let partitions = Vec::from_slice(alloc, order.partitions())?;
+    Ok(Order::new(partitions))
 }
 
 /// Whether the order leads to the end.

@@ -3,17 +3,19 @@ ghost use Rattle.std.specs.Prelude.{◌≡◌, [], length, replicate, IfOk};
 ghost use Rattle.apex_groups.specs.Prelude.{AreRepliesWith, IsUndecidedWith};
 ghost use Rattle.apex_groups.specs.Counts.{ShowAllCounts};
 ghost use Rattle.apex_groups.specs.Groups.{in_group};
-ghost use Rattle.apex_groups.specs.ScriptParts.{IsAnswerOf, IsFoundOf, IsUndecidedApart};
+ghost use Rattle.apex_groups.specs.Answers.{AreAnswersOf};
+ghost use Rattle.apex_groups.specs.ScriptParts.{IsFoundOf, IsUndecidedApart};
 
 use crate::different_ends::different_ends;
 use crate::exchanging::exchange;
 use crate::groups::Groups;
+use crate::questions::Found;
 use apex_module::Config;
 use apex_orders::{
-    Asked, Order, OrdersFault, Outcomes, Progress, all_outcomes_with_progress,
-    order_giving_with_progress,
+    Asked, OrdersFault, Outcomes, Progress, all_outcomes_with_progress, orders_giving,
 };
 use apex_ports::Script;
+use apex_types::OutOfMemory;
 use std::alloc::{AllocError, Global};
 use std::thread::Threads;
 
@@ -89,8 +91,8 @@ pub(crate) fn outcomes_of<R: Threads + Sync, P: Progress>(
     found
 }
 
-/// An order of the calls of one group that answers the question. The scripts stay as they were.
-pub(crate) fn order_of<R: Threads + Sync, P: Progress>(
+/// The answers to questions about the calls of one group, from one search. The scripts stay as they were.
+pub(crate) fn orders_of<R: Threads + Sync, P: Progress>(
     rt: &R,
     alloc: Global,
     config: &Config,
@@ -98,20 +100,20 @@ pub(crate) fn order_of<R: Threads + Sync, P: Progress>(
     group: usize,
     scripts: &mut [Script],
     clock: bool,
-    asked: &Asked,
+    asked: &[Asked],
     bound: usize,
     progress: &mut P,
-) -> Result<Option<Order>, OrdersFault>
+) -> Result<Vec<Found>, OutOfMemory>
     requires { length scripts.old ≡ length config.now.partitions }
     ensures scripts { scripts.new ≡ scripts.old }
-    ensures found { let inside = in_group groups.now.of_partitions.items group in
-        IfOk result (IsAnswerOf clock config.now inside scripts.old asked.now) }
-    ensures undecided { IsUndecidedApart clock P.CanStop config.now scripts.old bound result }
+    ensures answers { let inside = in_group groups.now.of_partitions.items group in
+        IfOk result (λ answers. AreAnswersOf clock P.CanStop
+        config.now inside scripts.old bound asked.now answers.items) }
 {
     let mut part = no_scripts(alloc, config.partitions())?;
     let part = part.as_mut_slice();
     exchange(groups, group, scripts, part);
-    let found = order_giving_with_progress(rt, alloc, config, part, clock, asked, bound, progress);
+    let found = orders_giving(rt, alloc, config, part, clock, asked, bound, progress);
     exchange(groups, group, scripts, part);
     found
 }

@@ -1,7 +1,10 @@
 -- Ends, and more points than a bound.
-use Rattle.apex_orders.proofs.Common.{◌≡◌, ◌⊎◌, inl, inr, ⊎_elim, ℕ, zero, suc, ◌+◌, ◌<◌, ◌≤◌, ◌==◌, Bool, true, false, cond, if◌then◌else◌, List, [], ◌∷◌, ◌++◌, length, map, Some, Ok, Err, Result, IsErrAnd, refl, sym, ap, subst, arith, length-append, slice_get, length-map, Configuration, IsConfiguration, Entry, count_of, History, entries_of, IsClocked, Scripts, script_of, AreShort, calls_of, IsBeginning}
+use Rattle.apex_orders.proofs.Common.{◌≡◌, ◌⊎◌, inl, inr, ⊎_elim, ℕ, zero, suc, ◌+◌, ◌<◌, ◌≤◌, ◌==◌, Bool, true, false, cond, if◌then◌else◌, List, [], ◌∷◌, ◌++◌, length, map, Some, Err, refl, sym, ap, subst, arith, length-append, slice_get, length-map, Configuration, IsConfiguration, Entry, count_of, History, entries_of, IsClocked, Scripts, script_of, AreShort, calls_of, IsBeginning}
 use Rattle.apex_orders.proofs.Common.{next_entries, continued, history_of, times, HasMorePointsWith, IsUndecidedWith, IsSamePoint, Has, HasMadeAll, AreEndsOf, HasMoreOrders, IsGivenUp}
-use Rattle.std.proofs.lemmas.List.Sums.{sum_by-cons}
+use Rattle.apex_orders.proofs.Common.{Call, Moment, Option, get_or, nat_tests, slice_get-get_or, take, take_all, unwrap_or}
+use Rattle.std.specs.List.{sum_by, count_by}
+use Rattle.std.specs.Prelude.{nat_lt}
+use Rattle.std.proofs.lemmas.List.Sums.{sum_by-cons, sum_by_more, count_by-le-length}
 use Rattle.apex_orders.specs.declared.orders_fault.OrdersFault.{OrdersFault}
 use Rattle.apex_orders.specs.declared.orders_fault.OrdersFault.TheVariants.{TooManyStates, OutOfMemory, Stopped}
 use Rattle.apex_orders.proofs.Lists.{stays_before, before_or_last, at_seam}
@@ -84,8 +87,48 @@ module _ (config : Configuration) (scripts : Scripts) where
       omega (arith, rest, named, step, split, length-append (entries_of p h) (entries_of p next))
 
   -- an order that makes all calls names them all
-  pub names_all : (order : List ℕ) → HasMadeAll config scripts (history_of config scripts order) → (p : ℕ) → p < length config.partitions → length (script_of scripts p) ≤ times p order
+  names_all : (order : List ℕ) → HasMadeAll config scripts (history_of config scripts order) → (p : ℕ) → p < length config.partitions → length (script_of scripts p) ≤ times p order
   names_all order made p within = let few = made_few [] order p in let all = made p within in omega (arith, few, all)
+
+  -- the number of calls that are of the first n partitions
+  abbrev named_below : ℕ → List ℕ → ℕ
+  named_below n order = count_by (λ partition. nat_lt partition n) order
+
+  next_below : (n q : ℕ) → cond (nat_lt q (n + 1)) 1 0 ≡ cond (nat_lt q n) 1 0 + cond (q == n) 1 0
+  next_below n q = grind (nat_tests, arith)
+
+  named_next : (n : ℕ) (order : List ℕ) → named_below (n + 1) order ≡ named_below n order + times n order
+  named_next n [] = refl
+  named_next n (q ∷ order) =
+      let rest = named_next n order in
+      let all = sum_by-cons (λ (partition : ℕ). cond (nat_lt partition (n + 1)) 1 0) q order in
+      let first = sum_by-cons (λ (partition : ℕ). cond (nat_lt partition n) 1 0) q order in
+      let own = sum_by-cons (λ (partition : ℕ). cond (partition == n) 1 0) q order in
+      omega (arith, rest, all, first, own, next_below n q)
+
+  -- the number of calls of the first n scripts
+  abbrev calls_below : ℕ → ℕ
+  calls_below n = sum_by length (take n scripts)
+
+  module _ (same : length scripts ≡ length config.partitions) (order : List ℕ) (made : HasMadeAll config scripts (history_of config scripts order)) where
+    all_below : (n : ℕ) → n ≤ length scripts → calls_below n ≤ named_below n order
+    all_below zero within = omega arith
+    all_below (suc n) within =
+        let inside : n < length scripts = omega (arith, within) in
+        let script = get_or scripts n [] in
+        let count : length (script_of scripts n) ≡ length script = ap (λ (o : Option (List (Moment × Call))). length (unwrap_or o [])) (slice_get-get_or scripts n [] inside) in
+        let named = names_all order made n (omega (arith, inside, same)) in
+        let more = sum_by_more length scripts n [] inside in
+        let before = all_below n (omega (arith, within)) in
+        let index : n + 1 ≡ suc n = omega arith in
+        subst (λ (m : ℕ). calls_below m ≤ named_below m order) index (omega (arith, count, named, more, before, named_next n order))
+
+    -- an order that makes all calls is as long as all scripts together
+    pub long_enough : sum_by length scripts ≤ length order
+    long_enough =
+        let all = all_below (length scripts) (omega arith) in
+        let whole = ap (λ (ss : Scripts). sum_by length ss) (take_all (length scripts) scripts (omega arith)) in
+        omega (arith, all, whole, count_by-le-length (λ partition. nat_lt partition (length scripts)) order)
 
   -- ---- more points than a bound
 
@@ -112,28 +155,9 @@ module _ (config : Configuration) (scripts : Scripts) where
         (subst (λ (both : History × History). IsSamePoint config both.0 both.1) (λ i. (sym two.2 i, sym one.2 i)) same);
   }
 
--- running out of memory gives up nothing
-pub given_up_none : {X : Type 0} (clock : Bool) (can_stop : Type 0) (config : Configuration) (scripts : Scripts) (bound : ℕ) (r : Result X OrdersFault)
-    → IsErrAnd r (λ fault. fault ≡ OutOfMemory) → IsGivenUp clock can_stop config scripts bound r
-given_up_none clock can_stop config scripts bound (Ok x) is = tt
-given_up_none clock can_stop config scripts bound (Err OutOfMemory) is = tt
-given_up_none clock can_stop config scripts bound (Err TooManyStates) is = absurd (cc)
-given_up_none clock can_stop config scripts bound (Err Stopped) is = absurd (cc)
-
--- and what is given up for the same fault is given up too
-pub given_up_too : (X : Type 0) {Y : Type 0} (clock : Bool) (can_stop : Type 0) (config : Configuration) (scripts : Scripts) (bound : ℕ) (fault : OrdersFault) (r : Result Y OrdersFault)
-    → IsGivenUp {X = X} clock can_stop config scripts bound (Err fault) → IsErrAnd r (λ other. other ≡ fault) → IsGivenUp clock can_stop config scripts bound r
-given_up_too X clock can_stop config scripts bound fault (Ok x) given_up is = tt
-given_up_too X {Y} clock can_stop config scripts bound fault (Err other) given_up is = of_fault other fault is given_up
-  where
-    of_fault : (one two : OrdersFault) → one ≡ two → IsGivenUp {X = X} clock can_stop config scripts bound (Err two) → IsGivenUp {X = Y} clock can_stop config scripts bound (Err one)
-    of_fault TooManyStates two same given_up = subst (λ (f : OrdersFault). IsGivenUp {X = X} clock can_stop config scripts bound (Err f)) (sym same) given_up
-    of_fault OutOfMemory two same given_up = tt
-    of_fault Stopped two same given_up = subst (λ (f : OrdersFault). IsGivenUp {X = X} clock can_stop config scripts bound (Err f)) (sym same) given_up
-
--- if a search is given up, the outcomes are undecided
-pub undecided_of : (X Y : Type 0) (clock : Bool) (can_stop : Type 0) (config : Configuration) (scripts : Scripts) → IsConfiguration config → (bound : ℕ) (fault : OrdersFault)
-    → IsGivenUp {X = X} clock can_stop config scripts bound (Err fault) → IsUndecidedWith {X = Y} clock can_stop config scripts bound (Err fault)
-undecided_of X Y clock can_stop config scripts valid bound TooManyStates given_up = more_points config scripts clock valid bound given_up
-undecided_of X Y clock can_stop config scripts valid bound OutOfMemory given_up = tt
-undecided_of X Y clock can_stop config scripts valid bound Stopped given_up = given_up
+-- if a search is given up, the answer is undecided
+pub undecided_of : (X : Type 0) (clock : Bool) (can_stop : Type 0) (config : Configuration) (scripts : Scripts) → IsConfiguration config → (bound : ℕ) (fault : OrdersFault)
+    → IsGivenUp clock can_stop config scripts bound fault → IsUndecidedWith {X = X} clock can_stop config scripts bound (Err fault)
+undecided_of X clock can_stop config scripts valid bound TooManyStates given_up = more_points config scripts clock valid bound given_up
+undecided_of X clock can_stop config scripts valid bound OutOfMemory given_up = tt
+undecided_of X clock can_stop config scripts valid bound Stopped given_up = given_up

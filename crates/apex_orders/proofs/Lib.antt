@@ -1,5 +1,6 @@
 pub mod Common
 pub mod Alike
+pub mod AnswerLemmas
 pub mod BucketLemmas
 pub mod ChoiceLemmas
 pub mod ClockLemmas

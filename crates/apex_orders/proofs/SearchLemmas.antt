@@ -152,7 +152,7 @@ module _ (config : Configuration) (scripts : Scripts) where
       let was = slice_get-get_or old k order within in
       was ∙ (sym (keeps k _ was) ∙ at)
 
-  pub unanswered_kept : (clock : Bool) (asked : Option Asked) (old new : List (List ℕ)) (k : ℕ) → Keeps old new → k < length old
+  pub unanswered_kept : (clock : Bool) (asked : Asked) (old new : List (List ℕ)) (k : ℕ) → Keeps old new → k < length old
       → IsUnansweredAt clock config scripts asked old k → IsUnansweredAt clock config scripts asked new k
   unanswered_kept clock asked old new k keeps within unanswered order at = unanswered order (same_index old new k order keeps within at)
 

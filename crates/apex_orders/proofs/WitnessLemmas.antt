@@ -1,6 +1,9 @@
 -- An order in which a call gets a reply.
-use Rattle.apex_orders.proofs.Common.{◌≡◌, ℕ, Bool, List, [], ◌∷◌, ◌++◌, Option, Some, None, refl, sym, ap, ◌∙◌, subst, slice_get_within, Configuration, IsConfiguration, History, entry_of, Asked, PossibleReply, IsClocked, Scripts, IsOrder, IsBeginning, next_entries, history_of, CanBeAnsweredWith, IsAnsweredByWith, IsGivenByWith, HasEnded, IsAnsweredAfter, IsGivenAfter, IsSearched, IsSearchedInVain}
+use Rattle.apex_orders.proofs.Common.{◌≡◌, ℕ, Bool, List, [], ◌∷◌, ◌++◌, Option, Some, None, IfSome, refl, sym, ap, ◌∙◌, subst, slice_get, slice_get_within, Configuration, IsConfiguration, History, entry_of, Asked, PossibleReply, IsClocked, Scripts, IsOrder, IsBeginning, next_entries, history_of, CanBeAnsweredWith, IsAnsweredByWith, IsGivenByWith, IsAnswerTo, HasEnded, IsAnsweredAfter, IsGivenAfter, IsGivenUp, IsSearchedInVain, answer_by}
 use Rattle.apex_orders.proofs.ClockLemmas.{clocked_next}
+use Rattle.apex_orders.specs.declared.orders_fault.OrdersFault.{OrdersFault}
+use Rattle.apex_orders.specs.declared.rounds.Found.{Found}
+use Rattle.apex_orders.proofs.EndLemmas.{undecided_of}
 use Rattle.apex_orders.proofs.Walks.{good_next, is_beginning}
 use Rattle.apex_orders.proofs.Completing.{IsAnswered, given_of_occurs, good_history, made_is_answered}
 use Rattle.apex_orders.proofs.SearchLemmas.{behind, longer_is_order}
@@ -42,16 +45,27 @@ module _ (clock : Bool) (config : Configuration) (scripts : Scripts) where
 
   -- what none of a complete search's orders answers, no way answers
   pub never_answered : IsConfiguration config → (asked : Asked) (orders : List (List ℕ)) (replies : List PossibleReply)
-      → IsSearchedInVain clock config scripts (Some asked) orders replies → CanBeAnsweredWith clock config scripts asked → ⊥
+      → IsSearchedInVain clock config scripts asked orders replies → CanBeAnsweredWith clock config scripts asked → ⊥
   never_answered valid asked orders replies ended can =
       let by = given_of_occurs config scripts valid clock orders replies ended.searched can.one can.occurs in
       ended.unanswered by.here.0 (slice_get_within orders by.here.0 by.order by.here.1) by.order by.here.1
       (record { one = can.one; answers = can.answers; given = by.given })
 
-  -- ---- what a search ended with
+  -- ---- answers
 
-  -- if nothing is asked, everything was searched
-  pub searched_all : (orders : List (List ℕ)) (replies : List PossibleReply) (answer : Option (List ℕ)) → HasEnded clock config scripts None orders replies answer
-      → IsSearched clock config scripts orders replies
-  searched_all orders replies None ended = ended.searched
-  searched_all orders replies (Some order) ended = absurd ended
+  answer_from : IsConfiguration config → (can_stop : Type 0) (bound : ℕ) (asked : Asked) (given_up : Option OrdersFault) (order : Option (List ℕ)) → IfSome given_up (IsGivenUp clock can_stop config scripts bound)
+      → ((one : List ℕ) → order ≡ Some one → IsAnsweredByWith clock config scripts asked one) → (given_up ≡ None → order ≡ None → CanBeAnsweredWith clock config scripts asked → ⊥)
+      → IsAnswerTo clock can_stop config scripts bound asked (answer_by given_up order)
+  answer_from valid can_stop bound asked given_up (Some one) why answers never = record { found = answers one refl; never = tt; undecided = tt }
+  answer_from valid can_stop bound asked None None why answers never = record { found = tt; never = never refl refl; undecided = tt }
+  answer_from valid can_stop bound asked (Some fault) None why answers never =
+      record { found = tt; never = tt; undecided = undecided_of (Option (List ℕ)) clock can_stop config scripts valid bound fault why }
+
+  -- what a search ended with answers each question
+  pub is_answer : IsConfiguration config → (can_stop : Type 0) (bound : ℕ) (asked : List Asked) (found : Found) → HasEnded clock config scripts asked found
+      → IfSome found.given_up (IsGivenUp clock can_stop config scripts bound) → (q : ℕ) (one : Asked) (order : Option (List ℕ)) → slice_get asked q ≡ Some one → slice_get found.answers.items q ≡ Some order
+      → IsAnswerTo clock can_stop config scripts bound one (answer_by found.given_up order)
+  is_answer valid can_stop bound asked found ended why q one order at here =
+      answer_from valid can_stop bound one found.given_up order why
+      (λ given is. ended.answers.each q one given at (here ∙ ap Some is))
+      (λ whole none. never_answered valid one found.orders found.replies.items (ended.unanswered whole q one at (here ∙ ap Some none)))

@@ -1,5 +1,5 @@
 -- All that can happen to scripts, over every order of their calls.
-use Rattle.std.specs.Prelude.{ℕ, Bool, false, ◌≡◌, ◌<◌, ◌↔◌, List, [], ◌∷◌, ◌++◌, length, slice_get, Some, Result, Err}
+use Rattle.std.specs.Prelude.{ℕ, Bool, false, ◌≡◌, ◌<◌, ◌↔◌, List, [], ◌∷◌, ◌++◌, length, slice_get, Option, Some, Result, Err, IfOk, IfSome, IfNone}
 use Rattle.apex_orders.specs.Prelude.{Reply, Configuration, Entry, History, entries_of}
 use Rattle.apex_types.specs.Reply.{code_of}
 use Rattle.apex_types.specs.declared.reply.Reply.TheVariants as reply
@@ -22,9 +22,6 @@ pub record CanOccurWith (clock : Bool) (config : Configuration) (scripts : Scrip
   pub clocked : IsClocked clock scripts way
   pub reply : slice_get (replies_of one.partition way) one.index ≡ Some one.reply
 
-abbrev pub CanOccur : Configuration → Scripts → PossibleReply → Type 0
-CanOccur config scripts one = CanOccurWith false config scripts one
-
 -- the last entry of the history is that of the call at the index, with the reply
 pub record EndsWith (history : History) (one : PossibleReply) : Type 0 where
   pub before : History
@@ -42,9 +39,6 @@ pub record IsGivenByWith (clock : Bool) (config : Configuration) (scripts : Scri
   pub clocked : IsClocked clock scripts (history_of config scripts order)
   pub reply : slice_get (replies_of one.partition (history_of config scripts order)) one.index ≡ Some one.reply
   pub last : EndsWith (history_of config scripts order) one
-
-abbrev pub IsGivenBy : Configuration → Scripts → PossibleReply → List ℕ → Type 0
-IsGivenBy config scripts one order = IsGivenByWith false config scripts one order
 
 -- ---- questions
 
@@ -79,17 +73,11 @@ pub record CanBeAnsweredWith (clock : Bool) (config : Configuration) (scripts : 
   pub answers : Answers asked one
   pub occurs : CanOccurWith clock config scripts one
 
-abbrev pub CanBeAnswered : Configuration → Scripts → Asked → Type 0
-CanBeAnswered config scripts asked = CanBeAnsweredWith false config scripts asked
-
 -- the calls in this order are a beginning, which ends with the asked call and gives it an admitted reply
 pub record IsAnsweredByWith (clock : Bool) (config : Configuration) (scripts : Scripts) (asked : Asked) (order : List ℕ) : Type 0 where
   pub one : PossibleReply
   pub answers : Answers asked one
   pub given : IsGivenByWith clock config scripts one order
-
-abbrev pub IsAnsweredBy : Configuration → Scripts → Asked → List ℕ → Type 0
-IsAnsweredBy config scripts asked order = IsAnsweredByWith false config scripts asked order
 
 -- ---- all replies and ends
 
@@ -133,3 +121,17 @@ IsUndecidedWith clock can_stop config scripts bound _ = Unit {0}
 
 abbrev pub IsUndecided : {X : Type 0} → Type 0 → Configuration → Scripts → ℕ → Result X OrdersFault → Type 0
 IsUndecided can_stop config scripts bound result = IsUndecidedWith false can_stop config scripts bound result
+
+-- ---- answers
+
+-- what an answer says: an order answers the question, or none does, or it is undecided
+pub record IsAnswerTo (clock : Bool) (can_stop : Type 0) (config : Configuration) (scripts : Scripts) (bound : ℕ) (asked : Asked) (answer : Result (Option (List ℕ)) OrdersFault) : Type 0 where
+  pub found : IfOk answer (λ given. IfSome given (λ order. IsAnsweredByWith clock config scripts asked order))
+  pub never : IfOk answer (λ given. IfNone given (¬ CanBeAnsweredWith clock config scripts asked))
+  pub undecided : IsUndecidedWith clock can_stop config scripts bound answer
+
+-- each question has its answer, at its index
+pub record AreAnswersTo (clock : Bool) (can_stop : Type 0) (config : Configuration) (scripts : Scripts) (bound : ℕ) (asked : List Asked) (answers : List (Result (Option (List ℕ)) OrdersFault)) : Type 0 where
+  pub count : length answers ≡ length asked
+  pub each : (k : ℕ) (one : Asked) (answer : Result (Option (List ℕ)) OrdersFault) → slice_get asked k ≡ Some one → slice_get answers k ≡ Some answer
+      → IsAnswerTo clock can_stop config scripts bound one answer

@@ -1,10 +1,11 @@
 -- What a search has found.
-use Rattle.std.specs.Prelude.{ℕ, Bool, true, false, ◌≡◌, ◌<◌, ◌≤◌, ◌+◌, List, ◌∷◌, [], ◌++◌, length, slice_get, Option, Some, None, IfSome, MatchOption, Result, Err}
+use Rattle.std.specs.Prelude.{ℕ, Bool, true, false, ◌≡◌, ◌<◌, ◌≤◌, ◌+◌, List, ◌∷◌, [], ◌++◌, length, slice_get, Option, Some, None, Result, Ok, Err}
 use Rattle.apex_orders.specs.Prelude.{Configuration, count_of, History, entries_of}
 use Rattle.apex_orders.specs.declared.asked.Asked.{Asked}
 use Rattle.apex_orders.specs.declared.replies.PossibleReply.{PossibleReply}
 use Rattle.apex_orders.specs.declared.orders_fault.OrdersFault.{OrdersFault}
-use Rattle.apex_orders.specs.declared.orders_fault.OrdersFault.TheVariants.{TooManyStates, Stopped}
+use Rattle.apex_orders.specs.declared.orders_fault.OrdersFault.TheVariants.{OutOfMemory, TooManyStates, Stopped}
+use Rattle.apex_orders.specs.declared.rounds.Found.{Found}
 use Rattle.apex_orders.specs.declared.search.Search.{Search}
 use Rattle.apex_orders.specs.Clock.{IsClocked, IsNextDue}
 use Rattle.apex_orders.specs.Enough.{IsEnough, HasNext}
@@ -136,31 +137,51 @@ pub record IsAnsweredAfter (clock : Bool) (config : Configuration) (scripts : Sc
   pub answers : Answers asked one
   pub given : IsGivenAfter clock config scripts order one
 
--- if something is asked, it isn't answered after the order
-abbrev pub IsUnanswered : Bool → Configuration → Scripts → Option Asked → List ℕ → Type 0
-IsUnanswered clock config scripts asked order = IfSome asked (λ one. ¬ IsAnsweredAfter clock config scripts one order)
-
--- nor after the order at the index
-abbrev pub IsUnansweredAt : Bool → Configuration → Scripts → Option Asked → List (List ℕ) → ℕ → Type 0
-IsUnansweredAt clock config scripts asked orders k = (order : List ℕ) → slice_get orders k ≡ Some order → IsUnanswered clock config scripts asked order
+-- the asked call isn't answered so after the order at the index
+abbrev pub IsUnansweredAt : Bool → Configuration → Scripts → Asked → List (List ℕ) → ℕ → Type 0
+IsUnansweredAt clock config scripts asked orders k = (order : List ℕ) → slice_get orders k ≡ Some order → ¬ IsAnsweredAfter clock config scripts asked order
 
 -- nor after any of so many from the index on
-abbrev pub AreUnansweredFrom : Bool → Configuration → Scripts → Option Asked → List (List ℕ) → ℕ → ℕ → Type 0
+abbrev pub AreUnansweredFrom : Bool → Configuration → Scripts → Asked → List (List ℕ) → ℕ → ℕ → Type 0
 AreUnansweredFrom clock config scripts asked orders from count = (k : ℕ) → k < count → IsUnansweredAt clock config scripts asked orders (from + k)
 
--- the search is complete without an answer
-pub record IsSearchedInVain (clock : Bool) (config : Configuration) (scripts : Scripts) (asked : Option Asked) (orders : List (List ℕ)) (replies : List PossibleReply) : Type 0 where
+-- each order that was found answers the question at its index
+pub record HaveOrders (clock : Bool) (config : Configuration) (scripts : Scripts) (asked : List Asked) (answers : List (Option (List ℕ))) : Type 0 where
+  pub count : length answers ≡ length asked
+  pub each : (q : ℕ) (one : Asked) (order : List ℕ) → slice_get asked q ≡ Some one → slice_get answers q ≡ Some (Some order) → IsAnsweredByWith clock config scripts one order
+
+-- the question at the index, if it has no order yet, isn't answered after any of the first orders
+abbrev pub IsOpen : Bool → Configuration → Scripts → List Asked → List (List ℕ) → ℕ → List (Option (List ℕ)) → ℕ → Type 0
+IsOpen clock config scripts asked orders n answers q =
+    (one : Asked) → slice_get asked q ≡ Some one → slice_get answers q ≡ Some None → (k : ℕ) → k < n → IsUnansweredAt clock config scripts one orders k
+
+-- the answers that the first orders give
+pub record AreAnswersBy (clock : Bool) (config : Configuration) (scripts : Scripts) (asked : List Asked) (orders : List (List ℕ)) (n : ℕ) (answers : List (Option (List ℕ))) : Type 0 where
+  pub found : HaveOrders clock config scripts asked answers
+  pub unanswered : (q : ℕ) → IsOpen clock config scripts asked orders n answers q
+
+-- there are questions, and each has its order
+pub record AreAllAnswered (answers : List (Option (List ℕ))) : Type 0 where
+  pub some : 0 < length answers
+  pub each : (q : ℕ) → ¬ (slice_get answers q ≡ Some None)
+
+-- the search is complete without an order that answers the question
+pub record IsSearchedInVain (clock : Bool) (config : Configuration) (scripts : Scripts) (asked : Asked) (orders : List (List ℕ)) (replies : List PossibleReply) : Type 0 where
   pub searched : IsSearched clock config scripts orders replies
   pub unanswered : (k : ℕ) → k < length orders → IsUnansweredAt clock config scripts asked orders k
 
--- if something is asked, the order answers it; otherwise there is no such order
-abbrev pub IsAnswer : Bool → Configuration → Scripts → Option Asked → List ℕ → Type 0
-IsAnswer clock config scripts None order = ⊥
-IsAnswer clock config scripts (Some asked) order = IsAnsweredByWith clock config scripts asked order
+-- unless the search was given up, it is complete, or each question has its order
+pub record HasEnded (clock : Bool) (config : Configuration) (scripts : Scripts) (asked : List Asked) (found : Found) : Type 0 where
+  pub answers : HaveOrders clock config scripts asked found.answers.items
+  pub all : found.given_up ≡ None → asked ≡ [] → IsSearched clock config scripts found.orders found.replies.items
+  pub unanswered : found.given_up ≡ None → (q : ℕ) (one : Asked) → slice_get asked q ≡ Some one → slice_get found.answers.items q ≡ Some None
+      → IsSearchedInVain clock config scripts one found.orders found.replies.items
 
--- the search has an answer, or is complete without one
-abbrev pub HasEnded : Bool → Configuration → Scripts → Option Asked → List (List ℕ) → List PossibleReply → Option (List ℕ) → Type 0
-HasEnded clock config scripts asked orders replies answer = MatchOption answer (IsSearchedInVain clock config scripts asked orders replies) (IsAnswer clock config scripts asked)
+-- the answer to a question: its order, or none, or why the search was given up
+abbrev pub answer_by : Option OrdersFault → Option (List ℕ) → Result (Option (List ℕ)) OrdersFault
+answer_by given_up (Some order) = Ok (Some order)
+answer_by None None = Ok None
+answer_by (Some fault) None = Err fault
 
 -- each partition has made all calls of its script
 abbrev pub HasMadeAll : Configuration → Scripts → History → Type 0
@@ -181,7 +202,7 @@ pub record HasMoreOrders (clock : Bool) (config : Configuration) (scripts : Scri
   pub apart : AreApart config scripts orders
 
 -- a search is given up only if there are more points than the bound, or one who can ended it
-abbrev pub IsGivenUp : {X : Type 0} → Bool → Type 0 → Configuration → Scripts → ℕ → Result X OrdersFault → Type 0
-IsGivenUp clock can_stop config scripts bound (Err TooManyStates) = HasMoreOrders clock config scripts bound
-IsGivenUp clock can_stop config scripts bound (Err Stopped) = can_stop
-IsGivenUp clock can_stop config scripts bound _ = Unit {0}
+abbrev pub IsGivenUp : Bool → Type 0 → Configuration → Scripts → ℕ → OrdersFault → Type 0
+IsGivenUp clock can_stop config scripts bound TooManyStates = HasMoreOrders clock config scripts bound
+IsGivenUp clock can_stop config scripts bound Stopped = can_stop
+IsGivenUp clock can_stop config scripts bound OutOfMemory = Unit {0}

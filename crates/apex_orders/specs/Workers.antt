@@ -1,5 +1,5 @@
 -- What the parts of a search find that can run in threads of their own.
-use Rattle.std.specs.Prelude.{ℕ, suc, Bool, ◌≡◌, ◌⊎◌, ◌<◌, ◌≤◌, ◌+◌, ◌^◌, List, [], ◌∷◌, ◌++◌, length, map, slice_get, Option, Some, IfSome}
+use Rattle.std.specs.Prelude.{ℕ, suc, Bool, ◌≡◌, ◌⊎◌, ◌<◌, ◌≤◌, ◌+◌, ◌^◌, List, [], ◌∷◌, ◌++◌, length, map, slice_get, Some, IfSome}
 use Rattle.apex_orders.specs.Prelude.{Configuration, History, PortsView}
 use Rattle.apex_orders.specs.declared.asked.Asked.{Asked}
 use Rattle.apex_orders.specs.declared.rounds.Rounds.{Rounds}
@@ -14,7 +14,7 @@ use Rattle.apex_orders.specs.LastUses.{AreOfScripts}
 use Rattle.apex_orders.specs.Lists.{Has}
 use Rattle.apex_orders.specs.Orders.{Scripts, history_of, order_at}
 use Rattle.apex_orders.specs.Points.{IsSamePoint, calls_made}
-use Rattle.apex_orders.specs.Searching.{AreOrders, AreClocked, AreFound, HasLevel, HasTried, HasTriedEnough, HasTriedFrom, Includes, IsLater, IsSearch, IsTried, IsUnansweredAt, Keeps, Knows}
+use Rattle.apex_orders.specs.Searching.{AreAnswersBy, AreOrders, AreClocked, AreFound, HasLevel, HasTried, HasTriedEnough, HasTriedFrom, Includes, IsLater, IsSearch, IsTried, Keeps, Knows}
 use Rattle.apex_orders.specs.Steps.{Makes}
 use Rattle.apex_orders.specs.declared.search.Search.{Search}
 
@@ -107,13 +107,13 @@ pub record AreWorkers (config : Configuration) (workers : Workers) : Type 0 wher
   pub first : IsTrialOf config workers.first.trial
   pub second : IfSome workers.second (λ worker. IsTrialOf config worker.trial)
 
--- all points up to the first that is left are tried, and none of their orders answers the question
-pub record IsUnderWay (clock : Bool) (config : Configuration) (scripts : Scripts) (asked : Option Asked) (rounds : Rounds) : Type 0 where
+-- all points up to the first that is left are tried, and their orders give the answers
+pub record IsUnderWay (clock : Bool) (config : Configuration) (scripts : Scripts) (asked : List Asked) (rounds : Rounds) : Type 0 where
   pub first : Has rounds.current.orders []
   pub valid : IsSearch clock config scripts rounds.current
   pub level : HasLevel rounds.current
   pub workers : AreWorkers config rounds.workers
-  pub unanswered : (k : ℕ) → k < rounds.current.points.first → IsUnansweredAt clock config scripts asked rounds.current.orders k
+  pub answers : AreAnswersBy clock config scripts asked rounds.current.orders rounds.current.points.first rounds.answers.items
   pub tried : (k : ℕ) → k < rounds.current.points.first → HasTried clock config scripts rounds.current.orders rounds.current.replies k
 
 -- ---- by what all workers read

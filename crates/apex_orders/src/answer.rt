@@ -1,9 +1,9 @@
-//! The order that answers a question.
-ghost use Rattle.std.specs.Prelude.{◌≡◌, ◌<◌, ◌≤◌, ◌+◌, ◌↔◌, length, IsTrue, IfOk, OnOk, MatchOption, Some};
-ghost use Rattle.apex_orders.specs.Prelude.{option_copied};
+//! The orders that answer questions.
+ghost use Rattle.std.specs.Prelude.{◌≡◌, ◌<◌, ◌≤◌, ◌+◌, ◌↔◌, ℕ, length, slice_get, IsTrue, IfOk, OnOk, MatchOption};
 ghost use Rattle.apex_orders.specs.Known.{IsAfter, IsTrialOf};
 ghost use Rattle.apex_orders.specs.Orders.{order_at};
-ghost use Rattle.apex_orders.specs.Searching.{AreUnansweredFrom, IsAnswer, IsAnsweredAfter, IsSearch, IsUnansweredAt};
+ghost use Rattle.apex_orders.specs.Outcomes.{IsAnsweredByWith};
+ghost use Rattle.apex_orders.specs.Searching.{AreAnswersBy, AreUnansweredFrom, IsAnsweredAfter, IsOpen, IsSearch, IsUnansweredAt};
 
 use crate::asked::Asked;
 use crate::choice::is_due;
@@ -17,14 +17,88 @@ use apex_ports::{Ports, SavedPorts, Script};
 use apex_types::OutOfMemory;
 use std::alloc::Global;
 
-/// The first of the orders from an index on, followed by the asked call, if that call is the next there and gets an
-/// admitted reply.
-pub(crate) fn first_answer(
+/// Looks for answers to the questions that have none: to each the first of the orders from an index on, followed by the
+/// asked call, after which that call is the next and gets an admitted reply.
+pub(crate) fn find_answers(
     alloc: Global,
     config: &Config,
     scripts: &[Script],
     clock: bool,
-    asked: Option<&Asked>,
+    asked: &[Asked],
+    current: &Search,
+    from: usize,
+    count: usize,
+    trial: &mut Trial,
+    answers: &mut Vec<Option<PackedOrder>>,
+) -> Result<(), OutOfMemory>
+    requires valid { IsSearch clock config.now scripts.now current.now }
+    requires past { current.now.points.first ≤ from }
+    requires within { from + count ≤ length current.now.orders }
+    requires trial { IsTrialOf config.now trial.old }
+    requires answers { AreAnswersBy clock config.now scripts.now asked.now
+        current.now.orders from answers.old.items }
+    ensures answers { OnOk result (AreAnswersBy clock config.now scripts.now asked.now
+        current.now.orders (from + count) answers.new.items) }
+    ensures trial { OnOk result (IsTrialOf config.now trial.new) }
+{
+    let orders = current.orders.len();
+    prove!(from + count <= orders);
+    for q in 0..asked.len() {
+        find_answer(
+            alloc, config, scripts, clock, asked, current, from, count, trial, answers, q,
+        )?;
+    }
+    Ok(())
+}
+
+/// Looks for an answer to the question at an index, unless it has one.
+fn find_answer(
+    alloc: Global,
+    config: &Config,
+    scripts: &[Script],
+    clock: bool,
+    asked: &[Asked],
+    current: &Search,
+    from: usize,
+    count: usize,
+    trial: &mut Trial,
+    answers: &mut Vec<Option<PackedOrder>>,
+    q: usize,
+) -> Result<(), OutOfMemory>
+    requires valid { IsSearch clock config.now scripts.now current.now }
+    requires past { current.now.points.first ≤ from }
+    requires within { from + count ≤ length current.now.orders }
+    requires trial { IsTrialOf config.now trial.old }
+    requires question { q < length asked.now }
+    requires answers { AreAnswersBy clock config.now scripts.now asked.now
+        current.now.orders from answers.old.items }
+    ensures answers { OnOk result (AreAnswersBy clock config.now scripts.now asked.now
+        current.now.orders from answers.new.items) }
+    ensures own { OnOk result (IsOpen clock config.now scripts.now asked.now
+        current.now.orders (from + count) answers.new.items q) }
+    ensures others { OnOk result ((other : ℕ) → ¬ (other ≡ q)
+        → slice_get answers.new.items other ≡ slice_get answers.old.items other) }
+    ensures trial { OnOk result (IsTrialOf config.now trial.new) }
+{
+    if answers[q].is_some() {
+        return Ok(());
+    }
+    let one = &asked[q];
+    let answer = first_answer(
+        alloc, config, scripts, clock, one, current, from, count, trial,
+    )?;
+    answers[q] = answer;
+    Ok(())
+}
+
+/// The first of the orders from an index on, followed by the asked call, if that call is the next there and gets an
+/// admitted reply.
+fn first_answer(
+    alloc: Global,
+    config: &Config,
+    scripts: &[Script],
+    clock: bool,
+    asked: &Asked,
     current: &Search,
     from: usize,
     count: usize,
@@ -34,15 +108,11 @@ pub(crate) fn first_answer(
     requires past { current.now.points.first ≤ from }
     requires within { from + count ≤ length current.now.orders }
     requires trial { IsTrialOf config.now trial.old }
-    ensures answer { let asked = option_copied asked.entry in
-        IfOk result (λ answer. MatchOption answer
-        (AreUnansweredFrom clock config.now scripts.now asked current.now.orders from count)
-        (IsAnswer clock config.now scripts.now asked)) }
+    ensures answer { IfOk result (λ answer. MatchOption answer
+        (AreUnansweredFrom clock config.now scripts.now asked.now current.now.orders from count)
+        (IsAnsweredByWith clock config.now scripts.now asked.now)) }
     ensures trial { OnOk result (IsTrialOf config.now trial.new) }
 {
-    let Some(asked) = asked else {
-        return Ok(None);
-    };
     let orders = current.orders.len();
     prove!(from + count <= orders);
     for k in 0..count {
@@ -78,8 +148,8 @@ fn answer_after(
     requires within { i < length current.now.orders }
     requires trial { IsTrialOf config.now trial.old }
     ensures answer { IfOk result (λ answer. MatchOption answer
-        (IsUnansweredAt clock config.now scripts.now (Some asked.now) current.now.orders i)
-        (IsAnswer clock config.now scripts.now (Some asked.now))) }
+        (IsUnansweredAt clock config.now scripts.now asked.now current.now.orders i)
+        (IsAnsweredByWith clock config.now scripts.now asked.now)) }
     ensures trial { OnOk result (IsTrialOf config.now trial.new) }
 {
     let partitions = config.partitions();

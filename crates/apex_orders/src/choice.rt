@@ -162,7 +162,7 @@ pub(crate) fn choose(
     scripts: &[Script],
     clock: bool,
     uses: &[LastUses],
-    from: Option<usize>,
+    from: &[usize],
     choice: &mut Choice,
 ) -> Result<(), OutOfMemory>
     requires scripts { length scripts.now ≡ length ports.now.config.partitions }
@@ -178,14 +178,14 @@ pub(crate) fn choose(
     enough(alloc, ports, scripts, uses, from, choice)
 }
 
-/// Partitions whose next calls are enough to try: the set that grows from this partition's next call, else the smallest
+/// Partitions whose next calls are enough to try: the set that grows from these partitions' next calls, else the smallest
 /// that grows from one, else all.
 fn enough(
     alloc: Global,
     ports: &Ports,
     scripts: &[Script],
     uses: &[LastUses],
-    from: Option<usize>,
+    from: &[usize],
     choice: &mut Choice,
 ) -> Result<(), OutOfMemory>
     requires scripts { length scripts.now ≡ length ports.now.config.partitions }
@@ -279,27 +279,31 @@ fn is_quiet_outside(
     true
 }
 
-/// The set that grows from this partition's next call, or else the smallest that grows from one, in `smallest`. No
+/// The set that grows from these partitions' next calls, or else the smallest that grows from one, in `smallest`. No
 /// clause says so: `choose` checks whether it is enough.
 fn find_members(
     ports: &Ports,
     uses: &[LastUses],
     nexts: &[NextUse],
-    from: Option<usize>,
+    from: &[usize],
     smallest: &mut Vec<usize>,
     members: &mut Vec<usize>,
 ) -> Result<(), OutOfMemory>
     requires { length uses.now ≡ length ports.now.config.partitions }
 {
-    if let Some(p) = from {
-        if has_call(nexts, p) {
-            return grow(ports, uses, nexts, p, uses.len(), smallest);
+    smallest.clear();
+    for p in from {
+        if has_call(nexts, *p) {
+            smallest.push(*p)?;
         }
     }
-    find_smallest(ports, uses, nexts, smallest, members)
+    if smallest.is_empty() {
+        return find_smallest(ports, uses, nexts, smallest, members);
+    }
+    grow(ports, uses, nexts, uses.len(), smallest)
 }
 
-/// The smallest set that grows from one partition's next call.
+/// The smallest set that grows from one partition's next call, in `smallest`, which is empty.
 fn find_smallest(
     ports: &Ports,
     uses: &[LastUses],
@@ -309,7 +313,6 @@ fn find_smallest(
 ) -> Result<(), OutOfMemory>
     requires { length uses.now ≡ length ports.now.config.partitions }
 {
-    smallest.clear();
     for p in 0..nexts.len() {
         if has_call(nexts, p) && smallest.len() != 1 {
             let most = if smallest.is_empty() {
@@ -317,7 +320,9 @@ fn find_smallest(
             } else {
                 smallest.len()
             };
-            grow(ports, uses, nexts, p, most, members)?;
+            members.clear();
+            members.push(p)?;
+            grow(ports, uses, nexts, most, members)?;
             if smallest.is_empty() || members.len() < smallest.len() {
                 smallest.clear();
                 smallest.extend_from_slice(members.as_slice())?;
@@ -335,19 +340,16 @@ fn has_call(nexts: &[NextUse], p: usize) -> bool {
     }
 }
 
-/// The partition, with those that disturb the next call of a member.
+/// Adds to the members those that disturb the next call of one, up to `most` or a few more.
 fn grow(
     ports: &Ports,
     uses: &[LastUses],
     nexts: &[NextUse],
-    first: usize,
     most: usize,
     members: &mut Vec<usize>,
 ) -> Result<(), OutOfMemory>
     requires { length uses.now ≡ length ports.now.config.partitions }
 {
-    members.clear();
-    members.push(first)?;
     for i in 0..uses.len() {
         if members.len() >= most {
             return Ok(());

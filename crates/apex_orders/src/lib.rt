@@ -42,4 +42,4 @@ pub use crate::outcomes::{Outcomes, all_outcomes, all_outcomes_with_progress};
 pub use crate::progress::{NoProgress, Progress};
 pub use crate::replies::PossibleReply;
 pub use crate::same_state::is_same_state;
-pub use crate::witness::{order_giving, order_giving_with_progress};
+pub use crate::witness::orders_giving;

@@ -1,6 +1,6 @@
 //! The orders that a search has found.
-ghost use Rattle.std.specs.Prelude.{◌≡◌, ◌<◌, ◌==◌, ◌++◌, ◌∷◌, [], cond, length, OnOk, IfOk};
-ghost use Rattle.apex_orders.specs.Orders.{order_at, times};
+ghost use Rattle.std.specs.Prelude.{◌≡◌, ◌<◌, ◌++◌, ◌∷◌, [], map, length, OnOk, IfOk};
+ghost use Rattle.apex_orders.specs.Orders.{order_at};
 
 use crate::order::PackedOrder;
 use apex_types::OutOfMemory;
@@ -13,13 +13,6 @@ struct LastCall {
     /// The index of the order that this one continues.
     before: u32,
     partition: u8,
-}
-
-/// 1 if the partition makes the call, and otherwise 0.
-fn is_by(last: LastCall, p: usize) -> usize
-    ensures { result ≡ cond (last.partition == p) 1 0 }
-{
-    if last.partition as usize == p { 1 } else { 0 }
 }
 
 /// Orders: first the one without calls, then orders that continue earlier ones by a call. A contract sees a list.
@@ -89,19 +82,18 @@ impl Orders {
         Ok(())
     }
 
-    /// The number of the partition's calls in the order at the index.
-    pub(crate) fn calls_of(&self, index: usize, p: usize) -> usize
-        requires { index < length self.now }
-        ensures { result ≡ times p (order_at self.now index) }
+    /// The number of calls of each order.
+    pub(crate) fn lengths(&self, alloc: Global) -> Result<Vec<usize>, OutOfMemory>
+        ensures { IfOk result (λ lengths. lengths.items ≡ map length self.now) }
     {
-        let mut count = 0;
-        let mut at = index;
-        while at > 0 {
-            let last = self.last_calls[at - 1];
-            count += is_by(last, p);
-            at = last.before as usize;
+        let mut lengths = Vec::with_capacity(alloc, self.len())?;
+        lengths.push(0)?;
+        for k in 0..self.last_calls.len() {
+            let last = self.last_calls[k];
+            let longer = lengths[last.before as usize] + 1;
+            lengths.push(longer)?;
         }
-        count
+        Ok(lengths)
     }
 
     /// The order at the index.

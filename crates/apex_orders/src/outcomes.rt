@@ -1,6 +1,6 @@
 //! All that can happen to scripts.
-ghost use Rattle.std.specs.Prelude.{◌≡◌, ◌<◌, length, true, IfOk, IsTrue, ◌↔◌};
-ghost use Rattle.apex_orders.specs.Prelude.{Configuration};
+ghost use Rattle.std.specs.Prelude.{◌≡◌, ◌<◌, length, min, true, IfOk, IsTrue, ◌↔◌};
+ghost use Rattle.std.specs.List.{sum_by};
 ghost use Rattle.apex_orders.specs.Orders.{IsOrder, history_of, order_at};
 ghost use Rattle.apex_orders.specs.Outcomes.{AreReplies, AreRepliesWith, AreEnds, AreEndsWith, IsUndecided, IsUndecidedWith};
 ghost use Rattle.apex_orders.specs.Searching.{AreOrders, AreEndsOf, HasMadeAll};
@@ -68,10 +68,10 @@ pub fn all_outcomes_with_progress<R: Threads + Sync, P: Progress>(
 {
     let partitions = config.partitions();
     prove!(scripts.len() == partitions);
-    let found = match search_points(rt, alloc, config, scripts, clock, None, bound, progress) {
-        Err(fault) => return Err(fault),
-        Ok(found) => found,
-    };
+    let found = search_points(rt, alloc, config, scripts, clock, &[], bound, progress)?;
+    if let Some(fault) = found.given_up {
+        return Err(fault);
+    }
     let ends = ends_of(alloc, config, scripts, &found.orders)?;
     let states = found.orders.len();
     Ok(Outcomes {
@@ -81,7 +81,7 @@ pub fn all_outcomes_with_progress<R: Threads + Sync, P: Progress>(
     })
 }
 
-/// The orders that make all calls.
+/// The orders that make all calls. Only an order that is as long as all scripts together is run.
 fn ends_of(
     alloc: Global,
     config: &Config,
@@ -93,10 +93,12 @@ fn ends_of(
     ensures ends { IfOk result
         (λ ends. AreEndsOf config.now scripts.now orders.now ends.items) }
 {
+    let lengths = orders.lengths(alloc)?;
+    let total = calls_in(scripts);
     let mut ends = Vec::new(alloc);
     let mut order = PackedOrder::new(alloc);
     for k in 0..orders.len() {
-        if is_end(alloc, config, scripts, orders, k, &mut order)? {
+        if lengths[k] >= total && is_end(alloc, config, scripts, orders, k, &mut order)? {
             let end = order.unpacked(alloc)?;
             ends.push(end)?;
         }
@@ -104,8 +106,18 @@ fn ends_of(
     Ok(ends)
 }
 
-/// Whether the order at the index makes all calls. If so, it is written. An order that names a partition fewer times than
-/// it has calls isn't run.
+/// The number of calls of all scripts; at most `usize::MAX`.
+fn calls_in(scripts: &[Script]) -> usize
+    ensures { result ≡ min (sum_by length scripts.now) usize.MAX }
+{
+    let mut calls: usize = 0;
+    for script in scripts {
+        calls = calls.saturating_add(script.calls.len());
+    }
+    calls
+}
+
+/// Whether the order at the index makes all calls. If so, it is written.
 fn is_end(
     alloc: Global,
     config: &Config,
@@ -121,31 +133,9 @@ fn is_end(
         (history_of config.now scripts.now (order_at orders.now k))) }
     ensures written { IfOk result (λ all. all ≡ true → order.new ≡ order_at orders.now k) }
 {
-    if !has_calls_for(orders, k, scripts) {
-        return Ok(false);
-    }
     orders.read(k, order)?;
     let ports = replay(alloc, config, scripts, order)?;
     Ok(has_made_all(&ports, scripts))
-}
-
-/// Whether the order at the index names each partition as many times as it has calls.
-fn has_calls_for(orders: &Orders, k: usize, scripts: &[Script]) -> bool
-    requires { k < length orders.now }
-    ensures { (config : Configuration) → length scripts.now ≡ length config.partitions →
-        HasMadeAll config scripts.now (history_of config scripts.now (order_at orders.now k))
-        → IsTrue result }
-{
-    let mut left = scripts.len();
-    while left > 0 {
-        let p = left - 1;
-        let script = &scripts[p];
-        if orders.calls_of(k, p) < script.calls.len() {
-            return false;
-        }
-        left = p;
-    }
-    true
 }
 
 /// Whether each partition has made all calls of its script.

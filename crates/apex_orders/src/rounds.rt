@@ -1,10 +1,9 @@
 //! The search of all points that orders lead to, round after round.
-ghost use Rattle.std.specs.Prelude.{◌≡◌, ◌<◌, ◌≤◌, ◌+◌, Bool, None, length, IfOk, OnOk, MatchOption};
-ghost use Rattle.apex_orders.specs.Prelude.{option_copied};
-ghost use Rattle.apex_orders.specs.Searching.{HasEnded, HasLevel, HasTriedFrom, IsAnswer, IsGivenUp, IsLater, IsSearch};
+ghost use Rattle.std.specs.Prelude.{◌≡◌, ◌⊎◌, ◌<◌, ◌≤◌, ◌+◌, ℕ, Bool, List, Some, None, false, length, slice_get, IfOk, IfSome, IfNone, IsTrue, OnOk};
+ghost use Rattle.apex_orders.specs.Searching.{AreAllAnswered, HasEnded, HaveOrders, HasLevel, HasTriedFrom, IsGivenUp, IsLater, IsSearch};
 ghost use Rattle.apex_orders.specs.Workers.{AreWorkers, IsUnderWay};
 
-use crate::answer::first_answer;
+use crate::answer::find_answers;
 use crate::asked::Asked;
 use crate::order::PackedOrder;
 use crate::orders::Orders;
@@ -19,50 +18,53 @@ use apex_types::OutOfMemory;
 use std::alloc::Global;
 use std::thread::Threads;
 
-/// What a search has found: one order to each point, and the replies; or the order that answers a question and ended
-/// the search.
+/// What a search has found.
 #[derive(Drop)]
 pub(crate) struct Found {
+    /// One order to each point.
     pub(crate) orders: Orders,
     pub(crate) replies: Vec<PossibleReply>,
-    pub(crate) answer: Option<PackedOrder>,
+    /// For each question an order that answers it, if one was found.
+    pub(crate) answers: Vec<Option<PackedOrder>>,
+    /// Why the search was given up before it was complete, if it was.
+    pub(crate) given_up: Option<OrdersFault>,
 }
 
-/// Continues from each point, level by level, until none is left, or until one order answers the question, or `progress`
-/// ends the search. Many points of a level are tried in two threads; what is found does not depend on that.
+/// Continues from each point, level by level, until none is left, or each of some questions has an order that answers it,
+/// or the search is given up. Many points of a level are tried in two threads; what is found does not depend on that.
 pub(crate) fn search_points<R: Threads + Sync, P: Progress>(
     rt: &R,
     alloc: Global,
     config: &Config,
     scripts: &[Script],
     clock: bool,
-    asked: Option<&Asked>,
+    asked: &[Asked],
     bound: usize,
     progress: &mut P,
-) -> Result<Found, OrdersFault>
+) -> Result<Found, OutOfMemory>
     requires { length scripts.now ≡ length config.now.partitions }
-    ensures ended { let asked = option_copied asked.entry in
-        IfOk result (λ found. HasEnded clock config.now scripts.now asked
-        found.orders found.replies.items found.answer) }
-    ensures given_up { IsGivenUp clock P.CanStop config.now scripts.now bound result }
+    ensures ended { IfOk result (HasEnded clock config.now scripts.now asked.now) }
+    ensures given_up { IfOk result (λ found. IfSome found.given_up
+        (IsGivenUp clock P.CanStop config.now scripts.now bound)) }
 {
     progress.begin();
     let mut rounds = Rounds::new(alloc, config, scripts, asked)?;
-    while rounds.current.points.first < rounds.current.orders.len() {
-        if let Some(order) = rounds.next(
+    while !rounds.are_over() {
+        if let Some(fault) = rounds.next(
             rt, alloc, config, scripts, clock, asked, bound, progress,
         )? {
-            return Ok(rounds.into_found(Some(order)));
+            return Ok(rounds.into_found(Some(fault)));
         }
     }
     Ok(rounds.into_found(None))
 }
 
-/// A search and its workers, between two rounds.
+/// A search, its workers and the answers that it found, between two rounds.
 #[derive(Drop)]
 struct Rounds {
     current: Search,
     workers: Workers,
+    answers: Vec<Option<PackedOrder>>,
 }
 
 impl Rounds {
@@ -71,19 +73,36 @@ impl Rounds {
         alloc: Global,
         config: &Config,
         scripts: &[Script],
-        asked: Option<&Asked>,
+        asked: &[Asked],
     ) -> Result<Rounds, OutOfMemory>
         requires { length scripts.now ≡ length config.now.partitions }
-        ensures under_way { let asked = option_copied asked.entry in IfOk result
-            (λ one. (clock : Bool) → IsUnderWay clock config.now scripts.now asked one) }
+        ensures under_way { IfOk result
+            (λ one. (clock : Bool) → IsUnderWay clock config.now scripts.now asked.now one) }
         ensures first { IfOk result (λ one. one.current.points.first ≡ 0) }
     {
         let current = Search::new(alloc, config, scripts, asked)?;
         let workers = Workers::new(alloc, config, &current.orders)?;
-        Ok(Rounds { current, workers })
+        let answers = no_answers(alloc, asked.len())?;
+        Ok(Rounds {
+            current,
+            workers,
+            answers,
+        })
     }
 
-    /// Tries the next points of the level, unless one of their orders answers the question.
+    /// Whether no point is left to continue from, or each of some questions has its order.
+    fn are_over(&self) -> bool
+        ensures over { IsTrue result →
+            (length self.now.current.orders ≤ self.now.current.points.first)
+            ⊎ AreAllAnswered self.now.answers.items }
+        ensures left { result ≡ false →
+            self.now.current.points.first < length self.now.current.orders }
+    {
+        self.current.points.first >= self.current.orders.len() || are_all_answered(&self.answers)
+    }
+
+    /// Looks among the next points of the level for orders that answer questions, and then tries these points, unless the
+    /// search is given up; returns why, if it is.
     fn next<R: Threads + Sync, P: Progress>(
         &mut self,
         rt: &R,
@@ -91,58 +110,59 @@ impl Rounds {
         config: &Config,
         scripts: &[Script],
         clock: bool,
-        asked: Option<&Asked>,
+        asked: &[Asked],
         bound: usize,
         progress: &mut P,
-    ) -> Result<Option<PackedOrder>, OrdersFault>
-        requires under_way { IsUnderWay clock config.now scripts.now (option_copied asked) self.old }
+    ) -> Result<Option<OrdersFault>, OutOfMemory>
+        requires under_way { IsUnderWay clock config.now scripts.now asked.now self.old }
         requires left { self.old.current.points.first < length self.old.current.orders }
-        ensures answer { let asked = option_copied asked.entry in
-            IfOk result (λ answer. MatchOption answer
-            (IsUnderWay clock config.now scripts.now asked self.new)
-            (IsAnswer clock config.now scripts.now asked)) }
-        ensures further { IfOk result (λ answer. answer ≡ None →
+        ensures answers { OnOk result
+            (HaveOrders clock config.now scripts.now asked.now self.new.answers.items) }
+        ensures under_way { IfOk result (λ given_up. given_up ≡ None →
+            IsUnderWay clock config.now scripts.now asked.now self.new) }
+        ensures further { IfOk result (λ given_up. given_up ≡ None →
             self.old.current.points.first < self.new.current.points.first) }
-        ensures within { IfOk result (λ answer. answer ≡ None →
+        ensures within { IfOk result (λ given_up. given_up ≡ None →
             self.new.current.points.first ≤ bound) }
-        ensures given_up { IsGivenUp clock P.CanStop config.now scripts.now bound result }
+        ensures given_up { IfOk result (λ given_up.
+            IfSome given_up (IsGivenUp clock P.CanStop config.now scripts.now bound)) }
     {
         let first = self.current.points.first;
         let count = self.current.count_at_once();
         let current = &self.current;
-        let trial = &mut self.workers.first.trial;
-        if let Some(order) = first_answer(
-            alloc, config, scripts, clock, asked, current, first, count, trial,
-        )? {
-            return Ok(Some(order));
+        let (trial, answers) = (&mut self.workers.first.trial, &mut self.answers);
+        find_answers(
+            alloc, config, scripts, clock, asked, current, first, count, trial, answers,
+        )?;
+        if let Some(fault) = self.given_up(config, scripts, clock, bound, progress) {
+            return Ok(Some(fault));
         }
-        self.check_bounds(config, scripts, clock, bound, progress)?;
         self.advance(rt, alloc, config, scripts, clock, count)?;
         Ok(None)
     }
 
-    /// Fails if more points are found than the bound, or if `progress` ends the search.
-    fn check_bounds<P: Progress>(
+    /// Why the search is given up: more points are found than the bound, or `progress` ends it.
+    fn given_up<P: Progress>(
         &self,
         config: &Config,
         scripts: &[Script],
         clock: bool,
         bound: usize,
         progress: &mut P,
-    ) -> Result<(), OrdersFault>
+    ) -> Option<OrdersFault>
         requires { IsSearch clock config.now scripts.now self.now.current }
-        ensures within { OnOk result (length self.now.current.orders ≤ bound) }
-        ensures given_up { IsGivenUp clock P.CanStop config.now scripts.now bound result }
+        ensures within { IfNone result (length self.now.current.orders ≤ bound) }
+        ensures why { IfSome result (IsGivenUp clock P.CanStop config.now scripts.now bound) }
     {
         let states = self.current.orders.len();
         if states > bound {
-            return Err(OrdersFault::TooManyStates);
+            return Some(OrdersFault::TooManyStates);
         }
         let bytes = self.current.bytes();
         if !progress.level(self.current.points.calls, states, bytes) {
-            return Err(OrdersFault::Stopped);
+            return Some(OrdersFault::Stopped);
         }
-        Ok(())
+        None
     }
 
     /// Tries the next points, and goes on to the next level if all points of this one are tried.
@@ -167,6 +187,7 @@ impl Rounds {
         ensures tried { OnOk result (HasTriedFrom clock config.now scripts.now
             self.new.current.orders self.new.current.replies
             self.old.current.points.first (self.old.current.points.first + count)) }
+        ensures answers { self.new.answers ≡ self.old.answers }
     {
         let current = &mut self.current;
         self.workers
@@ -175,17 +196,44 @@ impl Rounds {
         Ok(())
     }
 
-    /// What was found, with the order that answers the question.
-    fn into_found(self, answer: Option<PackedOrder>) -> Found
+    /// What was found, with why the search was given up.
+    fn into_found(self, given_up: Option<OrdersFault>) -> Found
         ensures orders { result.orders ≡ self.current.orders }
         ensures replies { result.replies.items ≡ self.current.replies }
-        ensures answer { result.answer ≡ answer }
+        ensures answers { result.answers ≡ self.answers }
+        ensures given_up { result.given_up ≡ given_up }
     {
         let current = self.current;
         Found {
             orders: current.orders,
             replies: current.replies.into_found(),
-            answer,
+            answers: self.answers,
+            given_up,
         }
     }
+}
+
+/// No answer to any of `count` questions.
+fn no_answers(alloc: Global, count: usize) -> Result<Vec<Option<PackedOrder>>, OutOfMemory>
+    ensures count { IfOk result (λ answers. length answers.items ≡ count) }
+    ensures none { IfOk result (λ answers. (q : ℕ) (order : List ℕ)
+        → ¬ (slice_get answers.items q ≡ Some (Some order))) }
+{
+    let mut answers = Vec::with_capacity(alloc, count)?;
+    for _ in 0..count {
+        answers.push(None)?;
+    }
+    Ok(answers)
+}
+
+/// Whether there are questions, and each has its order.
+fn are_all_answered(answers: &Vec<Option<PackedOrder>>) -> bool
+    ensures { IsTrue result → AreAllAnswered answers.now.items }
+{
+    for q in 0..answers.len() {
+        if answers[q].is_none() {
+            return false;
+        }
+    }
+    !answers.is_empty()
 }

@@ -30,15 +30,15 @@ const MOST_POINTS: usize = 2_048;
 const MOST_BYTES: usize = 1 << 24;
 
 /// A search: one order to each point, in the order in which they are found; what is kept of the points; the replies; the
-/// last uses of channels by the scripts; and the partition that a question is about, whose next call is always tried, so
-/// that an order that answers is short.
+/// last uses of channels by the scripts; and the partitions that questions are about, whose next calls are always tried, so
+/// that an order that answers one is short.
 #[derive(Drop)]
 pub(crate) struct Search {
     pub(crate) orders: Orders,
     pub(crate) points: Points,
     pub(crate) replies: Replies,
     pub(crate) uses: Vec<LastUses>,
-    pub(crate) from: Option<usize>,
+    pub(crate) from: Vec<usize>,
 }
 
 impl Search {
@@ -47,7 +47,7 @@ impl Search {
         alloc: Global,
         config: &Config,
         scripts: &[Script],
-        asked: Option<&Asked>,
+        asked: &[Asked],
     ) -> Result<Search, OutOfMemory>
         requires { length scripts.now ≡ length config.now.partitions }
         ensures valid { IfOk result (λ one. (clock : Bool) → IsSearch clock config.now scripts.now one) }
@@ -59,10 +59,7 @@ impl Search {
         let points = Points::new(alloc, config)?;
         let replies = Replies::new(alloc)?;
         let uses = last_uses(alloc, config, scripts)?;
-        let from = match asked {
-            None => None,
-            Some(one) => Some(one.partition),
-        };
+        let from = partitions_asked(alloc, asked)?;
         Ok(Search {
             orders,
             points,
@@ -241,4 +238,15 @@ impl Search {
         self.orders.push(i, one.partition)?;
         Ok(None)
     }
+}
+
+/// The partitions that the questions are about, each once.
+fn partitions_asked(alloc: Global, asked: &[Asked]) -> Result<Vec<usize>, OutOfMemory> {
+    let mut partitions = Vec::new(alloc);
+    for one in asked {
+        if !partitions.contains(&one.partition) {
+            partitions.push(one.partition)?;
+        }
+    }
+    Ok(partitions)
 }

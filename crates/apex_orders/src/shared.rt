@@ -16,8 +16,8 @@ pub(crate) struct Shared<'a> {
     pub(crate) clock: bool,
     /// The last uses of channels by the scripts.
     pub(crate) uses: &'a [LastUses],
-    /// The partition whose next call is always tried, if there is one.
-    pub(crate) from: Option<usize>,
+    /// The partitions whose next calls are always tried.
+    pub(crate) from: &'a [usize],
     /// The replies that the search had found.
     pub(crate) known: &'a Replies,
     /// The orders that it had found, and what it keeps of their points.

@@ -123,7 +123,7 @@ fn try_alone(
         scripts,
         clock,
         uses: current.uses.as_slice(),
-        from: current.from,
+        from: current.from.as_slice(),
         known: &current.replies,
         orders: &current.orders,
         points: &current.points,
@@ -156,17 +156,16 @@ fn try_both<R: Threads + Sync>(
 {
     // (the search knows more of what the second finds, so that one has memory to spare for the first)
     mem::swap(&mut one.spare, &mut other.spare);
-    // (this thread, in which the other runs, also adds what is found, and so has less of the points in its cache)
-    let more = count / 20 * 11;
-    current.give(config, scripts, clock, more, one)?;
-    current.give(config, scripts, clock, count - more, other)?;
+    let half = count / 2;
+    current.give(config, scripts, clock, half, one)?;
+    current.give(config, scripts, clock, count - half, other)?;
     let shared = Shared {
         alloc,
         config,
         scripts,
         clock,
         uses: current.uses.as_slice(),
-        from: current.from,
+        from: current.from.as_slice(),
         known: &current.replies,
         orders: &current.orders,
         points: &current.points,

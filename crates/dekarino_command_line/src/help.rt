@@ -108,8 +108,8 @@ between partitions, unless `--clock` says that they are of one clock. For each c
 prints all replies that some order gives, and no others, after `*` if there are several; and for each queuing channel
 the least and the greatest of its counts in the end. Then come the number of states tried and of ends that differ in a
 count, in a line for the partitions at the ends of each channel, and the number of calls with several replies. A search
-that meets a bound of seconds, memory or states gives up: the status is 5. Each question has a search of its own, and so
-have the partitions at the ends of each channel.
+that meets a bound of seconds, memory or states gives up: the status is 5. The partitions at the ends of each channel are
+searched by themselves: once for all questions about their calls, and once for all questions about ends.
 
 With --witness FOLDER, each reply of several has a file NAME_LINE_REPLY.log in FOLDER, named behind the reply: a shortest
 order that ends with that call and that reply, as a log in which `judge` finds no departure. FOLDER is made if it isn't
@@ -117,7 +117,7 @@ there, and a file with that name is replaced. At most 1,000 files are written, t
 has a search of its own.
 
 A question NAME:LINE = REPLY is about the call on that line of the partition's script. A return code alone means
-every reply with that code. The first order that gives such a reply ends the search. A question CHANNEL COUNT OP NUMBER,
+every reply with that code. The answer is a shortest order that gives such a reply. A question CHANNEL COUNT OP NUMBER,
 as NAV waiting <= 1, is about a queuing channel after all calls. COUNT is accepted, received, cleared or waiting, and OP
 is =, <=, >=, < or >. Several questions are answered in the order given, each below a line with the question. The status
 is 4 if one answer is no, else 5 if one is undecided.

@@ -11,8 +11,8 @@ const SECONDS: usize = 60;
 /// The MiB, if no number is given.
 const MEMORY: usize = 1_024;
 
-/// How much a search may take, and whether moments are of one clock in it. Each question has a search of its own, and so
-/// has each group of partitions that share no channel with others.
+/// How much a search may take, and whether moments are of one clock in it. The partitions at the ends of each channel
+/// have a search of their own.
 #[derive(Clone, Copy, Debug, PartialEq, Eq)]
 pub struct SearchLimits {
     pub seconds: usize,

@@ -3,7 +3,7 @@ ghost use Rattle.std.specs.Prelude.{◌≡◌, length};
 
 use crate::bound::Bound;
 use crate::json_reasons::push_undecided;
-use crate::occurrences::{Answer, find_occurrence};
+use crate::occurrences::{Answer, Occurrence, Occurrences, answer_by};
 use crate::outcome::Outcome;
 use crate::progress::Progress;
 use crate::questions::{AskedOf, question_in};
@@ -18,7 +18,7 @@ use std::alloc::{AllocError, Global};
 use std::thread::Threads;
 
 /// The answers to questions, in the order given. Each of several is below a line with its question, also an undecided
-/// one. Each has a search of its own, which gives up at the limits.
+/// one. Each search gives up at the limits.
 pub(crate) fn answers_to<'a, R: Threads + Sync, P: Progress>(
     rt: &R,
     alloc: Global,
@@ -34,20 +34,23 @@ pub(crate) fn answers_to<'a, R: Threads + Sync, P: Progress>(
 {
     let all_asked = all_asked_in(alloc, config, scripts, lines, questions)?;
     let all_asked = all_asked.as_slice();
+    let mut found = Occurrences::find(rt, alloc, config, scripts, limits, all_asked, progress)?;
     match (questions, all_asked) {
         ([question], [asked]) => {
             let answer = answer_to(
-                rt, alloc, config, scripts, lines, limits, question, asked, form, progress,
+                rt, alloc, config, scripts, lines, limits, question, asked, &mut found, form,
+                progress,
             )?;
             Ok(answer.verdict.outcome(answer.text.into_bytes()))
         }
         _ => several_answers(
-            rt, alloc, config, scripts, lines, limits, questions, all_asked, form, progress,
+            rt, alloc, config, scripts, lines, limits, questions, all_asked, &mut found, form,
+            progress,
         ),
     }
 }
 
-/// The answer to a question.
+/// The answer to a question, which is the next of its kind among those for which something was found.
 fn answer_to<'a, R: Threads + Sync, P: Progress>(
     rt: &R,
     alloc: Global,
@@ -57,20 +60,25 @@ fn answer_to<'a, R: Threads + Sync, P: Progress>(
     limits: SearchLimits,
     question: &Question<'a>,
     asked: &AskedOf,
+    found: &mut Occurrences,
     form: Form,
     progress: &mut P,
 ) -> Result<Answer, Unfinished<'a>>
     requires { length scripts.old ≡ length config.now.partitions }
     ensures same { scripts.new ≡ scripts.old }
 {
-    match (question, asked) {
-        (Question::Why(words), AskedOf::Call(asked)) => find_reason(
-            rt, alloc, config, scripts, lines, limits, words, asked, form, progress,
-        ),
-        _ => find_occurrence(
-            rt, alloc, config, scripts, limits, question, asked, progress,
-        ),
-    }
+    let occurrence = match asked {
+        AskedOf::Call(_) => found.next_call(),
+        AskedOf::End(_) => found.next_end(),
+        AskedOf::Reason(asked) => {
+            let words = question.words();
+            return find_reason(
+                rt, alloc, config, scripts, lines, limits, words, asked, form, progress,
+            );
+        }
+    };
+    let occurrence = occurrence.unwrap_or(Occurrence::Undecided(Bound::Seconds(limits.seconds)));
+    answer_by(alloc, config, scripts, question, occurrence)
 }
 
 /// What the questions ask.
@@ -101,6 +109,7 @@ fn several_answers<'a, R: Threads + Sync, P: Progress>(
     limits: SearchLimits,
     questions: &[Question<'a>],
     all_asked: &[AskedOf],
+    found: &mut Occurrences,
     form: Form,
     progress: &mut P,
 ) -> Result<Outcome, Unfinished<'a>>
@@ -111,7 +120,7 @@ fn several_answers<'a, R: Threads + Sync, P: Progress>(
     for (question, asked) in questions.iter().zip(all_asked.iter()) {
         push_question(&mut text, question, form)?;
         let answer = answer_to(
-            rt, alloc, config, scripts, lines, limits, question, asked, form, progress,
+            rt, alloc, config, scripts, lines, limits, question, asked, found, form, progress,
         );
         match answer {
             Ok(answer) => {

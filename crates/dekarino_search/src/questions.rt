@@ -26,6 +26,8 @@ use std::alloc::Global;
 pub(crate) enum AskedOf {
     /// Whether a call gets a reply.
     Call(Asked),
+    /// Which two calls decide whether a call gets a reply.
+    Reason(Asked),
     /// Whether all calls lead to an end.
     End(AskedEnd),
 }
@@ -57,7 +59,7 @@ fn read_why<'a>(
     words: &'a str,
 ) -> Result<AskedOf, QuestionFault<'a>> {
     match read_call(config, scripts, lines, words) {
-        Ok(asked) => Ok(AskedOf::Call(asked)),
+        Ok(asked) => Ok(AskedOf::Reason(asked)),
         Err(QuestionFault::Form) => Err(QuestionFault::CallForm),
         Err(fault) => Err(fault),
     }

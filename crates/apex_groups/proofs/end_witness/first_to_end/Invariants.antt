@@ -2,6 +2,6 @@ use Rattle.apex_groups.proofs.Common.{◌≡◌, ℕ, ◌<◌, List, slice_get, 
 use Rattle.apex_groups.specs.Ends.{IsSuchEnd}
 use Rattle.apex_groups.proofs.end_witness.first_to_end.Given as goal
 
-abbrev pub invariant-loop-index : goal.invariant-loop-index
-invariant-loop-index l =
-    (k : ℕ) (order : List ℕ) → k < l.index → slice_get l.orders k ≡ Some order → ¬ IsSuchEnd l.config l.asked (history_of l.config l.scripts order)
+abbrev pub invariant-loop-order : goal.invariant-loop-order
+invariant-loop-order l =
+    (k : ℕ) (order : List ℕ) → k < l.order-index → slice_get l.orders k ≡ Some order → ¬ IsSuchEnd l.config l.asked (history_of l.config l.scripts order)

@@ -1,7 +1,12 @@
-use Rattle.apex_orders.proofs.Common.{◌≡◌, ◌<◌, ◌+◌, ◌++◌, ◌∷◌, [], List, ℕ, length, take, sym, ap, ◌∙◌, subst, arith, take_more, false≢true, history_of, order_at, HasMadeAll, AreEndsOf}
-use Rattle.apex_orders.proofs.EndLemmas.{one_end, no_end}
+use Rattle.apex_orders.proofs.Common.{◌≡◌, ◌<◌, ◌+◌, ◌++◌, ◌∷◌, [], List, ℕ, length, map, take, get_or, sym, ap, ◌∙◌, subst, arith, take_more, false≢true, history_of, order_at, HasMadeAll, AreEndsOf}
+use Rattle.std.proofs.lemmas.List.{get_or-map}
+use Rattle.apex_orders.proofs.EndLemmas.{one_end, no_end, long_enough}
 use Rattle.apex_orders.proofs.outcomes.ends_of.Goals as goal
-use Rattle.apex_orders.proofs.outcomes.ends_of.Goals.{then-branch+in_ok-end+in_ok-push, else-branch}
+use Rattle.apex_orders.proofs.outcomes.ends_of.Goals.{then-index-total+in_ok-is_end+then-branch+in_ok-end+in_ok-push, else-index-total, else-index-total-via-then-index-total+in_ok-is_end+else-branch, else-index-total-via-else-index-total}
+
+-- the length that was read
+length_at : (orders : List (List ℕ)) (lengths : List ℕ) (k n : ℕ) → lengths ≡ map (λ order. length order) orders → k < length orders → n ≡ get_or lengths k n → n ≡ length (order_at orders k)
+length_at orders lengths k n are within is = is ∙ (ap (λ (ns : List ℕ). get_or ns k n) are ∙ get_or-map (λ order. length order) orders k [] n within)
 
 pub loop-k-preserved : goal.loop-k-preserved
 loop-k-preserved c =
@@ -12,17 +17,23 @@ loop-k-preserved c =
     let item = order_at orders i in
     let within : i < length orders = omega arith in
     let longer : take (i + 1) orders ≡ take i orders ++ item ∷ [] = take_more orders i [] within in
-    elim c.if-branch.branch [
-      | then-branch+in_ok-end+in_ok-push w ↦
-          let made : HasMadeAll config scripts (history_of config scripts item) = c.in_ok-is_end.ensures.end.0 w.if-branch.true in
-          let pushed : c.if-branch.ends.items ≡ c.loop-k.ends.items ++ item ∷ [] =
-          ap (λ v. v.items) w.ends-is ∙ (w.in_ok-push.ensures.items ∙ ap (λ (o : List ℕ). c.loop-k.ends.items ++ o ∷ []) (w.in_ok-end.ensures ∙ c.in_ok-is_end.ensures.written w.if-branch.true)) in
+    let own = length_at orders c.in_ok-lengths.lengths.items i c.index.result.now c.in_ok-lengths.ensures within c.index.ensures in
+    elim c.if-index-total.branch [
+      | then-index-total+in_ok-is_end+then-branch+in_ok-end+in_ok-push w ↦
+          let made : HasMadeAll config scripts (history_of config scripts item) = w.in_ok-is_end.ensures.end.0 w.if-branch.true in
+          let pushed : c.if-index-total.ends.items ≡ c.loop-k.ends.items ++ item ∷ [] =
+          ap (λ v. v.items) w.ends-is ∙ (w.in_ok-push.ensures.items ∙ ap (λ (o : List ℕ). c.loop-k.ends.items ++ o ∷ []) (w.in_ok-end.ensures ∙ w.in_ok-is_end.ensures.written w.if-branch.true)) in
           subst (λ (x : List (List ℕ) × List (List ℕ)). AreEndsOf config scripts x.0 x.1) (λ j. (sym longer j, sym pushed j))
           (one_end config scripts (take i orders) c.loop-k.ends.items item c.loop-k.invariant made)
-      | else-branch w ↦
+      | else-index-total w ↦
           let unfinished : HasMadeAll config scripts (history_of config scripts item) → ⊥ =
-          λ made. false≢true (sym w.if-branch.false ∙ c.in_ok-is_end.ensures.end.1 made) in
-          let kept : c.if-branch.ends.items ≡ c.loop-k.ends.items = ap (λ v. v.items) w.ends-is in
+          elim w.else-index-total.branch [
+            | else-index-total-via-then-index-total+in_ok-is_end+else-branch w' ↦ λ made. false≢true (sym w'.if-branch.false ∙ w'.in_ok-is_end.ensures.end.1 made)
+            | else-index-total-via-else-index-total w' ↦ λ made.
+                let long = long_enough config scripts c.requires.scripts item made in
+                omega (arith, long, own, c.calls_in-total.ensures, w'.if-index-total.false)
+          ] in
+          let kept : c.if-index-total.ends.items ≡ c.loop-k.ends.items = ap (λ v. v.items) w.ends-is in
           subst (λ (x : List (List ℕ) × List (List ℕ)). AreEndsOf config scripts x.0 x.1) (λ j. (sym longer j, sym kept j))
           (no_end config scripts (take i orders) c.loop-k.ends.items item c.loop-k.invariant unfinished)
     ]

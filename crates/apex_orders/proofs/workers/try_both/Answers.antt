@@ -1,5 +1,5 @@
 use Rattle.apex_orders.proofs.Common.{◌≡◌, ◌+◌, ◌-◌, ◌≤◌, List, ℕ, length, sym, ◌∙◌, subst, arith, LastUses, AreOfScripts, HasContinued, HasMade, HasTriedFrom, IsLaterWorker, IsRange, Keeps}
-use Rattle.std.proofs.Common.{◌*◌, ◌/◌}
+use Rattle.std.proofs.Common.{◌/◌}
 use Rattle.apex_orders.proofs.GrowthLemmas.{still_many}
 use Rattle.apex_orders.proofs.Levels.{still_made}
 use Rattle.apex_orders.proofs.SearchLemmas.{includes_along, keeps_along}
@@ -8,7 +8,7 @@ use Rattle.apex_orders.proofs.workers.try_both.Goals as goal
 
 pub give-requires-2-clause-within : goal.give-requires-2-clause-within
 give-requires-2-clause-within g c =
-    let first : c.give.new.self.points.first ≡ c.args.current.now.points.first + c.args.count / 20 * 11 = c.in_ok-give.ensures.first in
+    let first : c.give.new.self.points.first ≡ c.args.current.now.points.first + c.args.count / 2 = c.in_ok-give.ensures.first in
     let within = c.requires.within in
     let same = c.in_ok-give.ensures.next in
     omega (arith, first, within, same)
@@ -83,7 +83,7 @@ returns-clause-continued g c =
     let four = c.finish-2.new.self in
     let from = start.points.first in
     let count = c.args.count in
-    let mid = from + count / 20 * 11 in
+    let mid = from + count / 2 in
     let same_orders : both.orders ≡ start.orders = c.in_ok-give-2.ensures.orders ∙ c.in_ok-give.ensures.orders in
     let orders_three : Keeps start.orders three.orders = keeps_along start.orders both.orders three.orders (keeps_same start.orders both.orders same_orders) c.in_ok-finish.ensures.later.orders in
     let later = when_ok c.run_both.new.one.result (IsLaterWorker c.give.new.worker c.run_both.new.one) c.in_ok-finish.ensures.run c.run_both.ensures.later in
@@ -91,7 +91,7 @@ returns-clause-continued g c =
     let one : HasTriedFrom c.args.clock config scripts three.orders three.replies from mid =
     c.in_ok-finish.ensures.tried from mid (same_range from mid c.give.new.worker c.run_both.new.one later c.in_ok-give.ensures.range) in
     let first : c.give.new.self.points.first ≡ mid = c.in_ok-give.ensures.first in
-    let last : c.give.new.self.points.first + (count - count / 20 * 11) ≡ from + count = omega (arith, first) in
+    let last : c.give.new.self.points.first + (count - count / 2) ≡ from + count = omega (arith, first) in
     let range = subst (λ (x : ℕ × ℕ). IsRange x.0 x.1 c.give-2.new.worker) (λ i. (first i, last i)) c.in_ok-give-2.ensures.range in
     let two : HasTriedFrom c.args.clock config scripts four.orders four.replies mid (from + count) =
     c.in_ok-finish-2.ensures.tried mid (from + count) (same_range mid (from + count) c.give-2.new.worker c.run_both.new.other later_too range) in

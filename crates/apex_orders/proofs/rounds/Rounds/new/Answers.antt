@@ -9,6 +9,12 @@ returns-clause-under_way c clock =
       valid = c.in_ok-current.ensures.valid clock;
       level = c.in_ok-current.ensures.level;
       workers = c.in_ok-workers.ensures;
-      unanswered = λ k below. absurd (omega (arith, below, first));
+      answers = record {
+        found = record {
+          count = c.in_ok-answers.ensures.count;
+          each = λ q one order at here. absurd (c.in_ok-answers.ensures.none q order here);
+        };
+        unanswered = λ q one at here k below. absurd (omega (arith, below, first));
+      };
       tried = λ k below. absurd (omega (arith, below, first));
     }
