@@ -65,14 +65,17 @@ worker_send = declared_send Worker.the_type (
   (
     search sendable,
     (
-      search (crosses, boxed_ports_send),
+      search (sendable, crosses, as_row_send) depth 12,
       (
-        search (crosses, found_point_send),
+        search (crosses, boxed_ports_send),
         (
-          search (sendable, crosses, as_row_send) depth 12,
+          search (crosses, found_point_send),
           (
-            search (as_row_send, replies.the_send),
-            (search (as_row_send, trial.the_send), (search (crosses, boxed_ports_send), (search (sendable, crosses, as_row_send) depth 12, tt))),
+            search (sendable, crosses, as_row_send) depth 12,
+            (
+              search (as_row_send, replies.the_send),
+              (search (as_row_send, trial.the_send), (search (crosses, boxed_ports_send), (search (sendable, crosses, as_row_send) depth 12, tt))),
+            ),
           ),
         ),
       ),

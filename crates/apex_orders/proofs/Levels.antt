@@ -139,5 +139,5 @@ module _ (config : Configuration) (scripts : Scripts) where
 
   pub still_made : (calls : ℕ) (old new : Worker) → IsLaterWorker old new → HasMade config scripts calls old → HasMade config scripts calls new
   still_made calls old new later made j within =
-      let count = ap (λ points. length points) later.points in
+      let count = ap (λ points. length points) later.given in
       subst (λ (order : List ℕ). calls_made config (history_of config scripts order) ≡ calls) (sym (same_given config scripts old new j later)) (made j (omega (arith, within, count)))

@@ -1,5 +1,5 @@
 -- What a worker is given, finds and knows.
-use Rattle.apex_orders.proofs.Common.{◌≡◌, ⊎_elim, ℕ, ◌+◌, ◌<◌, ◌≤◌, Bool, List, [], ◌∷◌, ◌++◌, length, map, Ok, Err, Result, OnOk, Some, false, sym, ap, ◌∙◌, subst, arith, cases_lt, append_assoc, map-append, length-append, get_or, slice_get, slice_get-get_or, Configuration, History, PortsView, PossibleReply, FoundPoint, Worker, Scripts, Has, IsAfter, IsSamePoint, hash_of, history_of, order_at, Keeps, Includes, Knows, HasTriedEnough}
+use Rattle.apex_orders.proofs.Common.{◌≡◌, ⊎_elim, ℕ, ◌+◌, ◌<◌, ◌≤◌, Bool, List, [], ◌∷◌, ◌++◌, length, map, Ok, Err, Result, OnOk, Some, false, sym, ap, ◌∙◌, subst, arith, cases_lt, append_assoc, map-append, length-append, slice_get, Configuration, History, PortsView, PossibleReply, FoundPoint, Worker, Scripts, Has, IsSamePoint, hash_of, history_of, order_at, Keeps, Includes, Knows, HasTriedEnough}
 use Rattle.apex_orders.proofs.Common.{AreGiven, AreHashed, HasContinued, HasPoint, HasTriedFrom, IsFoundBy, IsLaterWorker, IsRange, order_given, order_found, orders_known}
 use Rattle.std.specs.Result.{is_err}
 use Rattle.apex_orders.proofs.Following.{same_along}
@@ -46,16 +46,12 @@ module _ (config : Configuration) (scripts : Scripts) where
   -- ---- its own points
 
   -- the order to a point that was given is known
-  pub given_known : (worker : Worker) (j : ℕ) → AreGiven config scripts worker → j < length worker.points.items
+  pub given_known : (worker : Worker) (j : ℕ) → AreGiven config scripts worker → j < length worker.given.value.items
       → slice_get (orders_known worker) (worker.first + j) ≡ Some (order_given worker j)
   given_known worker j given within =
       let base = worker.base.value in
       let all = given.within in
       stays_before base (map (order_found worker) worker.found.items) (worker.first + j) (order_given worker j) (order_here base (worker.first + j) (omega (arith, within, all)))
-
-  pub given_at : (worker : Worker) (j : ℕ) (saved : PortsView) → AreGiven config scripts worker → j < length worker.points.items → saved ≡ get_or worker.points.items j saved
-      → IsAfter config scripts (order_given worker j) saved
-  given_at worker j saved given within read = given.each j saved (slice_get-get_or worker.points.items j saved within ∙ ap Some (sym read))
 
   -- a point that was found is known
   pub point_known : (worker : Worker) (ports : PortsView) → ((o : FoundPoint) → Has worker.found.items o → IsFoundBy config scripts worker o) → ports.config ≡ config
@@ -75,7 +71,7 @@ module _ (config : Configuration) (scripts : Scripts) where
   later_along a b c one two = record {
     base = two.base ∙ one.base;
     first = two.first ∙ one.first;
-    points = two.points ∙ one.points;
+    given = two.given ∙ one.given;
     orders = keeps_along (orders_known a) (orders_known b) (orders_known c) one.orders two.orders;
     replies = includes_along a.replies b.replies c.replies one.replies two.replies;
   }
@@ -153,7 +149,7 @@ includes_behind known old new includes one has =
 pub same_range : (from to : ℕ) (old new : Worker) → IsLaterWorker old new → IsRange from to old → IsRange from to new
 same_range from to old new later range =
     let first = later.first in
-    let count = ap (λ (points : List PortsView). length points) later.points in
+    let count = ap (λ (points : List PortsView). length points) later.given in
     let was = range.first in
     let last = range.last in
     record { first = first ∙ was; last = omega (arith, first, count, last) }

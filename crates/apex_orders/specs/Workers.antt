@@ -48,13 +48,17 @@ pub record HasPoint (found : List FoundPoint) (ports : PortsView) : Type 0 where
 
 -- the worker's points are those of the orders from its first index on
 pub record AreGiven (config : Configuration) (scripts : Scripts) (worker : Worker) : Type 0 where
-  pub within : worker.first + length worker.points.items ≤ length worker.base.value
+  pub within : worker.first + length worker.given.value.items ≤ length worker.base.value
   pub room : length worker.base.value < 2 ^ 64
-  pub each : (j : ℕ) (ports : PortsView) → slice_get worker.points.items j ≡ Some ports → IsAfter config scripts (order_given worker j) ports
+  pub each : (j : ℕ) (ports : PortsView) → slice_get worker.given.value.items j ≡ Some ports → IsAfter config scripts (order_given worker j) ports
+
+-- each of its points is still to be tried
+abbrev pub HasAllLeft : Worker → Type 0
+HasAllLeft worker = worker.points.items ≡ worker.given.value.items
 
 -- what the worker found is one call behind one of its points
 pub record IsFoundBy (config : Configuration) (scripts : Scripts) (worker : Worker) (one : FoundPoint) : Type 0 where
-  pub before : one.before < length worker.points.items
+  pub before : one.before < length worker.given.value.items
   pub partition : one.partition < length config.partitions
   pub hash : one.hash ≡ hash_of config one.saved.history
   pub after : IsAfter config scripts (order_found worker one) one.saved
@@ -75,25 +79,25 @@ pub record IsWorker (clock : Bool) (config : Configuration) (scripts : Scripts) 
 pub record IsLaterWorker (old new : Worker) : Type 0 where
   pub base : new.base.value ≡ old.base.value
   pub first : new.first ≡ old.first
-  pub points : new.points.items ≡ old.points.items
+  pub given : new.given.value.items ≡ old.given.value.items
   pub orders : Keeps (orders_known old) (orders_known new)
   pub replies : Includes old.replies new.replies
 
 -- enough was tried after each of the points: the replies were known before, or found by the worker
 abbrev pub HasContinued : Bool → Configuration → Scripts → List PossibleReply → Worker → Type 0
 HasContinued clock config scripts known worker =
-    (j : ℕ) → j < length worker.points.items
+    (j : ℕ) → j < length worker.given.value.items
     → HasTriedEnough clock config scripts (orders_known worker) (known ++ worker.replies) (order_given worker j)
 
 -- its points are those of the orders from one index up to another
 pub record IsRange (from to : ℕ) (worker : Worker) : Type 0 where
   pub first : worker.first ≡ from
-  pub last : worker.first + length worker.points.items ≡ to
+  pub last : worker.first + length worker.given.value.items ≡ to
 
 -- so many calls were made before each of its points
 abbrev pub HasMade : Configuration → Scripts → ℕ → Worker → Type 0
 HasMade config scripts calls worker =
-    (j : ℕ) → j < length worker.points.items → calls_made config (history_of config scripts (order_given worker j)) ≡ calls
+    (j : ℕ) → j < length worker.given.value.items → calls_made config (history_of config scripts (order_given worker j)) ≡ calls
 
 -- the search continued from so many more of its points
 pub record HasContinuedFrom (clock : Bool) (config : Configuration) (scripts : Scripts) (count : ℕ) (old new : Search) : Type 0 where

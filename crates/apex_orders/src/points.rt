@@ -14,7 +14,6 @@ use apex_ports::{Ports, SavedPorts, Script};
 use apex_types::OutOfMemory;
 use std::alloc::Global;
 use std::collections::VecDeque;
-use std::mem;
 
 /// What is kept of the points, which are found by levels: those after the same number of calls are a level. Points of
 /// different levels differ, so hashes are kept of the next level alone.
@@ -57,7 +56,11 @@ impl Points {
     }
 
     /// Moves the first saved ports to the list, which is empty.
-    pub(crate) fn take(&mut self, count: usize, to: &mut Vec<BoxedPorts>) -> Result<(), OutOfMemory>
+    pub(crate) fn take(
+        &mut self,
+        count: usize,
+        to: &mut VecDeque<BoxedPorts>,
+    ) -> Result<(), OutOfMemory>
         requires count { count ≤ length self.old.saved.items }
         requires room { self.old.first + count ≤ usize.MAX }
         requires empty { to.old.items ≡ [] }
@@ -72,7 +75,7 @@ impl Points {
         for _ in 0..count {
             let ports = self.saved.pop_front().unwrap();
             self.bytes = self.bytes.saturating_sub(ports.bytes());
-            to.push(ports)?;
+            to.push_back(ports)?;
         }
         self.first += count;
         Ok(())
@@ -112,22 +115,6 @@ impl Points {
     {
         self.saved.get(index - self.first).unwrap().saved()
     }
-}
-
-/// Moves all saved ports to another list, the longer of which takes in the other's.
-pub(crate) fn move_all(
-    from: &mut Vec<BoxedPorts>,
-    to: &mut Vec<BoxedPorts>,
-) -> Result<(), OutOfMemory>
-    ensures { OnOk result (from.new.items ≡ []) }
-{
-    if to.len() < from.len() {
-        mem::swap(from, to);
-    }
-    while let Some(ports) = from.pop() {
-        to.push(ports)?;
-    }
-    Ok(())
 }
 
 /// Adds saved ports that are not used to the list.

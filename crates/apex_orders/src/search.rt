@@ -7,7 +7,7 @@ ghost use Rattle.apex_orders.specs.Lists.{Has};
 ghost use Rattle.apex_orders.specs.Orders.{history_of, order_at};
 ghost use Rattle.apex_orders.specs.Points.{calls_made};
 ghost use Rattle.apex_orders.specs.Searching.{HasLevel, HasTriedFrom, IsLater, IsSearch, Keeps, Knows};
-ghost use Rattle.apex_orders.specs.Workers.{HasContinued, HasMade, IsRange, IsWorker, orders_known};
+ghost use Rattle.apex_orders.specs.Workers.{HasAllLeft, HasContinued, HasMade, IsRange, IsWorker, orders_known};
 
 use crate::asked::Asked;
 use crate::boxed_ports::BoxedPorts;
@@ -24,7 +24,7 @@ use apex_types::OutOfMemory;
 use std::alloc::Global;
 
 /// The greatest number of points that are tried at once.
-const MOST_POINTS: usize = 2_048;
+const MOST_POINTS: usize = 16_384;
 
 /// About how many bytes the saved ports of points that are tried at once may take.
 const MOST_BYTES: usize = 1 << 24;
@@ -125,6 +125,7 @@ impl Search {
         ensures calls { OnOk result (self.new.points.calls ≡ self.old.points.calls) }
         ensures worker { OnOk result (IsWorker clock config.now scripts.now worker.new) }
         ensures base { OnOk result (worker.new.base.value ≡ self.new.orders) }
+        ensures left { OnOk result (HasAllLeft worker.new) }
         ensures range { OnOk result
             (IsRange self.old.points.first (self.old.points.first + count) worker.new) }
         ensures made { OnOk result

@@ -10,7 +10,7 @@ ghost use Rattle.apex_orders.specs.declared.worker.FoundPoint.{FoundPoint};
 ghost use Rattle.apex_orders.specs.Searching.{AreDue, Includes, Keeps};
 ghost use Rattle.apex_orders.specs.Steps.{MakesNothing};
 ghost use Rattle.apex_orders.specs.Prelude.{IsSound};
-ghost use Rattle.apex_orders.specs.Workers.{AreHashed, IsContinued, AreContinued, HasPoint, HasTriedCall, IsAnswered, IsLaterWorker, IsReady, IsShared, IsWorkerOf, KnowsPoint, history_given, order_given};
+ghost use Rattle.apex_orders.specs.Workers.{AreHashed, IsContinued, AreContinued, HasAllLeft, HasPoint, HasTriedCall, IsAnswered, IsLaterWorker, IsReady, IsShared, IsWorkerOf, KnowsPoint, history_given, order_given};
 
 use crate::boxed_ports::BoxedPorts;
 use crate::choice::{Choice, choose, is_tried};
@@ -18,7 +18,7 @@ use crate::hash::hash_of;
 use crate::hash_index::HashIndex;
 use crate::orders::Orders;
 use crate::point::is_same_point;
-use crate::points::{Points, is_among, move_all};
+use crate::points::{Points, is_among};
 use crate::replies::Replies;
 use crate::shared::Shared;
 use crate::step::make_next;
@@ -28,6 +28,7 @@ use apex_ports::Ports;
 use apex_types::{MESSAGE_LIMIT, OutOfMemory};
 use std::alloc::Global;
 use std::collections::VecDeque;
+use std::mem;
 use std::snapshot::Snapshot;
 
 /// A point that was found one call after one of a worker's points.
@@ -49,8 +50,10 @@ pub(crate) struct Worker {
     pub(crate) base: Snapshot<Orders>,
     /// The index of the order to the first point.
     pub(crate) first: usize,
-    /// The points from which it continues.
-    pub(crate) points: Vec<BoxedPorts>,
+    /// The points that it was given; only contracts see them.
+    pub(crate) given: Snapshot<VecDeque<BoxedPorts>>,
+    /// Those of them whose next calls it has yet to try.
+    pub(crate) points: VecDeque<BoxedPorts>,
     /// The points that it found, each once, and their hashes.
     pub(crate) found: VecDeque<FoundPoint>,
     pub(crate) hashes: HashIndex,
@@ -75,10 +78,12 @@ impl Worker {
         let hashes = HashIndex::new(alloc)?;
         let replies = Replies::new(alloc)?;
         let trial = Trial::new(alloc, config)?;
+        let points = VecDeque::new(alloc);
         Ok(Worker {
             base: Snapshot::of(orders),
             first: 0,
-            points: Vec::new(alloc),
+            given: Snapshot::of(&points),
+            points,
             found: VecDeque::new(alloc),
             hashes,
             replies,
@@ -100,8 +105,9 @@ impl Worker {
         ensures base { OnOk result (self.new.base.value ≡ orders.now) }
         ensures first { OnOk result (self.new.first ≡ points.old.first) }
         ensures given { OnOk result (points.old.saved.items
-            ≡ self.new.points.items ++ points.new.saved.items) }
-        ensures count { OnOk result (length self.new.points.items ≡ count) }
+            ≡ self.new.given.value.items ++ points.new.saved.items) }
+        ensures count { OnOk result (length self.new.given.value.items ≡ count) }
+        ensures left { OnOk result (HasAllLeft self.new) }
         ensures rest { OnOk result (points.new.first ≡ points.old.first + count) }
         ensures next { OnOk result (points.new.next ≡ points.old.next) }
         ensures calls { OnOk result (points.new.calls ≡ points.old.calls) }
@@ -111,13 +117,15 @@ impl Worker {
         ensures replies { OnOk result (self.new.replies ≡ []) }
         ensures trial { OnOk result (self.new.trial ≡ self.old.trial) }
     {
-        move_all(&mut self.points, &mut self.spare)?;
         self.base = Snapshot::of(orders);
         self.first = points.first;
         self.found.clear();
         self.hashes.clear();
         self.replies.clear();
-        points.take(count, &mut self.points)
+        self.points.clear();
+        points.take(count, &mut self.points)?;
+        self.given = Snapshot::of(&self.points);
+        Ok(())
     }
 
     /// Tries the next calls of enough partitions after each of its points.
@@ -125,6 +133,7 @@ impl Worker {
         requires valid { IsWorkerOf shared.now self.old }
         requires shared { IsShared shared.now }
         requires base { Keeps shared.now.orders.now self.old.base.value }
+        requires left { HasAllLeft self.old }
         ensures valid { OnOk self.new.result (IsWorkerOf shared.now self.new) }
         ensures later { OnOk self.new.result (IsLaterWorker self.old self.new) }
         ensures tried { OnOk self.new.result (AreContinued shared.now self.new) }
@@ -136,34 +145,39 @@ impl Worker {
         requires valid { IsWorkerOf shared.now self.old }
         requires shared { IsShared shared.now }
         requires base { Keeps shared.now.orders.now self.old.base.value }
+        requires left { HasAllLeft self.old }
         ensures valid { OnOk result (IsWorkerOf shared.now self.new) }
         ensures later { OnOk result (IsLaterWorker self.old self.new) }
         ensures tried { OnOk result (AreContinued shared.now self.new) }
     {
         let mut choice = Choice::new(shared.alloc);
-        for j in 0..self.points.len() {
-            self.try_point(shared, j, &mut choice)?;
+        let mut points = mem::replace(&mut self.points, VecDeque::new(shared.alloc));
+        for j in 0..points.len() {
+            let saved = points.pop_front().unwrap();
+            self.try_point(shared, j, &saved, &mut choice)?;
+            self.spare.push(saved)?;
         }
         Ok(())
     }
 
-    /// Tries the next calls of enough partitions after one of its points.
+    /// Tries the next calls of enough partitions after the point at the index.
     fn try_point(
         &mut self,
         shared: &Shared<'_>,
         j: usize,
+        saved: &BoxedPorts,
         choice: &mut Choice,
     ) -> Result<(), OutOfMemory>
         requires valid { IsWorkerOf shared.now self.old }
         requires shared { IsShared shared.now }
         requires base { Keeps shared.now.orders.now self.old.base.value }
-        requires within { j < length self.old.points.items }
+        requires given { slice_get self.old.given.value.items j ≡ Some saved.now }
         ensures valid { OnOk result (IsWorkerOf shared.now self.new) }
         ensures later { OnOk result (IsLaterWorker self.old self.new) }
         ensures tried { OnOk result
             (IsContinued shared.now self.new (order_given self.old j)) }
     {
-        self.trial.ports.restore(self.points[j].saved());
+        self.trial.ports.restore(saved.saved());
         choose(
             shared.alloc,
             &self.trial.ports,
@@ -174,7 +188,7 @@ impl Worker {
             choice,
         )?;
         let tried = choice.tried.as_slice();
-        self.try_those(shared, j, tried)?;
+        self.try_those(shared, j, saved, tried)?;
         Ok(())
     }
 
@@ -183,12 +197,13 @@ impl Worker {
         &mut self,
         shared: &Shared<'_>,
         j: usize,
+        saved: &BoxedPorts,
         tried: &[bool],
     ) -> Result<(), OutOfMemory>
         requires valid { IsWorkerOf shared.now self.old }
         requires shared { IsShared shared.now }
         requires base { Keeps shared.now.orders.now self.old.base.value }
-        requires within { j < length self.old.points.items }
+        requires given { slice_get self.old.given.value.items j ≡ Some saved.now }
         requires ready { IsReady shared.now (order_given self.old j) self.old.trial.ports }
         requires due { AreDue shared.now.clock shared.now.scripts.now
             (history_given shared.now self.old j) (is_tried tried.now) }
@@ -201,7 +216,7 @@ impl Worker {
         let mut is_there = true;
         for p in 0..shared.config.partitions() {
             if is_tried(tried, p) {
-                self.try_partition(shared, j, is_there, p)?;
+                self.try_partition(shared, j, saved, is_there, p)?;
                 is_there = false;
             }
         }
@@ -213,13 +228,14 @@ impl Worker {
         &mut self,
         shared: &Shared<'_>,
         j: usize,
+        saved: &BoxedPorts,
         is_there: bool,
         p: usize,
     ) -> Result<(), OutOfMemory>
         requires valid { IsWorkerOf shared.now self.old }
         requires shared { IsShared shared.now }
         requires base { Keeps shared.now.orders.now self.old.base.value }
-        requires within { j < length self.old.points.items }
+        requires given { slice_get self.old.given.value.items j ≡ Some saved.now }
         requires partition { p < length shared.now.config.now.partitions }
         requires there { is_there ≡ true →
             IsReady shared.now (order_given self.old j) self.old.trial.ports }
@@ -230,7 +246,7 @@ impl Worker {
         ensures tried { OnOk result (HasTriedCall shared.now self.new (order_given self.old j) p) }
     {
         let trial = &mut self.trial;
-        return_to(&mut trial.ports, &self.points[j], is_there);
+        return_to(&mut trial.ports, saved, is_there);
         let replies = &mut self.replies;
         if !answer_next(shared, p, &mut trial.ports, &mut trial.buffer, replies)? {
             return Ok(());
@@ -244,7 +260,7 @@ impl Worker {
         requires valid { IsWorkerOf shared.now self.old }
         requires shared { IsShared shared.now }
         requires base { Keeps shared.now.orders.now self.old.base.value }
-        requires within { j < length self.old.points.items }
+        requires within { j < length self.old.given.value.items }
         requires partition { p < length shared.now.config.now.partitions }
         requires history { self.old.trial.ports.history ≡ history_of shared.now.config.now
             shared.now.scripts.now (order_given self.old j ++ p ∷ []) }

@@ -2,7 +2,7 @@
 ghost use Rattle.std.specs.Prelude.{◌≤◌, ◌+◌, IfOk, OnOk, IfSome};
 ghost use Rattle.apex_orders.specs.Known.{IsTrialOf};
 ghost use Rattle.apex_orders.specs.Searching.{IsSearch, Keeps};
-ghost use Rattle.apex_orders.specs.Workers.{AreContinued, AreWorkers, HasContinuedFrom, IsLaterWorker, IsShared, IsWorkerOf};
+ghost use Rattle.apex_orders.specs.Workers.{AreContinued, AreWorkers, HasAllLeft, HasContinuedFrom, IsLaterWorker, IsShared, IsWorkerOf};
 
 use crate::orders::Orders;
 use crate::search::Search;
@@ -183,6 +183,8 @@ fn run_both<R: Threads + Sync>(rt: &R, shared: &Shared<'_>, one: &mut Worker, ot
     requires shared { IsShared shared.now }
     requires base { Keeps shared.now.orders.now one.old.base.value }
     requires base_too { Keeps shared.now.orders.now other.old.base.value }
+    requires left { HasAllLeft one.old }
+    requires left_too { HasAllLeft other.old }
     ensures valid { OnOk one.new.result (IsWorkerOf shared.now one.new) }
     ensures later { OnOk one.new.result (IsLaterWorker one.old one.new) }
     ensures tried { OnOk one.new.result (AreContinued shared.now one.new) }

@@ -23,7 +23,7 @@ returns-clause-valid c =
       orders = was.orders;
       clocked = was.clocked;
       apart = was.apart;
-      points = points_left c.args.config.now c.args.scripts.now old.orders old.points c.begin.new.points was.points c.begin.new.self.points.items c.args.count begun.given begun.count begun.rest begun.next begun.hashes c.requires.within;
+      points = points_left c.args.config.now c.args.scripts.now old.orders old.points c.begin.new.points was.points c.begin.new.self.given.value.items c.args.count begun.given begun.count begun.rest begun.next begun.hashes c.requires.within;
       levels = subst (λ (x : ℕ × ℕ × ℕ). AreLevels c.args.config.now c.args.scripts.now old.orders x.0 x.1 x.2) (λ i. (sym begun.rest i, sym begun.next i, sym begun.calls i))
           (levels_left c.args.config.now c.args.scripts.now old.orders old.points.first old.points.next old.points.calls was.levels c.args.count);
       found = was.found;
@@ -61,7 +61,7 @@ returns-clause-worker c =
             omega (arith, base, len);
         each = λ j ports at.
             subst (λ (x : List (List ℕ) × ℕ). IsAfter config scripts (order_at x.0 (x.1 + j)) ports) (λ i. (sym begun.base i, sym begun.first i))
-            (points_given config scripts old.orders old.points c.begin.new.points was.points new.points.items c.args.count begun.given begun.count begun.rest begun.next begun.hashes c.requires.within j ports at);
+            (points_given config scripts old.orders old.points c.begin.new.points was.points new.given.value.items c.args.count begun.given begun.count begun.rest begun.next begun.hashes c.requires.within j ports at);
       };
       found = λ one has. absurd (has_none one (subst (λ (points : List FoundPoint). Has points one) begun.found has));
       hashed = subst (λ (x : List FoundPoint × List ℕ). AreHashed config x.0 x.1) (λ i. (sym begun.found i, sym begun.unhashed i)) (record { count = refl; each = λ k one at. absurd (cc); configured = λ k one at. absurd (cc) });

@@ -27,7 +27,7 @@ returns-then-has_found-clause-valid c =
     }
 
 pub returns-then-has_found-clause-later : goal.returns-then-has_found-clause-later
-returns-then-has_found-clause-later c = record { base = refl; first = refl; points = refl; orders = λ k x at. at; replies = λ x has. has }
+returns-then-has_found-clause-later c = record { base = refl; first = refl; given = refl; orders = λ k x at. at; replies = λ x has. has }
 
 pub returns-then-has_found-clause-known : goal.returns-then-has_found-clause-known
 returns-then-has_found-clause-known c =
@@ -60,7 +60,7 @@ returns-then-is_among-clause-valid c =
     }
 
 pub returns-then-is_among-clause-later : goal.returns-then-is_among-clause-later
-returns-then-is_among-clause-later c = record { base = refl; first = refl; points = refl; orders = λ k x at. at; replies = λ x has. has }
+returns-then-is_among-clause-later c = record { base = refl; first = refl; given = refl; orders = λ k x at. at; replies = λ x has. has }
 
 pub returns-then-is_among-clause-known : goal.returns-then-is_among-clause-known
 returns-then-is_among-clause-known c =
@@ -123,7 +123,7 @@ returns-clause-later c =
     record {
       base = refl;
       first = refl;
-      points = refl;
+      given = refl;
       orders = subst (Keeps (orders_known old)) (sym more) (keeps_push c.args.shared.now.config.now c.args.shared.now.scripts.now (orders_known old) (order_given old c.args.j ++ c.args.p ∷ []));
       replies = λ x has. has;
     }

@@ -1,28 +1,28 @@
-use Rattle.apex_orders.proofs.Common.{◌≡◌, ◌+◌, ◌<◌, ℕ, ◌++◌, arith, ap, calls_made, get_or, length, true, false, sym, ◌∙◌, subst, Configuration, History, PortsView, Worker, Scripts, IsClocked, IsAfter, AreFound, history_of, Knows, MakesNothing, AreGiven, order_given, orders_known}
+use Rattle.apex_orders.proofs.Common.{◌≡◌, ◌+◌, ℕ, ◌++◌, arith, ap, calls_made, slice_get, slice_get_within, Some, true, false, sym, ◌∙◌, subst, Configuration, History, PortsView, Worker, Scripts, IsClocked, IsAfter, AreFound, history_of, Knows, MakesNothing, AreGiven, order_given, orders_known}
 use Rattle.apex_orders.proofs.ClockLemmas.{clocked_next}
 use Rattle.apex_orders.proofs.Levels.{one_more_made}
 use Rattle.apex_orders.proofs.SearchLemmas.{behind, found_one, makes_after, steps_to, tried_nothing, tried_one}
-use Rattle.apex_orders.proofs.WorkerLemmas.{given_at, given_known, includes_behind}
+use Rattle.apex_orders.proofs.WorkerLemmas.{given_known, includes_behind}
 use Rattle.apex_orders.proofs.worker.Worker.try_partition.Goals as goal
 
 -- the ports after the calls to a worker's point
-returned : (config : Configuration) (scripts : Scripts) (worker : Worker) (j : ℕ) (saved ports : PortsView) (before : Configuration) → AreGiven config scripts worker → j < length worker.points.items
-    → saved ≡ get_or worker.points.items j saved → ports.config ≡ before → before ≡ config → ports.history ≡ saved.history → IsAfter config scripts (order_given worker j) ports
-returned config scripts worker j saved ports before given within read same is history = record {
+returned : (config : Configuration) (scripts : Scripts) (worker : Worker) (j : ℕ) (saved ports : PortsView) (before : Configuration) → AreGiven config scripts worker
+    → slice_get worker.given.value.items j ≡ Some saved → ports.config ≡ before → before ≡ config → ports.history ≡ saved.history → IsAfter config scripts (order_given worker j) ports
+returned config scripts worker j saved ports before given at same is history = record {
   configured = same ∙ is;
-  history = history ∙ (given_at config scripts worker j saved given within read).history;
+  history = history ∙ (given.each j saved at).history;
 }
 
 pub return_to-requires-clause-config : goal.return_to-requires-clause-config
 return_to-requires-clause-config c =
     let was = c.requires.valid in
-    (given_at c.args.shared.now.config.now c.args.shared.now.scripts.now c.args.self.now c.args.j c.index.result.now was.given c.requires.within c.index.ensures).configured ∙ sym was.trial.ports
+    (was.given.each c.args.j c.args.saved.now c.requires.given).configured ∙ sym was.trial.ports
 
 pub return_to-requires-clause-there : goal.return_to-requires-clause-there
 return_to-requires-clause-there c there =
     let was = c.requires.valid in
     (c.requires.there there).after.history
-    ∙ sym (given_at c.args.shared.now.config.now c.args.shared.now.scripts.now c.args.self.now c.args.j c.index.result.now was.given c.requires.within c.index.ensures).history
+    ∙ sym (was.given.each c.args.j c.args.saved.now c.requires.given).history
 
 pub returns-then-not-branch-clause-valid : goal.returns-then-not-branch-clause-valid
 returns-then-not-branch-clause-valid c =
@@ -49,10 +49,10 @@ returns-then-not-branch-clause-tried c =
     let was = c.requires.valid in
     let old = c.args.self.now in
     let order = order_given old c.args.j in
-    let after = returned config scripts old c.args.j c.index.result.now c.return_to.new.ports old.trial.ports.config was.given c.requires.within c.index.ensures c.return_to.ensures.config was.trial.ports c.return_to.ensures.history in
+    let after = returned config scripts old c.args.j c.args.saved.now c.return_to.new.ports old.trial.ports.config was.given c.requires.given c.return_to.ensures.config was.trial.ports c.return_to.ensures.history in
     let nothing : MakesNothing config scripts (history_of config scripts order) c.args.p =
     subst (λ (x : Configuration × History). MakesNothing x.0 scripts x.1 c.args.p) (λ i. (after.configured i, after.history i)) (c.in_ok-answer_next.ensures.nothing no) in
-    tried_nothing config scripts (orders_known old) (c.args.shared.now.known.now ++ c.answer_next.new.replies) order c.args.p (old.first + c.args.j, given_known config scripts old c.args.j was.given c.requires.within) nothing
+    tried_nothing config scripts (orders_known old) (c.args.shared.now.known.now ++ c.answer_next.new.replies) order c.args.p (old.first + c.args.j, given_known config scripts old c.args.j was.given (slice_get_within old.given.value.items c.args.j c.args.saved.now c.requires.given)) nothing
 
 pub learn-requires-clause-valid : goal.learn-requires-clause-valid
 learn-requires-clause-valid c =
@@ -64,8 +64,8 @@ learn-requires-clause-valid c =
     let was = c.requires.valid in
     let old = c.args.self.now in
     let order = order_given old c.args.j in
-    let here = given_known config scripts old c.args.j was.given c.requires.within in
-    let after = returned config scripts old c.args.j c.index.result.now c.return_to.new.ports old.trial.ports.config was.given c.requires.within c.index.ensures c.return_to.ensures.config was.trial.ports c.return_to.ensures.history in
+    let here = given_known config scripts old c.args.j was.given (slice_get_within old.given.value.items c.args.j c.args.saved.now c.requires.given) in
+    let after = returned config scripts old c.args.j c.args.saved.now c.return_to.new.ports old.trial.ports.config was.given c.requires.given c.return_to.ensures.config was.trial.ports c.return_to.ensures.history in
     let one = answered.one in
     record {
       all = was.all;
@@ -86,7 +86,7 @@ learn-requires-clause-history c =
     let scripts = c.args.shared.now.scripts.now in
     let was = c.requires.valid in
     let old = c.args.self.now in
-    let after = returned config scripts old c.args.j c.index.result.now c.return_to.new.ports old.trial.ports.config was.given c.requires.within c.index.ensures c.return_to.ensures.config was.trial.ports c.return_to.ensures.history in
+    let after = returned config scripts old c.args.j c.args.saved.now c.return_to.new.ports old.trial.ports.config was.given c.requires.given c.return_to.ensures.config was.trial.ports c.return_to.ensures.history in
     steps_to config scripts c.return_to.new.ports (order_given old c.args.j) c.args.p c.answer_next.new.ports.history after c.answer_next.ensures.history
 
 pub learn-requires-clause-made : goal.learn-requires-clause-made
@@ -99,7 +99,7 @@ learn-requires-clause-made c =
     let was = c.requires.valid in
     let old = c.args.self.now in
     let order = order_given old c.args.j in
-    let after = returned config scripts old c.args.j c.index.result.now c.return_to.new.ports old.trial.ports.config was.given c.requires.within c.index.ensures c.return_to.ensures.config was.trial.ports c.return_to.ensures.history in
+    let after = returned config scripts old c.args.j c.args.saved.now c.return_to.new.ports old.trial.ports.config was.given c.requires.given c.return_to.ensures.config was.trial.ports c.return_to.ensures.history in
     let leads = steps_to config scripts c.return_to.new.ports order c.args.p c.answer_next.new.ports.history after c.answer_next.ensures.history in
     ap (calls_made config) (leads ∙ behind config scripts order c.args.p)
     ∙ one_more_made config scripts (history_of config scripts order) c.args.p answered.one c.requires.partition c.answer_next.ensures.short
@@ -112,10 +112,10 @@ learn-requires-clause-clocked c =
     let was = c.requires.valid in
     let old = c.args.self.now in
     let order = order_given old c.args.j in
-    let after = returned config scripts old c.args.j c.index.result.now c.return_to.new.ports old.trial.ports.config was.given c.requires.within c.index.ensures c.return_to.ensures.config was.trial.ports c.return_to.ensures.history in
+    let after = returned config scripts old c.args.j c.args.saved.now c.return_to.new.ports old.trial.ports.config was.given c.requires.given c.return_to.ensures.config was.trial.ports c.return_to.ensures.history in
     let leads = steps_to config scripts c.return_to.new.ports order c.args.p c.answer_next.new.ports.history after c.answer_next.ensures.history in
     subst (IsClocked c.args.shared.now.clock scripts) (sym (leads ∙ behind config scripts order c.args.p))
-    (clocked_next c.args.shared.now.clock scripts config (history_of config scripts order) c.args.p (was.clocked (old.first + c.args.j) order (given_known config scripts old c.args.j was.given c.requires.within)) c.requires.due)
+    (clocked_next c.args.shared.now.clock scripts config (history_of config scripts order) c.args.p (was.clocked (old.first + c.args.j) order (given_known config scripts old c.args.j was.given (slice_get_within old.given.value.items c.args.j c.args.saved.now c.requires.given))) c.requires.due)
 
 pub returns-clause-tried : goal.returns-clause-tried
 returns-clause-tried c =
@@ -127,7 +127,7 @@ returns-clause-tried c =
     let was = c.requires.valid in
     let old = c.args.self.now in
     let order = order_given old c.args.j in
-    let after = returned config scripts old c.args.j c.index.result.now c.return_to.new.ports old.trial.ports.config was.given c.requires.within c.index.ensures c.return_to.ensures.config was.trial.ports c.return_to.ensures.history in
+    let after = returned config scripts old c.args.j c.args.saved.now c.return_to.new.ports old.trial.ports.config was.given c.requires.given c.return_to.ensures.config was.trial.ports c.return_to.ensures.history in
     let one = answered.one in
     let learned = c.in_ok-learn.ensures in
     let new = c.learn.new.self in

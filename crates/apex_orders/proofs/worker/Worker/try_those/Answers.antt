@@ -1,4 +1,4 @@
-use Rattle.apex_orders.proofs.Common.{◌≡◌, ◌<◌, ◌+◌, ◌++◌, ℕ, Bool, List, length, true, refl, sym, ap, ◌∙◌, subst, arith, false≢true, PortsView, Worker, is_tried, HasTriedCall, IsNextDue, IsReady, history_of, IsLaterWorker, IsWorkerOf, Keeps, order_given, orders_known}
+use Rattle.apex_orders.proofs.Common.{◌≡◌, ◌<◌, ◌+◌, ◌++◌, ℕ, Bool, List, slice_get, true, refl, sym, ap, ◌∙◌, subst, arith, false≢true, PortsView, Worker, is_tried, HasTriedCall, IsNextDue, IsReady, history_of, IsLaterWorker, IsWorkerOf, Keeps, order_given, orders_known}
 use Rattle.apex_orders.proofs.ChoiceLemmas.{one_more}
 use Rattle.apex_orders.proofs.SearchLemmas.{tried_kept}
 use Rattle.apex_orders.proofs.WorkerLemmas.{includes_behind, later_along, same_given}
@@ -8,7 +8,7 @@ use Rattle.apex_orders.proofs.worker.Worker.try_those.Goals as goal
 pub loop-p-init : goal.loop-p-init
 loop-p-init c = record {
   valid = c.requires.valid;
-  later = record { base = refl; first = refl; points = refl; orders = λ k x at. at; replies = λ x has. has };
+  later = record { base = refl; first = refl; given = refl; orders = λ k x at. at; replies = λ x has. has };
   ready = λ there. c.requires.ready;
   tried = λ p below. absurd (omega (arith, below));
 }
@@ -19,11 +19,8 @@ try_partition-requires-clause-valid c = c.loop-p.invariant.valid
 pub try_partition-requires-clause-base : goal.try_partition-requires-clause-base
 try_partition-requires-clause-base c = subst (Keeps c.args.shared.now.orders.now) (sym c.loop-p.invariant.later.base) c.requires.base
 
-pub try_partition-requires-clause-within : goal.try_partition-requires-clause-within
-try_partition-requires-clause-within c =
-    let count = ap (λ (ps : List PortsView). length ps) c.loop-p.invariant.later.points in
-    let within = c.requires.within in
-    omega (arith, count, within)
+pub try_partition-requires-clause-given : goal.try_partition-requires-clause-given
+try_partition-requires-clause-given c = ap (λ (ps : List PortsView). slice_get ps c.args.j) c.loop-p.invariant.later.given ∙ c.requires.given
 
 pub try_partition-requires-clause-there : goal.try_partition-requires-clause-there
 try_partition-requires-clause-there c = c.loop-p.invariant.ready
