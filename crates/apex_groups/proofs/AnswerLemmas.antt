@@ -1,5 +1,5 @@
 -- Answers put to their indexes.
-use Rattle.apex_groups.proofs.Common.{zero, suc, replicate, ◌≡◌, ◌≢◌, ◌⊎◌, inl, inr, ⊎_elim, cases_eq, ℕ, ◌+◌, ◌<◌, ◌≤◌, Bool, List, [], ◌∷◌, ◌++◌, length, map, Option, Some, None, refl, sym, ap, ◌∙◌, subst, arith, set, length-set, IfSome, slice_get, slice_get_within, slice_get-map, option_map, take, length-append, Configuration, Scripts, Asked, Has, Found, IsPut, ArePut, ArePicked, AreKnown, AreOfPart}
+use Rattle.apex_groups.proofs.Common.{zero, suc, replicate, ◌≡◌, ◌≢◌, inl, inr, ⊎_elim, cases_eq, ℕ, ◌+◌, ◌<◌, ◌≤◌, Bool, List, [], ◌∷◌, ◌++◌, length, map, Option, Some, None, refl, sym, ap, ◌∙◌, subst, arith, set, length-set, IfSome, slice_get, slice_get_within, slice_get-map, option_map, take, length-append, Configuration, Scripts, Asked, Has, Found, IsPut, ArePut, ArePicked, AreKnown, AreOfPart}
 use Rattle.std.proofs.Math.Seq.{take-append_seam}
 use Rattle.std.proofs.lemmas.List.{length-map}
 use Rattle.apex_ports.proofs.Stays.{slice_get-set_cases}

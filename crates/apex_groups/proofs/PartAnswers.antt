@@ -1,8 +1,6 @@
 -- The answers of a part, put together to answers for all scripts.
-use Rattle.apex_groups.proofs.Common.{◌≡◌, ℕ, Bool, false, List, length, Option, Some, None, Result, Ok, Err, refl, sym, subst, arith, IfSome, slice_get, slice_get_within, Configuration, IsConfiguration, Scripts, Asked, Has, IsPart, IsAnsweredByWith, Found, AreAnswersOf, AreOfPart, AreOrdersOf, IsMergedAnswer, IsOrderOf}
-use Rattle.apex_orders.specs.Outcomes.{AreAnswersTo, IsAnswerTo}
-use Rattle.apex_orders.specs.declared.orders_fault.OrdersFault.{OrdersFault}
-use Rattle.apex_orders.specs.declared.orders_fault.OrdersFault.TheVariants.{TooManyStates}
+use Rattle.apex_groups.proofs.Common.{◌≡◌, ℕ, Bool, List, length, Option, Some, None, Ok, Err, sym, subst, arith, slice_get, slice_get_within, Configuration, IsConfiguration, Scripts, Asked, Found, AreAnswersOf, AreOfPart, AreOrdersOf, IsMergedAnswer, IsOrderOf}
+use Rattle.apex_orders.specs.Outcomes.{IsAnswerTo}
 use Rattle.apex_groups.specs.Parts.{HoldsPart, part_of_index}
 use Rattle.apex_groups.specs.declared.parts.Parts.{Parts}
 use Rattle.apex_groups.proofs.Lists.{item_at}

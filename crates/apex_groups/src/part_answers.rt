@@ -17,9 +17,9 @@ use apex_types::OutOfMemory;
 use std::alloc::{AllocError, Global};
 use std::thread::Threads;
 
-/// Answers the questions about the calls of a part by one search of the part. If others change what its calls are
-/// answered, no question gets an answer; with `clock`, none gets one that is undecided since the part has too many
-/// states. The scripts stay as they were.
+/// Answers questions about the calls of a part by one search of the part, and puts the answers to their indexes. There
+/// is no answer if other partitions can change what the part's calls are answered; nor, with `clock`, if it is undecided
+/// since the part has too many states. The scripts stay as they were.
 pub(crate) fn answer_part<R: Threads + Sync, P: Progress>(
     rt: &R,
     alloc: Global,

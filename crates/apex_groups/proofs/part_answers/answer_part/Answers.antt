@@ -1,4 +1,4 @@
-use Rattle.apex_groups.proofs.Common.{◌≡◌, ℕ, Bool, List, sym, subst, in_group, Scripts, Asked, Has, AreAnswersOf, ArePut, Found, IsMergedAnswer, IsOrderOf}
+use Rattle.apex_groups.proofs.Common.{ℕ, Bool, List, sym, subst, in_group, Scripts, Asked, Has, AreAnswersOf, ArePut, Found, IsMergedAnswer, IsOrderOf}
 use Rattle.apex_orders.specs.Outcomes.{IsAnswerTo}
 use Rattle.apex_groups.specs.Parts.{HoldsPart}
 use Rattle.apex_groups.proofs.AnswerLemmas.{put_alike}

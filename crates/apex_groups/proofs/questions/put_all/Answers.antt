@@ -1,4 +1,4 @@
-use Rattle.apex_groups.proofs.Common.{◌≡◌, ◌≤◌, ◌<◌, ◌++◌, ◌∷◌, [], ℕ, length, List, Option, Some, None, refl, sym, ap, ◌∙◌, subst, arith, slice_get, slice_get-get_or, slice_index_or, option_to_list, length-append, ArePut, Found}
+use Rattle.apex_groups.proofs.Common.{◌≡◌, ◌≤◌, ◌++◌, ◌∷◌, [], ℕ, length, List, Option, Some, None, refl, sym, ap, ◌∙◌, subst, arith, slice_get, slice_get-get_or, slice_index_or, option_to_list, length-append, ArePut, Found}
 use Rattle.apex_orders.proofs.Lists.{at_seam, stays_before}
 use Rattle.apex_groups.proofs.AnswerLemmas.{missing_after, put_one}
 use Rattle.apex_groups.proofs.questions.put_all.Goals as goal

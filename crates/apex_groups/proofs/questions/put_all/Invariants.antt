@@ -1,5 +1,5 @@
 use Rattle.std.proofs.Common.{vec_len}
-use Rattle.apex_groups.proofs.Common.{◌≡◌, ◌≤◌, ◌⊎◌, ℕ, length, Some, None, slice_get, ArePut, Found}
+use Rattle.apex_groups.proofs.Common.{◌≡◌, ◌≤◌, ℕ, length, Some, None, slice_get, ArePut, Found}
 use Rattle.apex_groups.proofs.questions.put_all.Given as goal
 
 abbrev pub invariant-loop-one : goal.invariant-loop-one

@@ -1,4 +1,4 @@
-use Rattle.apex_groups.proofs.Common.{◌≡◌, ℕ, List, Option, length, sym, ap, ◌∙◌, subst, arith, Scripts, AreKnown, ArePut, Found}
+use Rattle.apex_groups.proofs.Common.{List, Option, length, sym, ap, ◌∙◌, subst, arith, Scripts, AreKnown, ArePut, Found}
 use Rattle.apex_orders.specs.Outcomes.{IsAnswerTo}
 use Rattle.apex_groups.proofs.AnswerLemmas.{known_after, picked_within, written_back}
 use Rattle.apex_groups.proofs.witness.answers_of_parts.Goals as goal

@@ -1,4 +1,4 @@
-use Rattle.apex_groups.proofs.Common.{◌≡◌, ◌++◌, ◌∷◌, [], Option, ap, ◌∙◌, option_to_list, Found}
+use Rattle.apex_groups.proofs.Common.{◌++◌, Option, ap, ◌∙◌, option_to_list, Found}
 use Rattle.apex_groups.proofs.AnswerLemmas.{only_answer}
 use Rattle.apex_groups.proofs.witness.order_giving_apart.Goals as goal
 

@@ -1,4 +1,4 @@
-use Rattle.apex_groups.proofs.Common.{◌≡◌, ℕ, List, Option, Some, map, sym, ◌∙◌, subst, Asked, ArePut, Found}
+use Rattle.apex_groups.proofs.Common.{◌≡◌, ℕ, List, Option, sym, ◌∙◌, subst, Asked, ArePut, Found}
 use Rattle.apex_orders.specs.Outcomes.{AreAnswersTo, IsAnswerTo}
 use Rattle.apex_groups.proofs.AnswerLemmas.{all_known, fits_there, known_after, put_alike, written_back}
 use Rattle.apex_groups.proofs.witness.with_missing.Goals as goal

@@ -1,6 +1,6 @@
-use Rattle.apex_groups.proofs.Common.{◌≡◌, [], Some, slice_get, sym, ap, ◌∙◌, subst, slice_get-get_or, ArePicked, AreOfPart}
+use Rattle.apex_groups.proofs.Common.{◌≡◌, Some, slice_get, sym, ap, ◌∙◌, subst, slice_get-get_or, ArePicked, AreOfPart}
 use Rattle.apex_groups.specs.declared.questions.Picked.{Picked}
-use Rattle.apex_groups.proofs.AnswerLemmas.{none_picked, one_of_part, one_picked}
+use Rattle.apex_groups.proofs.AnswerLemmas.{one_of_part, one_picked}
 use Rattle.apex_groups.proofs.questions.Picked.of_part.Goals as goal
 use Rattle.apex_groups.proofs.questions.Picked.of_part.Goals.{then-of_index-part+in_ok-add, else-of_index-part}
 

@@ -1,8 +1,8 @@
-use Rattle.apex_groups.proofs.Common.{◌≡◌, ◌<◌, ◌+◌, [], ℕ, Some, None, Option, slice_get, sym, ap, ◌∙◌, subst, arith, not, false≢true, slice_get-get_or, slice_get_within, Found, Has, ArePicked}
+use Rattle.apex_groups.proofs.Common.{◌≡◌, ◌<◌, ◌+◌, ℕ, Some, None, slice_get, sym, ap, ◌∙◌, subst, arith, not, false≢true, slice_get-get_or, slice_get_within, Has, ArePicked}
 use Rattle.std.specs.Option.{is_some}
 use Rattle.apex_groups.specs.declared.questions.Picked.{Picked}
 use Rattle.apex_orders.proofs.ChoiceLemmas.{one_more}
-use Rattle.apex_groups.proofs.AnswerLemmas.{none_picked, one_more_listed, one_picked}
+use Rattle.apex_groups.proofs.AnswerLemmas.{one_more_listed, one_picked}
 use Rattle.apex_groups.proofs.questions.Picked.unanswered.Goals as goal
 use Rattle.apex_groups.proofs.questions.Picked.unanswered.Goals.{then-is_none+in_ok-add, else-is_none}
 
