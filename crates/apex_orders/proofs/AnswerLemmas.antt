@@ -1,7 +1,8 @@
 -- The answers that a search finds.
-use Rattle.apex_orders.proofs.Common.{◌≡◌, ◌⊎◌, ⊎_elim, ◌≢◌, ℕ, zero, suc, ◌+◌, ◌-◌, ◌<◌, ◌≤◌, Bool, false, List, [], ◌∷◌, length, length-set, MatchOption, Option, Some, None, is_some, refl, sym, ap, ◌∙◌, subst, arith, cases_lt, slice_get, slice_get-set_cases, Configuration, Scripts}
+use Rattle.apex_orders.proofs.Common.{◌≡◌, ◌⊎◌, ⊎_elim, ◌≢◌, ℕ, zero, suc, ◌+◌, ◌<◌, ◌≤◌, Bool, false, List, [], ◌∷◌, length, length-set, MatchOption, Option, Some, None, is_some, refl, sym, ap, ◌∙◌, subst, arith, cases_lt, slice_get, slice_get-set_cases, Configuration, Scripts}
+use Rattle.apex_orders.proofs.ChoiceLemmas.{one_more}
 use Rattle.std.specs.Prelude.{set}
-use Rattle.apex_orders.proofs.Common.{Asked, PossibleReply, HasEnded, HaveOrders, AreAllAnswered, AreAnswersBy, AreUnansweredFrom, IsAnsweredByWith, IsOpen, IsSearched, IsSearchedInVain, IsUnansweredAt, IsUnderWay}
+use Rattle.apex_orders.proofs.Common.{Asked, PossibleReply, HasEnded, HaveOrders, AreAllAnswered, AreAnswersBy, IsAnsweredByWith, IsOpen, IsSearched, IsSearchedInVain, IsUnansweredAt, IsUnderWay}
 use Rattle.apex_orders.specs.declared.rounds.Found.{Found}
 use Rattle.apex_orders.specs.declared.rounds.Rounds.{Rounds}
 
@@ -27,7 +28,7 @@ found_none None P R is match = match
 found_none (Some one) P R is match = absurd (cc)
 
 module _ (clock : Bool) (config : Configuration) (scripts : Scripts) (asked : List Asked) where
-  module _ (orders : List (List ℕ)) (from count : ℕ) (answers : List (Option (List ℕ))) (are : AreAnswersBy clock config scripts asked orders from answers) (q : ℕ) (one : Asked) (at : slice_get asked q ≡ Some one) (none : slice_get answers q ≡ Some None) (answer : Option (List ℕ)) (found : MatchOption answer (AreUnansweredFrom clock config scripts one orders from count) (IsAnsweredByWith clock config scripts one)) where
+  module _ (orders : List (List ℕ)) (i : ℕ) (answers : List (Option (List ℕ))) (are : AreAnswersBy clock config scripts asked orders i answers) (q : ℕ) (one : Asked) (at : slice_get asked q ≡ Some one) (none : slice_get answers q ≡ Some None) (answer : Option (List ℕ)) (found : MatchOption answer (IsUnansweredAt clock config scripts one orders i) (IsAnsweredByWith clock config scripts one)) where
     same_one : (two : Asked) → slice_get asked q ≡ Some two → one ≡ two
     same_one two there = let both : Some one ≡ Some two = sym at ∙ there in cc
 
@@ -35,7 +36,7 @@ module _ (clock : Bool) (config : Configuration) (scripts : Scripts) (asked : Li
     same_question r two here there = same_one two (ap (λ (n : ℕ). slice_get asked n) (sym here) ∙ there)
 
     -- with the answer to one more question
-    pub answers_set : AreAnswersBy clock config scripts asked orders from (set answers q answer)
+    pub answers_set : AreAnswersBy clock config scripts asked orders i (set answers q answer)
     answers_set = record {
       found = record {
         count = length-set answers q answer ∙ are.found.count;
@@ -43,7 +44,7 @@ module _ (clock : Bool) (config : Configuration) (scripts : Scripts) (asked : Li
             ⊎_elim
             (λ (own : (r ≡ q) × (Some order ≡ answer)).
             subst (λ (a : Asked). IsAnsweredByWith clock config scripts a order) (same_question r two own.0 there)
-            (found_by answer (AreUnansweredFrom clock config scripts one orders from count) (IsAnsweredByWith clock config scripts one) order (sym own.1) found))
+            (found_by answer (IsUnansweredAt clock config scripts one orders i) (IsAnsweredByWith clock config scripts one) order (sym own.1) found))
             (λ (other : (r ≢ q) × (slice_get answers r ≡ Some (Some order))). are.found.each r two order there other.1)
             (slice_get-set_cases answers q answer r (Some order) given);
       };
@@ -55,21 +56,29 @@ module _ (clock : Bool) (config : Configuration) (scripts : Scripts) (asked : Li
           (slice_get-set_cases answers q answer r None left);
     }
 
-    -- which looked at more orders
-    pub open_set : IsOpen clock config scripts asked orders (from + count) (set answers q answer) q
+    -- which looked at one more order
+    pub open_set : IsOpen clock config scripts asked orders (i + 1) (set answers q answer) q
     open_set two there left k below =
         ⊎_elim
         (λ (own : (q ≡ q) × (None ≡ answer)).
         subst (λ (a : Asked). IsUnansweredAt clock config scripts a orders k) (same_one two there)
         (⊎_elim
-        (λ (before : k < from). are.unanswered q one at none k before)
-        (λ (past : from ≤ k).
-        let index : from + (k - from) ≡ k = omega (arith, past) in
-        let missed = found_none answer (AreUnansweredFrom clock config scripts one orders from count) (IsAnsweredByWith clock config scripts one) (sym own.1) found in
-        subst (IsUnansweredAt clock config scripts one orders) index (missed (k - from) (omega (arith, past, below))))
-        (cases_lt k from)))
+        (λ (before : k < i). are.unanswered q one at none k before)
+        (λ (past : i ≤ k).
+        let index : i ≡ k = omega (arith, past, below) in
+        let missed = found_none answer (IsUnansweredAt clock config scripts one orders i) (IsAnsweredByWith clock config scripts one) (sym own.1) found in
+        subst (IsUnansweredAt clock config scripts one orders) index missed)
+        (cases_lt k i)))
         (λ (other : (q ≢ q) × (slice_get answers q ≡ Some None)). absurd (other.0 refl))
         (slice_get-set_cases answers q answer q None left)
+
+    -- and so did each question up to this one
+    pub more_done : ((r : ℕ) → r < q → IsOpen clock config scripts asked orders (i + 1) answers r)
+        → (r : ℕ) → r < q + 1 → IsOpen clock config scripts asked orders (i + 1) (set answers q answer) r
+    more_done was =
+        one_more (IsOpen clock config scripts asked orders (i + 1) (set answers q answer)) q
+        (λ r below two there left. was r below two there (sym (set_elsewhere answers q answer r (λ same. absurd (omega (arith, below, same)))) ∙ left))
+        open_set
 
   -- ---- the end of a search
 

@@ -31,7 +31,7 @@ pub use Rattle.apex_orders.specs.Lists.{Has}
 pub use Rattle.apex_orders.specs.Orders.{Scripts, script_of, IsWay, next_entries, calls_of, replies_of, IsBeginning, IsOrder, continued, history_of, AreShort, times, entries_for, order_at, order_of}
 pub use Rattle.apex_orders.specs.Outcomes.{CanOccurWith, AreRepliesWith, AreEndsWith, EndsAtOne, HasMorePointsWith, IsUndecidedWith, CanBeAnsweredWith, IsAnsweredByWith, IsGivenByWith, IsAnswerTo, AreAnswersTo}
 pub use Rattle.apex_orders.specs.Points.{IsSamePoint, IsSameCalls, HasSameCounts, calls_made, made_below}
-pub use Rattle.apex_orders.specs.Searching.{AreAllAnswered, AreAnswersBy, AreDue, IsEnoughWith, IsSearched, IsGivenByAnOrder, IsOpen, HasMadeAll, AreEndsOf, HasMoreOrders, HaveOrders, IsGivenUp, Keeps, Knows, Includes, AreOrders, AreApart, AreClocked, IsUnansweredAt, IsTried, HasTried, IsFound, AreFound, HasEnded, IsAnsweredAfter, IsGivenAfter, IsSearchedInVain, HasTriedEnough, HasTriedFrom, AreUnansweredFrom, HasLevel, IsLater, IsSearch, answer_by}
+pub use Rattle.apex_orders.specs.Searching.{AreAllAnswered, AreAnswersBy, AreDue, IsEnoughWith, IsSearched, IsGivenByAnOrder, IsOpen, HasMadeAll, AreEndsOf, HasMoreOrders, HaveOrders, IsGivenUp, Keeps, Knows, Includes, AreOrders, AreApart, AreClocked, IsUnansweredAt, IsTried, HasTried, IsFound, AreFound, HasEnded, IsAnsweredAfter, IsGivenAfter, IsSearchedInVain, HasTriedEnough, HasTriedFrom, HasLevel, IsLater, IsSearch, answer_by}
 pub use Rattle.apex_orders.specs.States.{IsSameChannel, IsSameState, IsSamePorts, last_shown, IsSamePartition}
 pub use Rattle.apex_orders.specs.Steps.{Makes, MakesNothing, possible}
 pub use Rattle.apex_orders.specs.Workers.{AreContinued, AreHashed, AreGiven, HasContinued, HasContinuedFrom, HasMade, HasPoint, HasTriedCall, IsAnswered, IsContinued, IsFoundBy, IsLaterWorker, IsRange, IsReady, IsShared, IsWorker, IsUnderWay, IsWorkerOf, AreWorkers, KnowsPoint, order_given, order_found, orders_known}
@@ -40,5 +40,5 @@ pub use Rattle.apex_orders.specs.declared.last_uses.LastUse.{LastUse}
 pub use Rattle.apex_orders.specs.declared.last_uses.LastUses.{LastUses}
 pub use Rattle.apex_orders.specs.declared.orders.LastCall.{LastCall}
 pub use Rattle.apex_orders.specs.declared.replies.PossibleReply.{PossibleReply}
-pub use Rattle.apex_orders.specs.declared.worker.FoundPoint.{FoundPoint}
+pub use Rattle.apex_orders.specs.declared.found_point.FoundPoint.{FoundPoint}
 pub use Rattle.apex_orders.specs.declared.worker.Worker.{Worker}

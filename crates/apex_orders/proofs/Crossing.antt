@@ -28,7 +28,7 @@ use Rattle.apex_orders.specs.contracts.boxed_ports.BoxedPorts as BoxedPorts
 use Rattle.apex_orders.specs.contracts.boxed_ports.BoxedPorts.TheInside as BoxedPortsInside
 use Rattle.apex_orders.specs.contracts.points.Points as Points
 use Rattle.apex_orders.specs.contracts.shared.Shared as Shared
-use Rattle.apex_orders.specs.contracts.worker.FoundPoint as FoundPoint
+use Rattle.apex_orders.specs.contracts.found_point.FoundPoint as FoundPoint
 use Rattle.apex_orders.specs.contracts.worker.Worker as Worker
 
 ghost_history_send : IsSend GhostHistory.the_row

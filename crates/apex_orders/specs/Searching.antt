@@ -1,5 +1,5 @@
 -- What a search has found.
-use Rattle.std.specs.Prelude.{ℕ, Bool, true, false, ◌≡◌, ◌<◌, ◌≤◌, ◌+◌, List, ◌∷◌, [], ◌++◌, length, slice_get, Option, Some, None, Result, Ok, Err}
+use Rattle.std.specs.Prelude.{ℕ, Bool, true, false, ◌≡◌, ◌<◌, ◌≤◌, List, ◌∷◌, [], ◌++◌, length, slice_get, Option, Some, None, Result, Ok, Err}
 use Rattle.apex_orders.specs.Prelude.{Configuration, count_of, History, entries_of}
 use Rattle.apex_orders.specs.declared.asked.Asked.{Asked}
 use Rattle.apex_orders.specs.declared.replies.PossibleReply.{PossibleReply}
@@ -140,10 +140,6 @@ pub record IsAnsweredAfter (clock : Bool) (config : Configuration) (scripts : Sc
 -- the asked call isn't answered so after the order at the index
 abbrev pub IsUnansweredAt : Bool → Configuration → Scripts → Asked → List (List ℕ) → ℕ → Type 0
 IsUnansweredAt clock config scripts asked orders k = (order : List ℕ) → slice_get orders k ≡ Some order → ¬ IsAnsweredAfter clock config scripts asked order
-
--- nor after any of so many from the index on
-abbrev pub AreUnansweredFrom : Bool → Configuration → Scripts → Asked → List (List ℕ) → ℕ → ℕ → Type 0
-AreUnansweredFrom clock config scripts asked orders from count = (k : ℕ) → k < count → IsUnansweredAt clock config scripts asked orders (from + k)
 
 -- each order that was found answers the question at its index
 pub record HaveOrders (clock : Bool) (config : Configuration) (scripts : Scripts) (asked : List Asked) (answers : List (Option (List ℕ))) : Type 0 where

@@ -5,7 +5,7 @@ use Rattle.apex_orders.specs.declared.asked.Asked.{Asked}
 use Rattle.apex_orders.specs.declared.rounds.Rounds.{Rounds}
 use Rattle.apex_orders.specs.declared.replies.PossibleReply.{PossibleReply}
 use Rattle.apex_orders.specs.declared.shared.Shared.{Shared}
-use Rattle.apex_orders.specs.declared.worker.FoundPoint.{FoundPoint}
+use Rattle.apex_orders.specs.declared.found_point.FoundPoint.{FoundPoint}
 use Rattle.apex_orders.specs.declared.worker.Worker.{Worker}
 use Rattle.apex_orders.specs.declared.workers.Workers.{Workers}
 use Rattle.apex_orders.specs.Hashes.{hash_of}

@@ -1,9 +1,9 @@
 //! The orders that answer questions.
-ghost use Rattle.std.specs.Prelude.{◌≡◌, ◌<◌, ◌≤◌, ◌+◌, ◌↔◌, ℕ, length, slice_get, IsTrue, IfOk, OnOk, MatchOption};
-ghost use Rattle.apex_orders.specs.Known.{IsAfter, IsTrialOf};
+ghost use Rattle.std.specs.Prelude.{◌≡◌, ◌<◌, ◌≤◌, ◌+◌, ◌↔◌, length, IsTrue, IfOk, OnOk, MatchOption};
+ghost use Rattle.apex_orders.specs.Known.{IsReadyAfter, IsTrialOf};
 ghost use Rattle.apex_orders.specs.Orders.{order_at};
 ghost use Rattle.apex_orders.specs.Outcomes.{IsAnsweredByWith};
-ghost use Rattle.apex_orders.specs.Searching.{AreAnswersBy, AreUnansweredFrom, IsAnsweredAfter, IsOpen, IsSearch, IsUnansweredAt};
+ghost use Rattle.apex_orders.specs.Searching.{AreAnswersBy, IsAnsweredAfter, IsSearch, IsUnansweredAt};
 
 use crate::asked::Asked;
 use crate::choice::is_due;
@@ -13,7 +13,7 @@ use crate::search::Search;
 use crate::step::step;
 use crate::trial::Trial;
 use apex_module::Config;
-use apex_ports::{Ports, SavedPorts, Script};
+use apex_ports::{Ports, Script};
 use apex_types::OutOfMemory;
 use std::alloc::Global;
 
@@ -41,82 +41,14 @@ pub(crate) fn find_answers(
         current.now.orders (from + count) answers.new.items) }
     ensures trial { OnOk result (IsTrialOf config.now trial.new) }
 {
-    let orders = current.orders.len();
-    prove!(from + count <= orders);
-    for q in 0..asked.len() {
-        find_answer(
-            alloc, config, scripts, clock, asked, current, from, count, trial, answers, q,
-        )?;
-    }
-    Ok(())
-}
-
-/// Looks for an answer to the question at an index, unless it has one.
-fn find_answer(
-    alloc: Global,
-    config: &Config,
-    scripts: &[Script],
-    clock: bool,
-    asked: &[Asked],
-    current: &Search,
-    from: usize,
-    count: usize,
-    trial: &mut Trial,
-    answers: &mut Vec<Option<PackedOrder>>,
-    q: usize,
-) -> Result<(), OutOfMemory>
-    requires valid { IsSearch clock config.now scripts.now current.now }
-    requires past { current.now.points.first ≤ from }
-    requires within { from + count ≤ length current.now.orders }
-    requires trial { IsTrialOf config.now trial.old }
-    requires question { q < length asked.now }
-    requires answers { AreAnswersBy clock config.now scripts.now asked.now
-        current.now.orders from answers.old.items }
-    ensures answers { OnOk result (AreAnswersBy clock config.now scripts.now asked.now
-        current.now.orders from answers.new.items) }
-    ensures own { OnOk result (IsOpen clock config.now scripts.now asked.now
-        current.now.orders (from + count) answers.new.items q) }
-    ensures others { OnOk result ((other : ℕ) → ¬ (other ≡ q)
-        → slice_get answers.new.items other ≡ slice_get answers.old.items other) }
-    ensures trial { OnOk result (IsTrialOf config.now trial.new) }
-{
-    if answers[q].is_some() {
+    if asked.is_empty() {
         return Ok(());
     }
-    let one = &asked[q];
-    let answer = first_answer(
-        alloc, config, scripts, clock, one, current, from, count, trial,
-    )?;
-    answers[q] = answer;
-    Ok(())
-}
-
-/// The first of the orders from an index on, followed by the asked call, if that call is the next there and gets an
-/// admitted reply.
-fn first_answer(
-    alloc: Global,
-    config: &Config,
-    scripts: &[Script],
-    clock: bool,
-    asked: &Asked,
-    current: &Search,
-    from: usize,
-    count: usize,
-    trial: &mut Trial,
-) -> Result<Option<PackedOrder>, OutOfMemory>
-    requires valid { IsSearch clock config.now scripts.now current.now }
-    requires past { current.now.points.first ≤ from }
-    requires within { from + count ≤ length current.now.orders }
-    requires trial { IsTrialOf config.now trial.old }
-    ensures answer { IfOk result (λ answer. MatchOption answer
-        (AreUnansweredFrom clock config.now scripts.now asked.now current.now.orders from count)
-        (IsAnsweredByWith clock config.now scripts.now asked.now)) }
-    ensures trial { OnOk result (IsTrialOf config.now trial.new) }
-{
     let orders = current.orders.len();
     prove!(from + count <= orders);
     for k in 0..count {
-        if let Some(order) = answer_after(
+        let ports = &mut trial.ports;
+        answer_at(
             alloc,
             config,
             scripts,
@@ -124,12 +56,44 @@ fn first_answer(
             asked,
             current,
             from + k,
-            trial,
-        )? {
-            return Ok(Some(order));
+            ports,
+            answers,
+        )?;
+    }
+    Ok(())
+}
+
+/// Looks for answers that the order at the index gives, to the questions that have none.
+fn answer_at(
+    alloc: Global,
+    config: &Config,
+    scripts: &[Script],
+    clock: bool,
+    asked: &[Asked],
+    current: &Search,
+    i: usize,
+    ports: &mut Ports,
+    answers: &mut Vec<Option<PackedOrder>>,
+) -> Result<(), OutOfMemory>
+    requires valid { IsSearch clock config.now scripts.now current.now }
+    requires past { current.now.points.first ≤ i }
+    requires within { i < length current.now.orders }
+    requires config { ports.old.config ≡ config.now }
+    requires answers { AreAnswersBy clock config.now scripts.now asked.now
+        current.now.orders i answers.old.items }
+    ensures answers { OnOk result (AreAnswersBy clock config.now scripts.now asked.now
+        current.now.orders (i + 1) answers.new.items) }
+    ensures config { OnOk result (ports.new.config ≡ config.now) }
+{
+    ports.restore(current.points.saved_at(i));
+    for q in 0..asked.len() {
+        if answers[q].is_none() {
+            let one = &asked[q];
+            let answer = answer_after(alloc, config, scripts, clock, one, current, i, ports)?;
+            answers[q] = answer;
         }
     }
-    Ok(None)
+    Ok(())
 }
 
 /// The order at the index followed by the asked call, if that call is the next there and gets an admitted reply.
@@ -141,25 +105,22 @@ fn answer_after(
     asked: &Asked,
     current: &Search,
     i: usize,
-    trial: &mut Trial,
+    ports: &mut Ports,
 ) -> Result<Option<PackedOrder>, OutOfMemory>
     requires valid { IsSearch clock config.now scripts.now current.now }
     requires past { current.now.points.first ≤ i }
     requires within { i < length current.now.orders }
-    requires trial { IsTrialOf config.now trial.old }
+    requires ready { IsReadyAfter config.now scripts.now (order_at current.now.orders i) ports.old }
     ensures answer { IfOk result (λ answer. MatchOption answer
         (IsUnansweredAt clock config.now scripts.now asked.now current.now.orders i)
         (IsAnsweredByWith clock config.now scripts.now asked.now)) }
-    ensures trial { OnOk result (IsTrialOf config.now trial.new) }
+    ensures ready { IsReadyAfter config.now scripts.now (order_at current.now.orders i) ports.new }
 {
     let partitions = config.partitions();
     if asked.partition >= partitions {
         return Ok(None);
     }
-    let orders = &current.orders;
-    let saved = current.points.saved_at(i);
-    let ports = &mut trial.ports;
-    if !gives(config, scripts, clock, asked, orders, i, saved, ports) {
+    if !gives(config, scripts, clock, asked, current, i, ports) {
         return Ok(None);
     }
     let order = current.orders.order(alloc, i)?;
@@ -167,26 +128,53 @@ fn answer_after(
     Ok(Some(answer))
 }
 
-/// Whether the asked call is its partition's next after the order at the index and gets an admitted reply.
+/// Whether the asked call is its partition's next after the order at the index and gets an admitted reply. The ports are
+/// there, before and afterwards.
 fn gives(
     config: &Config,
     scripts: &[Script],
     clock: bool,
     asked: &Asked,
+    current: &Search,
+    i: usize,
+    ports: &mut Ports,
+) -> bool
+    requires valid { IsSearch clock config.now scripts.now current.now }
+    requires past { current.now.points.first ≤ i }
+    requires within { i < length current.now.orders }
+    requires partition { asked.now.partition < length config.now.partitions }
+    requires ready { IsReadyAfter config.now scripts.now (order_at current.now.orders i) ports.old }
+    ensures given { IsTrue result ↔ IsAnsweredAfter clock config.now scripts.now asked.now
+        (order_at current.now.orders i) }
+    ensures ready { IsReadyAfter config.now scripts.now (order_at current.now.orders i) ports.new }
+{
+    if ports.calls(asked.partition) != asked.index as u64 {
+        return false;
+    }
+    let orders = &current.orders;
+    let given = is_given(config, scripts, clock, asked, orders, i, ports);
+    ports.restore(current.points.saved_at(i));
+    given
+}
+
+/// Makes the asked partition's next call after the order at the index, if it is due. Returns whether it is the asked call and
+/// gets an admitted reply.
+fn is_given(
+    config: &Config,
+    scripts: &[Script],
+    clock: bool,
+    asked: &Asked,
     orders: &Orders,
-    index: usize,
-    saved: &SavedPorts,
+    i: usize,
     ports: &mut Ports,
 ) -> bool
     requires scripts { length scripts.now ≡ length config.now.partitions }
     requires partition { asked.now.partition < length config.now.partitions }
-    requires saved { IsAfter config.now scripts.now (order_at orders.now index) saved.now }
-    requires config { ports.old.config ≡ config.now }
+    requires ready { IsReadyAfter config.now scripts.now (order_at orders.now i) ports.old }
     ensures given { IsTrue result
-        ↔ IsAnsweredAfter clock config.now scripts.now asked.now (order_at orders.now index) }
+        ↔ IsAnsweredAfter clock config.now scripts.now asked.now (order_at orders.now i) }
     ensures config { ports.new.config ≡ config.now }
 {
-    ports.restore(saved);
     if clock && !is_due(ports, scripts, asked.partition) {
         return false;
     }

@@ -65,7 +65,8 @@ fn is_early(row: Row) -> bool
 fn next_call<'a>(ports: &Ports, scripts: &'a [Script], p: usize) -> Option<&'a (Moment, Call)>
     requires partition { p < length ports.now.config.partitions }
     requires scripts { length scripts.now ≡ length ports.now.config.partitions }
-    ensures { let next = slice_get (script_of scripts.now p) (length (entries_of p ports.now.history)) in
+    ensures { let made = length (entries_of p ports.now.history) in
+        let next = slice_get (script_of scripts.now p) made in
         MatchOption result (next ≡ None) (λ timed. next ≡ Some timed.now) }
 {
     let script = &scripts[p];

@@ -9,6 +9,7 @@ mod choice;
 pub mod clock_law;
 mod commuting;
 pub mod commuting_law;
+mod found_point;
 mod hash;
 mod hash_index;
 mod last_uses;

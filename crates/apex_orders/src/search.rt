@@ -11,13 +11,14 @@ ghost use Rattle.apex_orders.specs.Workers.{HasAllLeft, HasContinued, HasMade, I
 
 use crate::asked::Asked;
 use crate::boxed_ports::BoxedPorts;
+use crate::found_point::FoundPoint;
 use crate::last_uses::{LastUses, last_uses};
 use crate::orders::Orders;
 use crate::points::{Points, add_unused, is_known};
 use crate::replies::Replies;
 use crate::sizes::size_of;
 use crate::trial::Trial;
-use crate::worker::{FoundPoint, Worker};
+use crate::worker::Worker;
 use apex_module::Config;
 use apex_ports::Script;
 use apex_types::OutOfMemory;
@@ -50,7 +51,8 @@ impl Search {
         asked: &[Asked],
     ) -> Result<Search, OutOfMemory>
         requires { length scripts.now ≡ length config.now.partitions }
-        ensures valid { IfOk result (λ one. (clock : Bool) → IsSearch clock config.now scripts.now one) }
+        ensures valid { IfOk result
+            (λ one. (clock : Bool) → IsSearch clock config.now scripts.now one) }
         ensures first { IfOk result (λ one. Has one.orders []) }
         ensures unsearched { IfOk result (λ one. one.points.first ≡ 0) }
         ensures level { IfOk result HasLevel }

@@ -6,7 +6,6 @@ ghost use Rattle.apex_orders.specs.Hashes.{hash_of};
 ghost use Rattle.apex_orders.specs.Known.{IsTrialOf};
 ghost use Rattle.apex_orders.specs.Orders.{history_of, next_entries, script_of};
 ghost use Rattle.apex_orders.specs.Points.{IsSamePoint, calls_made};
-ghost use Rattle.apex_orders.specs.declared.worker.FoundPoint.{FoundPoint};
 ghost use Rattle.apex_orders.specs.Searching.{AreDue, Includes, Keeps};
 ghost use Rattle.apex_orders.specs.Steps.{MakesNothing};
 ghost use Rattle.apex_orders.specs.Prelude.{IsSound};
@@ -14,10 +13,10 @@ ghost use Rattle.apex_orders.specs.Workers.{AreHashed, IsContinued, AreContinued
 
 use crate::boxed_ports::BoxedPorts;
 use crate::choice::{Choice, choose, is_tried};
+use crate::found_point::{FoundPoint, has_found};
 use crate::hash::hash_of;
 use crate::hash_index::HashIndex;
 use crate::orders::Orders;
-use crate::point::is_same_point;
 use crate::points::{Points, is_among};
 use crate::replies::Replies;
 use crate::shared::Shared;
@@ -30,17 +29,6 @@ use std::alloc::Global;
 use std::collections::VecDeque;
 use std::mem;
 use std::snapshot::Snapshot;
-
-/// A point that was found one call after one of a worker's points.
-#[derive(Drop)]
-pub(crate) struct FoundPoint {
-    /// The index of the point before the call among the worker's points.
-    pub(crate) before: usize,
-    /// The partition that makes the call.
-    pub(crate) partition: usize,
-    pub(crate) hash: u64,
-    pub(crate) saved: BoxedPorts,
-}
 
 /// Continues from points that it is given. It reads what the search had found before, but nothing of other workers: what it
 /// finds is compared with what they find afterwards.
@@ -355,47 +343,5 @@ fn return_to(ports: &mut Ports, saved: &BoxedPorts, is_there: bool)
 {
     if !is_there {
         ports.restore(saved.saved());
-    }
-}
-
-/// Whether one of these points is that of the trial's ports, which has this hash.
-fn has_found(found: &VecDeque<FoundPoint>, hashes: &HashIndex, trial: &mut Trial, hash: u64) -> bool
-    requires hashed { AreHashed trial.old.ports.config found.now.items hashes.now }
-    requires hash { hash ≡ hash_of trial.old.ports.config trial.old.ports.history }
-    requires config { trial.old.other.config ≡ trial.old.ports.config }
-    ensures found { IsTrue result ↔ HasPoint found.now.items trial.old.ports }
-    ensures ports { trial.new.ports ≡ trial.old.ports }
-    ensures other { trial.new.other.config ≡ trial.old.other.config }
-{
-    let mut count = hashes.up_to_last(hash);
-    while count > 0 {
-        let k = count - 1;
-        if is_point_at(found, k, trial) {
-            return true;
-        }
-        count = hashes.up_to_earlier(hash, k);
-    }
-    false
-}
-
-/// Whether the point at the index is that of the trial's ports.
-fn is_point_at(found: &VecDeque<FoundPoint>, k: usize, trial: &mut Trial) -> bool
-    requires configured { (one : FoundPoint) → slice_get found.now.items k ≡ Some one
-        → one.saved.config ≡ trial.old.other.config }
-    requires config { trial.old.other.config ≡ trial.old.ports.config }
-    ensures same { IsTrue result → (one : FoundPoint) × (slice_get found.now.items k ≡ Some one)
-        × IsSamePoint trial.old.ports.config trial.old.ports.history one.saved.history }
-    ensures other { (one : FoundPoint) → slice_get found.now.items k ≡ Some one
-        → IsSamePoint trial.old.ports.config trial.old.ports.history one.saved.history
-        → IsTrue result }
-    ensures ports { trial.new.ports ≡ trial.old.ports }
-    ensures config { trial.new.other.config ≡ trial.old.other.config }
-{
-    match found.get(k) {
-        None => false,
-        Some(one) => {
-            trial.other.restore(one.saved.saved());
-            is_same_point(&trial.ports, &trial.other)
-        }
     }
 }

@@ -1,14 +1,7 @@
 use Rattle.apex_orders.proofs.Common.{◌≡◌, ◌++◌, ◌∷◌, [], List, ℕ, true, false, false≢true, Some, slice_get, sym, ap, ◌∙◌, subst, arith, order_at, IsAnsweredAfter, IsAnsweredByWith}
 use Rattle.apex_orders.proofs.GrowthLemmas.{order_here}
-use Rattle.apex_orders.proofs.KnownLemmas.{saved_here}
 use Rattle.apex_orders.proofs.WitnessLemmas.{longer_answers}
 use Rattle.apex_orders.proofs.answer.answer_after.Goals as goal
-
-pub gives-requires-clause-saved : goal.gives-requires-clause-saved
-gives-requires-clause-saved c =
-    let orders = c.args.current.now.orders in
-    let points = c.args.current.now.points in
-    saved_here c.args.config.now c.args.scripts.now orders points points c.requires.valid.points c.args.i (order_at orders c.args.i) c.saved_at-saved.result.now (order_here orders c.args.i c.requires.within) c.requires.past c.saved_at-saved.ensures
 
 pub returns-then-not-gives-clause-answer : goal.returns-then-not-gives-clause-answer
 returns-then-not-gives-clause-answer c = λ order at answered.

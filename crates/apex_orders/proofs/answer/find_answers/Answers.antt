@@ -1,22 +1,23 @@
-use Rattle.apex_orders.proofs.Common.{◌≡◌, ⊎_elim, ◌+◌, sym, ◌∙◌, subst, arith, cases_eq, slice_get_within, IsOpen}
+use Rattle.apex_orders.proofs.Common.{◌≡◌, ℕ, ◌+◌, sym, subst, arith, AreAnswersBy}
 use Rattle.apex_orders.proofs.answer.find_answers.Goals as goal
 
-pub loop-q-preserved : goal.loop-q-preserved
-loop-q-preserved c =
-    let one = c.in_ok-find_answer.ensures in
-    let all = c.args.from + c.args.count in
+pub loop-k-init : goal.loop-k-init
+loop-k-init c =
+    let none : c.args.from + 0 ≡ c.args.from = omega arith in
     record {
-      trial = one.trial;
-      answers = one.answers;
-      done = λ q below.
-          ⊎_elim
-          (λ (own : q ≡ c.loop-q.q). subst (IsOpen c.args.clock c.args.config.now c.args.scripts.now c.args.asked.now c.args.current.now.orders all c.find_answer.new.answers.items) (sym own) one.own)
-          (λ (other : q ≡ c.loop-q.q → ⊥). λ asked at none. c.loop-q.invariant.done q (omega (arith, below, other)) asked at (sym (one.others q other) ∙ none))
-          (cases_eq q c.loop-q.q);
+      trial = c.requires.trial;
+      answers = subst (λ (n : ℕ). AreAnswersBy c.args.clock c.args.config.now c.args.scripts.now c.args.asked.now c.args.current.now.orders n c.args.answers.now.items) (sym none) c.requires.answers;
+    }
+
+pub loop-k-preserved : goal.loop-k-preserved
+loop-k-preserved c =
+    let one_more : (c.args.from + c.loop-k.k) + 1 ≡ c.args.from + (c.loop-k.k + 1) = omega arith in
+    record {
+      trial = record { ports = c.in_ok-answer_at.ensures.config; other = c.loop-k.invariant.trial.other };
+      answers = subst (λ (n : ℕ). AreAnswersBy c.args.clock c.args.config.now c.args.scripts.now c.args.asked.now c.args.current.now.orders n c.answer_at.new.answers.items) one_more c.in_ok-answer_at.ensures.answers;
     }
 
 pub returns-clause-answers : goal.returns-clause-answers
-returns-clause-answers c = record {
-  found = c.loop-q.invariant.answers.found;
-  unanswered = λ q one at none. let within = slice_get_within c.args.asked.now q one at in c.loop-q.invariant.done q (omega (arith, within)) one at none;
-}
+returns-clause-answers c =
+    let all : c.loop-k.k ≡ c.args.count = omega (arith, c.loop-k-test.false, c.loop-k.auto.k-end) in
+    subst (λ (n : ℕ). AreAnswersBy c.args.clock c.args.config.now c.args.scripts.now c.args.asked.now c.args.current.now.orders (c.args.from + n) c.loop-k.answers.items) all c.loop-k.invariant.answers

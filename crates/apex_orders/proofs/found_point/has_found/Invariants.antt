@@ -1,5 +1,5 @@
 use Rattle.apex_orders.proofs.Common.{◌≡◌, ◌+◌, ℕ, ◌≤◌, Some, slice_get, FoundPoint, IsSamePoint}
-use Rattle.apex_orders.proofs.worker.has_found.Given as goal
+use Rattle.apex_orders.proofs.found_point.has_found.Given as goal
 
 abbrev pub invariant-loop-count : goal.invariant-loop-count
 invariant-loop-count l = record {

@@ -1,6 +1,6 @@
 use Rattle.apex_orders.proofs.Common.{◌≡◌, ⊎_elim, ◌<◌, ◌≤◌, ◌-◌, ℕ, List, Some, arith, refl, ap, sym, ◌∙◌, subst, slice_get, cases_eq, cases_lt, false≢true, slice_get_within, Configuration, History, PortsView, FoundPoint, hash_of, AreHashed, IsSamePoint}
 use Rattle.apex_orders.proofs.HashLemmas.{same_hash}
-use Rattle.apex_orders.proofs.worker.has_found.Goals as goal
+use Rattle.apex_orders.proofs.found_point.has_found.Goals as goal
 
 -- a point that is that of the ports has their hash
 met_hash : (config : Configuration) (found : List FoundPoint) (hashes : List ℕ) (h : History) (hash n : ℕ) (one : FoundPoint) → AreHashed config found hashes → hash ≡ hash_of config h
