@@ -1,12 +1,12 @@
 -- What a worker is given, finds and knows.
-use Rattle.apex_orders.proofs.Common.{◌≡◌, ⊎_elim, ℕ, ◌+◌, ◌<◌, ◌≤◌, Bool, List, [], ◌∷◌, ◌++◌, length, map, Ok, Err, Result, OnOk, Some, false, sym, ap, ◌∙◌, subst, arith, cases_lt, append_assoc, map-append, length-append, slice_get, Configuration, History, PortsView, PossibleReply, FoundPoint, Worker, Scripts, Has, IsSamePoint, hash_of, history_of, order_at, Keeps, Includes, Knows, HasTriedEnough}
-use Rattle.apex_orders.proofs.Common.{AreGiven, AreHashed, HasContinued, HasPoint, HasTriedFrom, IsFoundBy, IsLaterWorker, IsRange, order_given, order_found, orders_known}
+use Rattle.apex_orders.proofs.Common.{◌≡◌, ⊎_elim, ℕ, ◌+◌, ◌<◌, Bool, List, [], ◌∷◌, ◌++◌, length, map, Ok, Err, Result, OnOk, Some, false, sym, ap, ◌∙◌, subst, arith, append_assoc, map-append, length-append, slice_get, Configuration, History, PortsView, PossibleReply, FoundPoint, Worker, Scripts, Has, IsSamePoint, hash_of, history_of, order_at, Keeps, Includes, Knows, HasTriedEnough}
+use Rattle.apex_orders.proofs.Common.{AreGiven, AreHashed, HasContinued, HasPoint, IsFoundBy, IsLaterWorker, order_given, order_found, orders_known}
 use Rattle.std.specs.Result.{is_err}
 use Rattle.apex_orders.proofs.Following.{same_along}
 use Rattle.apex_orders.proofs.GrowthLemmas.{order_here}
 use Rattle.apex_orders.proofs.Having.{has_before, has_behind, has_either, has_mapped, of_mapped}
 use Rattle.apex_orders.proofs.Lists.{at_seam, before_or_last, stays_before}
-use Rattle.apex_orders.proofs.SearchLemmas.{has_tried_kept, includes_along, keeps_along, knows_kept, tried_kept}
+use Rattle.apex_orders.proofs.SearchLemmas.{includes_along, keeps_along, knows_kept, tried_kept}
 
 -- ---- one more point
 
@@ -144,31 +144,19 @@ includes_behind known old new includes one has =
     (λ (found : Has old one). has_behind known new one (includes one found))
     (has_either known old one has)
 
--- ---- ranges
-
-pub same_range : (from to : ℕ) (old new : Worker) → IsLaterWorker old new → IsRange from to old → IsRange from to new
-same_range from to old new later range =
-    let first = later.first in
-    let count = ap (λ (points : List PortsView). length points) later.given in
-    let was = range.first in
-    let last = range.last in
-    record { first = first ∙ was; last = omega (arith, first, count, last) }
-
-module _ (clock : Bool) (config : Configuration) (scripts : Scripts) where
-  -- what was tried up to an index, and then on from there
-  pub tried_join : (old new : List (List ℕ)) (replies more : List PossibleReply) (from mid to : ℕ) → Keeps old new → Includes replies more → mid ≤ length old
-      → HasTriedFrom clock config scripts old replies from mid → HasTriedFrom clock config scripts new more mid to → HasTriedFrom clock config scripts new more from to
-  tried_join old new replies more from mid to keeps includes within one two k past below =
-      ⊎_elim
-      (λ (before : k < mid). has_tried_kept config scripts clock old new replies more k keeps includes (omega (arith, before, within)) (one k past before))
-      (λ (behind : mid ≤ k). two k behind below)
-      (cases_lt k mid)
-
 -- ---- results
 
 pub on_ok : {X E : Type 0} (r : Result X E) (P Q : Type 0) → (P → Q) → OnOk r P → OnOk r Q
 on_ok (Ok x) P Q f is = f is
 on_ok (Err e) P Q f is = tt
+
+pub ok_then : {X E P : Type 0} (r : Result X E) (Q : Type 0) → OnOk r P → (P → Q) → OnOk r Q
+ok_then (Ok x) Q is f = f is
+ok_then (Err e) Q is f = tt
+
+pub all_on_ok : {X E : Type 0} (r : Result X E) (P Q R S : Type 0) → (P → Q → R → S) → OnOk r P → OnOk r Q → OnOk r R → OnOk r S
+all_on_ok (Ok x) P Q R S f one two three = f one two three
+all_on_ok (Err e) P Q R S f one two three = tt
 
 pub when_ok : {X E : Type 0} (r : Result X E) (P : Type 0) → is_err r ≡ false → OnOk r P → P
 when_ok (Ok x) P ok is = is

@@ -1,5 +1,5 @@
 -- What the parts of a search find that can run in threads of their own.
-use Rattle.std.specs.Prelude.{ℕ, suc, Bool, ◌≡◌, ◌⊎◌, ◌<◌, ◌≤◌, ◌+◌, ◌^◌, List, [], ◌∷◌, ◌++◌, length, map, slice_get, Some, IfSome}
+use Rattle.std.specs.Prelude.{ℕ, suc, Bool, ◌≡◌, ◌⊎◌, ◌<◌, ◌≤◌, ◌+◌, ◌^◌, List, [], ◌∷◌, ◌++◌, length, map, slice_get, Some, OnOk}
 use Rattle.apex_orders.specs.Prelude.{Configuration, History, PortsView}
 use Rattle.apex_orders.specs.declared.asked.Asked.{Asked}
 use Rattle.apex_orders.specs.declared.rounds.Rounds.{Rounds}
@@ -106,10 +106,49 @@ pub record HasContinuedFrom (clock : Bool) (config : Configuration) (scripts : S
   pub first : new.points.first ≡ old.points.first + count
   pub tried : HasTriedFrom clock config scripts new.orders new.replies old.points.first (old.points.first + count)
 
--- the workers can try calls of the configuration
+-- each of the workers can try calls of the configuration
+abbrev pub CanAllTry : Configuration → List Worker → Type 0
+CanAllTry config workers = (k : ℕ) (worker : Worker) → slice_get workers k ≡ Some worker → IsTrialOf config worker.trial
+
+-- so can those that were made, and at least one thread may run
 pub record AreWorkers (config : Configuration) (workers : Workers) : Type 0 where
-  pub first : IsTrialOf config workers.first.trial
-  pub second : IfSome workers.second (λ worker. IsTrialOf config worker.trial)
+  pub some : 0 < workers.threads
+  pub each : CanAllTry config workers.all.items
+
+-- the index is that of the order to one of the worker's points
+pub record IsPointOf (worker : Worker) (i : ℕ) : Type 0 where
+  pub past : worker.first ≤ i
+  pub within : i < worker.first + length worker.given.value.items
+
+-- it is that of one of some workers
+pub record HasPointAt (workers : List Worker) (i : ℕ) : Type 0 where
+  pub index : ℕ
+  pub worker : Worker
+  pub here : slice_get workers index ≡ Some worker
+  pub is : IsPointOf worker i
+
+-- the worker has yet to try its points, each of which has so many calls before it and one of the orders
+pub record IsGivenOut (clock : Bool) (config : Configuration) (scripts : Scripts) (orders : List (List ℕ)) (calls : ℕ) (worker : Worker) : Type 0 where
+  pub valid : IsWorker clock config scripts worker
+  pub base : worker.base.value ≡ orders
+  pub left : HasAllLeft worker
+  pub made : HasMade config scripts calls worker
+
+-- this holds for each of the workers
+abbrev pub AreGivenOut : Bool → Configuration → Scripts → List (List ℕ) → ℕ → List Worker → Type 0
+AreGivenOut clock config scripts orders calls workers =
+    (k : ℕ) (worker : Worker) → slice_get workers k ≡ Some worker → IsGivenOut clock config scripts orders calls worker
+
+-- the worker has tried all of its points, and what it found can be added to the search
+pub record HasTriedAll (clock : Bool) (config : Configuration) (scripts : Scripts) (current : Search) (worker : Worker) : Type 0 where
+  pub valid : IsWorker clock config scripts worker
+  pub tried : HasContinued clock config scripts current.replies worker
+  pub base : Keeps worker.base.value current.orders
+  pub made : HasMade config scripts current.points.calls worker
+
+-- this holds unless memory ran out
+abbrev pub HasDone : Bool → Configuration → Scripts → Search → Worker → Type 0
+HasDone clock config scripts current worker = OnOk worker.result (HasTriedAll clock config scripts current worker)
 
 -- all points up to the first that is left are tried, and their orders give the answers
 pub record IsUnderWay (clock : Bool) (config : Configuration) (scripts : Scripts) (asked : List Asked) (rounds : Rounds) : Type 0 where
@@ -117,6 +156,7 @@ pub record IsUnderWay (clock : Bool) (config : Configuration) (scripts : Scripts
   pub valid : IsSearch clock config scripts rounds.current
   pub level : HasLevel rounds.current
   pub workers : AreWorkers config rounds.workers
+  pub ports : rounds.ports.config ≡ config
   pub answers : AreAnswersBy clock config scripts asked rounds.current.orders rounds.current.points.first rounds.answers.items
   pub tried : (k : ℕ) → k < rounds.current.points.first → HasTried clock config scripts rounds.current.orders rounds.current.replies k
 
@@ -163,3 +203,19 @@ IsContinued shared worker order =
 -- enough was tried after each of the points
 abbrev pub AreContinued : Shared → Worker → Type 0
 AreContinued shared worker = HasContinued shared.clock shared.config.now shared.scripts.now shared.known.now worker
+
+-- the worker can run
+pub record CanRun (shared : Shared) (worker : Worker) : Type 0 where
+  pub valid : IsWorkerOf shared worker
+  pub base : Keeps shared.orders.now worker.base.value
+  pub left : HasAllLeft worker
+
+-- the worker has tried all of its points
+pub record HasRunThrough (shared : Shared) (old new : Worker) : Type 0 where
+  pub valid : IsWorkerOf shared new
+  pub later : IsLaterWorker old new
+  pub tried : AreContinued shared new
+
+-- this holds unless memory ran out
+abbrev pub HasRun : Shared → Worker → Worker → Type 0
+HasRun shared old new = OnOk new.result (HasRunThrough shared old new)

@@ -1,6 +1,6 @@
 //! The orders that answer questions.
 ghost use Rattle.std.specs.Prelude.{◌≡◌, ◌<◌, ◌≤◌, ◌+◌, ◌↔◌, length, IsTrue, IfOk, OnOk, MatchOption};
-ghost use Rattle.apex_orders.specs.Known.{IsReadyAfter, IsTrialOf};
+ghost use Rattle.apex_orders.specs.Known.{IsReadyAfter};
 ghost use Rattle.apex_orders.specs.Orders.{order_at};
 ghost use Rattle.apex_orders.specs.Outcomes.{IsAnsweredByWith};
 ghost use Rattle.apex_orders.specs.Searching.{AreAnswersBy, IsAnsweredAfter, IsSearch, IsUnansweredAt};
@@ -11,7 +11,6 @@ use crate::order::PackedOrder;
 use crate::orders::Orders;
 use crate::search::Search;
 use crate::step::step;
-use crate::trial::Trial;
 use apex_module::Config;
 use apex_ports::{Ports, Script};
 use apex_types::OutOfMemory;
@@ -28,18 +27,18 @@ pub(crate) fn find_answers(
     current: &Search,
     from: usize,
     count: usize,
-    trial: &mut Trial,
+    ports: &mut Ports,
     answers: &mut Vec<Option<PackedOrder>>,
 ) -> Result<(), OutOfMemory>
     requires valid { IsSearch clock config.now scripts.now current.now }
     requires past { current.now.points.first ≤ from }
     requires within { from + count ≤ length current.now.orders }
-    requires trial { IsTrialOf config.now trial.old }
+    requires config { ports.old.config ≡ config.now }
     requires answers { AreAnswersBy clock config.now scripts.now asked.now
         current.now.orders from answers.old.items }
     ensures answers { OnOk result (AreAnswersBy clock config.now scripts.now asked.now
         current.now.orders (from + count) answers.new.items) }
-    ensures trial { OnOk result (IsTrialOf config.now trial.new) }
+    ensures config { OnOk result (ports.new.config ≡ config.now) }
 {
     if asked.is_empty() {
         return Ok(());
@@ -47,7 +46,6 @@ pub(crate) fn find_answers(
     let orders = current.orders.len();
     prove!(from + count <= orders);
     for k in 0..count {
-        let ports = &mut trial.ports;
         answer_at(
             alloc,
             config,

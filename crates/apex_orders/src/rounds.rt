@@ -13,7 +13,7 @@ use crate::replies::PossibleReply;
 use crate::search::Search;
 use crate::workers::Workers;
 use apex_module::Config;
-use apex_ports::Script;
+use apex_ports::{Ports, Script};
 use apex_types::OutOfMemory;
 use std::alloc::Global;
 use std::thread::Threads;
@@ -31,7 +31,7 @@ pub(crate) struct Found {
 }
 
 /// Continues from each point, level by level, until none is left, or each of some questions has an order that answers it,
-/// or the search is given up. Many points of a level are tried in two threads; what is found does not depend on that.
+/// or the search is given up. Many points of a level are tried in several threads; what is found does not depend on that.
 pub(crate) fn search_points<R: Threads + Sync, P: Progress>(
     rt: &R,
     alloc: Global,
@@ -48,7 +48,7 @@ pub(crate) fn search_points<R: Threads + Sync, P: Progress>(
         (IsGivenUp clock P.CanStop config.now scripts.now bound)) }
 {
     progress.begin();
-    let mut rounds = Rounds::new(alloc, config, scripts, asked)?;
+    let mut rounds = Rounds::new(rt, alloc, config, scripts, asked)?;
     while !rounds.are_over() {
         if let Some(fault) = rounds.next(
             rt, alloc, config, scripts, clock, asked, bound, progress,
@@ -64,12 +64,15 @@ pub(crate) fn search_points<R: Threads + Sync, P: Progress>(
 struct Rounds {
     current: Search,
     workers: Workers,
+    /// The ports on which asked calls are tried.
+    ports: Ports,
     answers: Vec<Option<PackedOrder>>,
 }
 
 impl Rounds {
     /// Before the first round, only the order without calls is found.
-    fn new(
+    fn new<R: Threads + Sync>(
+        rt: &R,
         alloc: Global,
         config: &Config,
         scripts: &[Script],
@@ -81,11 +84,13 @@ impl Rounds {
         ensures first { IfOk result (λ one. one.current.points.first ≡ 0) }
     {
         let current = Search::new(alloc, config, scripts, asked)?;
-        let workers = Workers::new(alloc, config, &current.orders)?;
+        let workers = Workers::new(rt, alloc, config);
+        let ports = Ports::new(alloc, config.copy()?)?;
         let answers = no_answers(alloc, asked.len())?;
         Ok(Rounds {
             current,
             workers,
+            ports,
             answers,
         })
     }
@@ -130,9 +135,9 @@ impl Rounds {
         let first = self.current.points.first;
         let count = self.current.count_at_once();
         let current = &self.current;
-        let (trial, answers) = (&mut self.workers.first.trial, &mut self.answers);
+        let (ports, answers) = (&mut self.ports, &mut self.answers);
         find_answers(
-            alloc, config, scripts, clock, asked, current, first, count, trial, answers,
+            alloc, config, scripts, clock, asked, current, first, count, ports, answers,
         )?;
         if let Some(fault) = self.given_up(config, scripts, clock, bound, progress) {
             return Ok(Some(fault));
@@ -187,6 +192,7 @@ impl Rounds {
         ensures tried { OnOk result (HasTriedFrom clock config.now scripts.now
             self.new.current.orders self.new.current.replies
             self.old.current.points.first (self.old.current.points.first + count)) }
+        ensures ports { self.new.ports ≡ self.old.ports }
         ensures answers { self.new.answers ≡ self.old.answers }
     {
         let current = &mut self.current;

@@ -9,7 +9,7 @@ ghost use Rattle.apex_orders.specs.Points.{IsSamePoint, calls_made};
 ghost use Rattle.apex_orders.specs.Searching.{AreDue, Includes, Keeps};
 ghost use Rattle.apex_orders.specs.Steps.{MakesNothing};
 ghost use Rattle.apex_orders.specs.Prelude.{IsSound};
-ghost use Rattle.apex_orders.specs.Workers.{AreHashed, IsContinued, AreContinued, HasAllLeft, HasPoint, HasTriedCall, IsAnswered, IsLaterWorker, IsReady, IsShared, IsWorkerOf, KnowsPoint, history_given, order_given};
+ghost use Rattle.apex_orders.specs.Workers.{AreHashed, CanRun, IsContinued, AreContinued, HasAllLeft, HasRun, HasPoint, HasTriedCall, IsAnswered, IsLaterWorker, IsReady, IsShared, IsWorkerOf, KnowsPoint, history_given, order_given};
 
 use crate::boxed_ports::BoxedPorts;
 use crate::choice::{Choice, choose, is_tried};
@@ -29,6 +29,9 @@ use std::alloc::Global;
 use std::collections::VecDeque;
 use std::mem;
 use std::snapshot::Snapshot;
+
+/// For how many points a worker keeps memory to use again.
+const MOST_SPARE: usize = 16_384;
 
 /// Continues from points that it is given. It reads what the search had found before, but nothing of other workers: what it
 /// finds is compared with what they find afterwards.
@@ -118,13 +121,9 @@ impl Worker {
 
     /// Tries the next calls of enough partitions after each of its points.
     pub(crate) fn run(&mut self, shared: &Shared<'_>)
-        requires valid { IsWorkerOf shared.now self.old }
         requires shared { IsShared shared.now }
-        requires base { Keeps shared.now.orders.now self.old.base.value }
-        requires left { HasAllLeft self.old }
-        ensures valid { OnOk self.new.result (IsWorkerOf shared.now self.new) }
-        ensures later { OnOk self.new.result (IsLaterWorker self.old self.new) }
-        ensures tried { OnOk self.new.result (AreContinued shared.now self.new) }
+        requires ready { CanRun shared.now self.old }
+        ensures { HasRun shared.now self.old self.new }
     {
         self.result = self.try_points(shared);
     }
@@ -143,7 +142,7 @@ impl Worker {
         for j in 0..points.len() {
             let saved = points.pop_front().unwrap();
             self.try_point(shared, j, &saved, &mut choice)?;
-            self.spare.push(saved)?;
+            keep(&mut self.spare, saved)?;
         }
         Ok(())
     }
@@ -316,6 +315,14 @@ fn answer_next(
     };
     replies.add_unless_known(shared.alloc, shared.known, made)?;
     Ok(true)
+}
+
+/// Keeps the memory of saved ports to use it again, unless there is enough.
+fn keep(spare: &mut Vec<BoxedPorts>, saved: BoxedPorts) -> Result<(), OutOfMemory> {
+    if spare.len() < MOST_SPARE {
+        spare.push(saved)?;
+    }
+    Ok(())
 }
 
 /// Saves the ports, in memory that is spare if there is some.

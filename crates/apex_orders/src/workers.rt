@@ -1,8 +1,9 @@
-//! The workers of a search, one of which runs in a thread beside the other if there are many points.
-ghost use Rattle.std.specs.Prelude.{◌≤◌, ◌+◌, IfOk, OnOk, IfSome};
-ghost use Rattle.apex_orders.specs.Known.{IsTrialOf};
-ghost use Rattle.apex_orders.specs.Searching.{IsSearch, Keeps};
-ghost use Rattle.apex_orders.specs.Workers.{AreContinued, AreWorkers, HasAllLeft, HasContinuedFrom, IsLaterWorker, IsShared, IsWorkerOf};
+//! The workers of a search, which run in threads beside each other if there are many points.
+ghost use Rattle.std.specs.Prelude.{◌≡◌, ◌<◌, ◌≤◌, ◌+◌, ℕ, length, slice_get, slice_index_or, Some, IfOk, OnOk, is_err, false};
+ghost use Rattle.apex_orders.specs.Known.{IsSameLevel};
+ghost use Rattle.apex_orders.specs.Searching.{HasTried, IsLater, IsSearch};
+ghost use Rattle.apex_orders.specs.Workers.{AreGivenOut, AreWorkers, CanAllTry, CanRun, HasContinuedFrom, HasDone, HasRun, HasPointAt, IsPointOf, IsShared};
+ghost use Rattle.apex_orders.specs.declared.worker.Worker.{Worker};
 
 use crate::orders::Orders;
 use crate::search::Search;
@@ -12,37 +13,41 @@ use apex_module::Config;
 use apex_ports::Script;
 use apex_types::OutOfMemory;
 use std::alloc::Global;
-use std::mem;
-use std::thread::{Threads, join_mut};
+use std::thread;
+use std::thread::Threads;
 
-/// From how many points on two workers share them: for fewer, a thread costs more than it saves.
-const SHARED_POINTS: usize = 256;
+/// For how many points a thread is worth its start.
+const POINTS_EACH: usize = 128;
 
-/// One worker, and a second one once a search has many points.
+/// The most threads that share points: the more there are, the longer they wait for the one that adds what all of them
+/// found.
+const MOST_THREADS: usize = 8;
+
+/// The workers that a search has made.
 #[derive(Drop)]
 pub(crate) struct Workers {
-    pub(crate) first: Worker,
-    pub(crate) second: Option<Worker>,
+    pub(crate) all: Vec<Worker>,
+    /// How many threads may run beside each other, this one included.
+    pub(crate) threads: usize,
 }
 
 impl Workers {
-    /// One worker.
-    pub(crate) fn new(
-        alloc: Global,
-        config: &Config,
-        orders: &Orders,
-    ) -> Result<Workers, OutOfMemory>
-        ensures { IfOk result (AreWorkers config.now) }
+    /// No workers yet.
+    pub(crate) fn new<R: Threads + Sync>(rt: &R, alloc: Global, config: &Config) -> Workers
+        ensures { AreWorkers config.now result }
     {
-        let first = Worker::new(alloc, config, orders)?;
-        Ok(Workers {
-            first,
-            second: None,
-        })
+        let threads = match thread::available_parallelism(rt) {
+            Ok(processors) => processors.get().min(MOST_THREADS),
+            Err(_) => 1,
+        };
+        Workers {
+            all: Vec::new(alloc),
+            threads,
+        }
     }
 
     /// Tries the next calls of enough partitions after each of the first points from which the search has yet to
-    /// continue, in one thread or in two.
+    /// continue, in several threads if there are many points and several processors.
     pub(crate) fn try_points<R: Threads + Sync>(
         &mut self,
         rt: &R,
@@ -60,105 +65,56 @@ impl Workers {
         ensures continued { OnOk result
             (HasContinuedFrom clock config.now scripts.now count current.old current.new) }
     {
-        if count < SHARED_POINTS {
-            let worker = &mut self.first;
-            try_alone(alloc, config, scripts, clock, count, worker, current)?;
-            return Ok(());
-        }
-        let mut second = taken(alloc, config, &mut self.second, &current.orders)?;
-        let first = &mut self.first;
-        try_both(
-            rt,
-            alloc,
-            config,
-            scripts,
-            clock,
-            count,
-            first,
-            &mut second,
-            current,
+        let threads = self.threads.min(count / POINTS_EACH).max(1);
+        self.make(alloc, config, threads, &current.orders)?;
+        let workers = self.all.as_mut_slice();
+        try_all(
+            rt, alloc, config, scripts, clock, count, threads, workers, current,
         )?;
-        self.second = Some(second);
+        Ok(())
+    }
+
+    /// Makes workers until there are so many.
+    fn make(
+        &mut self,
+        alloc: Global,
+        config: &Config,
+        count: usize,
+        orders: &Orders,
+    ) -> Result<(), OutOfMemory>
+        requires { AreWorkers config.now self.old }
+        ensures workers { OnOk result (AreWorkers config.now self.new) }
+        ensures count { OnOk result (count ≤ length self.new.all.items) }
+    {
+        for _ in self.all.len()..count {
+            self.all.push(Worker::new(alloc, config, orders)?)?;
+        }
         Ok(())
     }
 }
 
-/// The second worker, which is made if there is none.
-fn taken(
-    alloc: Global,
-    config: &Config,
-    second: &mut Option<Worker>,
-    orders: &Orders,
-) -> Result<Worker, OutOfMemory>
-    requires { IfSome second.old (λ worker. IsTrialOf config.now worker.trial) }
-    ensures { IfOk result (λ worker. IsTrialOf config.now worker.trial) }
-{
-    match second.take() {
-        Some(worker) => Ok(worker),
-        None => Worker::new(alloc, config, orders),
-    }
-}
-
-/// Tries the points by one worker.
-fn try_alone(
-    alloc: Global,
-    config: &Config,
-    scripts: &[Script],
-    clock: bool,
-    count: usize,
-    worker: &mut Worker,
-    current: &mut Search,
-) -> Result<(), OutOfMemory>
-    requires trial { IsTrialOf config.now worker.old.trial }
-    requires valid { IsSearch clock config.now scripts.now current.old }
-    requires within { current.old.points.first + count ≤ current.old.points.next }
-    ensures trial { OnOk result (IsTrialOf config.now worker.new.trial) }
-    ensures continued { OnOk result
-        (HasContinuedFrom clock config.now scripts.now count current.old current.new) }
-{
-    current.give(config, scripts, clock, count, worker)?;
-    let shared = Shared {
-        alloc,
-        config,
-        scripts,
-        clock,
-        uses: current.uses.as_slice(),
-        from: current.from.as_slice(),
-        known: &current.replies,
-        orders: &current.orders,
-        points: &current.points,
-    };
-    worker.run(&shared);
-    current.finish(alloc, config, scripts, clock, worker)?;
-    Ok(())
-}
-
-/// Tries the points by two workers, of which one runs in another thread.
-fn try_both<R: Threads + Sync>(
+/// Tries the points by these workers, in so many threads.
+fn try_all<R: Threads + Sync>(
     rt: &R,
     alloc: Global,
     config: &Config,
     scripts: &[Script],
     clock: bool,
     count: usize,
-    one: &mut Worker,
-    other: &mut Worker,
+    threads: usize,
+    workers: &mut [Worker],
     current: &mut Search,
 ) -> Result<(), OutOfMemory>
-    requires one { IsTrialOf config.now one.old.trial }
-    requires other { IsTrialOf config.now other.old.trial }
+    requires threads { 0 < threads }
+    requires some { 0 < length workers.old }
+    requires workers { CanAllTry config.now workers.old }
     requires valid { IsSearch clock config.now scripts.now current.old }
     requires within { current.old.points.first + count ≤ current.old.points.next }
-    ensures one { OnOk result (IsTrialOf config.now one.new.trial) }
-    ensures other { OnOk result (IsTrialOf config.now other.new.trial) }
+    ensures workers { OnOk result (CanAllTry config.now workers.new) }
     ensures continued { OnOk result
         (HasContinuedFrom clock config.now scripts.now count current.old current.new) }
 {
-    // (the search knows more of what the second finds, so that one has memory to spare for the first)
-    mem::swap(&mut one.spare, &mut other.spare);
-    let half = count / 2;
-    current.give(config, scripts, clock, half, one)?;
-    current.give(config, scripts, clock, count - half, other)?;
+    give_all(config, scripts, clock, count, workers, current)?;
     let shared = Shared {
         alloc,
         config,
@@ -170,27 +126,81 @@ fn try_both<R: Threads + Sync>(
         orders: &current.orders,
         points: &current.points,
     };
-    run_both(rt, &shared, one, other);
-    current.finish(alloc, config, scripts, clock, one)?;
-    current.finish(alloc, config, scripts, clock, other)?;
+    run_all(rt, threads, &shared, workers);
+    finish_all(alloc, config, scripts, clock, workers, current)?;
     Ok(())
 }
 
-/// Runs one worker in another thread beside the other.
-fn run_both<R: Threads + Sync>(rt: &R, shared: &Shared<'_>, one: &mut Worker, other: &mut Worker)
-    requires one { IsWorkerOf shared.now one.old }
-    requires other { IsWorkerOf shared.now other.old }
-    requires shared { IsShared shared.now }
-    requires base { Keeps shared.now.orders.now one.old.base.value }
-    requires base_too { Keeps shared.now.orders.now other.old.base.value }
-    requires left { HasAllLeft one.old }
-    requires left_too { HasAllLeft other.old }
-    ensures valid { OnOk one.new.result (IsWorkerOf shared.now one.new) }
-    ensures later { OnOk one.new.result (IsLaterWorker one.old one.new) }
-    ensures tried { OnOk one.new.result (AreContinued shared.now one.new) }
-    ensures valid_too { OnOk other.new.result (IsWorkerOf shared.now other.new) }
-    ensures later_too { OnOk other.new.result (IsLaterWorker other.old other.new) }
-    ensures tried_too { OnOk other.new.result (AreContinued shared.now other.new) }
+/// Gives each worker its share of the points.
+fn give_all(
+    config: &Config,
+    scripts: &[Script],
+    clock: bool,
+    count: usize,
+    workers: &mut [Worker],
+    current: &mut Search,
+) -> Result<(), OutOfMemory>
+    requires some { 0 < length workers.old }
+    requires workers { CanAllTry config.now workers.old }
+    requires valid { IsSearch clock config.now scripts.now current.old }
+    requires within { current.old.points.first + count ≤ current.old.points.next }
+    ensures valid { OnOk result (IsSearch clock config.now scripts.now current.new) }
+    ensures orders { OnOk result (current.new.orders ≡ current.old.orders) }
+    ensures replies { OnOk result (current.new.replies ≡ current.old.replies) }
+    ensures first { OnOk result (current.new.points.first ≡ current.old.points.first + count) }
+    ensures calls { OnOk result (current.new.points.calls ≡ current.old.points.calls) }
+    ensures given { OnOk result (AreGivenOut clock config.now scripts.now
+        current.old.orders current.old.points.calls workers.new) }
+    ensures points { OnOk result ((i : ℕ) → current.old.points.first ≤ i
+        → i < current.new.points.first → HasPointAt workers.new i) }
 {
-    join_mut(rt, &mut || one.run(shared), &mut || other.run(shared));
+    let mut left = count;
+    for k in 0..workers.len() {
+        let share = left / (workers.len() - k);
+        let worker = &mut workers[k];
+        current.give(config, scripts, clock, share, worker)?;
+        left -= share;
+    }
+    Ok(())
+}
+
+/// Runs the workers in so many threads.
+fn run_all<R: Threads + Sync>(rt: &R, threads: usize, shared: &Shared<'_>, workers: &mut [Worker])
+    requires threads { 0 < threads }
+    requires shared { IsShared shared.now }
+    requires workers { (k : ℕ) (worker : Worker) → slice_get workers.old k ≡ Some worker
+        → CanRun shared.now worker }
+    ensures count { length workers.new ≡ length workers.old }
+    ensures ran { (k : ℕ) (d : Worker) → k < length workers.old
+        → HasRun shared.now (slice_index_or workers.old k d) (slice_index_or workers.new k d) }
+{
+    thread::for_each_mut(rt, workers, threads, &|_, worker| worker.run(shared));
+}
+
+/// Adds what the workers found, in the order of their points, if all of them have tried all.
+fn finish_all(
+    alloc: Global,
+    config: &Config,
+    scripts: &[Script],
+    clock: bool,
+    workers: &mut [Worker],
+    current: &mut Search,
+) -> Result<(), OutOfMemory>
+    requires valid { IsSearch clock config.now scripts.now current.old }
+    requires done { (k : ℕ) (worker : Worker) → slice_get workers.old k ≡ Some worker
+        → HasDone clock config.now scripts.now current.old worker }
+    ensures valid { OnOk result (IsSearch clock config.now scripts.now current.new) }
+    ensures later { OnOk result (IsLater current.old current.new) }
+    ensures level { OnOk result (IsSameLevel current.old.points current.new.points) }
+    ensures tried { OnOk result ((k i : ℕ) (worker : Worker)
+        → slice_get workers.old k ≡ Some worker → IsPointOf worker i
+        → HasTried clock config.now scripts.now current.new.orders current.new.replies i) }
+    ensures workers { OnOk result (CanAllTry config.now workers.new) }
+    ensures ran { OnOk result ((k : ℕ) (worker : Worker)
+        → slice_get workers.old k ≡ Some worker → is_err worker.result ≡ false) }
+{
+    for k in 0..workers.len() {
+        current.finish(alloc, config, scripts, clock, &mut workers[k])?;
+    }
+    Ok(())
 }

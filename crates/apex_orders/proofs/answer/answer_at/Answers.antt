@@ -67,9 +67,9 @@ loop-q-preserved c =
             subst (λ (x : _). Done x.items) (sym w.answers-is)
             (one_more (λ r. IsOpen clock config scripts asked orders (i + 1) answers r) q was.done
             (λ one at left. absurd (
-              let same : Some c.index.result.now ≡ Some None = sym there ∙ left in
-              let is : c.index.result.now ≡ None = cc in
-              false≢true (sym (ap is_some is) ∙ (c.is_none.ensures ∙ ap not w.if-is_none.false)))))
+            let same : Some c.index.result.now ≡ Some None = sym there ∙ left in
+            let is : c.index.result.now ≡ None = cc in
+            false≢true (sym (ap is_some is) ∙ (c.is_none.ensures ∙ ap not w.if-is_none.false)))))
       ];
     }
 

@@ -5,7 +5,7 @@ pub loop-k-init : goal.loop-k-init
 loop-k-init c =
     let none : c.args.from + 0 ≡ c.args.from = omega arith in
     record {
-      trial = c.requires.trial;
+      config = c.requires.config;
       answers = subst (λ (n : ℕ). AreAnswersBy c.args.clock c.args.config.now c.args.scripts.now c.args.asked.now c.args.current.now.orders n c.args.answers.now.items) (sym none) c.requires.answers;
     }
 
@@ -13,7 +13,7 @@ pub loop-k-preserved : goal.loop-k-preserved
 loop-k-preserved c =
     let one_more : (c.args.from + c.loop-k.k) + 1 ≡ c.args.from + (c.loop-k.k + 1) = omega arith in
     record {
-      trial = record { ports = c.in_ok-answer_at.ensures.config; other = c.loop-k.invariant.trial.other };
+      config = c.in_ok-answer_at.ensures.config;
       answers = subst (λ (n : ℕ). AreAnswersBy c.args.clock c.args.config.now c.args.scripts.now c.args.asked.now c.args.current.now.orders n c.answer_at.new.answers.items) one_more c.in_ok-answer_at.ensures.answers;
     }
 

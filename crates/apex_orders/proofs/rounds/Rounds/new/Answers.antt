@@ -1,14 +1,15 @@
-use Rattle.apex_orders.proofs.Common.{arith}
+use Rattle.apex_orders.proofs.Common.{arith, ◌∙◌}
 use Rattle.apex_orders.proofs.rounds.Rounds.new.Goals as goal
 
 pub returns-clause-under_way : goal.returns-clause-under_way
-returns-clause-under_way c clock =
+returns-clause-under_way g c clock =
     let first = c.in_ok-current.ensures.unsearched in
     record {
       first = c.in_ok-current.ensures.first;
       valid = c.in_ok-current.ensures.valid clock;
       level = c.in_ok-current.ensures.level;
-      workers = c.in_ok-workers.ensures;
+      workers = c.new-workers.ensures;
+      ports = c.in_ok-ports.ensures.config ∙ c.in_ok-copy.ensures;
       answers = record {
         found = record {
           count = c.in_ok-answers.ensures.count;

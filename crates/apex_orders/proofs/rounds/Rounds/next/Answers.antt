@@ -1,4 +1,4 @@
-use Rattle.apex_orders.proofs.Common.{◌≡◌, ⊎_elim, ◌+◌, ◌<◌, ◌≤◌, ℕ, Bool, [], length, sym, ap, subst, arith, cases_lt, Configuration, Scripts, AreAnswersBy, IsSearch}
+use Rattle.apex_orders.proofs.Common.{◌≡◌, ⊎_elim, ◌+◌, ◌<◌, ◌≤◌, ℕ, Bool, [], length, sym, ap, ◌∙◌, subst, arith, cases_lt, Configuration, PortsView, Scripts, AreAnswersBy, IsSearch}
 use Rattle.apex_orders.proofs.SearchLemmas.{has_tried_kept, keeps_within, unanswered_kept}
 use Rattle.apex_orders.specs.declared.search.Search.{Search}
 use Rattle.apex_orders.proofs.rounds.Rounds.next.Goals as goal
@@ -14,11 +14,6 @@ count_at_once-count-requires g c = c.requires.under_way.level c.requires.left
 pub find_answers-requires-clause-within : goal.find_answers-requires-clause-within
 find_answers-requires-clause-within g c =
     in_level c.args.clock c.args.config.now c.args.scripts.now c.args.self.now.current c.count_at_once-count.result c.requires.under_way.valid c.count_at_once-count.ensures.within
-
-pub advance-requires-clause-workers : goal.advance-requires-clause-workers
-advance-requires-clause-workers g c κs inside =
-    let was = c.requires.under_way.workers in
-    record { first = c.in_ok-find_answers.ensures.trial; second = was.second }
 
 pub returns-clause-under_way : goal.returns-clause-under_way
 returns-clause-under_way g c whole =
@@ -42,6 +37,7 @@ returns-clause-under_way g c whole =
       valid = now.valid;
       level = now.level;
       workers = now.workers;
+      ports = ap (λ (ports : PortsView). ports.config) now.ports ∙ c.in_ok-find_answers.ensures.config;
       answers = subst (AreAnswersBy clock config scripts c.args.asked.now more c.advance.new.self.current.points.first) (sym kept) (record {
         found = answers.found;
         unanswered = λ q one at here k below.

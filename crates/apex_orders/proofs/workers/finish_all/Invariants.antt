@@ -1,0 +1,16 @@
+use Rattle.std.specs.Result.{is_err}
+use Rattle.apex_orders.proofs.Common.{◌≡◌, ◌<◌, ◌≤◌, ℕ, length, slice_get, Some, false, Worker, HasTried, IsLater, IsPointOf, IsSameLevel, IsSearch, IsTrialOf}
+use Rattle.apex_orders.proofs.workers.finish_all.Given as goal
+
+abbrev pub invariant-loop-k : goal.invariant-loop-k
+invariant-loop-k l = record {
+  valid : IsSearch l.clock l.config l.scripts l.current;
+  later : IsLater l.initial.current l.current;
+  level : IsSameLevel l.initial.current.points l.current.points;
+  many : length l.workers ≡ length l.initial.workers;
+  rest : (j : ℕ) → l.k ≤ j → slice_get l.workers j ≡ slice_get l.initial.workers j;
+  tried : (j i : ℕ) (worker : Worker) → j < l.k → slice_get l.initial.workers j ≡ Some worker → IsPointOf worker i
+      → HasTried l.clock l.config l.scripts l.current.orders l.current.replies i;
+  trial : (j : ℕ) (worker : Worker) → j < l.k → slice_get l.workers j ≡ Some worker → IsTrialOf l.config worker.trial;
+  ran : (j : ℕ) (worker : Worker) → j < l.k → slice_get l.initial.workers j ≡ Some worker → is_err worker.result ≡ false;
+}

@@ -1,0 +1,88 @@
+use Rattle.std.proofs.Math.Nat.{div-le_self}
+use Rattle.std.proofs.Common.{◌/◌}
+use Rattle.apex_orders.proofs.Common.{◌≡◌, ◌≢◌, ⊎_elim, ℕ, ◌+◌, ◌-◌, ◌<◌, ◌≤◌, List, length, length-set, sym, ap, ◌∙◌, subst, arith, cases_lt, slice_get, Some, slice_get-get_or, slice_get-set_cases, slice_get_within, get_or-set_same, IsGivenOut}
+use Rattle.std.specs.Prelude.{set}
+use Rattle.apex_orders.proofs.AnswerLemmas.{set_elsewhere}
+use Rattle.apex_orders.proofs.workers.give_all.Goals as goal
+
+-- the item that was set
+set_here : {X : Type 0} (xs : List X) (i : ℕ) (y : X) → i < length xs → slice_get (set xs i y) i ≡ Some y
+set_here xs i y within = let count = length-set xs i y in slice_get-get_or (set xs i y) i y (omega (arith, within, count)) ∙ ap Some (get_or-set_same xs i y y within)
+
+moved_on : (new first share left total : ℕ) → new ≡ first + share → share ≤ left → first + left ≡ total → new + (left - share) ≡ total
+moved_on new first share left total is fits all = omega (arith, is, fits, all)
+
+none_left : (left rest : ℕ) → rest ≡ 1 → left - left / rest ≡ 0
+none_left left rest one = ap (λ (n : ℕ). left - left / n) one ∙ omega arith
+
+pub loop-k-preserved : goal.loop-k-preserved
+loop-k-preserved c =
+    let was = c.loop-k.invariant in
+    let now = c.in_ok-give.ensures in
+    let workers = c.loop-k.workers in
+    let k = c.loop-k.k in
+    let left = c.loop-k.left in
+    let share = left / (length workers - k) in
+    let worker = c.give.new.worker in
+    let fits : share ≤ left = div-le_self left (length workers - k) in
+    let first = now.first in
+    let begun = was.low in
+    let within : k < length workers = omega (arith, c.loop-k-test.true) in
+    let count = length-set workers k worker in
+    let start = c.loop-k.current.points.first in
+    record {
+      valid = now.valid;
+      orders = now.orders ∙ was.orders;
+      replies = now.replies ∙ was.replies;
+      next = now.next ∙ was.next;
+      calls = now.calls ∙ was.calls;
+      first = moved_on c.give.new.self.points.first start share left (c.args.current.now.points.first + c.args.count) first fits was.first;
+      low = omega (arith, first, begun);
+      last = λ end. none_left left (length workers - k) (omega (arith, end, count, within));
+      many = count ∙ was.many;
+      rest = λ j other past at. was.rest j other (omega (arith, past)) (sym (set_elsewhere workers k worker j (λ same. absurd (omega (arith, past, same)))) ∙ at);
+      given = λ j other below at.
+          ⊎_elim
+          (λ (own : (j ≡ k) × (other ≡ worker)).
+          subst (IsGivenOut c.args.clock c.args.config.now c.args.scripts.now c.args.current.now.orders c.args.current.now.points.calls) (sym own.1) (record {
+            valid = now.worker;
+            base = now.base ∙ (now.orders ∙ was.orders);
+            left = now.left;
+            made = λ n inside. now.made n inside ∙ was.calls;
+          }))
+          (λ (another : (j ≢ k) × (slice_get workers j ≡ Some other)). let apart = another.0 in was.given j other (omega (arith, below, apart)) another.1)
+          (slice_get-set_cases workers k worker j other at);
+      points = λ i past below.
+          ⊎_elim
+          (λ (before : i < start).
+          let one = was.points i past before in
+          let earlier = one.1 in (
+            record {
+              index = one.0.index;
+              worker = one.0.worker;
+              here = set_elsewhere workers k worker one.0.index (λ same. absurd (omega (arith, earlier, same))) ∙ one.0.here;
+              is = one.0.is;
+            },
+            omega (arith, earlier),
+          ))
+          (λ (behind : start ≤ i).
+          let from = now.range.first in
+          let to = now.range.last in (
+            record {
+              index = k;
+              worker = worker;
+              here = set_here workers k worker within;
+              is = record { past = omega (arith, from, behind); within = omega (arith, below, first, to) };
+            },
+            omega arith,
+          ))
+          (cases_lt i start);
+    }
+
+pub returns-clause-given : goal.returns-clause-given
+returns-clause-given c k worker at =
+    let within = slice_get_within c.loop-k.workers k worker at in
+    c.loop-k.invariant.given k worker (omega (arith, within, c.loop-k-test.false)) at
+
+pub returns-clause-points : goal.returns-clause-points
+returns-clause-points c i past below = (c.loop-k.invariant.points i past below).0
