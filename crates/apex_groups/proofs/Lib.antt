@@ -12,7 +12,6 @@ pub mod LogGroupLemmas
 pub mod MergedEnds
 pub mod Merges
 pub mod MergeSteps
-pub mod OrderLemmas
 pub mod OutsideCalls
 pub mod PartAnswers
 pub mod PartLemmas

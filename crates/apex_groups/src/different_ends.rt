@@ -3,9 +3,8 @@ ghost use Rattle.std.specs.Prelude.{◌≡◌, ◌<◌, ◌↔◌, length, IfOk,
 ghost use Rattle.apex_groups.specs.Prelude.{history_of};
 ghost use Rattle.apex_groups.specs.Counts.{AreSameTotals, HasSuchTotals, KeepTotals};
 
-use crate::after::ports_after;
 use apex_module::Config;
-use apex_orders::Order;
+use apex_orders::{Order, Replayer};
 use apex_ports::{Ports, Script};
 use apex_types::OutOfMemory;
 use std::alloc::{AllocError, Global};
@@ -23,10 +22,13 @@ pub(crate) fn different_ends(
 {
     let mut kept = Vec::new(alloc);
     let mut table = EndTable::new(alloc, ends.len())?;
+    let mut one = Replayer::new(alloc, config)?;
+    let mut other = Replayer::new(alloc, config)?;
     for end in ends {
-        let ports = ports_after(alloc, config, scripts, &end)?;
-        let hash = hash_of_totals(&ports);
-        if !table.has_alike(alloc, config, scripts, kept.as_slice(), &ports, hash)? {
+        one.run(scripts, &end);
+        let ports = one.ports();
+        let hash = hash_of_totals(ports);
+        if !table.has_alike(scripts, kept.as_slice(), ports, hash, &mut other) {
             table.add(hash)?;
             kept.push(end)?;
         }
@@ -86,49 +88,43 @@ impl EndTable {
     /// Whether one of the orders, which the table has, leads to the same totals on every channel as the ports' calls.
     fn has_alike(
         &self,
-        alloc: Global,
-        config: &Config,
         scripts: &[Script],
         orders: &[Order],
         ports: &Ports,
         hash: u64,
-    ) -> Result<bool, OutOfMemory>
-        requires scripts { length scripts.now ≡ length config.now.partitions }
-        requires config { ports.now.config ≡ config.now }
-        ensures { IfOk result (λ found. IsTrue found
-            → HasSuchTotals config.now scripts.now orders.now ports.now.history) }
+        other: &mut Replayer,
+    ) -> bool
+        requires scripts { length scripts.now ≡ length ports.now.config.partitions }
+        requires config { other.old.config ≡ ports.now.config }
+        ensures found { IsTrue result
+            → HasSuchTotals ports.now.config scripts.now orders.now ports.now.history }
+        ensures config { other.new.config ≡ other.old.config }
     {
         let bucket = self.bucket_of(hash);
         let mut index = self.last.get(bucket).copied().unwrap_or(NOWHERE);
         for _ in 0..orders.len() {
             let (Some(end), Some(order)) = (self.kept.get(index), orders.get(index)) else {
-                return Ok(false);
+                return false;
             };
-            if end.hash == hash && is_alike(alloc, config, scripts, order, ports)? {
-                return Ok(true);
+            if end.hash == hash && is_alike(scripts, order, ports, other) {
+                return true;
             }
             index = end.before;
         }
-        Ok(false)
+        false
     }
 }
 
 /// Whether the order leads to the same totals on every channel as the ports' calls.
-fn is_alike(
-    alloc: Global,
-    config: &Config,
-    scripts: &[Script],
-    order: &Order,
-    ports: &Ports,
-) -> Result<bool, OutOfMemory>
-    requires scripts { length scripts.now ≡ length config.now.partitions }
-    requires config { ports.now.config ≡ config.now }
-    ensures { let history = history_of config.now scripts.now order.now in
-        IfOk result (λ alike. IsTrue alike
-        ↔ AreSameTotals config.now ports.now.history history) }
+fn is_alike(scripts: &[Script], order: &Order, ports: &Ports, other: &mut Replayer) -> bool
+    requires scripts { length scripts.now ≡ length ports.now.config.partitions }
+    requires config { other.old.config ≡ ports.now.config }
+    ensures alike { let history = history_of ports.now.config scripts.now order.now in
+        IsTrue result ↔ AreSameTotals ports.now.config ports.now.history history }
+    ensures config { other.new.config ≡ other.old.config }
 {
-    let other = ports_after(alloc, config, scripts, order)?;
-    Ok(has_same_totals(ports, &other))
+    other.run(scripts, order);
+    has_same_totals(ports, other.ports())
 }
 
 /// Whether both have the same counts of messages on every channel, and as many wait.

@@ -3,11 +3,10 @@ ghost use Rattle.std.specs.Prelude.{◌≡◌, ◌<◌, ◌↔◌, length, IfOk,
 ghost use Rattle.apex_groups.specs.Prelude.{history_of, IsUndecidedWith};
 ghost use Rattle.apex_groups.specs.Ends.{AreEndAnswers, FindEnds, FindsEnd, IsSuchEnd};
 
-use crate::after::ports_after;
 use crate::asked_end::AskedEnd;
 use crate::outcomes::all_outcomes_apart;
 use apex_module::Config;
-use apex_orders::{Order, OrdersFault, Progress};
+use apex_orders::{Order, OrdersFault, Progress, Replayer};
 use apex_ports::Script;
 use apex_types::OutOfMemory;
 use std::alloc::{AllocError, Global};
@@ -76,8 +75,9 @@ fn first_to_end(
     if asked.channel >= config.channels() {
         return Ok(None);
     }
+    let mut replayer = Replayer::new(alloc, config)?;
     for order in orders {
-        if leads_to(alloc, config, scripts, order, asked)? {
+        if leads_to(scripts, order, asked, &mut replayer) {
             return Ok(Some(copy_of(alloc, order)?));
         }
     }
@@ -93,18 +93,13 @@ fn copy_of(alloc: Global, order: &Order) -> Result<Order, AllocError>
 }
 
 /// Whether the order leads to the end.
-fn leads_to(
-    alloc: Global,
-    config: &Config,
-    scripts: &[Script],
-    order: &Order,
-    asked: &AskedEnd,
-) -> Result<bool, OutOfMemory>
-    requires scripts { length scripts.now ≡ length config.now.partitions }
-    requires channel { asked.now.channel < length config.now.channels }
-    ensures { let history = history_of config.now scripts.now order.now in
-        IfOk result (λ leads. IsTrue leads ↔ IsSuchEnd config.now asked.now history) }
+fn leads_to(scripts: &[Script], order: &Order, asked: &AskedEnd, replayer: &mut Replayer) -> bool
+    requires scripts { length scripts.now ≡ length replayer.old.config.partitions }
+    requires channel { asked.now.channel < length replayer.old.config.channels }
+    ensures leads { let history = history_of replayer.old.config scripts.now order.now in
+        IsTrue result ↔ IsSuchEnd replayer.old.config asked.now history }
+    ensures config { replayer.new.config ≡ replayer.old.config }
 {
-    let ports = ports_after(alloc, config, scripts, order)?;
-    Ok(asked.is_reached(&ports))
+    replayer.run(scripts, order);
+    asked.is_reached(replayer.ports())
 }

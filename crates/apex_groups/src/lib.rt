@@ -1,7 +1,6 @@
 //! Groups of partitions that share no channel with the others, and searches for orders that take each group by itself.
 #![tactic(auto)]
 
-pub mod after;
 pub mod asked_end;
 mod between;
 pub mod deciding;
@@ -23,7 +22,6 @@ mod shortening;
 pub mod two_orders;
 pub mod witness;
 
-pub use crate::after::ports_after;
 pub use crate::asked_end::{AskedEnd, Comparison, Count};
 pub use crate::deciding::{Reason, deciding_calls};
 pub use crate::decision::Decision;

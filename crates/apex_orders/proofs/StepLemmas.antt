@@ -1,6 +1,10 @@
 -- One call of a script, as a function's body reads it.
-use Rattle.apex_orders.proofs.Common.{◌≡◌, ℕ, ◌-◌, ◌^◌, ◌<◌, ◌≤◌, List, [], ◌∷◌, length, Option, Some, sym, ap, ◌∙◌, arith, slice_get, unwrap_or, slice_get_past, Call, Moment, Configuration, count_of, History, entries_of, Scripts, script_of, entries_for, next_entries}
+use Rattle.apex_orders.proofs.Common.{◌≡◌, ℕ, ◌-◌, ◌^◌, ◌<◌, ◌≤◌, List, [], ◌∷◌, length, Option, Some, sym, ap, ◌∙◌, arith, refl, slice_get, unwrap_or, slice_get_past, Call, Moment, Configuration, count_of, History, entries_of, Scripts, script_of, entries_for, next_entries}
 use Rattle.apex_orders.proofs.Walks.{answered}
+
+-- a partition that has no script calls nothing
+pub without_script : (config : Configuration) (scripts : Scripts) (h : History) (p : ℕ) → length scripts ≤ p → next_entries config scripts h p ≡ []
+without_script config scripts h p past = rw (slice_get_past scripts p past) refl
 
 module _ (config : Configuration) (scripts : Scripts) (h : History) (p : ℕ) (script : List (Moment × Call)) (here : slice_get scripts p ≡ Some script) where
   call_at : (n : ℕ) → slice_get (script_of scripts p) n ≡ slice_get script n

@@ -1,15 +1,15 @@
 //! All that can happen to scripts.
-ghost use Rattle.std.specs.Prelude.{◌≡◌, ◌<◌, length, min, true, IfOk, IsTrue, ◌↔◌};
+ghost use Rattle.std.specs.Prelude.{◌≡◌, ◌<◌, length, min, true, IfOk, OnOk, IsTrue, ◌↔◌};
 ghost use Rattle.std.specs.List.{sum_by};
 ghost use Rattle.apex_orders.specs.Orders.{IsOrder, history_of, order_at};
 ghost use Rattle.apex_orders.specs.Outcomes.{AreReplies, AreRepliesWith, AreEnds, AreEndsWith, IsUndecided, IsUndecidedWith};
-ghost use Rattle.apex_orders.specs.Searching.{AreOrders, AreEndsOf, HasMadeAll};
+ghost use Rattle.apex_orders.specs.Searching.{AreEndsOf, HasMadeAll};
 
 use crate::order::{Order, PackedOrder};
 use crate::orders::Orders;
 use crate::orders_fault::OrdersFault;
 use crate::progress::{NoProgress, Progress};
-use crate::replay::replay;
+use crate::replay::Replayer;
 use crate::replies::PossibleReply;
 use crate::rounds::search_points;
 use apex_module::Config;
@@ -88,8 +88,7 @@ fn ends_of(
     scripts: &[Script],
     orders: &Orders,
 ) -> Result<Vec<Order>, OutOfMemory>
-    requires scripts { length scripts.now ≡ length config.now.partitions }
-    requires orders { AreOrders config.now orders.now }
+    requires { length scripts.now ≡ length config.now.partitions }
     ensures ends { IfOk result
         (λ ends. AreEndsOf config.now scripts.now orders.now ends.items) }
 {
@@ -97,8 +96,9 @@ fn ends_of(
     let total = calls_in(scripts);
     let mut ends = Vec::new(alloc);
     let mut order = PackedOrder::new(alloc);
+    let mut replayer = Replayer::new(alloc, config)?;
     for k in 0..orders.len() {
-        if lengths[k] >= total && is_end(alloc, config, scripts, orders, k, &mut order)? {
+        if lengths[k] >= total && is_end(alloc, scripts, orders, k, &mut order, &mut replayer)? {
             let end = order.unpacked(alloc)?;
             ends.push(end)?;
         }
@@ -120,22 +120,24 @@ fn calls_in(scripts: &[Script]) -> usize
 /// Whether the order at the index makes all calls. If so, it is written.
 fn is_end(
     alloc: Global,
-    config: &Config,
     scripts: &[Script],
     orders: &Orders,
     k: usize,
     order: &mut PackedOrder,
+    replayer: &mut Replayer,
 ) -> Result<bool, OutOfMemory>
-    requires scripts { length scripts.now ≡ length config.now.partitions }
+    requires scripts { length scripts.now ≡ length replayer.old.config.partitions }
     requires index { k < length orders.now }
-    requires order { IsOrder config.now (order_at orders.now k) }
-    ensures end { IfOk result (λ all. IsTrue all ↔ HasMadeAll config.now scripts.now
-        (history_of config.now scripts.now (order_at orders.now k))) }
+    ensures end { IfOk result (λ all. IsTrue all
+        ↔ HasMadeAll replayer.old.config scripts.now
+        (history_of replayer.old.config scripts.now (order_at orders.now k))) }
     ensures written { IfOk result (λ all. all ≡ true → order.new ≡ order_at orders.now k) }
+    ensures config { OnOk result (replayer.new.config ≡ replayer.old.config) }
 {
     orders.read(k, order)?;
-    let ports = replay(alloc, config, scripts, order)?;
-    Ok(has_made_all(&ports, scripts))
+    let whole = order.unpacked(alloc)?;
+    replayer.run(scripts, &whole);
+    Ok(has_made_all(replayer.ports(), scripts))
 }
 
 /// Whether each partition has made all calls of its script.

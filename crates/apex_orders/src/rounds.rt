@@ -53,10 +53,10 @@ pub(crate) fn search_points<R: Threads + Sync, P: Progress>(
         if let Some(fault) = rounds.next(
             rt, alloc, config, scripts, clock, asked, bound, progress,
         )? {
-            return Ok(rounds.into_found(Some(fault)));
+            return Ok(rounds.into_found(rt, Some(fault)));
         }
     }
-    Ok(rounds.into_found(None))
+    Ok(rounds.into_found(rt, None))
 }
 
 /// A search, its workers and the answers that it found, between two rounds.
@@ -203,13 +203,15 @@ impl Rounds {
     }
 
     /// What was found, with why the search was given up.
-    fn into_found(self, given_up: Option<OrdersFault>) -> Found
+    fn into_found<R: Threads + Sync>(self, rt: &R, given_up: Option<OrdersFault>) -> Found
         ensures orders { result.orders ≡ self.current.orders }
         ensures replies { result.replies.items ≡ self.current.replies }
         ensures answers { result.answers ≡ self.answers }
         ensures given_up { result.given_up ≡ given_up }
     {
         let current = self.current;
+        let points = current.points;
+        self.workers.free(rt, points.saved);
         Found {
             orders: current.orders,
             replies: current.replies.into_found(),

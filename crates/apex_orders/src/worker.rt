@@ -128,6 +128,12 @@ impl Worker {
         self.result = self.try_points(shared);
     }
 
+    /// Frees all saved ports.
+    pub(crate) fn free(&mut self) {
+        self.points.clear();
+        self.spare.clear();
+    }
+
     fn try_points(&mut self, shared: &Shared<'_>) -> Result<(), OutOfMemory>
         requires valid { IsWorkerOf shared.now self.old }
         requires shared { IsShared shared.now }

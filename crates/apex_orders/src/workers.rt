@@ -5,6 +5,7 @@ ghost use Rattle.apex_orders.specs.Searching.{HasTried, IsLater, IsSearch};
 ghost use Rattle.apex_orders.specs.Workers.{AreGivenOut, AreWorkers, CanAllTry, CanRun, HasContinuedFrom, HasDone, HasRun, HasPointAt, IsPointOf, IsShared};
 ghost use Rattle.apex_orders.specs.declared.worker.Worker.{Worker};
 
+use crate::boxed_ports::BoxedPorts;
 use crate::orders::Orders;
 use crate::search::Search;
 use crate::shared::Shared;
@@ -12,7 +13,8 @@ use crate::worker::Worker;
 use apex_module::Config;
 use apex_ports::Script;
 use apex_types::OutOfMemory;
-use std::alloc::Global;
+use std::alloc::{AllocError, Global};
+use std::collections::VecDeque;
 use std::thread;
 use std::thread::Threads;
 
@@ -74,7 +76,18 @@ impl Workers {
         Ok(())
     }
 
-    /// Makes workers until there are so many.
+    /// Frees the saved ports and those that the workers keep, a part in each thread.
+    pub(crate) fn free<R: Threads + Sync>(self, rt: &R, saved: VecDeque<BoxedPorts>) {
+        let mut left = saved;
+        let mut all = self.all;
+        let threads = all.len().max(1);
+        let workers = all.as_mut_slice();
+        if share_out(&mut left, workers).is_ok() {
+            thread::for_each_mut(rt, workers, threads, &|_, worker| worker.free());
+        }
+    }
+
+    /// Makes the workers that are missing, so that there are at least `count`.
     fn make(
         &mut self,
         alloc: Global,
@@ -93,7 +106,7 @@ impl Workers {
     }
 }
 
-/// Tries the points by these workers, in so many threads.
+/// Shares the points among the workers, and tries them in at most `threads` threads.
 fn try_all<R: Threads + Sync>(
     rt: &R,
     alloc: Global,
@@ -164,7 +177,17 @@ fn give_all(
     Ok(())
 }
 
-/// Runs the workers in so many threads.
+/// Moves the saved ports to the workers, about as many to each.
+fn share_out(saved: &mut VecDeque<BoxedPorts>, workers: &mut [Worker]) -> Result<(), AllocError> {
+    for k in 0..workers.len() {
+        let share = saved.len() / (workers.len() - k);
+        let at = saved.len() - share;
+        workers[k].points = saved.split_off(at)?;
+    }
+    Ok(())
+}
+
+/// Runs the workers, in at most `threads` threads.
 fn run_all<R: Threads + Sync>(rt: &R, threads: usize, shared: &Shared<'_>, workers: &mut [Worker])
     requires threads { 0 < threads }
     requires shared { IsShared shared.now }

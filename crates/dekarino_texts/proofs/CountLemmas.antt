@@ -6,7 +6,7 @@ use Rattle.std.specs.List.{slice_get}
 use Rattle.dekarino_texts.specs.Prelude.{Configuration}
 use Rattle.apex_orders.specs.Orders.{Scripts, history_of}
 use Rattle.apex_groups.proofs.Lists.{item_at}
-use Rattle.dekarino_texts.specs.Counts.{AreRanges, AreWidened, counts_after, ranges_over, widened, widened_by}
+use Rattle.dekarino_texts.specs.Counts.{AreOnly, AreRanges, AreWidened, counts_after, only, ranges_over, widened, widened_by}
 use Rattle.dekarino_texts.specs.declared.counts.Ranges.{Ranges}
 
 module _ (config : Configuration) (scripts : Scripts) (rest : List (List ℕ)) (target : ℕ → Ranges) where
@@ -30,6 +30,16 @@ module _ (config : Configuration) (scripts : Scripts) (rest : List (List ℕ)) (
       let both : Some (widened was.0 (counts_after config (history_of config scripts order) c)) ≡ Some ranges = sym (are.each c was.0 was.1) ∙ at in
       let same : widened was.0 (counts_after config (history_of config scripts order) c) ≡ ranges = cc in
       ap (λ (r : Ranges). widened_by config scripts c r (drop (i + 1) rest)) (sym same) ∙ (sym (one_order c was.0 i order here) ∙ leads c was.0 was.1)
+
+-- before the orders after the first one
+pub starts_there : (config : Configuration) (scripts : Scripts) (first : List ℕ) (rest orders : List (List ℕ)) (all : List Ranges) → orders ≡ first ∷ rest
+    → AreOnly config (history_of config scripts first) all → LeadsThere config scripts rest (ranges_over config scripts orders) all 0
+starts_there config scripts first rest orders all is are c ranges at =
+    let within = slice_get_within all c ranges at in
+    let count = are.count in
+    let both : Some ranges ≡ Some (only (counts_after config (history_of config scripts first) c)) = sym at ∙ are.each c (omega (arith, within, count)) in
+    let same : ranges ≡ only (counts_after config (history_of config scripts first) c) = cc in
+    ap (λ (r : Ranges). widened_by config scripts c r rest) same ∙ ap (λ (orders : List (List ℕ)). ranges_over config scripts orders c) (sym is)
 
 -- when nothing is left to widen by
 pub ranges_there : (config : Configuration) (scripts : Scripts) (rest orders : List (List ℕ)) (all : List Ranges) (i : ℕ) → length rest ≤ i → length all ≡ length config.channels

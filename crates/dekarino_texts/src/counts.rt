@@ -2,9 +2,8 @@
 ghost use Rattle.std.specs.Prelude.{◌≡◌, ◌<◌, length, IfOk};
 ghost use Rattle.dekarino_texts.specs.Counts.{AreOnly, AreRanges, AreWidened, counts_after, lesser, greater, only, widened};
 
-use apex_groups::ports_after;
 use apex_module::Config;
-use apex_orders::Order;
+use apex_orders::{Order, Replayer};
 use apex_ports::{Ports, Script};
 use apex_types::OutOfMemory;
 use std::alloc::{AllocError, Global};
@@ -41,11 +40,12 @@ pub fn ranges_of(
         let ports = Ports::new(alloc, config.copy()?)?;
         return Ok(ranges_at(alloc, &ports)?);
     };
-    let ports = ports_after(alloc, config, scripts, first)?;
-    let mut all = ranges_at(alloc, &ports)?;
+    let mut replayer = Replayer::new(alloc, config)?;
+    replayer.run(scripts, first);
+    let mut all = ranges_at(alloc, replayer.ports())?;
     for order in rest {
-        let ports = ports_after(alloc, config, scripts, order)?;
-        widen(&mut all, &ports);
+        replayer.run(scripts, order);
+        widen(&mut all, replayer.ports());
     }
     Ok(all)
 }

@@ -6,6 +6,7 @@ use Rattle.dekarino_texts.proofs.counts.ranges_of.Given as goal
 
 abbrev pub invariant-loop-order : goal.invariant-loop-order
 invariant-loop-order l = record {
+  config : l.replayer.config ≡ l.config;
   count : length l.all.items ≡ length l.config.channels;
   each : (c : ℕ) (ranges : Ranges) → slice_get l.all.items c ≡ Some ranges
       → widened_by l.config l.scripts c ranges (drop l.order-index l.rest) ≡ ranges_over l.config l.scripts l.orders c;
