@@ -33,13 +33,12 @@ is_end_answer clock config scripts ends show asked None finds = record {
 }
 
 -- the same of all answers, and of the values that a search hands on
-pub are_end_answers : (clock : Bool) (config : Configuration) (scripts now : Scripts) (ends listed : List (List ℕ)) (asked : List AskedEnd) (answers : List (Option (List ℕ)))
-    → now ≡ scripts → listed ≡ ends → ShowAllCounts clock config scripts ends → FindEnds config now listed asked answers → AreEndAnswers clock config scripts asked answers
-are_end_answers clock config scripts now ends listed asked answers same lists show find = record {
+pub are_end_answers : (clock : Bool) (config : Configuration) (scripts : Scripts) (ends listed : List (List ℕ)) (asked : List AskedEnd) (answers : List (Option (List ℕ)))
+    → listed ≡ ends → ShowAllCounts clock config scripts ends → FindEnds config scripts listed asked answers → AreEndAnswers clock config scripts asked answers
+are_end_answers clock config scripts ends listed asked answers lists show find = record {
   count = find.count;
   each = λ k one answer at here.
-      is_end_answer clock config scripts ends show one answer
-      (subst (λ (both : Scripts × List (List ℕ)). FindsEnd config both.0 both.1 one answer) (λ i. (same i, lists i)) (find.each k one answer at here));
+      is_end_answer clock config scripts ends show one answer (subst (λ (orders : List (List ℕ)). FindsEnd config scripts orders one answer) lists (find.each k one answer at here));
 }
 
 -- one more answer

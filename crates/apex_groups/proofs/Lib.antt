@@ -16,6 +16,7 @@ pub mod OutsideCalls
 pub mod PartAnswers
 pub mod PartLemmas
 pub mod PartOrders
+pub mod PartSearchLemmas
 pub mod PartSteps
 pub mod PartWays
 pub mod ReasonLemmas

@@ -1,6 +1,6 @@
 -- The scripts of the partitions inside lead to what all scripts lead to inside.
-use Rattle.apex_groups.proofs.Common.{◌≡◌, ⊎_elim, ℕ, ◌<◌, ◌≤◌, Bool, true, false, List, [], length, map, take, Ok, Err, Result, refl, sym, ap, ◌∙◌, subst, arith, IfOk, slice_get, cases_lt, take_all, Configuration, Entry, History, entries_of, IsPart, PossibleReply, Scripts, script_of, calls_of, IsBeginning, ShowAllCounts, IsEndOfPart, Has, false≢true}
-use Rattle.apex_groups.proofs.Common.{AreRepliesWith, CanOccurWith, HasMorePointsWith, IsUndecidedWith, IsUndecidedApart, unclocked, IsFoundOf}
+use Rattle.apex_groups.proofs.Common.{◌≡◌, ⊎_elim, ℕ, ◌<◌, ◌≤◌, Bool, true, false, List, [], length, map, take, Ok, Err, Result, refl, sym, ap, ◌∙◌, subst, arith, slice_get, cases_lt, take_all, Configuration, Entry, History, entries_of, IsPart, PossibleReply, Scripts, script_of, calls_of, IsBeginning, IsEndOfPart, Has, false≢true}
+use Rattle.apex_groups.proofs.Common.{CanOccurWith, HasMorePointsWith, IsUndecidedWith, IsUndecidedApart, unclocked, IsFoundOf}
 use Rattle.apex_types.specs.declared.call.Call.{Call}
 use Rattle.apex_types.specs.declared.moment.Moment.{Moment}
 use Rattle.apex_groups.proofs.Exchanged.{here_inside, no_list, none_outside}
@@ -30,13 +30,6 @@ occurs_within clock config scripts count one can = ⊎_elim
     (cases_lt one.partition (length config.partitions))
 
 module _ (config : Configuration) (inside : ℕ → Bool) (scripts part : Scripts) (is : IsPart inside scripts part) where
-  -- ---- answers
-
-  pub found_of : (clock : Bool) (result : Result Outcomes OrdersFault) → IfOk result (λ found. AreRepliesWith clock config part found.replies.items) → IfOk result (λ found. ShowAllCounts clock config part found.ends.items)
-      → IfOk result (IsFoundOf clock config inside scripts)
-  found_of clock (Ok found) replies ends = record { part = part; is = is; replies = replies; ends = ends }
-  found_of clock (Err fault) replies ends = replies
-
   -- ---- beginnings
 
   pub part_begins : (h : History) → IsBeginning config part h → IsBeginning config scripts h
@@ -79,6 +72,12 @@ ends_of clock config inside scripts found is order has = record {
 }
 
 -- ---- what stays undecided
+
+pub undecided_too : (X Y : Type 0) (clock : Bool) (can_stop : Type 0) (config : Configuration) (scripts : Scripts) (bound : ℕ) (fault : OrdersFault)
+    → IsUndecidedApart {X = X} clock can_stop config scripts bound (Err fault) → IsUndecidedApart {X = Y} clock can_stop config scripts bound (Err fault)
+undecided_too X Y clock can_stop config scripts bound TooManyStates undecided = undecided
+undecided_too X Y clock can_stop config scripts bound Stopped undecided = undecided
+undecided_too X Y clock can_stop config scripts bound OutOfMemory undecided = tt
 
 pub undecided_apart : (X Y : Type 0) (clock : Bool) (can_stop : Type 0) (config : Configuration) (scripts : Scripts) (bound : ℕ) (fault : OrdersFault) → (fault ≡ TooManyStates → clock ≡ false)
     → IsUndecidedApart {X = X} clock can_stop config scripts bound (Err fault) → IsUndecidedWith {X = Y} clock can_stop config scripts bound (Err fault)

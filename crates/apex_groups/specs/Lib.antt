@@ -7,4 +7,5 @@ pub mod Groups
 pub mod LogParts
 pub mod Merging
 pub mod Parts
+pub mod PartSearches
 pub mod ScriptParts

@@ -14,22 +14,21 @@ use std::thread::Threads;
 
 /// For each question an order of all calls that leads to the end that is asked for; `None` if no order does, or if there
 /// is no such channel. With `clock`, the moments of all partitions are of one clock, as for `all_outcomes_apart`. One
-/// search of all ends answers all questions. The scripts change only during the search.
+/// search of all ends answers all questions.
 pub fn orders_to_ends<R: Threads + Sync, P: Progress>(
     rt: &R,
     alloc: Global,
     config: &Config,
-    scripts: &mut [Script],
+    scripts: &[Script],
     clock: bool,
     asked: &[AskedEnd],
     bound: usize,
     progress: &mut P,
 ) -> Result<Vec<Option<Order>>, OrdersFault>
-    requires { length scripts.old ≡ length config.now.partitions }
-    ensures same { scripts.new ≡ scripts.old }
+    requires { length scripts.now ≡ length config.now.partitions }
     ensures answers { IfOk result (λ answers.
-        AreEndAnswers clock config.now scripts.old asked.now answers.items) }
-    ensures undecided { IsUndecidedWith clock P.CanStop config.now scripts.old bound result }
+        AreEndAnswers clock config.now scripts.now asked.now answers.items) }
+    ensures undecided { IsUndecidedWith clock P.CanStop config.now scripts.now bound result }
 {
     if asked.is_empty() {
         return Ok(Vec::new(alloc));

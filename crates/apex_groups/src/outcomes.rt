@@ -9,8 +9,10 @@ ghost use Rattle.apex_groups.specs.ScriptParts.{IsFoundOf, IsUndecidedApart};
 
 use crate::ends::add_ends;
 use crate::groups::Groups;
+use crate::part_search::{outcomes_of, searchers_of};
 use crate::parts::Parts;
-use crate::script_parts::{different_outcomes, outcomes_of};
+use crate::script_part::{all_parts, have_calls};
+use crate::script_parts::different_outcomes;
 use apex_module::Config;
 use apex_orders::{Order, OrdersFault, Outcomes, PossibleReply, Progress};
 use apex_ports::Script;
@@ -43,23 +45,22 @@ pub struct OutcomesApart {
 /// ends of each channel are searched by themselves: what the others call makes no difference to the channel. With `clock`,
 /// the moments of all partitions are of one clock. It is undecided if a part leads to more states than the bound, or
 /// `progress` ends a search. With `clock`, such a part leads to a search of all partitions together, which then decides.
-/// The scripts change only while a part is searched. `progress` receives from time to time how far a search is.
+/// `progress` receives from time to time how far a search is.
 pub fn all_outcomes_apart<R: Threads + Sync, P: Progress>(
     rt: &R,
     alloc: Global,
     config: &Config,
-    scripts: &mut [Script],
+    scripts: &[Script],
     clock: bool,
     bound: usize,
     progress: &mut P,
 ) -> Result<OutcomesApart, OrdersFault>
-    requires { length scripts.old ≡ length config.now.partitions }
-    ensures same { scripts.new ≡ scripts.old }
+    requires { length scripts.now ≡ length config.now.partitions }
     ensures replies { IfOk result
-        (λ found. AreRepliesWith clock config.now scripts.old found.replies.items) }
+        (λ found. AreRepliesWith clock config.now scripts.now found.replies.items) }
     ensures ends { IfOk result
-        (λ found. ShowAllCounts clock config.now scripts.old found.ends.items) }
-    ensures undecided { IsUndecidedWith clock P.CanStop config.now scripts.old bound result }
+        (λ found. ShowAllCounts clock config.now scripts.now found.ends.items) }
+    ensures undecided { IsUndecidedWith clock P.CanStop config.now scripts.now bound result }
 {
     let parts = Parts::new(alloc, config)?;
     if have_calls(scripts) && parts.are_below() {
@@ -69,11 +70,6 @@ pub fn all_outcomes_apart<R: Threads + Sync, P: Progress>(
         }
     }
     outcomes_together(rt, alloc, config, scripts, clock, bound, progress)
-}
-
-/// Whether a partition has a call to make.
-fn have_calls(scripts: &[Script]) -> bool {
-    scripts.iter().any(|script| !script.calls.is_empty())
 }
 
 /// Searches all partitions together.
@@ -93,7 +89,16 @@ fn outcomes_together<R: Threads + Sync, P: Progress>(
         (λ found. ShowAllCounts clock config.now scripts.now found.ends.items) }
     ensures undecided { IsUndecidedWith clock P.CanStop config.now scripts.now bound result }
 {
-    let found = match different_outcomes(rt, alloc, config, scripts, clock, bound, progress) {
+    let found = match different_outcomes(
+        rt,
+        usize::MAX,
+        alloc,
+        config,
+        scripts,
+        clock,
+        bound,
+        progress,
+    ) {
         Err(fault) => return Err(fault),
         Ok(found) => found,
     };
@@ -125,47 +130,50 @@ fn one_part(
     Ok(parts)
 }
 
-/// Searches one part after the other.
+/// Searches each part by itself.
 fn outcomes_by_parts<R: Threads + Sync, P: Progress>(
     rt: &R,
     alloc: Global,
     config: &Config,
     parts: &Parts,
-    scripts: &mut [Script],
+    scripts: &[Script],
     clock: bool,
     bound: usize,
     progress: &mut P,
 ) -> Result<OutcomesApart, OrdersFault>
-    requires count { length scripts.old ≡ length config.now.partitions }
+    requires count { length scripts.now ≡ length config.now.partitions }
     requires below { AreBelow parts.now }
-    ensures same { scripts.new ≡ scripts.old }
     ensures replies { IfOk result
-        (λ found. AreRepliesWith clock config.now scripts.old found.replies.items) }
+        (λ found. AreRepliesWith clock config.now scripts.now found.replies.items) }
     ensures ends { IfOk result
-        (λ found. ShowAllCounts clock config.now scripts.old found.ends.items) }
-    ensures undecided { IsUndecidedApart clock P.CanStop config.now scripts.old bound result }
+        (λ found. ShowAllCounts clock config.now scripts.now found.ends.items) }
+    ensures undecided { IsUndecidedApart clock P.CanStop config.now scripts.now bound result }
 {
+    let own = all_parts(alloc, config, parts, scripts)?;
+    let own = own.as_slice();
+    let mut searchers = searchers_of(rt, alloc, config, own, clock, bound)?;
+    let searchers = searchers.as_mut_slice();
     let mut all = OutcomesApart {
         replies: Vec::new(alloc),
         ends: Vec::new(alloc),
         parts: Vec::new(alloc),
     };
     for part in 0..parts.count {
-        let members = parts.members(alloc, config, part)?;
-        if !parts.hold(config, part, &members) {
+        let members = &own[part].members;
+        if !parts.hold(config, part, members) {
             return outcomes_together(rt, alloc, config, scripts, clock, bound, progress);
         }
         if !members.have(config, 1) {
             continue;
         }
         let found = match outcomes_of(
-            rt, alloc, config, &members, 1, scripts, clock, bound, progress,
+            rt, alloc, config, own, part, searchers, clock, bound, progress,
         ) {
             Err(fault) => return Err(fault),
             Ok(found) => found,
         };
         add_part(
-            alloc, config, parts, part, &members, scripts, clock, &mut all, found,
+            alloc, config, parts, part, members, scripts, clock, &mut all, found,
         )?;
     }
     Ok(all)

@@ -1,10 +1,9 @@
 //! What can happen to scripts, and to those of one group.
-ghost use Rattle.std.specs.Prelude.{◌≡◌, [], length, replicate, IfOk};
+ghost use Rattle.std.specs.Prelude.{◌≡◌, [], length, replicate, if◌then◌else◌, IfOk};
 ghost use Rattle.apex_groups.specs.Prelude.{AreRepliesWith, IsUndecidedWith};
 ghost use Rattle.apex_groups.specs.Counts.{ShowAllCounts};
-ghost use Rattle.apex_groups.specs.Groups.{in_group};
+ghost use Rattle.apex_groups.specs.Groups.{IsPart, in_group};
 ghost use Rattle.apex_groups.specs.Answers.{AreAnswersOf};
-ghost use Rattle.apex_groups.specs.ScriptParts.{IsFoundOf, IsUndecidedApart};
 
 use crate::different_ends::different_ends;
 use crate::exchanging::exchange;
@@ -32,10 +31,11 @@ fn no_scripts(alloc: Global, count: usize) -> Result<Vec<Script>, AllocError>
     Ok(scripts)
 }
 
-/// All that can happen to the scripts, as `all_outcomes` of `apex_orders` finds it. Of the ends that agree in every count
+/// All that can happen to the scripts, as `all_outcomes` of `apex_orders` finds it, in at most `threads` threads. Of the ends that agree in every count
 /// of every channel only the first is kept, whichever messages wait.
 pub(crate) fn different_outcomes<R: Threads + Sync, P: Progress>(
     rt: &R,
+    threads: usize,
     alloc: Global,
     config: &Config,
     scripts: &[Script],
@@ -51,7 +51,7 @@ pub(crate) fn different_outcomes<R: Threads + Sync, P: Progress>(
     ensures undecided { IsUndecidedWith clock P.CanStop config.now scripts.now bound result }
 {
     let found = match all_outcomes_with_progress(
-        rt, alloc, config, scripts, clock, bound, progress,
+        rt, threads, alloc, config, scripts, clock, bound, progress,
     ) {
         Err(fault) => return Err(fault),
         Ok(found) => found,
@@ -64,31 +64,53 @@ pub(crate) fn different_outcomes<R: Threads + Sync, P: Progress>(
     })
 }
 
-/// All that can happen to the scripts of one group's partitions, with the ends that differ in a count of a channel. The
-/// scripts stay as they were.
-pub(crate) fn outcomes_of<R: Threads + Sync, P: Progress>(
-    rt: &R,
+/// Copies of the scripts of the group's partitions, and an empty script for each other one.
+pub(crate) fn scripts_of(
     alloc: Global,
-    config: &Config,
     groups: &Groups,
     group: usize,
-    scripts: &mut [Script],
-    clock: bool,
-    bound: usize,
-    progress: &mut P,
-) -> Result<Outcomes, OrdersFault>
-    requires { length scripts.old ≡ length config.now.partitions }
-    ensures scripts { scripts.new ≡ scripts.old }
-    ensures found { IfOk result
-        (IsFoundOf clock config.now (in_group groups.now.of_partitions.items group) scripts.old) }
-    ensures undecided { IsUndecidedApart clock P.CanStop config.now scripts.old bound result }
+    scripts: &[Script],
+) -> Result<Vec<Script>, AllocError>
+    ensures count { IfOk result (λ part. length part.items ≡ length scripts.now) }
+    ensures part { IfOk result (λ part.
+        IsPart (in_group groups.now.of_partitions.items group) scripts.now part.items) }
 {
-    let mut part = no_scripts(alloc, config.partitions())?;
-    let part = part.as_mut_slice();
-    exchange(groups, group, scripts, part);
-    let found = different_outcomes(rt, alloc, config, part, clock, bound, progress);
-    exchange(groups, group, scripts, part);
-    found
+    let mut part = Vec::with_capacity(alloc, scripts.len())?;
+    for p in 0..scripts.len() {
+        part.push(script_inside(alloc, groups, group, p, &scripts[p])?)?;
+    }
+    Ok(part)
+}
+
+/// A copy of the partition's script; an empty one if the partition is not in the group.
+fn script_inside(
+    alloc: Global,
+    groups: &Groups,
+    group: usize,
+    p: usize,
+    script: &Script,
+) -> Result<Script, AllocError>
+    ensures { IfOk result (λ own. own ≡
+        (if in_group groups.now.of_partitions.items group p then script.now else [])) }
+{
+    if groups.of_partition(p) == group {
+        return copy_of(alloc, script);
+    }
+    Ok(Script {
+        calls: Vec::new(alloc),
+    })
+}
+
+/// A copy of the script.
+fn copy_of(alloc: Global, script: &Script) -> Result<Script, AllocError>
+    ensures { IfOk result (λ own. own ≡ script.now) }
+{
+    let mut calls = Vec::with_capacity(alloc, script.calls.len())?;
+    for k in 0..script.calls.len() {
+        let (at, call) = &script.calls[k];
+        calls.push((*at, call.copy()))?;
+    }
+    Ok(Script { calls })
 }
 
 /// The answers to questions about the calls of one group, from one search. The scripts stay as they were.

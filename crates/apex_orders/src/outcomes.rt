@@ -1,11 +1,10 @@
 //! All that can happen to scripts.
-ghost use Rattle.std.specs.Prelude.{◌≡◌, ◌<◌, length, min, true, IfOk, OnOk, IsTrue, ◌↔◌};
+ghost use Rattle.std.specs.Prelude.{◌≡◌, ◌<◌, ◌+◌, length, take, min, IfOk, OnOk, IsTrue, ◌↔◌};
 ghost use Rattle.std.specs.List.{sum_by};
-ghost use Rattle.apex_orders.specs.Orders.{IsOrder, history_of, order_at};
 ghost use Rattle.apex_orders.specs.Outcomes.{AreReplies, AreRepliesWith, AreEnds, AreEndsWith, IsUndecided, IsUndecidedWith};
 ghost use Rattle.apex_orders.specs.Searching.{AreEndsOf, HasMadeAll};
 
-use crate::order::{Order, PackedOrder};
+use crate::order::Order;
 use crate::orders::Orders;
 use crate::orders_fault::OrdersFault;
 use crate::progress::{NoProgress, Progress};
@@ -44,14 +43,24 @@ pub fn all_outcomes<R: Threads + Sync>(
     ensures ends { IfOk result (λ found. AreEnds config.now scripts.now found.ends.items) }
     ensures undecided { IsUndecided ⊥ config.now scripts.now bound result }
 {
-    all_outcomes_with_progress(rt, alloc, config, scripts, false, bound, &mut NoProgress)
+    all_outcomes_with_progress(
+        rt,
+        usize::MAX,
+        alloc,
+        config,
+        scripts,
+        false,
+        bound,
+        &mut NoProgress,
+    )
 }
 
-/// Answers like `all_outcomes`. With `clock`, the moments of all partitions are of one clock: each call is made before
+/// Answers like `all_outcomes`, in at most `threads` threads. With `clock`, the moments of all partitions are of one clock: each call is made before
 /// every call of another partition that has a greater moment. `progress` receives from time to time how far the search
 /// is, and may end it.
 pub fn all_outcomes_with_progress<R: Threads + Sync, P: Progress>(
     rt: &R,
+    threads: usize,
     alloc: Global,
     config: &Config,
     scripts: &[Script],
@@ -68,7 +77,17 @@ pub fn all_outcomes_with_progress<R: Threads + Sync, P: Progress>(
 {
     let partitions = config.partitions();
     prove!(scripts.len() == partitions);
-    let found = search_points(rt, alloc, config, scripts, clock, &[], bound, progress)?;
+    let found = search_points(
+        rt,
+        threads,
+        alloc,
+        config,
+        scripts,
+        clock,
+        &[],
+        bound,
+        progress,
+    )?;
     if let Some(fault) = found.given_up {
         return Err(fault);
     }
@@ -95,12 +114,10 @@ fn ends_of(
     let lengths = orders.lengths(alloc)?;
     let total = calls_in(scripts);
     let mut ends = Vec::new(alloc);
-    let mut order = PackedOrder::new(alloc);
     let mut replayer = Replayer::new(alloc, config)?;
     for k in 0..orders.len() {
-        if lengths[k] >= total && is_end(alloc, scripts, orders, k, &mut order, &mut replayer)? {
-            let end = order.unpacked(alloc)?;
-            ends.push(end)?;
+        if lengths[k] >= total {
+            add_end(alloc, scripts, orders, k, &mut replayer, &mut ends)?;
         }
     }
     Ok(ends)
@@ -117,27 +134,30 @@ fn calls_in(scripts: &[Script]) -> usize
     calls
 }
 
-/// Whether the order at the index makes all calls. If so, it is written.
-fn is_end(
+/// Adds the order at the index to the ends among those before it, if it makes all calls.
+fn add_end(
     alloc: Global,
     scripts: &[Script],
     orders: &Orders,
     k: usize,
-    order: &mut PackedOrder,
     replayer: &mut Replayer,
-) -> Result<bool, OutOfMemory>
+    ends: &mut Vec<Order>,
+) -> Result<(), OutOfMemory>
     requires scripts { length scripts.now ≡ length replayer.old.config.partitions }
     requires index { k < length orders.now }
-    ensures end { IfOk result (λ all. IsTrue all
-        ↔ HasMadeAll replayer.old.config scripts.now
-        (history_of replayer.old.config scripts.now (order_at orders.now k))) }
-    ensures written { IfOk result (λ all. all ≡ true → order.new ≡ order_at orders.now k) }
+    requires ends { AreEndsOf replayer.old.config scripts.now
+        (take k orders.now) ends.old.items }
+    ensures ends { OnOk result (AreEndsOf replayer.old.config scripts.now
+        (take (k + 1) orders.now) ends.new.items) }
     ensures config { OnOk result (replayer.new.config ≡ replayer.old.config) }
 {
-    orders.read(k, order)?;
-    let whole = order.unpacked(alloc)?;
-    replayer.run(scripts, &whole);
-    Ok(has_made_all(replayer.ports(), scripts))
+    let order = orders.order(alloc, k)?.unpacked(alloc)?;
+    replayer.run(scripts, &order);
+    if !has_made_all(replayer.ports(), scripts) {
+        return Ok(());
+    }
+    ends.push(order)?;
+    Ok(())
 }
 
 /// Whether each partition has made all calls of its script.

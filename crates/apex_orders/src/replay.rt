@@ -39,9 +39,8 @@ impl Replayer {
         ensures config { IfOk result (λ one. one.config ≡ config.now) }
         ensures history { IfOk result (λ one. one.history ≡ []) }
     {
-        let mut ports = Ports::new(alloc, config.copy()?)?;
+        let ports = Ports::new(alloc, config.copy()?)?;
         let start = ports.save(alloc)?;
-        ports.restore(&start);
         Ok(Replayer {
             ports,
             start,

@@ -31,9 +31,11 @@ pub(crate) struct Found {
 }
 
 /// Continues from each point, level by level, until none is left, or each of some questions has an order that answers it,
-/// or the search is given up. Many points of a level are tried in several threads; what is found does not depend on that.
+/// or the search is given up. Many points of a level are tried in several threads, in at most `threads`; what is found
+/// does not depend on that.
 pub(crate) fn search_points<R: Threads + Sync, P: Progress>(
     rt: &R,
+    threads: usize,
     alloc: Global,
     config: &Config,
     scripts: &[Script],
@@ -48,7 +50,7 @@ pub(crate) fn search_points<R: Threads + Sync, P: Progress>(
         (IsGivenUp clock P.CanStop config.now scripts.now bound)) }
 {
     progress.begin();
-    let mut rounds = Rounds::new(rt, alloc, config, scripts, asked)?;
+    let mut rounds = Rounds::new(rt, threads, alloc, config, scripts, asked)?;
     while !rounds.are_over() {
         if let Some(fault) = rounds.next(
             rt, alloc, config, scripts, clock, asked, bound, progress,
@@ -73,6 +75,7 @@ impl Rounds {
     /// Before the first round, only the order without calls is found.
     fn new<R: Threads + Sync>(
         rt: &R,
+        threads: usize,
         alloc: Global,
         config: &Config,
         scripts: &[Script],
@@ -84,7 +87,7 @@ impl Rounds {
         ensures first { IfOk result (λ one. one.current.points.first ≡ 0) }
     {
         let current = Search::new(alloc, config, scripts, asked)?;
-        let workers = Workers::new(rt, alloc, config);
+        let workers = Workers::new(rt, threads, alloc, config);
         let ports = Ports::new(alloc, config.copy()?)?;
         let answers = no_answers(alloc, asked.len())?;
         Ok(Rounds {

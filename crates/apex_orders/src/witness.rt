@@ -34,7 +34,17 @@ pub fn orders_giving<R: Threads + Sync, P: Progress>(
 {
     let partitions = config.partitions();
     prove!(scripts.len() == partitions);
-    let found = search_points(rt, alloc, config, scripts, clock, asked, bound, progress)?;
+    let found = search_points(
+        rt,
+        usize::MAX,
+        alloc,
+        config,
+        scripts,
+        clock,
+        asked,
+        bound,
+        progress,
+    )?;
     let mut answers = Vec::with_capacity(alloc, found.answers.len())?;
     for q in 0..found.answers.len() {
         let answer = answer_of(alloc, &found.answers[q], found.given_up)?;

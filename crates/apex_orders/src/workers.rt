@@ -1,5 +1,5 @@
 //! The workers of a search, which run in threads beside each other if there are many points.
-ghost use Rattle.std.specs.Prelude.{◌≡◌, ◌<◌, ◌≤◌, ◌+◌, ℕ, length, slice_get, slice_index_or, Some, IfOk, OnOk, is_err, false};
+ghost use Rattle.std.specs.Prelude.{◌≡◌, ◌<◌, ◌≤◌, ◌+◌, ℕ, length, slice_get, slice_index_or, Some, OnOk, is_err, false};
 ghost use Rattle.apex_orders.specs.Known.{IsSameLevel};
 ghost use Rattle.apex_orders.specs.Searching.{HasTried, IsLater, IsSearch};
 ghost use Rattle.apex_orders.specs.Workers.{AreGivenOut, AreWorkers, CanAllTry, CanRun, HasContinuedFrom, HasDone, HasRun, HasPointAt, IsPointOf, IsShared};
@@ -34,12 +34,17 @@ pub(crate) struct Workers {
 }
 
 impl Workers {
-    /// No workers yet.
-    pub(crate) fn new<R: Threads + Sync>(rt: &R, alloc: Global, config: &Config) -> Workers
+    /// No workers yet. At most `threads` threads are to run beside each other.
+    pub(crate) fn new<R: Threads + Sync>(
+        rt: &R,
+        threads: usize,
+        alloc: Global,
+        config: &Config,
+    ) -> Workers
         ensures { AreWorkers config.now result }
     {
         let threads = match thread::available_parallelism(rt) {
-            Ok(processors) => processors.get().min(MOST_THREADS),
+            Ok(processors) => processors.get().min(MOST_THREADS).min(threads).max(1),
             Err(_) => 1,
         };
         Workers {

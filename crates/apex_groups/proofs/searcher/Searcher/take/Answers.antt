@@ -1,0 +1,8 @@
+use Rattle.apex_groups.proofs.Common.{Option, ap, set}
+use Rattle.apex_groups.proofs.PartSearchLemmas.{one_taken}
+use Rattle.apex_groups.proofs.searcher.Searcher.take.Goals as goal
+use Rattle.apex_orders.specs.declared.outcomes.Outcomes.{Outcomes}
+
+pub returns-clause-rest : goal.returns-clause-rest
+returns-clause-rest c clock config parts is =
+    one_taken clock config parts c.args.self.now _ c.args.part is (ap (λ (o : Option Outcomes). set c.args.self.now.found.items c.args.part o) c.take.ensures.after)
