@@ -1,8 +1,8 @@
 -- The answers that a search finds.
-use Rattle.apex_orders.proofs.Common.{◌≡◌, ◌⊎◌, ⊎_elim, ◌≢◌, ℕ, zero, suc, ◌+◌, ◌<◌, ◌≤◌, Bool, false, List, [], ◌∷◌, length, length-set, MatchOption, Option, Some, None, is_some, refl, sym, ap, ◌∙◌, subst, arith, cases_lt, slice_get, slice_get-set_cases, Configuration, Scripts}
+use Rattle.apex_orders.proofs.Common.{◌≡◌, ⊎_elim, ◌≢◌, ℕ, zero, suc, ◌+◌, ◌<◌, ◌≤◌, Bool, false, List, [], ◌∷◌, length, length-set, MatchOption, Option, Some, None, is_some, refl, sym, ap, ◌∙◌, subst, arith, cases_lt, slice_get, slice_get-set_cases, Configuration, Scripts}
 use Rattle.apex_orders.proofs.ChoiceLemmas.{one_more}
-use Rattle.std.specs.Prelude.{set}
-use Rattle.apex_orders.proofs.Common.{Asked, PossibleReply, HasEnded, HaveOrders, AreAllAnswered, AreAnswersBy, IsAnsweredByWith, IsOpen, IsSearched, IsSearchedInVain, IsUnansweredAt, IsUnderWay}
+use Rattle.std.specs.Prelude.{IfNone, set}
+use Rattle.apex_orders.proofs.Common.{Asked, PossibleReply, HasEnded, HasNothingLeft, HaveOrders, AreAllAnswered, AreAnswersBy, IsAnsweredByWith, IsOpen, IsSearched, IsSearchedInVain, IsUnansweredAt, IsUnderWay}
 use Rattle.apex_orders.specs.declared.rounds.Found.{Found}
 use Rattle.apex_orders.specs.declared.rounds.Rounds.{Rounds}
 
@@ -16,6 +16,11 @@ set_elsewhere (z ∷ xs) zero y zero other = absurd (other refl)
 set_elsewhere (z ∷ xs) zero y (suc k) other = refl
 set_elsewhere (z ∷ xs) (suc i) y zero other = refl
 set_elsewhere (z ∷ xs) (suc i) y (suc k) other = set_elsewhere xs i y k (λ same. other (ap suc same))
+
+-- what holds without an item
+pub when_none : {X : Type 0} (o : Option X) (P : Type 0) → o ≡ None → IfNone o P → P
+when_none None P none is = is
+when_none (Some x) P none is = absurd (cc)
 
 -- an order of the answer is the one that was found
 found_by : (o : Option (List ℕ)) (P : Type 0) (R : List ℕ → Type 0) (order : List ℕ) → o ≡ Some order → MatchOption o P R → R order
@@ -95,9 +100,9 @@ module _ (clock : Bool) (config : Configuration) (scripts : Scripts) (asked : Li
   }
 
   -- a search is over that is complete or has all answers
-  pub ended : (rounds : Rounds) → IsUnderWay clock config scripts asked rounds → (length rounds.current.orders ≤ rounds.current.points.first) ⊎ AreAllAnswered rounds.answers.items
-      → (found : Found) → found.orders ≡ rounds.current.orders → found.replies.items ≡ rounds.current.replies → found.answers ≡ rounds.answers → HasEnded clock config scripts asked found
-  ended rounds was over found orders replies answers =
+  pub ended : (rounds : Rounds) → IsUnderWay clock config scripts asked rounds → (found : Found) → (found.given_up ≡ None → HasNothingLeft rounds)
+      → found.orders ≡ rounds.current.orders → found.replies.items ≡ rounds.current.replies → found.answers ≡ rounds.answers → HasEnded clock config scripts asked found
+  ended rounds was found over orders replies answers =
       let kept = ap (λ (all : _). all.items) answers in
       record {
         answers = subst (HaveOrders clock config scripts asked) (sym kept) was.answers.found;
@@ -110,7 +115,7 @@ module _ (clock : Bool) (config : Configuration) (scripts : Scripts) (asked : Li
             let count = was.answers.found.count in
             let no = ap (λ (all : List Asked). length all) none in
             absurd (omega (arith, some, count, no)))
-            over;
+            (over whole);
         unanswered = λ whole q one at left.
             ⊎_elim
             (λ (done : length rounds.current.orders ≤ rounds.current.points.first).
@@ -119,5 +124,5 @@ module _ (clock : Bool) (config : Configuration) (scripts : Scripts) (asked : Li
               unanswered = λ k below. was.answers.unanswered q one at (subst (λ (all : List (Option (List ℕ))). slice_get all q ≡ Some None) kept left) k (omega (arith, below, done));
             }))
             (λ (every : AreAllAnswered rounds.answers.items). absurd (every.each q (subst (λ (all : List (Option (List ℕ))). slice_get all q ≡ Some None) kept left)))
-            over;
+            (over whole);
       }

@@ -1,4 +1,4 @@
--- A worker may go to another thread, and all workers may read the same: what is saved has no value that belongs to one thread.
+-- A worker, or a whole search, may go to another thread, and all workers may read the same: what is saved has no value that belongs to one thread.
 use denote.Param.Send.{IsSend, IsSync, sendable, view_send, view_sync, whole-keyless}
 use denote.Ref.{NamedLft}
 use denote.Param.SendFields.{declared_send, declared_sync, as_row_send, as_row_sync}
@@ -18,9 +18,11 @@ use Rattle.apex_ports.specs.contracts.ports.saved.SavedPorts as SavedPorts
 use Rattle.apex_ports.specs.contracts.ports.saved.SavedPorts.TheInside as SavedPortsInside
 use Rattle.apex_ports.specs.contracts.ports.saved.SavedState as SavedState
 use Rattle.apex_module.proofs.config.Config.TheSendSync as config
+use Rattle.apex_ports.proofs.ports.Ports.TheSendSync as ports
 use Rattle.apex_ports.proofs.script.Script.TheSendSync as script
 use Rattle.apex_orders.proofs.hash_index.HashIndex.TheSendSync as hashes
 use Rattle.apex_orders.proofs.last_uses.LastUses.TheSendSync as uses
+use Rattle.apex_orders.proofs.order.PackedOrder.TheSendSync as packed
 use Rattle.apex_orders.proofs.orders.Orders.TheSendSync as orders
 use Rattle.apex_orders.proofs.replies.Replies.TheSendSync as replies
 use Rattle.apex_orders.proofs.trial.Trial.TheSendSync as trial
@@ -30,6 +32,10 @@ use Rattle.apex_orders.specs.contracts.points.Points as Points
 use Rattle.apex_orders.specs.contracts.shared.Shared as Shared
 use Rattle.apex_orders.specs.contracts.found_point.FoundPoint as FoundPoint
 use Rattle.apex_orders.specs.contracts.worker.Worker as Worker
+use Rattle.apex_orders.specs.contracts.search.Search as Search
+use Rattle.apex_orders.specs.contracts.workers.Workers as Workers
+use Rattle.apex_orders.specs.contracts.rounds.Rounds as Rounds
+use Rattle.apex_orders.specs.contracts.outcome_search.OutcomeSearch as OutcomeSearch
 
 ghost_history_send : IsSend GhostHistory.the_row
 ghost_history_send = view_send _ _ _ _ _ (declared_send GhostHistoryInside.the_type (log.the_send, tt))
@@ -74,7 +80,7 @@ worker_send = declared_send Worker.the_type (
             search (sendable, crosses, as_row_send) depth 12,
             (
               search (as_row_send, replies.the_send),
-              (search (as_row_send, trial.the_send), (search (crosses, boxed_ports_send), (search (sendable, crosses, as_row_send) depth 12, tt))),
+              (search (crosses, boxed_ports_send), (search (sendable, crosses, as_row_send) depth 12, (search (as_row_send, trial.the_send), tt))),
             ),
           ),
         ),
@@ -82,6 +88,29 @@ worker_send = declared_send Worker.the_type (
     ),
   ),
 )
+
+-- ---- a search with its workers
+
+points_send : IsSend Points.the_row
+points_send = declared_send Points.the_type (
+  search (as_row_send, hashes.the_send),
+  (search sendable, (search sendable, (search sendable, (search (crosses, boxed_ports_send), (search sendable, tt))))),
+)
+
+search_send : IsSend Search.the_row
+search_send = declared_send Search.the_type (
+  search (as_row_send, orders.the_send),
+  (points_send, (search (as_row_send, replies.the_send), (search (crosses, as_row_send, Vec-send, uses.the_send), (search (sendable, crosses, as_row_send) depth 12, tt)))),
+)
+
+workers_send : IsSend Workers.the_row
+workers_send = declared_send Workers.the_type (search (crosses, worker_send), (search sendable, tt))
+
+rounds_send : IsSend Rounds.the_row
+rounds_send = declared_send Rounds.the_type (search_send, (workers_send, (search (as_row_send, ports.the_send Heap.the_row ghosts heap_send frees), (search (sendable, crosses, packed.the_send) depth 12, tt))))
+
+pub outcome_search_send : IsSend OutcomeSearch.the_row
+outcome_search_send = declared_send OutcomeSearch.the_type (rounds_send, tt)
 
 -- ---- what all workers read
 

@@ -12,6 +12,7 @@ pub mod Lists
 pub mod Orders
 pub mod Outcomes
 pub mod Points
+pub mod Searches
 pub mod Searching
 pub mod StateLaw
 pub mod States

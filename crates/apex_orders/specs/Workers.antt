@@ -14,7 +14,7 @@ use Rattle.apex_orders.specs.LastUses.{AreOfScripts}
 use Rattle.apex_orders.specs.Lists.{Has}
 use Rattle.apex_orders.specs.Orders.{Scripts, history_of, order_at}
 use Rattle.apex_orders.specs.Points.{IsSamePoint, calls_made}
-use Rattle.apex_orders.specs.Searching.{AreAnswersBy, AreOrders, AreClocked, AreFound, HasLevel, HasTried, HasTriedEnough, HasTriedFrom, Includes, IsLater, IsSearch, IsTried, Keeps, Knows}
+use Rattle.apex_orders.specs.Searching.{AreAllAnswered, AreAnswersBy, AreOrders, AreClocked, AreFound, HasLevel, HasTried, HasTriedEnough, HasTriedFrom, Includes, IsLater, IsSearch, IsTried, Keeps, Knows}
 use Rattle.apex_orders.specs.Steps.{Makes}
 use Rattle.apex_orders.specs.declared.search.Search.{Search}
 
@@ -159,6 +159,10 @@ pub record IsUnderWay (clock : Bool) (config : Configuration) (scripts : Scripts
   pub ports : rounds.ports.config ≡ config
   pub answers : AreAnswersBy clock config scripts asked rounds.current.orders rounds.current.points.first rounds.answers.items
   pub tried : (k : ℕ) → k < rounds.current.points.first → HasTried clock config scripts rounds.current.orders rounds.current.replies k
+
+-- no point is left to continue from, or each of some questions has its order
+abbrev pub HasNothingLeft : Rounds → Type 0
+HasNothingLeft rounds = (length rounds.current.orders ≤ rounds.current.points.first) ⊎ AreAllAnswered rounds.answers.items
 
 -- ---- by what all workers read
 

@@ -1,16 +1,16 @@
 //! All that can happen to scripts.
 ghost use Rattle.std.specs.Prelude.{◌≡◌, ◌<◌, ◌+◌, length, take, min, IfOk, OnOk, IsTrue, ◌↔◌};
 ghost use Rattle.std.specs.List.{sum_by};
-ghost use Rattle.apex_orders.specs.Outcomes.{AreReplies, AreRepliesWith, AreEnds, AreEndsWith, IsUndecided, IsUndecidedWith};
+ghost use Rattle.apex_orders.specs.Outcomes.{AreReplies, AreEnds, IsUndecided};
 ghost use Rattle.apex_orders.specs.Searching.{AreEndsOf, HasMadeAll};
 
 use crate::order::Order;
 use crate::orders::Orders;
 use crate::orders_fault::OrdersFault;
-use crate::progress::{NoProgress, Progress};
+use crate::outcome_search::{OutcomeSearch, Searched};
+use crate::progress::NoProgress;
 use crate::replay::Replayer;
 use crate::replies::PossibleReply;
-use crate::rounds::search_points;
 use apex_module::Config;
 use apex_ports::{Ports, Script};
 use apex_types::OutOfMemory;
@@ -43,7 +43,8 @@ pub fn all_outcomes<R: Threads + Sync>(
     ensures ends { IfOk result (λ found. AreEnds config.now scripts.now found.ends.items) }
     ensures undecided { IsUndecided ⊥ config.now scripts.now bound result }
 {
-    all_outcomes_with_progress(
+    let search = OutcomeSearch::new(alloc, config, scripts)?;
+    let searched = search.run(
         rt,
         usize::MAX,
         alloc,
@@ -52,56 +53,15 @@ pub fn all_outcomes<R: Threads + Sync>(
         false,
         bound,
         &mut NoProgress,
-    )
-}
-
-/// Answers like `all_outcomes`, in at most `threads` threads. With `clock`, the moments of all partitions are of one clock: each call is made before
-/// every call of another partition that has a greater moment. `progress` receives from time to time how far the search
-/// is, and may end it.
-pub fn all_outcomes_with_progress<R: Threads + Sync, P: Progress>(
-    rt: &R,
-    threads: usize,
-    alloc: Global,
-    config: &Config,
-    scripts: &[Script],
-    clock: bool,
-    bound: usize,
-    progress: &mut P,
-) -> Result<Outcomes, OrdersFault>
-    requires { length scripts.now ≡ length config.now.partitions }
-    ensures replies { IfOk result
-        (λ found. AreRepliesWith clock config.now scripts.now found.replies.items) }
-    ensures ends { IfOk result
-        (λ found. AreEndsWith clock config.now scripts.now found.ends.items) }
-    ensures undecided { IsUndecidedWith clock P.CanStop config.now scripts.now bound result }
-{
-    let partitions = config.partitions();
-    prove!(scripts.len() == partitions);
-    let found = search_points(
-        rt,
-        threads,
-        alloc,
-        config,
-        scripts,
-        clock,
-        &[],
-        bound,
-        progress,
     )?;
-    if let Some(fault) = found.given_up {
-        return Err(fault);
+    match searched {
+        Searched::All(found) => Ok(found),
+        Searched::GivenUp(_, fault) => Err(fault),
     }
-    let ends = ends_of(alloc, config, scripts, &found.orders)?;
-    let states = found.orders.len();
-    Ok(Outcomes {
-        replies: found.replies,
-        ends,
-        states,
-    })
 }
 
 /// The orders that make all calls. Only an order that is as long as all scripts together is run.
-fn ends_of(
+pub(crate) fn ends_of(
     alloc: Global,
     config: &Config,
     scripts: &[Script],

@@ -72,6 +72,7 @@ impl Points {
         ensures calls { OnOk result (self.new.calls ≡ self.old.calls) }
         ensures hashes { OnOk result (self.new.hashes ≡ self.old.hashes) }
     {
+        to.reserve(count)?;
         for _ in 0..count {
             let ports = self.saved.pop_front().unwrap();
             self.bytes = self.bytes.saturating_sub(ports.bytes());

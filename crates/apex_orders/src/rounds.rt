@@ -1,7 +1,7 @@
 //! The search of all points that orders lead to, round after round.
-ghost use Rattle.std.specs.Prelude.{◌≡◌, ◌⊎◌, ◌<◌, ◌≤◌, ◌+◌, ℕ, Bool, List, Some, None, false, length, slice_get, IfOk, IfSome, IfNone, IsTrue, OnOk};
-ghost use Rattle.apex_orders.specs.Searching.{AreAllAnswered, HasEnded, HaveOrders, HasLevel, HasTriedFrom, IsGivenUp, IsLater, IsSearch};
-ghost use Rattle.apex_orders.specs.Workers.{AreWorkers, IsUnderWay};
+ghost use Rattle.std.specs.Prelude.{◌≡◌, ◌<◌, ◌≤◌, ◌+◌, ℕ, Bool, List, Some, None, false, length, slice_get, IfOk, IfSome, IfNone, IsTrue, OnOk};
+ghost use Rattle.apex_orders.specs.Searching.{AreAllAnswered, HasEnded, HasLevel, HasTriedFrom, IsGivenUp, IsLater, IsSearch};
+ghost use Rattle.apex_orders.specs.Workers.{AreWorkers, HasNothingLeft, IsUnderWay};
 
 use crate::answer::find_answers;
 use crate::asked::Asked;
@@ -30,12 +30,9 @@ pub(crate) struct Found {
     pub(crate) given_up: Option<OrdersFault>,
 }
 
-/// Continues from each point, level by level, until none is left, or each of some questions has an order that answers it,
-/// or the search is given up. Many points of a level are tried in several threads, in at most `threads`; what is found
-/// does not depend on that.
+/// Searches all points, or until each of some questions has its order, or the search is given up.
 pub(crate) fn search_points<R: Threads + Sync, P: Progress>(
     rt: &R,
-    threads: usize,
     alloc: Global,
     config: &Config,
     scripts: &[Script],
@@ -50,44 +47,45 @@ pub(crate) fn search_points<R: Threads + Sync, P: Progress>(
         (IsGivenUp clock P.CanStop config.now scripts.now bound)) }
 {
     progress.begin();
-    let mut rounds = Rounds::new(rt, threads, alloc, config, scripts, asked)?;
-    while !rounds.are_over() {
-        if let Some(fault) = rounds.next(
-            rt, alloc, config, scripts, clock, asked, bound, progress,
-        )? {
-            return Ok(rounds.into_found(rt, Some(fault)));
-        }
-    }
-    Ok(rounds.into_found(rt, None))
+    let mut rounds = Rounds::new(alloc, config, scripts, asked)?;
+    let given_up = rounds.run(
+        rt,
+        usize::MAX,
+        alloc,
+        config,
+        scripts,
+        clock,
+        asked,
+        bound,
+        progress,
+    )?;
+    Ok(rounds.into_found(rt, given_up))
 }
 
 /// A search, its workers and the answers that it found, between two rounds.
 #[derive(Drop)]
-struct Rounds {
-    current: Search,
-    workers: Workers,
+pub(crate) struct Rounds {
+    pub(crate) current: Search,
+    pub(crate) workers: Workers,
     /// The ports on which asked calls are tried.
-    ports: Ports,
-    answers: Vec<Option<PackedOrder>>,
+    pub(crate) ports: Ports,
+    pub(crate) answers: Vec<Option<PackedOrder>>,
 }
 
 impl Rounds {
     /// Before the first round, only the order without calls is found.
-    fn new<R: Threads + Sync>(
-        rt: &R,
-        threads: usize,
+    pub(crate) fn new(
         alloc: Global,
         config: &Config,
         scripts: &[Script],
         asked: &[Asked],
     ) -> Result<Rounds, OutOfMemory>
         requires { length scripts.now ≡ length config.now.partitions }
-        ensures under_way { IfOk result
+        ensures { IfOk result
             (λ one. (clock : Bool) → IsUnderWay clock config.now scripts.now asked.now one) }
-        ensures first { IfOk result (λ one. one.current.points.first ≡ 0) }
     {
         let current = Search::new(alloc, config, scripts, asked)?;
-        let workers = Workers::new(rt, threads, alloc, config);
+        let workers = Workers::new(alloc, config);
         let ports = Ports::new(alloc, config.copy()?)?;
         let answers = no_answers(alloc, asked.len())?;
         Ok(Rounds {
@@ -98,11 +96,42 @@ impl Rounds {
         })
     }
 
+    /// Continues from each point, level by level, until none is left, or each of some questions has an order that answers
+    /// it, or the search is given up; returns why, if it is. Many points of a level are tried in several threads, in at
+    /// most `threads`; what is found does not depend on that.
+    pub(crate) fn run<R: Threads + Sync, P: Progress>(
+        &mut self,
+        rt: &R,
+        threads: usize,
+        alloc: Global,
+        config: &Config,
+        scripts: &[Script],
+        clock: bool,
+        asked: &[Asked],
+        bound: usize,
+        progress: &mut P,
+    ) -> Result<Option<OrdersFault>, OutOfMemory>
+        requires { IsUnderWay clock config.now scripts.now asked.now self.old }
+        ensures under_way { OnOk result
+            (IsUnderWay clock config.now scripts.now asked.now self.new) }
+        ensures over { IfOk result (λ given_up. IfNone given_up (HasNothingLeft self.new)) }
+        ensures given_up { IfOk result (λ given_up.
+            IfSome given_up (IsGivenUp clock P.CanStop config.now scripts.now bound)) }
+    {
+        self.workers.allow(rt, threads);
+        while !self.are_over() {
+            if let Some(fault) = self.next(
+                rt, alloc, config, scripts, clock, asked, bound, progress,
+            )? {
+                return Ok(Some(fault));
+            }
+        }
+        Ok(None)
+    }
+
     /// Whether no point is left to continue from, or each of some questions has its order.
     fn are_over(&self) -> bool
-        ensures over { IsTrue result →
-            (length self.now.current.orders ≤ self.now.current.points.first)
-            ⊎ AreAllAnswered self.now.answers.items }
+        ensures over { IsTrue result → HasNothingLeft self.now }
         ensures left { result ≡ false →
             self.now.current.points.first < length self.now.current.orders }
     {
@@ -124,10 +153,8 @@ impl Rounds {
     ) -> Result<Option<OrdersFault>, OutOfMemory>
         requires under_way { IsUnderWay clock config.now scripts.now asked.now self.old }
         requires left { self.old.current.points.first < length self.old.current.orders }
-        ensures answers { OnOk result
-            (HaveOrders clock config.now scripts.now asked.now self.new.answers.items) }
-        ensures under_way { IfOk result (λ given_up. given_up ≡ None →
-            IsUnderWay clock config.now scripts.now asked.now self.new) }
+        ensures under_way { OnOk result
+            (IsUnderWay clock config.now scripts.now asked.now self.new) }
         ensures further { IfOk result (λ given_up. given_up ≡ None →
             self.old.current.points.first < self.new.current.points.first) }
         ensures within { IfOk result (λ given_up. given_up ≡ None →
@@ -166,11 +193,19 @@ impl Rounds {
         if states > bound {
             return Some(OrdersFault::TooManyStates);
         }
-        let bytes = self.current.bytes();
-        if !progress.level(self.current.points.calls, states, bytes) {
+        if !self.report(progress) {
             return Some(OrdersFault::Stopped);
         }
         None
+    }
+
+    /// Tells `progress` how far the search is. Returns whether it is to go on.
+    pub(crate) fn report<P: Progress>(&self, progress: &mut P) -> bool
+        ensures { result ≡ false → P.CanStop }
+    {
+        let states = self.current.orders.len();
+        let bytes = self.current.bytes();
+        progress.level(self.current.points.calls, states, bytes)
     }
 
     /// Tries the next points, and goes on to the next level if all points of this one are tried.
@@ -206,7 +241,11 @@ impl Rounds {
     }
 
     /// What was found, with why the search was given up.
-    fn into_found<R: Threads + Sync>(self, rt: &R, given_up: Option<OrdersFault>) -> Found
+    pub(crate) fn into_found<R: Threads + Sync>(
+        self,
+        rt: &R,
+        given_up: Option<OrdersFault>,
+    ) -> Found
         ensures orders { result.orders ≡ self.current.orders }
         ensures replies { result.replies.items ≡ self.current.replies }
         ensures answers { result.answers ≡ self.answers }

@@ -17,7 +17,7 @@ use std::thread::Threads;
 /// For each question an order in which the asked call gets an admitted reply: the calls up to that one, which is the last.
 /// `None` if no order of all calls gives it such a reply. One search answers all questions, and ends once each has its
 /// order; if it is given up before, the questions that have none are undecided. The bound, `clock` and `progress` are
-/// those of `all_outcomes_with_progress`.
+/// those of `OutcomeSearch`.
 pub fn orders_giving<R: Threads + Sync, P: Progress>(
     rt: &R,
     alloc: Global,
@@ -34,17 +34,7 @@ pub fn orders_giving<R: Threads + Sync, P: Progress>(
 {
     let partitions = config.partitions();
     prove!(scripts.len() == partitions);
-    let found = search_points(
-        rt,
-        usize::MAX,
-        alloc,
-        config,
-        scripts,
-        clock,
-        asked,
-        bound,
-        progress,
-    )?;
+    let found = search_points(rt, alloc, config, scripts, clock, asked, bound, progress)?;
     let mut answers = Vec::with_capacity(alloc, found.answers.len())?;
     for q in 0..found.answers.len() {
         let answer = answer_of(alloc, &found.answers[q], found.given_up)?;

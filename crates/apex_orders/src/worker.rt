@@ -50,11 +50,12 @@ pub(crate) struct Worker {
     pub(crate) hashes: HashIndex,
     /// The replies that it found, each once.
     pub(crate) replies: Replies,
-    pub(crate) trial: Trial,
     /// What was saved before, whose memory is used again.
     pub(crate) spare: Vec<BoxedPorts>,
     /// Whether it has tried all.
     pub(crate) result: Result<(), OutOfMemory>,
+    /// Last and large, so that what threads write often is not side by side.
+    pub(crate) trial: Trial,
 }
 
 impl Worker {

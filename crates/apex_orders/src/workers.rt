@@ -34,23 +34,26 @@ pub(crate) struct Workers {
 }
 
 impl Workers {
-    /// No workers yet. At most `threads` threads are to run beside each other.
-    pub(crate) fn new<R: Threads + Sync>(
-        rt: &R,
-        threads: usize,
-        alloc: Global,
-        config: &Config,
-    ) -> Workers
+    /// No workers yet, for this thread alone.
+    pub(crate) fn new(alloc: Global, config: &Config) -> Workers
         ensures { AreWorkers config.now result }
     {
-        let threads = match thread::available_parallelism(rt) {
-            Ok(processors) => processors.get().min(MOST_THREADS).min(threads).max(1),
-            Err(_) => 1,
-        };
         Workers {
             all: Vec::new(alloc),
-            threads,
+            threads: 1,
         }
+    }
+
+    /// Lets at most `threads` threads run beside each other, as far as there are processors.
+    pub(crate) fn allow<R: Threads + Sync>(&mut self, rt: &R, threads: usize)
+        ensures some { 0 < self.new.threads }
+        ensures same { self.new.all ≡ self.old.all }
+    {
+        let processors = match thread::available_parallelism(rt) {
+            Ok(processors) => processors.get(),
+            Err(_) => 1,
+        };
+        self.threads = processors.min(MOST_THREADS).min(threads).max(1);
     }
 
     /// Tries the next calls of enough partitions after each of the first points from which the search has yet to

@@ -1,8 +1,8 @@
 use Rattle.apex_orders.proofs.Common.{arith, ◌∙◌}
 use Rattle.apex_orders.proofs.rounds.Rounds.new.Goals as goal
 
-pub returns-clause-under_way : goal.returns-clause-under_way
-returns-clause-under_way g c clock =
+pub returns : goal.returns
+returns c clock =
     let first = c.in_ok-current.ensures.unsearched in
     record {
       first = c.in_ok-current.ensures.first;

@@ -15,8 +15,26 @@ pub find_answers-requires-clause-within : goal.find_answers-requires-clause-with
 find_answers-requires-clause-within g c =
     in_level c.args.clock c.args.config.now c.args.scripts.now c.args.self.now.current c.count_at_once-count.result c.requires.under_way.valid c.count_at_once-count.ensures.within
 
+-- answers that are open after more points are open after fewer
+pub returns-in-Some-clause-under_way : goal.returns-in-Some-clause-under_way
+returns-in-Some-clause-under_way g c =
+    let was = c.requires.under_way in
+    let answers = c.in_ok-find_answers.ensures.answers in
+    record {
+      first = was.first;
+      valid = was.valid;
+      level = was.level;
+      workers = was.workers;
+      ports = c.in_ok-find_answers.ensures.config;
+      answers = record {
+        found = answers.found;
+        unanswered = λ q one at here k below. answers.unanswered q one at here k (omega (arith, below));
+      };
+      tried = was.tried;
+    }
+
 pub returns-clause-under_way : goal.returns-clause-under_way
-returns-clause-under_way g c whole =
+returns-clause-under_way g c =
     let config = c.args.config.now in
     let scripts = c.args.scripts.now in
     let clock = c.args.clock in
