@@ -1,4 +1,5 @@
 pub mod Common
+pub mod Crossing
 pub mod AlikeInside
 pub mod AnswerLemmas
 pub mod DifferentEnds

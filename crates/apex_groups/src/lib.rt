@@ -17,6 +17,7 @@ pub mod outcomes;
 mod part_answers;
 mod part_search;
 mod parts;
+mod pool;
 mod questions;
 mod script_part;
 mod script_parts;

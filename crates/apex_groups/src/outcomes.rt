@@ -13,6 +13,7 @@ use crate::part_search::{outcomes_of, searchers_of};
 use crate::parts::Parts;
 use crate::script_part::{all_parts, have_calls};
 use crate::script_parts::different_outcomes;
+use crate::searcher::search_beside;
 use apex_module::Config;
 use apex_orders::{Order, OrdersFault, Outcomes, PossibleReply, Progress};
 use apex_ports::Script;
@@ -89,16 +90,7 @@ fn outcomes_together<R: Threads + Sync, P: Progress>(
         (λ found. ShowAllCounts clock config.now scripts.now found.ends.items) }
     ensures undecided { IsUndecidedWith clock P.CanStop config.now scripts.now bound result }
 {
-    let found = match different_outcomes(
-        rt,
-        usize::MAX,
-        alloc,
-        config,
-        scripts,
-        clock,
-        bound,
-        progress,
-    ) {
+    let found = match different_outcomes(rt, alloc, config, scripts, clock, bound, progress) {
         Err(fault) => return Err(fault),
         Ok(found) => found,
     };
@@ -151,8 +143,11 @@ fn outcomes_by_parts<R: Threads + Sync, P: Progress>(
 {
     let own = all_parts(alloc, config, parts, scripts)?;
     let own = own.as_slice();
-    let mut searchers = searchers_of(rt, alloc, config, own, clock, bound)?;
+    let mut searchers = searchers_of(rt, alloc, own)?;
     let searchers = searchers.as_mut_slice();
+    if !search_beside(rt, alloc, config, own, clock, bound, progress, searchers) {
+        return Err(OrdersFault::Stopped);
+    }
     let mut all = OutcomesApart {
         replies: Vec::new(alloc),
         ends: Vec::new(alloc),

@@ -1,7 +1,8 @@
 //! What can happen to scripts, and to those of one group.
 ghost use Rattle.std.specs.Prelude.{◌≡◌, [], length, replicate, if◌then◌else◌, IfOk};
-ghost use Rattle.apex_groups.specs.Prelude.{AreRepliesWith, IsUndecidedWith};
-ghost use Rattle.apex_groups.specs.Counts.{ShowAllCounts};
+ghost use Rattle.apex_orders.specs.Searches.{IsOutcomeSearch};
+ghost use Rattle.apex_groups.specs.Prelude.{IsUndecidedWith};
+ghost use Rattle.apex_groups.specs.PartSearches.{IsFarEnough, SaysAll};
 ghost use Rattle.apex_groups.specs.Groups.{IsPart, in_group};
 ghost use Rattle.apex_groups.specs.Answers.{AreAnswersOf};
 
@@ -10,9 +11,7 @@ use crate::exchanging::exchange;
 use crate::groups::Groups;
 use crate::questions::Found;
 use apex_module::Config;
-use apex_orders::{
-    Asked, OrdersFault, Outcomes, Progress, all_outcomes_with_progress, orders_giving,
-};
+use apex_orders::{Asked, OrdersFault, OutcomeSearch, Outcomes, Progress, Searched, orders_giving};
 use apex_ports::Script;
 use apex_types::OutOfMemory;
 use std::alloc::{AllocError, Global};
@@ -31,11 +30,10 @@ fn no_scripts(alloc: Global, count: usize) -> Result<Vec<Script>, AllocError>
     Ok(scripts)
 }
 
-/// All that can happen to the scripts, as `all_outcomes` of `apex_orders` finds it, in at most `threads` threads. Of the ends that agree in every count
-/// of every channel only the first is kept, whichever messages wait.
+/// All that can happen to the scripts, as `all_outcomes` of `apex_orders` finds it. Of the ends that agree in every count of
+/// every channel only the first is kept, whichever messages wait.
 pub(crate) fn different_outcomes<R: Threads + Sync, P: Progress>(
     rt: &R,
-    threads: usize,
     alloc: Global,
     config: &Config,
     scripts: &[Script],
@@ -44,24 +42,76 @@ pub(crate) fn different_outcomes<R: Threads + Sync, P: Progress>(
     progress: &mut P,
 ) -> Result<Outcomes, OrdersFault>
     requires { length scripts.now ≡ length config.now.partitions }
-    ensures replies { IfOk result
-        (λ found. AreRepliesWith clock config.now scripts.now found.replies.items) }
-    ensures ends { IfOk result
-        (λ found. ShowAllCounts clock config.now scripts.now found.ends.items) }
+    ensures found { IfOk result (SaysAll clock config.now scripts.now) }
     ensures undecided { IsUndecidedWith clock P.CanStop config.now scripts.now bound result }
 {
-    let found = match all_outcomes_with_progress(
-        rt, threads, alloc, config, scripts, clock, bound, progress,
-    ) {
-        Err(fault) => return Err(fault),
-        Ok(found) => found,
+    progress.begin();
+    let search = OutcomeSearch::new(alloc, config, scripts)?;
+    outcomes_by(rt, alloc, config, scripts, clock, bound, progress, search)
+}
+
+/// What a search finds that goes on to the end.
+pub(crate) fn outcomes_by<R: Threads + Sync, P: Progress>(
+    rt: &R,
+    alloc: Global,
+    config: &Config,
+    scripts: &[Script],
+    clock: bool,
+    bound: usize,
+    progress: &mut P,
+    search: OutcomeSearch,
+) -> Result<Outcomes, OrdersFault>
+    requires count { length scripts.now ≡ length config.now.partitions }
+    requires search { IsOutcomeSearch clock config.now scripts.now search }
+    ensures found { IfOk result (SaysAll clock config.now scripts.now) }
+    ensures undecided { IsUndecidedWith clock P.CanStop config.now scripts.now bound result }
+{
+    let searched = search_on(
+        rt,
+        usize::MAX,
+        alloc,
+        config,
+        scripts,
+        clock,
+        bound,
+        progress,
+        search,
+    )?;
+    match searched {
+        Searched::All(found) => Ok(found),
+        Searched::GivenUp(_, fault) => Err(fault),
+    }
+}
+
+/// Goes on with a search, in at most `threads` threads. Of the ends that agree in every count of every channel only the
+/// first is kept.
+pub(crate) fn search_on<R: Threads + Sync, P: Progress>(
+    rt: &R,
+    threads: usize,
+    alloc: Global,
+    config: &Config,
+    scripts: &[Script],
+    clock: bool,
+    bound: usize,
+    progress: &mut P,
+    search: OutcomeSearch,
+) -> Result<Searched, OutOfMemory>
+    requires count { length scripts.now ≡ length config.now.partitions }
+    requires search { IsOutcomeSearch clock config.now scripts.now search }
+    ensures { IfOk result
+        (IsFarEnough clock P.CanStop config.now scripts.now bound) }
+{
+    let searched = search.run(rt, threads, alloc, config, scripts, clock, bound, progress)?;
+    let found = match searched {
+        Searched::GivenUp(search, fault) => return Ok(Searched::GivenUp(search, fault)),
+        Searched::All(found) => found,
     };
     let ends = different_ends(alloc, config, scripts, found.ends)?;
-    Ok(Outcomes {
+    Ok(Searched::All(Outcomes {
         replies: found.replies,
         ends,
         states: found.states,
-    })
+    }))
 }
 
 /// Copies of the scripts of the group's partitions, and an empty script for each other one.

@@ -1,6 +1,6 @@
 use Rattle.apex_groups.proofs.Common.{◌≡◌, ℕ, ◌+◌, ◌<◌, Bool, false, List, length, sym, ap, ◌∙◌, subst, arith, nat_tests, Scripts, PossibleReply, HasNone, in_group, AreRepliesBelow, IsFoundOf, ShowCountsBelow, slice_get-get_or, Some, Err, Configuration, slice_get}
 use Rattle.apex_groups.specs.Parts.{HoldsPart}
-use Rattle.apex_groups.specs.PartSearches.{AreParts, IsPartOf}
+use Rattle.apex_groups.specs.PartSearches.{AreParts, AreSearchers, IsPartOf}
 use Rattle.apex_groups.specs.declared.script_part.ScriptPart.{ScriptPart}
 use Rattle.apex_groups.specs.declared.outcomes.OutcomesApart.{OutcomesApart}
 use Rattle.apex_orders.specs.declared.outcomes.Outcomes.{Outcomes}
@@ -16,6 +16,11 @@ one_at : (config : Configuration) (scripts : Scripts) (items own : List ScriptPa
 one_at config scripts items own count k d are all same below =
     let counted = ap (λ (parts : List ScriptPart). length parts) same in
     let at = slice_get-get_or own k d (omega (arith, all, below, counted)) in (at, are k (get_or own k d) (ap (λ (parts : List ScriptPart). slice_get parts k) (sym same) ∙ at))
+
+pub search_beside-requires-clause-valid : goal.search_beside-requires-clause-valid
+search_beside-requires-clause-valid g c κs within =
+    subst (AreSearchers c.args.clock c.args.config.now c.args.bound c.as_slice-own.result.now) (sym c.as_mut_slice-searchers.ensures.value)
+    (c.in_ok-searchers.ensures c.args.clock c.args.config.now c.args.bound)
 
 pub loop-part-preserved-then-not-have : goal.loop-part-preserved-then-not-have
 loop-part-preserved-then-not-have g c =
