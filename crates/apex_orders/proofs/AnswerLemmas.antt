@@ -87,7 +87,7 @@ module _ (clock : Bool) (config : Configuration) (scripts : Scripts) (asked : Li
 
   -- ---- the end of a search
 
-  searched : (rounds : Rounds) → IsUnderWay clock config scripts asked rounds → length rounds.current.orders ≤ rounds.current.points.first
+  searched : (rounds : Rounds) → IsUnderWay clock config scripts asked rounds → length rounds.current.orders ≤ rounds.first
       → IsSearched clock config scripts rounds.current.orders rounds.current.replies
   searched rounds was done = record {
     all = was.valid.all;
@@ -108,7 +108,7 @@ module _ (clock : Bool) (config : Configuration) (scripts : Scripts) (asked : Li
         answers = subst (HaveOrders clock config scripts asked) (sym kept) was.answers.found;
         all = λ whole none.
             ⊎_elim
-            (λ (done : length rounds.current.orders ≤ rounds.current.points.first).
+            (λ (done : length rounds.current.orders ≤ rounds.first).
             subst (λ (x : List (List ℕ) × List PossibleReply). IsSearched clock config scripts x.0 x.1) (λ i. (sym orders i, sym replies i)) (searched rounds was done))
             (λ (every : AreAllAnswered rounds.answers.items).
             let some = every.some in
@@ -118,10 +118,10 @@ module _ (clock : Bool) (config : Configuration) (scripts : Scripts) (asked : Li
             (over whole);
         unanswered = λ whole q one at left.
             ⊎_elim
-            (λ (done : length rounds.current.orders ≤ rounds.current.points.first).
+            (λ (done : length rounds.current.orders ≤ rounds.first).
             subst (λ (x : List (List ℕ) × List PossibleReply). IsSearchedInVain clock config scripts one x.0 x.1) (λ i. (sym orders i, sym replies i)) (record {
               searched = searched rounds was done;
-              unanswered = λ k below. was.answers.unanswered q one at (subst (λ (all : List (Option (List ℕ))). slice_get all q ≡ Some None) kept left) k (omega (arith, below, done));
+              unanswered = λ k below. was.answers.unanswered q one at (subst (λ (all : List (Option (List ℕ))). slice_get all q ≡ Some None) kept left) k (let begun = was.begun in omega (arith, below, done, begun));
             }))
             (λ (every : AreAllAnswered rounds.answers.items). absurd (every.each q (subst (λ (all : List (Option (List ℕ))). slice_get all q ≡ Some None) kept left)))
             (over whole);

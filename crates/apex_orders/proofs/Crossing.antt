@@ -14,6 +14,12 @@ use Rattle.apex_ports.proofs.stored_messages.StoredMessages.TheSendSync as store
 use Rattle.apex_ports.specs.contracts.ghost_history.Log as Log
 use Rattle.apex_ports.specs.contracts.ghost_history.GhostHistory as GhostHistory
 use Rattle.apex_ports.specs.contracts.ghost_history.GhostHistory.TheInside as GhostHistoryInside
+use Rattle.apex_ports.proofs.partition.PartitionState.TheSendSync as partition_state
+use Rattle.apex_ports.proofs.channel.ChannelState.TheSendSync as channel_state
+use Rattle.apex_ports.specs.contracts.state.State as State
+use Rattle.apex_ports.specs.contracts.ports.Ports as Ports
+use Rattle.apex_ports.specs.contracts.ports.Ports.TheInside as PortsInside
+use Rattle.apex_orders.specs.contracts.trial.Trial as Trial
 use Rattle.apex_ports.specs.contracts.ports.saved.SavedPorts as SavedPorts
 use Rattle.apex_ports.specs.contracts.ports.saved.SavedPorts.TheInside as SavedPortsInside
 use Rattle.apex_ports.specs.contracts.ports.saved.SavedState as SavedState
@@ -32,6 +38,7 @@ use Rattle.apex_orders.specs.contracts.points.Points as Points
 use Rattle.apex_orders.specs.contracts.shared.Shared as Shared
 use Rattle.apex_orders.specs.contracts.found_point.FoundPoint as FoundPoint
 use Rattle.apex_orders.specs.contracts.worker.Worker as Worker
+use Rattle.apex_orders.specs.contracts.marks.Marks as Marks
 use Rattle.apex_orders.specs.contracts.search.Search as Search
 use Rattle.apex_orders.specs.contracts.workers.Workers as Workers
 use Rattle.apex_orders.specs.contracts.rounds.Rounds as Rounds
@@ -73,14 +80,17 @@ worker_send = declared_send Worker.the_type (
     (
       search (sendable, crosses, as_row_send) depth 12,
       (
-        search (crosses, boxed_ports_send),
+        search sendable,
         (
-          search (crosses, found_point_send),
+          search (crosses, boxed_ports_send),
           (
-            search (sendable, crosses, as_row_send) depth 12,
+            search (crosses, found_point_send),
             (
-              search (as_row_send, replies.the_send),
-              (search (crosses, boxed_ports_send), (search (sendable, crosses, as_row_send) depth 12, (search (as_row_send, trial.the_send), tt))),
+              search (sendable, crosses, as_row_send) depth 12,
+              (
+                search (as_row_send, replies.the_send),
+                (search (crosses, boxed_ports_send), (search sendable, (search (sendable, crosses, as_row_send) depth 12, (search (as_row_send, trial.the_send), tt)))),
+              ),
             ),
           ),
         ),
@@ -92,10 +102,7 @@ worker_send = declared_send Worker.the_type (
 -- ---- a search with its workers
 
 points_send : IsSend Points.the_row
-points_send = declared_send Points.the_type (
-  search (as_row_send, hashes.the_send),
-  (search sendable, (search sendable, (search sendable, (search (crosses, boxed_ports_send), (search sendable, tt))))),
-)
+points_send = declared_send Points.the_type (search sendable, (search sendable, (search sendable, (search (crosses, boxed_ports_send), (search sendable, tt)))))
 
 search_send : IsSend Search.the_row
 search_send = declared_send Search.the_type (
@@ -103,11 +110,14 @@ search_send = declared_send Search.the_type (
   (points_send, (search (as_row_send, replies.the_send), (search (crosses, as_row_send, Vec-send, uses.the_send), (search (sendable, crosses, as_row_send) depth 12, tt)))),
 )
 
+marks_send : IsSend Marks.the_row
+marks_send = declared_send Marks.the_type (search (sendable, crosses, as_row_send) depth 12, (search (sendable, crosses, as_row_send) depth 12, (search (as_row_send, trial.the_send), tt)))
+
 workers_send : IsSend Workers.the_row
-workers_send = declared_send Workers.the_type (search (crosses, worker_send), (search sendable, tt))
+workers_send = declared_send Workers.the_type (search (crosses, worker_send), (search (sendable, crosses, marks_send) depth 12, (search sendable, tt)))
 
 rounds_send : IsSend Rounds.the_row
-rounds_send = declared_send Rounds.the_type (search_send, (workers_send, (search (as_row_send, ports.the_send Heap.the_row ghosts heap_send frees), (search (sendable, crosses, packed.the_send) depth 12, tt))))
+rounds_send = declared_send Rounds.the_type (search_send, (workers_send, (search sendable, (search (as_row_send, ports.the_send Heap.the_row ghosts heap_send frees), (search (sendable, crosses, packed.the_send) depth 12, tt)))))
 
 pub outcome_search_send : IsSend OutcomeSearch.the_row
 outcome_search_send = declared_send OutcomeSearch.the_type (rounds_send, tt)
@@ -142,10 +152,47 @@ saved_ports_sync = view_sync _ _ _ _ _ (declared_sync (SavedPortsInside.the_type
 boxed_ports_sync : IsSync BoxedPorts.the_row
 boxed_ports_sync = view_sync _ _ _ _ _ (declared_sync BoxedPortsInside.the_type (search (crosses, saved_ports_sync), (search sendable, tt)))
 
-points_sync : IsSync Points.the_row
-points_sync = declared_sync Points.the_type (
-  search (as_row_sync, hashes.the_sync),
-  (search sendable, (search sendable, (search sendable, (search (crosses, boxed_ports_sync), (search sendable, tt))))),
+kept_state_sync : IsSync (State.the_row Heap.the_row ghosts)
+kept_state_sync = declared_sync (State.the_type Heap.the_row ghosts) (
+  search (as_row_sync, ghost_history_sync),
+  (search (crosses, as_row_sync, Vec-sync, partition_state.the_sync Heap.the_row ghosts heap_sync) depth 8, (search (crosses, as_row_sync, Vec-sync, channel_state.the_sync Heap.the_row ghosts heap_sync) depth 8, tt)),
+)
+
+ports_sync : IsSync (Ports.the_row Heap.the_row ghosts)
+ports_sync = view_sync _ _ _ _ _ (declared_sync (PortsInside.the_type Heap.the_row ghosts)
+    (search (as_row_sync, config.the_sync), (search (as_row_sync, kept_state_sync), (search (sendable, crosses, as_row_sync) depth 12, tt))))
+
+trial_sync : IsSync Trial.the_row
+trial_sync = declared_sync Trial.the_type (search (as_row_sync, ports_sync), (search (as_row_sync, ports_sync), (search (sendable, as_row_sync) depth 12, tt)))
+
+found_point_sync : IsSync FoundPoint.the_row
+found_point_sync = declared_sync FoundPoint.the_type (search sendable, (search sendable, (search sendable, (boxed_ports_sync, tt))))
+
+pub worker_sync : IsSync Worker.the_row
+worker_sync = declared_sync Worker.the_type (
+  search (sendable, crosses, as_row_sync) depth 12,
+  (
+    search sendable,
+    (
+      search (sendable, crosses, as_row_sync) depth 12,
+      (
+        search sendable,
+        (
+          search (crosses, boxed_ports_sync),
+          (
+            search (crosses, found_point_sync),
+            (
+              search (sendable, as_row_sync, hashes.the_sync) depth 12,
+              (
+                search (as_row_sync, replies.the_sync),
+                (search (crosses, boxed_ports_sync), (search sendable, (search (sendable, crosses, as_row_sync) depth 12, (search (as_row_sync, trial_sync), tt)))),
+              ),
+            ),
+          ),
+        ),
+      ),
+    ),
+  ),
 )
 
 pub shared_sync : (κ : NamedLft) → IsSync (Shared.the_row κ)
@@ -155,22 +202,7 @@ shared_sync κ = declared_sync (Shared.the_type κ) (
     search (sendable, as_row_sync, config.the_sync),
     (
       search (sendable, as_row_sync, script.the_sync),
-      (
-        search sendable,
-        (
-          search (sendable, as_row_sync, uses.the_sync),
-          (
-            search (sendable, crosses, as_row_sync) depth 12,
-            (
-              search (sendable, as_row_sync, replies.the_sync),
-              (
-                search (sendable, as_row_sync, orders.the_sync),
-                (search (sendable, as_row_sync, points_sync), tt),
-              ),
-            ),
-          ),
-        ),
-      ),
+      (search sendable, (search (sendable, as_row_sync, uses.the_sync), (search (sendable, crosses, as_row_sync) depth 12, (search (sendable, as_row_sync, replies.the_sync), tt)))),
     ),
   ),
 )

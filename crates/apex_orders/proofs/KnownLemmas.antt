@@ -1,16 +1,18 @@
 -- The known points, with one more, and without the first that were saved.
-use Rattle.apex_orders.proofs.Common.{◌≡◌, ⊎_elim, ℕ, ◌+◌, ◌-◌, ◌≤◌, List, [], ◌∷◌, ◌++◌, length, Some, sym, ap, ◌∙◌, subst, arith, length-append, slice_get, slice_get_within, Configuration, PortsView, IsAfter, ArePoints, IsSameLevel, hash_of, AreHashes, Scripts, history_of, order_at}
+use Rattle.apex_orders.proofs.Common.{◌≡◌, ⊎_elim, ℕ, ◌+◌, ◌-◌, ◌≤◌, List, [], ◌∷◌, ◌++◌, length, Some, sym, ap, ◌∙◌, subst, arith, length-append, slice_get, slice_get_within, Configuration, PortsView, IsAfter, ArePoints, IsSameLevel, Scripts, order_at}
 use Rattle.apex_orders.specs.declared.points.Points.{Points}
 use Rattle.apex_orders.proofs.GrowthLemmas.{order_here}
 use Rattle.apex_orders.proofs.Lists.{at_behind, before_or_last, stays_before}
-use Rattle.apex_orders.proofs.HashLemmas.{hashed_push}
 
 module _ (config : Configuration) (scripts : Scripts) (orders : List (List ℕ)) (old new : Points) (are : ArePoints config scripts orders old) where
-  pub points_push : (order : List ℕ) (ports : PortsView) (hash : ℕ) → IsAfter config scripts order ports → hash ≡ hash_of config (history_of config scripts order)
-      → IsSameLevel old new → new.hashes ≡ old.hashes ++ hash ∷ [] → new.saved.items ≡ old.saved.items ++ ports ∷ []
+  pub points_push : (order : List ℕ) (ports : PortsView) → IsAfter config scripts order ports
+      → IsSameLevel old new → new.saved.items ≡ old.saved.items ++ ports ∷ []
       → ArePoints config scripts (orders ++ order ∷ []) new
-  points_push order ports hash after is level hashes saved = record {
-    hashed = subst (λ (x : ℕ × List ℕ). AreHashes config scripts (orders ++ order ∷ []) x.0 x.1) (λ i. (sym level.next i, sym hashes i)) (hashed_push config scripts orders old.next old.hashes order hash are.hashed is);
+  points_push order ports after level saved = record {
+    next =
+        let was = are.next in
+        let next = level.next in
+        omega (arith, was, next, length-append orders (order ∷ []));
     level =
         let was = are.level in
         let first = level.first in
@@ -51,11 +53,11 @@ module _ (config : Configuration) (scripts : Scripts) (orders : List (List ℕ))
       are.each (k - old.first) ports order is (ap (λ (n : ℕ). slice_get orders n) there ∙ at)
 
   -- the first saved ports, and those that are left
-  module _ (given : List PortsView) (count : ℕ) (saved : old.saved.items ≡ given ++ new.saved.items) (many : length given ≡ count) (first : new.first ≡ old.first + count) (next : new.next ≡ old.next) (hashes : new.hashes ≡ old.hashes)
+  module _ (given : List PortsView) (count : ℕ) (saved : old.saved.items ≡ given ++ new.saved.items) (many : length given ≡ count) (first : new.first ≡ old.first + count) (next : new.next ≡ old.next)
       (within : old.first + count ≤ old.next) where
     pub points_left : ArePoints config scripts orders new
     points_left = record {
-      hashed = subst (λ (x : ℕ × List ℕ). AreHashes config scripts orders x.0 x.1) (λ i. (sym next i, sym hashes i)) are.hashed;
+      next = let was = are.next in omega (arith, was, next);
       level = omega (arith, first, next, within);
       count =
           let count_all = are.count in

@@ -19,6 +19,7 @@ pub mod KnownLemmas
 pub mod Leaving
 pub mod Levels
 pub mod Lists
+pub mod MarkLemmas
 pub mod SameWays
 pub mod SearchLemmas
 pub mod SeenAlike

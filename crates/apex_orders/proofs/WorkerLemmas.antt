@@ -1,6 +1,6 @@
 -- What a worker is given, finds and knows.
-use Rattle.apex_orders.proofs.Common.{◌≡◌, ⊎_elim, ℕ, ◌+◌, ◌<◌, Bool, List, [], ◌∷◌, ◌++◌, length, map, Ok, Err, Result, OnOk, Some, false, sym, ap, ◌∙◌, subst, arith, append_assoc, map-append, length-append, slice_get, Configuration, History, PortsView, PossibleReply, FoundPoint, Worker, Scripts, Has, IsSamePoint, hash_of, history_of, order_at, Keeps, Includes, Knows, HasTriedEnough}
-use Rattle.apex_orders.proofs.Common.{AreGiven, AreHashed, HasContinued, HasPoint, IsFoundBy, IsLaterWorker, order_given, order_found, orders_known}
+use Rattle.apex_orders.proofs.Common.{◌≡◌, ⊎_elim, ℕ, ◌+◌, ◌<◌, Bool, List, [], ◌∷◌, ◌++◌, length, map, Ok, Err, Result, OnOk, Some, false, sym, ap, ◌∙◌, subst, arith, append_assoc, map-append, length-append, slice_get, slice_get_within, Configuration, History, PortsView, PossibleReply, FoundPoint, Worker, Scripts, Has, IsSamePoint, hash_of, history_of, order_at, Keeps, Includes, Knows, HasTriedEnough}
+use Rattle.apex_orders.proofs.Common.{AreAllApart, AreGiven, AreHashed, HasContinued, HasPoint, IsFoundBy, IsLaterWorker, order_given, order_found, orders_known}
 use Rattle.std.specs.Result.{is_err}
 use Rattle.apex_orders.proofs.Following.{same_along}
 use Rattle.apex_orders.proofs.GrowthLemmas.{order_here}
@@ -27,6 +27,31 @@ hashes_push config found hashes one hash are is configured = record {
       (λ (last : (k ≡ length found) × (one ≡ other)). subst (λ (o : FoundPoint). o.saved.config ≡ config) last.1 configured)
       (before_or_last found one k other at);
 }
+
+-- a point that is none of those before
+pub apart_push : (config : Configuration) (found : List FoundPoint) (one : FoundPoint) (ports : PortsView) → AreAllApart config found → ports ≡ one.saved → ports.config ≡ config
+    → ¬ HasPoint found ports → AreAllApart config (found ++ one ∷ [])
+apart_push config found one ports are saved configured none j k first other below at also =
+    ⊎_elim
+    (λ (before : slice_get found k ≡ Some other).
+    let inside = slice_get_within found k other before in
+    are j k first other below (⊎_elim
+    (λ (was : slice_get found j ≡ Some first). was)
+    (λ (last : (j ≡ length found) × (one ≡ first)). absurd (let here = last.0 in omega (arith, inside, below, here)))
+    (before_or_last found one j first at)) before)
+    (λ (last : (k ≡ length found) × (one ≡ other)).
+    ⊎_elim
+    (λ (was : slice_get found j ≡ Some first).
+    λ (same : IsSamePoint config other.saved.history first.saved.history).
+    none (record {
+      one = first;
+      here = (j, was);
+      same = subst (λ (x : Configuration × PortsView). IsSamePoint x.0 x.1.history first.saved.history) (λ i. (sym configured i, (sym saved i)))
+          (subst (λ (o : FoundPoint). IsSamePoint config o.saved.history first.saved.history) (sym last.1) same);
+    }))
+    (λ (both : (j ≡ length found) × (one ≡ first)). absurd (let here = both.0 in let there = last.0 in omega (arith, below, here, there)))
+    (before_or_last found one j first at))
+    (before_or_last found one k other also)
 
 pub known_push : (base : List (List ℕ)) (f : FoundPoint → List ℕ) (found new : List FoundPoint) (one : FoundPoint) → new ≡ found ++ one ∷ []
     → base ++ map f new ≡ (base ++ map f found) ++ f one ∷ []
@@ -154,9 +179,9 @@ pub ok_then : {X E P : Type 0} (r : Result X E) (Q : Type 0) → OnOk r P → (P
 ok_then (Ok x) Q is f = f is
 ok_then (Err e) Q is f = tt
 
-pub all_on_ok : {X E : Type 0} (r : Result X E) (P Q R S : Type 0) → (P → Q → R → S) → OnOk r P → OnOk r Q → OnOk r R → OnOk r S
-all_on_ok (Ok x) P Q R S f one two three = f one two three
-all_on_ok (Err e) P Q R S f one two three = tt
+pub all_on_ok : {X E : Type 0} (r : Result X E) (P Q R S T U : Type 0) → (P → Q → R → S → T → U) → OnOk r P → OnOk r Q → OnOk r R → OnOk r S → OnOk r T → OnOk r U
+all_on_ok (Ok x) P Q R S T U f one two three four five = f one two three four five
+all_on_ok (Err e) P Q R S T U f one two three four five = tt
 
 pub when_ok : {X E : Type 0} (r : Result X E) (P : Type 0) → is_err r ≡ false → OnOk r P → P
 when_ok (Ok x) P ok is = is

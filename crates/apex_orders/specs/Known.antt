@@ -3,7 +3,6 @@ use Rattle.std.specs.Prelude.{ℕ, suc, ◌≡◌, ◌<◌, ◌≤◌, ◌+◌, 
 use Rattle.apex_orders.specs.Prelude.{Configuration, History, PortsView, IsSound}
 use Rattle.apex_orders.specs.declared.trial.Trial.{Trial}
 use Rattle.apex_orders.specs.declared.points.Points.{Points}
-use Rattle.apex_orders.specs.Hashes.{AreHashes}
 use Rattle.apex_orders.specs.Orders.{Scripts, history_of}
 use Rattle.apex_orders.specs.Points.{IsSamePoint, calls_made}
 
@@ -17,10 +16,10 @@ pub record IsReadyAfter (config : Configuration) (scripts : Scripts) (order : Li
   pub after : IsAfter config scripts order ports
   pub sound : IsSound ports.config ports.history
 
--- the orders of the next level have the hashes of their points, and the ports that the last orders lead to are saved
+-- the ports that the last orders lead to are saved
 pub record ArePoints (config : Configuration) (scripts : Scripts) (orders : List (List ℕ)) (points : Points) : Type 0 where
-  pub hashed : AreHashes config scripts orders points.next points.hashes
   pub level : points.first ≤ points.next
+  pub next : points.next ≤ length orders
   pub count : points.first + length points.saved.items ≡ length orders
   pub each : (j : ℕ) (ports : PortsView) (order : List ℕ) → slice_get points.saved.items j ≡ Some ports
       → slice_get orders (points.first + j) ≡ Some order → IsAfter config scripts order ports

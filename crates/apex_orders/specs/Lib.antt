@@ -9,6 +9,7 @@ pub mod Hashes
 pub mod Known
 pub mod LastUses
 pub mod Lists
+pub mod Marks
 pub mod Orders
 pub mod Outcomes
 pub mod Points

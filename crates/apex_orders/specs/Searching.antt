@@ -87,9 +87,9 @@ pub record IsSearch (clock : Bool) (config : Configuration) (scripts : Scripts) 
   pub found : AreFound clock config scripts current.replies
   pub uses : AreOfScripts config scripts current.uses.items
 
--- unless the search is complete, points of the present level are left
+-- no point of the next level is found yet
 abbrev pub HasLevel : Search → Type 0
-HasLevel current = current.points.first < length current.orders → current.points.first < current.points.next
+HasLevel current = current.points.next ≡ length current.orders
 
 -- nothing that was found is lost
 pub record IsLater (old new : Search) : Type 0 where

@@ -6,15 +6,16 @@ use Rattle.apex_orders.specs.declared.rounds.Rounds.{Rounds}
 use Rattle.apex_orders.specs.declared.replies.PossibleReply.{PossibleReply}
 use Rattle.apex_orders.specs.declared.shared.Shared.{Shared}
 use Rattle.apex_orders.specs.declared.found_point.FoundPoint.{FoundPoint}
+use Rattle.apex_orders.specs.declared.marks.Marks.{Marks}
 use Rattle.apex_orders.specs.declared.worker.Worker.{Worker}
 use Rattle.apex_orders.specs.declared.workers.Workers.{Workers}
 use Rattle.apex_orders.specs.Hashes.{hash_of}
-use Rattle.apex_orders.specs.Known.{ArePoints, IsAfter, IsReadyAfter, IsTrialOf}
+use Rattle.apex_orders.specs.Known.{IsAfter, IsReadyAfter, IsTrialOf}
 use Rattle.apex_orders.specs.LastUses.{AreOfScripts}
 use Rattle.apex_orders.specs.Lists.{Has}
 use Rattle.apex_orders.specs.Orders.{Scripts, history_of, order_at}
 use Rattle.apex_orders.specs.Points.{IsSamePoint, calls_made}
-use Rattle.apex_orders.specs.Searching.{AreAllAnswered, AreAnswersBy, AreOrders, AreClocked, AreFound, HasLevel, HasTried, HasTriedEnough, HasTriedFrom, Includes, IsLater, IsSearch, IsTried, Keeps, Knows}
+use Rattle.apex_orders.specs.Searching.{AreAllAnswered, AreAnswersBy, AreOrders, AreClocked, AreFound, HasLevel, HasTried, HasTriedEnough, Includes, IsSearch, IsTried, Keeps, Knows}
 use Rattle.apex_orders.specs.Steps.{Makes}
 use Rattle.apex_orders.specs.declared.search.Search.{Search}
 
@@ -46,15 +47,26 @@ pub record HasPoint (found : List FoundPoint) (ports : PortsView) : Type 0 where
   pub here : Has found one
   pub same : IsSamePoint ports.config ports.history one.saved.history
 
+-- none of the points is found twice
+abbrev pub AreAllApart : Configuration → List FoundPoint → Type 0
+AreAllApart config found =
+    (j k : ℕ) (one other : FoundPoint) → j < k → slice_get found j ≡ Some one → slice_get found k ≡ Some other → ¬ IsSamePoint config other.saved.history one.saved.history
+
 -- the worker's points are those of the orders from its first index on
 pub record AreGiven (config : Configuration) (scripts : Scripts) (worker : Worker) : Type 0 where
   pub within : worker.first + length worker.given.value.items ≤ length worker.base.value
   pub room : length worker.base.value < 2 ^ 64
   pub each : (j : ℕ) (ports : PortsView) → slice_get worker.given.value.items j ≡ Some ports → IsAfter config scripts (order_given worker j) ports
 
--- each of its points is still to be tried
-abbrev pub HasAllLeft : Worker → Type 0
-HasAllLeft worker = worker.points.items ≡ worker.given.value.items
+-- it has tried so many of its points, and the others are left
+pub record HasLeft (worker : Worker) : Type 0 where
+  pub done : List PortsView
+  pub count : length done ≡ worker.tried
+  pub all : worker.given.value.items ≡ done ++ worker.points.items
+
+-- it has tried all of them
+abbrev pub HasTriedAll : Worker → Type 0
+HasTriedAll worker = length worker.given.value.items ≤ worker.tried
 
 -- what the worker found is one call behind one of its points
 pub record IsFoundBy (config : Configuration) (scripts : Scripts) (worker : Worker) (one : FoundPoint) : Type 0 where
@@ -71,6 +83,7 @@ pub record IsWorker (clock : Bool) (config : Configuration) (scripts : Scripts) 
   pub given : AreGiven config scripts worker
   pub found : (one : FoundPoint) → Has worker.found.items one → IsFoundBy config scripts worker one
   pub hashed : AreHashed config worker.found.items worker.hashes
+  pub apart : AreAllApart config worker.found.items
   pub orders : AreOrders config (orders_known worker)
   pub clocked : AreClocked clock config scripts (orders_known worker)
   pub replies : AreFound clock config scripts worker.replies
@@ -83,10 +96,10 @@ pub record IsLaterWorker (old new : Worker) : Type 0 where
   pub orders : Keeps (orders_known old) (orders_known new)
   pub replies : Includes old.replies new.replies
 
--- enough was tried after each of the points: the replies were known before, or found by the worker
+-- enough was tried after each of the points that it has tried: the replies were known before, or found by the worker
 abbrev pub HasContinued : Bool → Configuration → Scripts → List PossibleReply → Worker → Type 0
 HasContinued clock config scripts known worker =
-    (j : ℕ) → j < length worker.given.value.items
+    (j : ℕ) → j < worker.tried
     → HasTriedEnough clock config scripts (orders_known worker) (known ++ worker.replies) (order_given worker j)
 
 -- its points are those of the orders from one index up to another
@@ -99,21 +112,20 @@ abbrev pub HasMade : Configuration → Scripts → ℕ → Worker → Type 0
 HasMade config scripts calls worker =
     (j : ℕ) → j < length worker.given.value.items → calls_made config (history_of config scripts (order_given worker j)) ≡ calls
 
--- the search continued from so many more of its points
-pub record HasContinuedFrom (clock : Bool) (config : Configuration) (scripts : Scripts) (count : ℕ) (old new : Search) : Type 0 where
-  pub valid : IsSearch clock config scripts new
-  pub later : IsLater old new
-  pub first : new.points.first ≡ old.points.first + count
-  pub tried : HasTriedFrom clock config scripts new.orders new.replies old.points.first (old.points.first + count)
-
 -- each of the workers can try calls of the configuration
 abbrev pub CanAllTry : Configuration → List Worker → Type 0
 CanAllTry config workers = (k : ℕ) (worker : Worker) → slice_get workers k ≡ Some worker → IsTrialOf config worker.trial
 
--- so can those that were made, and at least one thread may run
+-- each of them can compare points of the configuration
+abbrev pub CanAllMark : Configuration → List Marks → Type 0
+CanAllMark config marks = (k : ℕ) (one : Marks) → slice_get marks k ≡ Some one → IsTrialOf config one.trial
+
+-- so can those that were made, with marks for each, and at least one thread may run
 pub record AreWorkers (config : Configuration) (workers : Workers) : Type 0 where
   pub some : 0 < workers.threads
   pub each : CanAllTry config workers.all.items
+  pub count : length workers.marks.items ≡ length workers.all.items
+  pub marks : CanAllMark config workers.marks.items
 
 -- the index is that of the order to one of the worker's points
 pub record IsPointOf (worker : Worker) (i : ℕ) : Type 0 where
@@ -127,30 +139,42 @@ pub record HasPointAt (workers : List Worker) (i : ℕ) : Type 0 where
   pub here : slice_get workers index ≡ Some worker
   pub is : IsPointOf worker i
 
--- the worker has yet to try its points, each of which has so many calls before it and one of the orders
-pub record IsGivenOut (clock : Bool) (config : Configuration) (scripts : Scripts) (orders : List (List ℕ)) (calls : ℕ) (worker : Worker) : Type 0 where
+-- each of these indices is that of one of some workers' points
+abbrev pub HavePoints : List Worker → ℕ → ℕ → Type 0
+HavePoints workers from to = (i : ℕ) → from ≤ i → i < to → HasPointAt workers i
+
+-- all points of the level are given out, and nothing else is different
+pub record HasGivenAll (old new : Search) : Type 0 where
+  pub orders : new.orders ≡ old.orders
+  pub replies : new.replies ≡ old.replies
+  pub next : new.points.next ≡ old.points.next
+  pub calls : new.points.calls ≡ old.points.calls
+  pub first : new.points.first ≡ new.points.next
+
+-- the worker is trying points of the search's level
+pub record IsUnderTrial (clock : Bool) (config : Configuration) (scripts : Scripts) (current : Search) (worker : Worker) : Type 0 where
   pub valid : IsWorker clock config scripts worker
-  pub base : worker.base.value ≡ orders
-  pub left : HasAllLeft worker
-  pub made : HasMade config scripts calls worker
+  pub base : worker.base.value ≡ current.orders
+  pub made : HasMade config scripts current.points.calls worker
+  pub left : HasLeft worker
+  pub tried : HasContinued clock config scripts current.replies worker
 
 -- this holds for each of the workers
-abbrev pub AreGivenOut : Bool → Configuration → Scripts → List (List ℕ) → ℕ → List Worker → Type 0
-AreGivenOut clock config scripts orders calls workers =
-    (k : ℕ) (worker : Worker) → slice_get workers k ≡ Some worker → IsGivenOut clock config scripts orders calls worker
+abbrev pub AreUnderTrial : Bool → Configuration → Scripts → Search → List Worker → Type 0
+AreUnderTrial clock config scripts current workers =
+    (k : ℕ) (worker : Worker) → slice_get workers k ≡ Some worker → IsUnderTrial clock config scripts current worker
 
--- the worker has tried all of its points, and what it found can be added to the search
-pub record HasTriedAll (clock : Bool) (config : Configuration) (scripts : Scripts) (current : Search) (worker : Worker) : Type 0 where
-  pub valid : IsWorker clock config scripts worker
-  pub tried : HasContinued clock config scripts current.replies worker
-  pub base : Keeps worker.base.value current.orders
-  pub made : HasMade config scripts current.points.calls worker
+-- each of the workers has tried all of its points
+abbrev pub HaveTriedAll : List Worker → Type 0
+HaveTriedAll workers = (k : ℕ) (worker : Worker) → slice_get workers k ≡ Some worker → HasTriedAll worker
 
--- this holds unless memory ran out
-abbrev pub HasDone : Bool → Configuration → Scripts → Search → Worker → Type 0
-HasDone clock config scripts current worker = OnOk worker.result (HasTriedAll clock config scripts current worker)
+-- all points of the level are given to workers
+pub record IsLevelUnderTrial (clock : Bool) (config : Configuration) (scripts : Scripts) (rounds : Rounds) : Type 0 where
+  pub whole : rounds.current.points.first ≡ rounds.current.points.next
+  pub each : AreUnderTrial clock config scripts rounds.current rounds.workers.all.items
+  pub points : HavePoints rounds.workers.all.items rounds.first rounds.current.points.first
 
--- all points up to the first that is left are tried, and their orders give the answers
+-- all points of the levels before are tried, the workers try those that are given out, and all of these give the answers
 pub record IsUnderWay (clock : Bool) (config : Configuration) (scripts : Scripts) (asked : List Asked) (rounds : Rounds) : Type 0 where
   pub first : Has rounds.current.orders []
   pub valid : IsSearch clock config scripts rounds.current
@@ -158,11 +182,18 @@ pub record IsUnderWay (clock : Bool) (config : Configuration) (scripts : Scripts
   pub workers : AreWorkers config rounds.workers
   pub ports : rounds.ports.config ≡ config
   pub answers : AreAnswersBy clock config scripts asked rounds.current.orders rounds.current.points.first rounds.answers.items
-  pub tried : (k : ℕ) → k < rounds.current.points.first → HasTried clock config scripts rounds.current.orders rounds.current.replies k
+  pub begun : rounds.first ≤ rounds.current.points.first
+  pub trial : rounds.first < rounds.current.points.first → IsLevelUnderTrial clock config scripts rounds
+  pub tried : (k : ℕ) → k < rounds.first → HasTried clock config scripts rounds.current.orders rounds.current.replies k
+
+-- all points that are found give the answers
+abbrev pub HasLooked : Bool → Configuration → Scripts → List Asked → Rounds → Type 0
+HasLooked clock config scripts asked rounds =
+    AreAnswersBy clock config scripts asked rounds.current.orders (length rounds.current.orders) rounds.answers.items
 
 -- no point is left to continue from, or each of some questions has its order
 abbrev pub HasNothingLeft : Rounds → Type 0
-HasNothingLeft rounds = (length rounds.current.orders ≤ rounds.current.points.first) ⊎ AreAllAnswered rounds.answers.items
+HasNothingLeft rounds = (length rounds.current.orders ≤ rounds.first) ⊎ AreAllAnswered rounds.answers.items
 
 -- ---- by what all workers read
 
@@ -170,11 +201,9 @@ HasNothingLeft rounds = (length rounds.current.orders ≤ rounds.current.points.
 abbrev pub IsWorkerOf : Shared → Worker → Type 0
 IsWorkerOf shared worker = IsWorker shared.clock shared.config.now shared.scripts.now worker
 
--- the last uses of channels are those by the scripts, and what is kept of the orders' points is right
+-- the last uses of channels are those by the scripts
 pub record IsShared (shared : Shared) : Type 0 where
   pub uses : AreOfScripts shared.config.now shared.scripts.now shared.uses.now
-  pub orders : AreOrders shared.config.now shared.orders.now
-  pub points : ArePoints shared.config.now shared.scripts.now shared.orders.now shared.points.now
 
 -- the calls before the worker's point at the index
 abbrev pub history_given : Shared → Worker → ℕ → History
@@ -204,22 +233,24 @@ abbrev pub IsContinued : Shared → Worker → List ℕ → Type 0
 IsContinued shared worker order =
     HasTriedEnough shared.clock shared.config.now shared.scripts.now (orders_known worker) (shared.known.now ++ worker.replies) order
 
--- enough was tried after each of the points
+-- enough was tried after each of the points that it has tried
 abbrev pub AreContinued : Shared → Worker → Type 0
 AreContinued shared worker = HasContinued shared.clock shared.config.now shared.scripts.now shared.known.now worker
 
 -- the worker can run
 pub record CanRun (shared : Shared) (worker : Worker) : Type 0 where
   pub valid : IsWorkerOf shared worker
-  pub base : Keeps shared.orders.now worker.base.value
-  pub left : HasAllLeft worker
+  pub left : HasLeft worker
+  pub tried : AreContinued shared worker
 
--- the worker has tried all of its points
-pub record HasRunThrough (shared : Shared) (old new : Worker) : Type 0 where
+-- the worker has tried more of its points, and all that were left if they were at most so many
+pub record HasRunOn (shared : Shared) (most : ℕ) (old new : Worker) : Type 0 where
   pub valid : IsWorkerOf shared new
   pub later : IsLaterWorker old new
+  pub left : HasLeft new
   pub tried : AreContinued shared new
+  pub all : length old.points.items ≤ most → new.points.items ≡ []
 
 -- this holds unless memory ran out
-abbrev pub HasRun : Shared → Worker → Worker → Type 0
-HasRun shared old new = OnOk new.result (HasRunThrough shared old new)
+abbrev pub HasRun : Shared → ℕ → Worker → Worker → Type 0
+HasRun shared most old new = OnOk new.result (HasRunOn shared most old new)

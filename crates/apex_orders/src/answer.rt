@@ -1,9 +1,9 @@
 //! The orders that answer questions.
-ghost use Rattle.std.specs.Prelude.{◌≡◌, ◌<◌, ◌≤◌, ◌+◌, ◌↔◌, length, IsTrue, IfOk, OnOk, MatchOption};
+ghost use Rattle.std.specs.Prelude.{◌≡◌, ◌<◌, ◌≤◌, ◌+◌, ◌↔◌, ℕ, List, length, slice_get, Some, IsTrue, IfOk, OnOk, MatchOption};
 ghost use Rattle.apex_orders.specs.Known.{IsReadyAfter};
 ghost use Rattle.apex_orders.specs.Orders.{order_at};
 ghost use Rattle.apex_orders.specs.Outcomes.{IsAnsweredByWith};
-ghost use Rattle.apex_orders.specs.Searching.{AreAnswersBy, IsAnsweredAfter, IsSearch, IsUnansweredAt};
+ghost use Rattle.apex_orders.specs.Searching.{AreAllAnswered, AreAnswersBy, IsAnsweredAfter, IsSearch, IsUnansweredAt};
 
 use crate::asked::Asked;
 use crate::choice::is_due;
@@ -180,4 +180,32 @@ fn is_given(
         None => false,
         Some(one) => asked.is_answered_by(&one),
     }
+}
+
+/// No answer to any of `count` questions.
+pub(crate) fn no_answers(
+    alloc: Global,
+    count: usize,
+) -> Result<Vec<Option<PackedOrder>>, OutOfMemory>
+    ensures count { IfOk result (λ answers. length answers.items ≡ count) }
+    ensures none { IfOk result (λ answers. (q : ℕ) (order : List ℕ)
+        → ¬ (slice_get answers.items q ≡ Some (Some order))) }
+{
+    let mut answers = Vec::with_capacity(alloc, count)?;
+    for _ in 0..count {
+        answers.push(None)?;
+    }
+    Ok(answers)
+}
+
+/// Whether there are questions, and each has its order.
+pub(crate) fn are_all_answered(answers: &Vec<Option<PackedOrder>>) -> bool
+    ensures { IsTrue result → AreAllAnswered answers.now.items }
+{
+    for q in 0..answers.len() {
+        if answers[q].is_none() {
+            return false;
+        }
+    }
+    !answers.is_empty()
 }

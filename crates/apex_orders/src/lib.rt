@@ -13,6 +13,7 @@ mod found_point;
 mod hash;
 mod hash_index;
 mod last_uses;
+mod marks;
 pub mod order;
 mod orders;
 pub mod orders_fault;

@@ -7,11 +7,12 @@ pub trait Progress {
     /// What holds if it may end a search.
     ghost CanStop: { Type 0 };
 
-    /// A search begins. Each group of partitions that is searched by itself has a search of its own.
+    /// A search begins, or several that go on together.
     fn begin(&mut self);
 
     /// The search continues from points after `depth` calls, has found this many states, and keeps about this many
-    /// bytes for them. Returns whether the search is to go on.
+    /// bytes for them. A state that several threads found counts once for each until all from this depth are tried.
+    /// Returns whether the search is to go on.
     fn level(&mut self, depth: usize, states: usize, bytes: usize) -> bool
         ensures { result ≡ false → CanStop };
 }

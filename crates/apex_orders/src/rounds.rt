@@ -1,9 +1,9 @@
 //! The search of all points that orders lead to, round after round.
-ghost use Rattle.std.specs.Prelude.{◌≡◌, ◌<◌, ◌≤◌, ◌+◌, ℕ, Bool, List, Some, None, false, length, slice_get, IfOk, IfSome, IfNone, IsTrue, OnOk};
-ghost use Rattle.apex_orders.specs.Searching.{AreAllAnswered, HasEnded, HasLevel, HasTriedFrom, IsGivenUp, IsLater, IsSearch};
-ghost use Rattle.apex_orders.specs.Workers.{AreWorkers, HasNothingLeft, IsUnderWay};
+ghost use Rattle.std.specs.Prelude.{◌≡◌, ◌<◌, ◌≤◌, Bool, None, false, length, IfOk, IfSome, IfNone, IsTrue, OnOk};
+ghost use Rattle.apex_orders.specs.Searching.{HasEnded, IsGivenUp, IsSearch};
+ghost use Rattle.apex_orders.specs.Workers.{HasLooked, HasNothingLeft, HaveTriedAll, IsUnderWay};
 
-use crate::answer::find_answers;
+use crate::answer::{are_all_answered, find_answers, no_answers};
 use crate::asked::Asked;
 use crate::order::PackedOrder;
 use crate::orders::Orders;
@@ -11,6 +11,7 @@ use crate::orders_fault::OrdersFault;
 use crate::progress::Progress;
 use crate::replies::PossibleReply;
 use crate::search::Search;
+use crate::sizes::size_of;
 use crate::workers::Workers;
 use apex_module::Config;
 use apex_ports::{Ports, Script};
@@ -62,11 +63,17 @@ pub(crate) fn search_points<R: Threads + Sync, P: Progress>(
     Ok(rounds.into_found(rt, given_up))
 }
 
-/// A search, its workers and the answers that it found, between two rounds.
+/// After how many points of each worker a search tells how far it is.
+const POINTS_AT_ONCE: usize = 8_192;
+
+/// A search, its workers and the answers that it found. Either all points of the level are still to be given to workers, or
+/// all are given out.
 #[derive(Drop)]
 pub(crate) struct Rounds {
     pub(crate) current: Search,
     pub(crate) workers: Workers,
+    /// The index of the first point of the level.
+    pub(crate) first: usize,
     /// The ports on which asked calls are tried.
     pub(crate) ports: Ports,
     pub(crate) answers: Vec<Option<PackedOrder>>,
@@ -91,6 +98,7 @@ impl Rounds {
         Ok(Rounds {
             current,
             workers,
+            first: 0,
             ports,
             answers,
         })
@@ -132,14 +140,13 @@ impl Rounds {
     /// Whether no point is left to continue from, or each of some questions has its order.
     fn are_over(&self) -> bool
         ensures over { IsTrue result → HasNothingLeft self.now }
-        ensures left { result ≡ false →
-            self.now.current.points.first < length self.now.current.orders }
+        ensures left { result ≡ false → self.now.first < length self.now.current.orders }
     {
-        self.current.points.first >= self.current.orders.len() || are_all_answered(&self.answers)
+        self.first >= self.current.orders.len() || are_all_answered(&self.answers)
     }
 
-    /// Looks among the next points of the level for orders that answer questions, and then tries these points, unless the
-    /// search is given up; returns why, if it is.
+    /// Looks among the points of the level for orders that answer questions, and then tries all of them, unless the search
+    /// is given up; returns why, if it is.
     fn next<R: Threads + Sync, P: Progress>(
         &mut self,
         rt: &R,
@@ -152,28 +159,55 @@ impl Rounds {
         progress: &mut P,
     ) -> Result<Option<OrdersFault>, OutOfMemory>
         requires under_way { IsUnderWay clock config.now scripts.now asked.now self.old }
-        requires left { self.old.current.points.first < length self.old.current.orders }
+        requires left { self.old.first < length self.old.current.orders }
         ensures under_way { OnOk result
             (IsUnderWay clock config.now scripts.now asked.now self.new) }
         ensures further { IfOk result (λ given_up. given_up ≡ None →
-            self.old.current.points.first < self.new.current.points.first) }
-        ensures within { IfOk result (λ given_up. given_up ≡ None →
-            self.new.current.points.first ≤ bound) }
+            self.old.first < self.new.first) }
+        ensures within { IfOk result (λ given_up. given_up ≡ None → self.new.first ≤ bound) }
         ensures given_up { IfOk result (λ given_up.
             IfSome given_up (IsGivenUp clock P.CanStop config.now scripts.now bound)) }
     {
+        self.look(alloc, config, scripts, clock, asked)?;
+        if let Some(fault) = self.given_up(config, scripts, clock, bound, progress) {
+            return Ok(Some(fault));
+        }
+        self.give(alloc, config, scripts, clock, asked)?;
+        if !self.try_level(rt, alloc, config, scripts, clock, asked, progress)? {
+            return Ok(Some(OrdersFault::Stopped));
+        }
+        self.end_level(rt, alloc, config, scripts, clock, asked)?;
+        Ok(None)
+    }
+
+    /// Looks among the points of the level for orders that answer questions, unless they are given out: then it has looked.
+    fn look(
+        &mut self,
+        alloc: Global,
+        config: &Config,
+        scripts: &[Script],
+        clock: bool,
+        asked: &[Asked],
+    ) -> Result<(), OutOfMemory>
+        requires { IsUnderWay clock config.now scripts.now asked.now self.old }
+        ensures under_way { OnOk result
+            (IsUnderWay clock config.now scripts.now asked.now self.new) }
+        ensures looked { OnOk result
+            (HasLooked clock config.now scripts.now asked.now self.new) }
+        ensures first { self.new.first ≡ self.old.first }
+        ensures current { self.new.current ≡ self.old.current }
+    {
         let first = self.current.points.first;
-        let count = self.current.count_at_once();
+        if self.first < first {
+            return Ok(());
+        }
+        let count = self.current.orders.len() - first;
         let current = &self.current;
         let (ports, answers) = (&mut self.ports, &mut self.answers);
         find_answers(
             alloc, config, scripts, clock, asked, current, first, count, ports, answers,
         )?;
-        if let Some(fault) = self.given_up(config, scripts, clock, bound, progress) {
-            return Ok(Some(fault));
-        }
-        self.advance(rt, alloc, config, scripts, clock, count)?;
-        Ok(None)
+        Ok(())
     }
 
     /// Why the search is given up: more points are found than the bound, or `progress` ends it.
@@ -203,40 +237,121 @@ impl Rounds {
     pub(crate) fn report<P: Progress>(&self, progress: &mut P) -> bool
         ensures { result ≡ false → P.CanStop }
     {
-        let states = self.current.orders.len();
-        let bytes = self.current.bytes();
-        progress.level(self.current.points.calls, states, bytes)
+        let points = &self.current.points;
+        let found = self.workers.found();
+        let states = self.current.orders.len().saturating_add(found);
+        let hashed = states.saturating_sub(self.first);
+        let bytes = size_of(states, hashed, self.current.replies.found.len())
+            .saturating_add(points.bytes)
+            .saturating_add(self.workers.bytes());
+        progress.level(points.calls, states, bytes)
     }
 
-    /// Tries the next points, and goes on to the next level if all points of this one are tried.
-    fn advance<R: Threads + Sync>(
+    /// Gives all points of the level to workers, unless they are given out.
+    fn give(
+        &mut self,
+        alloc: Global,
+        config: &Config,
+        scripts: &[Script],
+        clock: bool,
+        asked: &[Asked],
+    ) -> Result<(), OutOfMemory>
+        requires under_way { IsUnderWay clock config.now scripts.now asked.now self.old }
+        requires looked { HasLooked clock config.now scripts.now asked.now self.old }
+        requires left { self.old.first < length self.old.current.orders }
+        ensures under_way { OnOk result
+            (IsUnderWay clock config.now scripts.now asked.now self.new) }
+        ensures given { OnOk result (self.new.first < self.new.current.points.first) }
+        ensures first { OnOk result (self.new.first ≡ self.old.first) }
+        ensures orders { OnOk result
+            (self.new.current.orders ≡ self.old.current.orders) }
+    {
+        if self.first < self.current.points.first {
+            return Ok(());
+        }
+        self.workers
+            .give(alloc, config, scripts, clock, &mut self.current)?;
+        Ok(())
+    }
+
+    /// Lets the workers try all points of the level, unless `progress` ends the search. Returns whether they have.
+    fn try_level<R: Threads + Sync, P: Progress>(
         &mut self,
         rt: &R,
         alloc: Global,
         config: &Config,
         scripts: &[Script],
         clock: bool,
-        count: usize,
+        asked: &[Asked],
+        progress: &mut P,
+    ) -> Result<bool, OutOfMemory>
+        requires under_way { IsUnderWay clock config.now scripts.now asked.now self.old }
+        requires given { self.old.first < self.old.current.points.first }
+        ensures under_way { OnOk result
+            (IsUnderWay clock config.now scripts.now asked.now self.new) }
+        ensures first { self.new.first ≡ self.old.first }
+        ensures current { self.new.current ≡ self.old.current }
+        ensures all { IfOk result (λ done. IsTrue done → HaveTriedAll self.new.workers.all.items) }
+        ensures stopped { IfOk result (λ done. done ≡ false → P.CanStop) }
+    {
+        for _ in 0..self.workers.most_left() / POINTS_AT_ONCE {
+            self.try_next(rt, alloc, config, scripts, clock, asked, POINTS_AT_ONCE)?;
+            if !self.report(progress) {
+                return Ok(false);
+            }
+        }
+        self.try_next(rt, alloc, config, scripts, clock, asked, usize::MAX)?;
+        Ok(true)
+    }
+
+    /// Lets each worker try at most so many of its points.
+    fn try_next<R: Threads + Sync>(
+        &mut self,
+        rt: &R,
+        alloc: Global,
+        config: &Config,
+        scripts: &[Script],
+        clock: bool,
+        asked: &[Asked],
+        most: usize,
     ) -> Result<(), OutOfMemory>
-        requires workers { AreWorkers config.now self.old.workers }
-        requires valid { IsSearch clock config.now scripts.now self.old.current }
-        requires within { self.old.current.points.first + count ≤ self.old.current.points.next }
-        ensures workers { OnOk result (AreWorkers config.now self.new.workers) }
-        ensures valid { OnOk result (IsSearch clock config.now scripts.now self.new.current) }
-        ensures level { OnOk result (HasLevel self.new.current) }
-        ensures later { OnOk result (IsLater self.old.current self.new.current) }
-        ensures first { OnOk result
-            (self.new.current.points.first ≡ self.old.current.points.first + count) }
-        ensures tried { OnOk result (HasTriedFrom clock config.now scripts.now
-            self.new.current.orders self.new.current.replies
-            self.old.current.points.first (self.old.current.points.first + count)) }
-        ensures ports { self.new.ports ≡ self.old.ports }
-        ensures answers { self.new.answers ≡ self.old.answers }
+        requires under_way { IsUnderWay clock config.now scripts.now asked.now self.old }
+        requires given { self.old.first < self.old.current.points.first }
+        ensures under_way { OnOk result
+            (IsUnderWay clock config.now scripts.now asked.now self.new) }
+        ensures first { self.new.first ≡ self.old.first }
+        ensures current { self.new.current ≡ self.old.current }
+        ensures all { OnOk result
+            (most ≡ usize.MAX → HaveTriedAll self.new.workers.all.items) }
+    {
+        let current = &self.current;
+        self.workers
+            .try_next(rt, alloc, config, scripts, clock, most, current)?;
+        Ok(())
+    }
+
+    /// Adds what the workers found, and goes on to the next level.
+    fn end_level<R: Threads + Sync>(
+        &mut self,
+        rt: &R,
+        alloc: Global,
+        config: &Config,
+        scripts: &[Script],
+        clock: bool,
+        asked: &[Asked],
+    ) -> Result<(), OutOfMemory>
+        requires under_way { IsUnderWay clock config.now scripts.now asked.now self.old }
+        requires given { self.old.first < self.old.current.points.first }
+        requires all { HaveTriedAll self.old.workers.all.items }
+        ensures under_way { OnOk result
+            (IsUnderWay clock config.now scripts.now asked.now self.new) }
+        ensures first { OnOk result (self.new.first ≡ self.old.current.points.first) }
     {
         let current = &mut self.current;
         self.workers
-            .try_points(rt, alloc, config, scripts, clock, count, current)?;
+            .finish(rt, alloc, config, scripts, clock, current)?;
         self.current.end_level(config, scripts, clock);
+        self.first = self.current.points.first;
         Ok(())
     }
 
@@ -261,29 +376,4 @@ impl Rounds {
             given_up,
         }
     }
-}
-
-/// No answer to any of `count` questions.
-fn no_answers(alloc: Global, count: usize) -> Result<Vec<Option<PackedOrder>>, OutOfMemory>
-    ensures count { IfOk result (λ answers. length answers.items ≡ count) }
-    ensures none { IfOk result (λ answers. (q : ℕ) (order : List ℕ)
-        → ¬ (slice_get answers.items q ≡ Some (Some order))) }
-{
-    let mut answers = Vec::with_capacity(alloc, count)?;
-    for _ in 0..count {
-        answers.push(None)?;
-    }
-    Ok(answers)
-}
-
-/// Whether there are questions, and each has its order.
-fn are_all_answered(answers: &Vec<Option<PackedOrder>>) -> bool
-    ensures { IsTrue result → AreAllAnswered answers.now.items }
-{
-    for q in 0..answers.len() {
-        if answers[q].is_none() {
-            return false;
-        }
-    }
-    !answers.is_empty()
 }

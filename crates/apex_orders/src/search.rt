@@ -1,34 +1,26 @@
 //! The points that orders lead to, as a search finds them.
-ghost use Rattle.std.specs.Prelude.{◌≡◌, ◌<◌, ◌≤◌, ◌+◌, ◌++◌, [], ◌∷◌, ℕ, suc, List, Bool, length, false, IfOk, OnOk, is_err};
+ghost use Rattle.std.specs.Prelude.{◌≡◌, ◌⊎◌, ◌<◌, ◌≤◌, ◌+◌, ◌++◌, [], ◌∷◌, ℕ, suc, List, Bool, length, true, false, IfOk, OnOk};
 ghost use Rattle.apex_orders.specs.Clock.{IsClocked};
-ghost use Rattle.apex_orders.specs.Hashes.{hash_of};
-ghost use Rattle.apex_orders.specs.Known.{IsAfter, IsSameLevel, IsTrialOf};
+ghost use Rattle.apex_orders.specs.Known.{IsAfter, IsSameLevel, IsTrialOf, KnowsFrom};
+ghost use Rattle.apex_orders.specs.Marks.{FitMarks, IsFoundOrder};
 ghost use Rattle.apex_orders.specs.Lists.{Has};
 ghost use Rattle.apex_orders.specs.Orders.{history_of, order_at};
 ghost use Rattle.apex_orders.specs.Points.{calls_made};
 ghost use Rattle.apex_orders.specs.Searching.{HasLevel, HasTriedFrom, IsLater, IsSearch, Keeps, Knows};
-ghost use Rattle.apex_orders.specs.Workers.{HasAllLeft, HasContinued, HasMade, IsRange, IsWorker, orders_known};
+ghost use Rattle.apex_orders.specs.Workers.{HasLeft, HasContinued, HasMade, HasTriedAll, IsRange, IsWorker, orders_known};
 
 use crate::asked::Asked;
 use crate::boxed_ports::BoxedPorts;
 use crate::found_point::FoundPoint;
 use crate::last_uses::{LastUses, last_uses};
 use crate::orders::Orders;
-use crate::points::{Points, add_unused, is_known};
+use crate::points::{Points, add_unused};
 use crate::replies::Replies;
-use crate::sizes::size_of;
-use crate::trial::Trial;
 use crate::worker::Worker;
 use apex_module::Config;
 use apex_ports::Script;
 use apex_types::OutOfMemory;
 use std::alloc::Global;
-
-/// The greatest number of points that are tried at once.
-const MOST_POINTS: usize = 16_384;
-
-/// About how many bytes the saved ports of points that are tried at once may take.
-const MOST_BYTES: usize = 1 << 24;
 
 /// A search: one order to each point, in the order in which they are found; what is kept of the points; the replies; the
 /// last uses of channels by the scripts; and the partitions that questions are about, whose next calls are always tried, so
@@ -71,27 +63,10 @@ impl Search {
         })
     }
 
-    /// The bytes that are kept for points and replies.
-    pub(crate) fn bytes(&self) -> usize {
-        let states = self.orders.len();
-        let hashed = states.saturating_sub(self.points.next);
-        size_of(states, hashed, self.replies.found.len()).saturating_add(self.points.bytes)
-    }
-
-    /// How many points of the level are tried at once.
-    pub(crate) fn count_at_once(&self) -> usize
-        requires { self.now.points.first < self.now.points.next }
-        ensures some { 0 < result }
-        ensures within { self.now.points.first + result ≤ self.now.points.next }
-    {
-        let fit = MOST_BYTES / self.points.first_bytes().max(1);
-        let most = fit.min(MOST_POINTS).max(1);
-        most.min(self.points.next - self.points.first)
-    }
-
-    /// Goes on to the next level, if all points of this one were given out.
+    /// Goes on to the next level, where all points of this one were given out.
     pub(crate) fn end_level(&mut self, config: &Config, scripts: &[Script], clock: bool)
-        requires { IsSearch clock config.now scripts.now self.old }
+        requires valid { IsSearch clock config.now scripts.now self.old }
+        requires all { self.old.points.next ≤ self.old.points.first }
         ensures valid { IsSearch clock config.now scripts.now self.new }
         ensures level { HasLevel self.new }
         ensures first { self.new.points.first ≡ self.old.points.first }
@@ -99,10 +74,9 @@ impl Search {
         ensures replies { self.new.replies ≡ self.old.replies }
     {
         let states = self.orders.len();
-        if self.points.first < self.points.next || self.points.next >= states {
+        if self.points.next >= states {
             return;
         }
-        self.points.hashes.clear();
         self.points.next = states;
         self.points.calls += 1;
     }
@@ -127,7 +101,8 @@ impl Search {
         ensures calls { OnOk result (self.new.points.calls ≡ self.old.points.calls) }
         ensures worker { OnOk result (IsWorker clock config.now scripts.now worker.new) }
         ensures base { OnOk result (worker.new.base.value ≡ self.new.orders) }
-        ensures left { OnOk result (HasAllLeft worker.new) }
+        ensures left { OnOk result (HasLeft worker.new) }
+        ensures tried { OnOk result (worker.new.tried ≡ 0) }
         ensures range { OnOk result
             (IsRange self.old.points.first (self.old.points.first + count) worker.new) }
         ensures made { OnOk result
@@ -139,7 +114,7 @@ impl Search {
         Ok(())
     }
 
-    /// Adds what a worker found, if it has tried all.
+    /// Adds what a worker found when it tried all of its points.
     pub(crate) fn finish(
         &mut self,
         alloc: Global,
@@ -147,43 +122,45 @@ impl Search {
         scripts: &[Script],
         clock: bool,
         worker: &mut Worker,
+        known: &[bool],
     ) -> Result<(), OutOfMemory>
         requires valid { IsSearch clock config.now scripts.now self.old }
-        requires worker { OnOk worker.old.result
-            (IsWorker clock config.now scripts.now worker.old) }
-        requires tried { OnOk worker.old.result
-            (HasContinued clock config.now scripts.now self.old.replies worker.old) }
-        requires base { OnOk worker.old.result
-            (Keeps worker.old.base.value self.old.orders) }
-        requires made { OnOk worker.old.result
-            (HasMade config.now scripts.now self.old.points.calls worker.old) }
+        requires worker { IsWorker clock config.now scripts.now worker.old }
+        requires marks { FitMarks config.now scripts.now self.old worker.old known.now }
+        requires tried { HasContinued clock config.now scripts.now self.old.replies worker.old }
+        requires all { HasTriedAll worker.old }
+        requires base { Keeps worker.old.base.value self.old.orders }
+        requires made { HasMade config.now scripts.now self.old.points.calls worker.old }
         ensures valid { OnOk result (IsSearch clock config.now scripts.now self.new) }
         ensures later { OnOk result (IsLater self.old self.new) }
         ensures level { OnOk result (IsSameLevel self.old.points self.new.points) }
+        ensures points { OnOk result ((order : List ℕ) → Has (orders_known worker.old) order
+            → Knows config.now scripts.now self.new.orders
+            (history_of config.now scripts.now order)) }
+        ensures new { OnOk result ((order : List ℕ) → Has self.new.orders order
+            → Has self.old.orders order ⊎ IsFoundOrder worker.old order) }
         ensures tried { OnOk result ((from to : ℕ) → IsRange from to worker.old
             → HasTriedFrom clock config.now scripts.now self.new.orders self.new.replies from to) }
         ensures trial { OnOk result (IsTrialOf config.now worker.new.trial) }
-        ensures run { OnOk result (is_err worker.old.result ≡ false) }
     {
-        if worker.result.is_err() {
-            return Err(OutOfMemory);
-        }
         self.replies.add_all(alloc, &worker.replies)?;
-        self.add_points(alloc, config, scripts, clock, worker)?;
+        self.add_points(config, scripts, clock, worker, known)?;
+        worker.bytes = 0;
         Ok(())
     }
 
-    /// Adds the points that a worker found.
+    /// Adds the points that a worker found, except those that are marked as known.
     fn add_points(
         &mut self,
-        alloc: Global,
         config: &Config,
         scripts: &[Script],
         clock: bool,
         worker: &mut Worker,
+        known: &[bool],
     ) -> Result<(), OutOfMemory>
         requires valid { IsSearch clock config.now scripts.now self.old }
         requires worker { IsWorker clock config.now scripts.now worker.old }
+        requires marks { FitMarks config.now scripts.now self.old worker.old known.now }
         requires base { Keeps worker.old.base.value self.old.orders }
         requires made { HasMade config.now scripts.now self.old.points.calls worker.old }
         ensures valid { OnOk result (IsSearch clock config.now scripts.now self.new) }
@@ -191,53 +168,58 @@ impl Search {
         ensures points { OnOk result ((order : List ℕ) → Has (orders_known worker.old) order
             → Knows config.now scripts.now self.new.orders
             (history_of config.now scripts.now order)) }
+        ensures new { OnOk result ((order : List ℕ) → Has self.new.orders order
+            → Has self.old.orders order ⊎ IsFoundOrder worker.old order) }
         ensures level { OnOk result (IsSameLevel self.old.points self.new.points) }
         ensures trial { OnOk result (IsTrialOf config.now worker.new.trial) }
     {
+        let mut at = 0;
         while let Some(one) = worker.found.pop_front() {
             let i = worker.first + one.before;
-            let trial = &mut worker.trial;
-            let unused = self.learn(alloc, config, scripts, clock, i, one, trial)?;
+            let unused = self.learn(config, scripts, clock, i, one, known[at])?;
             add_unused(&mut worker.spare, unused)?;
+            at += 1;
         }
         Ok(())
     }
 
-    /// Keeps the order at the index followed by the partition's call, unless another order leads to the same point. Returns the
-    /// saved ports if it does not keep them.
+    /// Keeps the order at the index followed by the partition's call, unless its point is known. Returns the saved ports if it
+    /// does not keep them.
     fn learn(
         &mut self,
-        alloc: Global,
         config: &Config,
         scripts: &[Script],
         clock: bool,
         i: usize,
         one: FoundPoint,
-        trial: &mut Trial,
+        is_known: bool,
     ) -> Result<Option<BoxedPorts>, OutOfMemory>
         requires valid { IsSearch clock config.now scripts.now self.old }
         requires within { i < length self.old.orders }
         requires partition { one.partition < length config.now.partitions }
-        requires hash { one.hash ≡ hash_of config.now one.saved.history }
         requires after { IsAfter config.now scripts.now
             (order_at self.old.orders i ++ one.partition ∷ []) one.saved }
         requires clocked { IsClocked clock scripts.now one.saved.history }
         requires made { calls_made config.now one.saved.history ≡ suc self.old.points.calls }
-        requires trial { IsTrialOf config.now trial.old }
+        requires known { is_known ≡ true
+            → Knows config.now scripts.now self.old.orders one.saved.history }
+        requires new { is_known ≡ false → ¬ KnowsFrom config.now scripts.now self.old.orders
+            self.old.points.next one.saved.history }
         ensures valid { OnOk result (IsSearch clock config.now scripts.now self.new) }
         ensures later { OnOk result (IsLater self.old self.new) }
         ensures known { OnOk result
             (Knows config.now scripts.now self.new.orders one.saved.history) }
+        ensures same { is_known ≡ true → self.new.orders ≡ self.old.orders }
+        ensures pushed { OnOk result (is_known ≡ false → self.new.orders
+            ≡ self.old.orders ++ (order_at self.old.orders i ++ one.partition ∷ []) ∷ []) }
         ensures level { OnOk result (IsSameLevel self.old.points self.new.points) }
-        ensures trial { OnOk result (IsTrialOf config.now trial.new) }
     {
-        let (orders, points) = (&self.orders, &self.points);
-        if is_known(config, scripts, orders, points, &one.saved, one.hash, trial) {
+        if is_known {
             return Ok(Some(one.saved));
         }
         let partitions = config.partitions();
         prove!(one.partition < partitions);
-        self.points.push(alloc, one.saved, one.hash)?;
+        self.points.push(one.saved)?;
         self.orders.push(i, one.partition)?;
         Ok(None)
     }

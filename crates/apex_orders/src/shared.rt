@@ -1,7 +1,5 @@
 //! What all workers of a search read.
 use crate::last_uses::LastUses;
-use crate::orders::Orders;
-use crate::points::Points;
 use crate::replies::Replies;
 use apex_module::Config;
 use apex_ports::Script;
@@ -20,7 +18,4 @@ pub(crate) struct Shared<'a> {
     pub(crate) from: &'a [usize],
     /// The replies that the search had found.
     pub(crate) known: &'a Replies,
-    /// The orders that it had found, and what it keeps of their points.
-    pub(crate) orders: &'a Orders,
-    pub(crate) points: &'a Points,
 }

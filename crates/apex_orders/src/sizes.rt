@@ -5,13 +5,14 @@
 /// What a known point takes in lists, in bytes: its last call.
 const LISTED: usize = 12;
 
-/// What a point of the next level takes in lists besides, in bytes: its hash and where the hash is found.
-const HASHED: usize = 30;
+/// What a point of the level and of the next one takes in lists besides, in bytes: its entry in a worker's list, its hash
+/// and where the hash is found.
+const HASHED: usize = 90;
 
 /// What a reply takes in a list, in bytes: a message of the greatest length is part of it.
 const REPLY: usize = 1_600;
 
-/// About how many bytes the lists take that hold the points, the hashes of the next level and the replies.
+/// About how many bytes the lists take that hold the points, the hashes of two levels and the replies.
 pub(crate) fn size_of(points: usize, hashed: usize, replies: usize) -> usize {
     points
         .saturating_mul(LISTED)

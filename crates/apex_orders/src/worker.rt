@@ -9,7 +9,7 @@ ghost use Rattle.apex_orders.specs.Points.{IsSamePoint, calls_made};
 ghost use Rattle.apex_orders.specs.Searching.{AreDue, Includes, Keeps};
 ghost use Rattle.apex_orders.specs.Steps.{MakesNothing};
 ghost use Rattle.apex_orders.specs.Prelude.{IsSound};
-ghost use Rattle.apex_orders.specs.Workers.{AreHashed, CanRun, IsContinued, AreContinued, HasAllLeft, HasRun, HasPoint, HasTriedCall, IsAnswered, IsLaterWorker, IsReady, IsShared, IsWorkerOf, KnowsPoint, history_given, order_given};
+ghost use Rattle.apex_orders.specs.Workers.{AreHashed, CanRun, IsContinued, AreContinued, HasLeft, HasRun, HasPoint, HasTriedCall, IsAnswered, IsLaterWorker, IsReady, IsShared, IsWorkerOf, KnowsPoint, history_given, order_given};
 
 use crate::boxed_ports::BoxedPorts;
 use crate::choice::{Choice, choose, is_tried};
@@ -17,7 +17,7 @@ use crate::found_point::{FoundPoint, has_found};
 use crate::hash::hash_of;
 use crate::hash_index::HashIndex;
 use crate::orders::Orders;
-use crate::points::{Points, is_among};
+use crate::points::Points;
 use crate::replies::Replies;
 use crate::shared::Shared;
 use crate::step::make_next;
@@ -33,8 +33,8 @@ use std::snapshot::Snapshot;
 /// For how many points a worker keeps memory to use again.
 const MOST_SPARE: usize = 16_384;
 
-/// Continues from points that it is given. It reads what the search had found before, but nothing of other workers: what it
-/// finds is compared with what they find afterwards.
+/// Continues from points that it is given. It reads nothing of other workers: what it finds is compared with what they find
+/// afterwards.
 #[derive(Drop)]
 pub(crate) struct Worker {
     /// The orders that the search had found when it gave out the points; only contracts see them.
@@ -43,6 +43,8 @@ pub(crate) struct Worker {
     pub(crate) first: usize,
     /// The points that it was given; only contracts see them.
     pub(crate) given: Snapshot<VecDeque<BoxedPorts>>,
+    /// How many of them it has tried.
+    pub(crate) tried: usize,
     /// Those of them whose next calls it has yet to try.
     pub(crate) points: VecDeque<BoxedPorts>,
     /// The points that it found, each once, and their hashes.
@@ -52,7 +54,9 @@ pub(crate) struct Worker {
     pub(crate) replies: Replies,
     /// What was saved before, whose memory is used again.
     pub(crate) spare: Vec<BoxedPorts>,
-    /// Whether it has tried all.
+    /// About how many bytes are saved for the points that it has yet to try and for those that it found.
+    pub(crate) bytes: usize,
+    /// Whether there was memory for what it tried.
     pub(crate) result: Result<(), OutOfMemory>,
     /// Last and large, so that what threads write often is not side by side.
     pub(crate) trial: Trial,
@@ -75,12 +79,14 @@ impl Worker {
             base: Snapshot::of(orders),
             first: 0,
             given: Snapshot::of(&points),
+            tried: 0,
             points,
             found: VecDeque::new(alloc),
             hashes,
             replies,
             trial,
             spare: Vec::new(alloc),
+            bytes: 0,
             result: Ok(()),
         })
     }
@@ -99,11 +105,11 @@ impl Worker {
         ensures given { OnOk result (points.old.saved.items
             ≡ self.new.given.value.items ++ points.new.saved.items) }
         ensures count { OnOk result (length self.new.given.value.items ≡ count) }
-        ensures left { OnOk result (HasAllLeft self.new) }
+        ensures left { OnOk result (self.new.points.items ≡ self.new.given.value.items) }
+        ensures tried { OnOk result (self.new.tried ≡ 0) }
         ensures rest { OnOk result (points.new.first ≡ points.old.first + count) }
         ensures next { OnOk result (points.new.next ≡ points.old.next) }
         ensures calls { OnOk result (points.new.calls ≡ points.old.calls) }
-        ensures hashes { OnOk result (points.new.hashes ≡ points.old.hashes) }
         ensures found { OnOk result (self.new.found.items ≡ []) }
         ensures unhashed { OnOk result (self.new.hashes ≡ []) }
         ensures replies { OnOk result (self.new.replies ≡ []) }
@@ -114,43 +120,57 @@ impl Worker {
         self.found.clear();
         self.hashes.clear();
         self.replies.clear();
+        self.tried = 0;
         self.points.clear();
+        let bytes = points.bytes;
         points.take(count, &mut self.points)?;
+        self.bytes = bytes.saturating_sub(points.bytes);
         self.given = Snapshot::of(&self.points);
         Ok(())
     }
 
-    /// Tries the next calls of enough partitions after each of its points.
-    pub(crate) fn run(&mut self, shared: &Shared<'_>)
+    /// Tries the next calls of enough partitions after each of its next points, of which it takes at most so many.
+    pub(crate) fn run(&mut self, shared: &Shared<'_>, most: usize)
         requires shared { IsShared shared.now }
         requires ready { CanRun shared.now self.old }
-        ensures { HasRun shared.now self.old self.new }
+        ensures { HasRun shared.now most self.old self.new }
     {
-        self.result = self.try_points(shared);
+        self.result = self.try_points(shared, most);
     }
 
     /// Frees all saved ports.
     pub(crate) fn free(&mut self) {
         self.points.clear();
+        self.found.clear();
         self.spare.clear();
     }
 
-    fn try_points(&mut self, shared: &Shared<'_>) -> Result<(), OutOfMemory>
+    fn try_points(&mut self, shared: &Shared<'_>, most: usize) -> Result<(), OutOfMemory>
         requires valid { IsWorkerOf shared.now self.old }
         requires shared { IsShared shared.now }
-        requires base { Keeps shared.now.orders.now self.old.base.value }
-        requires left { HasAllLeft self.old }
+        requires left { HasLeft self.old }
+        requires tried { AreContinued shared.now self.old }
         ensures valid { OnOk result (IsWorkerOf shared.now self.new) }
         ensures later { OnOk result (IsLaterWorker self.old self.new) }
+        ensures left { OnOk result (HasLeft self.new) }
         ensures tried { OnOk result (AreContinued shared.now self.new) }
+        ensures all { OnOk result (length self.old.points.items ≤ most
+            → self.new.points.items ≡ []) }
     {
         let mut choice = Choice::new(shared.alloc);
         let mut points = mem::replace(&mut self.points, VecDeque::new(shared.alloc));
-        for j in 0..points.len() {
+        let first = self.tried;
+        let mut bytes: usize = 0;
+        let count = points.len().min(most);
+        for n in 0..count {
             let saved = points.pop_front().unwrap();
-            self.try_point(shared, j, &saved, &mut choice)?;
+            self.try_point(shared, first + n, &saved, &mut choice)?;
+            bytes = bytes.saturating_add(saved.bytes());
             keep(&mut self.spare, saved)?;
         }
+        self.points = points;
+        self.tried = first + count;
+        self.bytes = self.bytes.saturating_sub(bytes);
         Ok(())
     }
 
@@ -164,7 +184,6 @@ impl Worker {
     ) -> Result<(), OutOfMemory>
         requires valid { IsWorkerOf shared.now self.old }
         requires shared { IsShared shared.now }
-        requires base { Keeps shared.now.orders.now self.old.base.value }
         requires given { slice_get self.old.given.value.items j ≡ Some saved.now }
         ensures valid { OnOk result (IsWorkerOf shared.now self.new) }
         ensures later { OnOk result (IsLaterWorker self.old self.new) }
@@ -196,7 +215,6 @@ impl Worker {
     ) -> Result<(), OutOfMemory>
         requires valid { IsWorkerOf shared.now self.old }
         requires shared { IsShared shared.now }
-        requires base { Keeps shared.now.orders.now self.old.base.value }
         requires given { slice_get self.old.given.value.items j ≡ Some saved.now }
         requires ready { IsReady shared.now (order_given self.old j) self.old.trial.ports }
         requires due { AreDue shared.now.clock shared.now.scripts.now
@@ -228,7 +246,6 @@ impl Worker {
     ) -> Result<(), OutOfMemory>
         requires valid { IsWorkerOf shared.now self.old }
         requires shared { IsShared shared.now }
-        requires base { Keeps shared.now.orders.now self.old.base.value }
         requires given { slice_get self.old.given.value.items j ≡ Some saved.now }
         requires partition { p < length shared.now.config.now.partitions }
         requires there { is_there ≡ true →
@@ -249,11 +266,10 @@ impl Worker {
         Ok(())
     }
 
-    /// Keeps the point of the trial's ports, unless it is known: to the worker, or to the search before.
+    /// Keeps the point of the trial's ports, unless it is found already.
     fn learn(&mut self, shared: &Shared<'_>, j: usize, p: usize) -> Result<(), OutOfMemory>
         requires valid { IsWorkerOf shared.now self.old }
         requires shared { IsShared shared.now }
-        requires base { Keeps shared.now.orders.now self.old.base.value }
         requires within { j < length self.old.given.value.items }
         requires partition { p < length shared.now.config.now.partitions }
         requires history { self.old.trial.ports.history ≡ history_of shared.now.config.now
@@ -271,17 +287,8 @@ impl Worker {
         if has_found(&self.found, &self.hashes, &mut self.trial, hash) {
             return Ok(());
         }
-        if is_among(
-            shared.config,
-            shared.scripts,
-            shared.orders,
-            shared.points,
-            &mut self.trial,
-            hash,
-        ) {
-            return Ok(());
-        }
         let saved = save(shared.alloc, &self.trial.ports, &mut self.spare)?;
+        self.bytes = self.bytes.saturating_add(saved.bytes());
         self.hashes.push(shared.alloc, hash)?;
         self.found.push_back(FoundPoint {
             before: j,

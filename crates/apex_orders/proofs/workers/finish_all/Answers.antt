@@ -1,53 +1,81 @@
-use Rattle.std.specs.Result.{is_err}
-use Rattle.apex_orders.proofs.Common.{◌≡◌, ◌≢◌, ⊎_elim, ℕ, ◌+◌, ◌<◌, false, length, length-set, refl, sym, ap, ◌∙◌, subst, arith, cases_eq, slice_get, Some, slice_get-get_or, slice_get-set_cases, slice_get_within, Bool, Configuration, Scripts, Worker, HasContinued, HasDone, HasMade, HasTriedAll, IsPointOf, IsTrialOf, IsWorker, Keeps}
+use Rattle.apex_orders.proofs.Common.{◌≡◌, ◌≢◌, ⊎_elim, inl, inr, List, Has, history_of, orders_known, ℕ, ◌+◌, ◌<◌, length, length-set, refl, sym, ap, ◌∙◌, subst, arith, cases_eq, slice_get, Some, slice_get-get_or, slice_get-set_cases, slice_get_within, Bool, Configuration, Scripts, Worker, HasMade, IsPointOf, IsTrialOf, IsUnderTrial}
 use Rattle.std.specs.Prelude.{get_or}
 use Rattle.apex_orders.proofs.AnswerLemmas.{set_elsewhere}
 use Rattle.apex_orders.proofs.GrowthLemmas.{still_within}
-use Rattle.apex_orders.proofs.SearchLemmas.{has_tried_kept, includes_along, keeps_along}
-use Rattle.apex_orders.proofs.WorkerLemmas.{continued_with_more, ok_then, when_ok}
+use Rattle.apex_orders.proofs.SearchLemmas.{has_tried_kept, includes_along, keeps_along, knows_kept}
+use Rattle.apex_orders.proofs.WorkerLemmas.{continued_with_more, keeps_same}
+use Rattle.apex_orders.proofs.MarkLemmas.{fit}
+use Rattle.apex_orders.specs.Marks.{AreMarks, IsFoundOrder, IsFoundOrderBefore}
 use Rattle.apex_orders.specs.declared.search.Search.{Search}
 use Rattle.apex_orders.proofs.workers.finish_all.Goals as goal
 
 -- a worker's points are known to the search that it adds to
-known_too : (clock : Bool) (config : Configuration) (scripts : Scripts) (current : Search) (worker : Worker) (i : ℕ) → HasTriedAll clock config scripts current worker → IsPointOf worker i
+known_too : (clock : Bool) (config : Configuration) (scripts : Scripts) (current : Search) (worker : Worker) (i : ℕ) → IsUnderTrial clock config scripts current worker → IsPointOf worker i
     → i < length current.orders
-known_too clock config scripts current worker i done is =
+known_too clock config scripts current worker i trial is =
     let below = is.within in
-    let all = done.valid.given.within in
-    still_within worker.base.value current.orders i done.base (omega (arith, below, all))
+    let all = trial.valid.given.within in
+    still_within worker.base.value current.orders i (keeps_same worker.base.value current.orders (sym trial.base)) (omega (arith, below, all))
 
 -- the next worker is as it was in the beginning
-done_next : (c : goal.After-index-workers-k) → HasDone c.args.clock c.args.config.now c.args.scripts.now c.args.current.now (get_or c.loop-k.workers c.loop-k.k c.index-workers-k.result)
-done_next c =
+next_here : (c : goal.After-index-workers-k) → slice_get c.args.workers.now c.loop-k.k ≡ Some (get_or c.loop-k.workers c.loop-k.k c.index-workers-k.result)
+next_here c =
     let k = c.loop-k.k in
     let within : k < length c.loop-k.workers = omega (arith, c.loop-k-test.true) in
-    c.requires.done k _ (sym (c.loop-k.invariant.rest k (omega arith)) ∙ slice_get-get_or c.loop-k.workers k c.index-workers-k.result within)
+    sym (c.loop-k.invariant.rest k (omega arith)) ∙ slice_get-get_or c.loop-k.workers k c.index-workers-k.result within
+
+next_trial : (c : goal.After-index-workers-k) → IsUnderTrial c.args.clock c.args.config.now c.args.scripts.now c.args.current.now (get_or c.loop-k.workers c.loop-k.k c.index-workers-k.result)
+next_trial c = c.requires.given c.loop-k.k _ (next_here c)
 
 pub finish-requires-clause-worker : goal.finish-requires-clause-worker
-finish-requires-clause-worker c =
-    let worker = get_or c.loop-k.workers c.loop-k.k c.index-workers-k.result in
-    ok_then worker.result (IsWorker c.args.clock c.args.config.now c.args.scripts.now worker) (done_next c) (λ all. all.valid)
+finish-requires-clause-worker c = (next_trial c).valid
 
 pub finish-requires-clause-tried : goal.finish-requires-clause-tried
 finish-requires-clause-tried c =
     let worker = get_or c.loop-k.workers c.loop-k.k c.index-workers-k.result in
-    let known = c.args.current.now.replies in
-    let more = c.loop-k.current.replies in
-    ok_then worker.result (HasContinued c.args.clock c.args.config.now c.args.scripts.now more worker) (done_next c)
-    (λ all. continued_with_more c.args.config.now c.args.scripts.now c.args.clock known more worker c.loop-k.invariant.later.replies all.tried)
+    continued_with_more c.args.config.now c.args.scripts.now c.args.clock c.args.current.now.replies c.loop-k.current.replies worker c.loop-k.invariant.later.replies (next_trial c).tried
+
+pub finish-requires-clause-all : goal.finish-requires-clause-all
+finish-requires-clause-all c = c.requires.all c.loop-k.k _ (next_here c)
 
 pub finish-requires-clause-base : goal.finish-requires-clause-base
 finish-requires-clause-base c =
     let worker = get_or c.loop-k.workers c.loop-k.k c.index-workers-k.result in
-    let orders = c.loop-k.current.orders in
-    ok_then worker.result (Keeps worker.base.value orders) (done_next c) (λ all. keeps_along worker.base.value c.args.current.now.orders orders all.base c.loop-k.invariant.later.orders)
+    let start = c.args.current.now.orders in
+    keeps_along worker.base.value start c.loop-k.current.orders (keeps_same worker.base.value start (sym (next_trial c).base)) c.loop-k.invariant.later.orders
+
+-- the marks of the next worker
+pub finish-requires-clause-marks : goal.finish-requires-clause-marks
+finish-requires-clause-marks c =
+    let config = c.args.config.now in
+    let scripts = c.args.scripts.now in
+    let k = c.loop-k.k in
+    let start = c.args.current.now in
+    let current = c.loop-k.current in
+    let was = c.loop-k.invariant in
+    let worker = get_or c.loop-k.workers k c.index-workers-k.result in
+    let workers = c.args.workers.now in
+    let marks = get_or c.args.marks.now k c.index-marks-k.result in
+    let within : k < length c.loop-k.workers = omega (arith, c.loop-k-test.true) in
+    let many = was.many in
+    let each = c.requires.each in
+    let here : slice_get workers k ≡ Some worker = sym (was.rest k (omega arith)) ∙ slice_get-get_or c.loop-k.workers k c.index-workers-k.result within in
+    let are = c.requires.marked k marks (slice_get-get_or c.args.marks.now k c.index-marks-k.result (omega (arith, within, many, each))) in
+    fit c.args.clock config scripts workers k worker c.as_slice-known.result.now start.orders current
+    (λ i w below at. (c.requires.given i w at).valid) (c.requires.given k worker here).valid here
+    (subst (λ (items : List Bool). AreMarks workers k items) (sym c.as_slice-known.ensures.value) are) was.valid.levels
+    (λ order has.
+    let inside = slice_get_within start.orders has.0 order has.1 in
+    let whole = c.requires.whole in
+    let calls = was.level.calls in
+    let less = c.requires.valid.levels.before has.0 order (omega (arith, inside, whole)) has.1 in
+    omega (arith, less, calls))
+    was.known was.from
 
 pub finish-requires-clause-made : goal.finish-requires-clause-made
 finish-requires-clause-made c =
     let worker = get_or c.loop-k.workers c.loop-k.k c.index-workers-k.result in
-    let calls = c.loop-k.current.points.calls in
-    ok_then worker.result (HasMade c.args.config.now c.args.scripts.now calls worker) (done_next c)
-    (λ all. subst (λ (n : ℕ). HasMade c.args.config.now c.args.scripts.now n worker) (sym c.loop-k.invariant.level.calls) all.made)
+    subst (λ (n : ℕ). HasMade c.args.config.now c.args.scripts.now n worker) (sym c.loop-k.invariant.level.calls) (next_trial c).made
 
 pub loop-k-preserved : goal.loop-k-preserved
 loop-k-preserved c =
@@ -85,8 +113,7 @@ loop-k-preserved c =
           now.tried worker.first (worker.first + length worker.given.value.items) (record { first = refl; last = refl }) i point.past point.within)
           (λ (earlier : j ≡ k → ⊥).
           let sooner : j < k = omega (arith, below, earlier) in
-          let done = when_ok other.result (HasTriedAll clock config scripts start other) (was.ran j other sooner at) (c.requires.done j other at) in
-          let known = known_too clock config scripts start other i done is in
+          let known = known_too clock config scripts start other i (c.requires.given j other at) is in
           has_tried_kept config scripts clock before.orders after.orders before.replies after.replies i now.later.orders now.later.replies
           (still_within start.orders before.orders i was.later.orders known)
           (was.tried j i other sooner at is))
@@ -96,26 +123,29 @@ loop-k-preserved c =
           (λ (own : (j ≡ k) × (other ≡ new)). subst (λ (w : Worker). IsTrialOf config w.trial) (sym own.1) now.trial)
           (λ (another : (j ≢ k) × (slice_get workers j ≡ Some other)). let apart = another.0 in was.trial j other (omega (arith, below, apart)) another.1)
           (slice_get-set_cases workers k new j other at);
-      ran = λ j other below at.
+      known = λ j other order below at has.
           ⊎_elim
-          (λ (own : j ≡ k). subst (λ (w : Worker). is_err w.result ≡ false) (same j other own at) now.run)
-          (λ (earlier : j ≡ k → ⊥). was.ran j other (omega (arith, below, earlier)) at)
+          (λ (own : j ≡ k). now.points order (subst (λ (w : Worker). Has (orders_known w) order) (sym (same j other own at)) has))
+          (λ (earlier : j ≡ k → ⊥). knows_kept config scripts before.orders after.orders (history_of config scripts order) now.later.orders (was.known j other order (omega (arith, below, earlier)) at has))
           (cases_eq j k);
+      from = λ order has.
+          ⊎_elim
+          (λ (old : Has before.orders order).
+          ⊎_elim
+          (λ (first : Has start.orders order). inl first)
+          (λ (found : IsFoundOrderBefore all k order). inr (record { index = found.index; before = let less = found.before in omega (arith, less); worker = found.worker; here = found.here; found = found.found }))
+          (was.from order old))
+          (λ (new : IsFoundOrder worker order). inr (record { index = k; before = omega arith; worker = worker; here = here; found = new }))
+          (now.new order has);
     }
 
 pub returns-clause-tried : goal.returns-clause-tried
-returns-clause-tried c k i worker at is =
-    let within = slice_get_within c.args.workers.now k worker at in
+returns-clause-tried c i at =
+    let within = slice_get_within c.args.workers.now at.index at.worker at.here in
     let many = c.loop-k.invariant.many in
-    c.loop-k.invariant.tried k i worker (omega (arith, within, many, c.loop-k-test.false)) at is
+    c.loop-k.invariant.tried at.index i at.worker (omega (arith, within, many, c.loop-k-test.false)) at.here at.is
 
 pub returns-clause-workers : goal.returns-clause-workers
 returns-clause-workers c k worker at =
     let within = slice_get_within c.loop-k.workers k worker at in
     c.loop-k.invariant.trial k worker (omega (arith, within, c.loop-k-test.false)) at
-
-pub returns-clause-ran : goal.returns-clause-ran
-returns-clause-ran c k worker at =
-    let within = slice_get_within c.args.workers.now k worker at in
-    let many = c.loop-k.invariant.many in
-    c.loop-k.invariant.ran k worker (omega (arith, within, many, c.loop-k-test.false)) at

@@ -1,6 +1,5 @@
-use Rattle.std.proofs.Math.Nat.{div-le_self}
-use Rattle.std.proofs.Common.{◌/◌}
-use Rattle.apex_orders.proofs.Common.{◌≡◌, ◌≢◌, ⊎_elim, ℕ, ◌+◌, ◌-◌, ◌<◌, ◌≤◌, List, length, length-set, sym, ap, ◌∙◌, subst, arith, cases_lt, slice_get, Some, slice_get-get_or, slice_get-set_cases, slice_get_within, get_or-set_same, IsGivenOut}
+use Rattle.apex_orders.proofs.Common.{◌≡◌, ◌≢◌, ⊎_elim, ℕ, ◌+◌, ◌-◌, ◌<◌, ◌≤◌, List, length, length-set, sym, ap, ◌∙◌, subst, arith, cases_lt, slice_get, Some, slice_get-get_or, slice_get-set_cases, slice_get_within, get_or-set_same, Bool, Configuration, Scripts, HasContinued, HasMade, IsUnderTrial, PossibleReply, Worker}
+use Rattle.apex_orders.specs.declared.search.Search.{Search}
 use Rattle.std.specs.Prelude.{set}
 use Rattle.apex_orders.proofs.AnswerLemmas.{set_elsewhere}
 use Rattle.apex_orders.proofs.workers.give_all.Goals as goal
@@ -12,8 +11,16 @@ set_here xs i y within = let count = length-set xs i y in slice_get-get_or (set 
 moved_on : (new first share left total : ℕ) → new ≡ first + share → share ≤ left → first + left ≡ total → new + (left - share) ≡ total
 moved_on new first share left total is fits all = omega (arith, is, fits, all)
 
-none_left : (left rest : ℕ) → rest ≡ 1 → left - left / rest ≡ 0
-none_left left rest one = ap (λ (n : ℕ). left - left / n) one ∙ omega arith
+-- what was given before stays so when more is given
+still_given : (clock : Bool) (config : Configuration) (scripts : Scripts) (old new : Search) (worker : Worker) → new.orders ≡ old.orders → new.replies ≡ old.replies → new.points.calls ≡ old.points.calls
+    → IsUnderTrial clock config scripts old worker → IsUnderTrial clock config scripts new worker
+still_given clock config scripts old new worker orders replies calls was = record {
+  valid = was.valid;
+  base = was.base ∙ sym orders;
+  made = subst (λ (n : ℕ). HasMade config scripts n worker) (sym calls) was.made;
+  left = was.left;
+  tried = subst (λ (known : List PossibleReply). HasContinued clock config scripts known worker) (sym replies) was.tried;
+}
 
 pub loop-k-preserved : goal.loop-k-preserved
 loop-k-preserved c =
@@ -22,9 +29,9 @@ loop-k-preserved c =
     let workers = c.loop-k.workers in
     let k = c.loop-k.k in
     let left = c.loop-k.left in
-    let share = left / (length workers - k) in
+    let share = c.share-share.result in
     let worker = c.give.new.worker in
-    let fits : share ≤ left = div-le_self left (length workers - k) in
+    let fits = c.share-share.ensures.within in
     let first = now.first in
     let begun = was.low in
     let within : k < length workers = omega (arith, c.loop-k-test.true) in
@@ -38,19 +45,20 @@ loop-k-preserved c =
       calls = now.calls ∙ was.calls;
       first = moved_on c.give.new.self.points.first start share left (c.args.current.now.points.first + c.args.count) first fits was.first;
       low = omega (arith, first, begun);
-      last = λ end. none_left left (length workers - k) (omega (arith, end, count, within));
+      last = λ end. let all = c.share-share.ensures.last (omega (arith, end, count, within)) in omega (arith, all);
       many = count ∙ was.many;
       rest = λ j other past at. was.rest j other (omega (arith, past)) (sym (set_elsewhere workers k worker j (λ same. absurd (omega (arith, past, same)))) ∙ at);
       given = λ j other below at.
           ⊎_elim
           (λ (own : (j ≡ k) × (other ≡ worker)).
-          subst (IsGivenOut c.args.clock c.args.config.now c.args.scripts.now c.args.current.now.orders c.args.current.now.points.calls) (sym own.1) (record {
+          subst (IsUnderTrial c.args.clock c.args.config.now c.args.scripts.now c.give.new.self) (sym own.1) (record {
             valid = now.worker;
-            base = now.base ∙ (now.orders ∙ was.orders);
+            base = now.base;
+            made = λ n inside. now.made n inside ∙ sym now.calls;
             left = now.left;
-            made = λ n inside. now.made n inside ∙ was.calls;
+            tried = λ n below. let none = now.tried in absurd (omega (arith, below, none));
           }))
-          (λ (another : (j ≢ k) × (slice_get workers j ≡ Some other)). let apart = another.0 in was.given j other (omega (arith, below, apart)) another.1)
+          (λ (another : (j ≢ k) × (slice_get workers j ≡ Some other)). let apart = another.0 in still_given c.args.clock c.args.config.now c.args.scripts.now c.loop-k.current c.give.new.self other now.orders now.replies now.calls (was.given j other (omega (arith, below, apart)) another.1))
           (slice_get-set_cases workers k worker j other at);
       points = λ i past below.
           ⊎_elim
@@ -86,3 +94,22 @@ returns-clause-given c k worker at =
 
 pub returns-clause-points : goal.returns-clause-points
 returns-clause-points c i past below = (c.loop-k.invariant.points i past below).0
+
+pub returns-clause-same : goal.returns-clause-same
+returns-clause-same c =
+    let was = c.loop-k.invariant in
+    record {
+      orders = was.orders;
+      replies = was.replies;
+      next = was.next;
+      calls = was.calls;
+      first =
+          let end = c.loop-k-test.false in
+          let most = c.loop-k.auto.k-end in
+          let many = was.many in
+          let none = was.last (omega (arith, end, most, many)) in
+          let first = was.first in
+          let all = c.requires.all in
+          let next = was.next in
+          omega (arith, none, first, all, next);
+    }

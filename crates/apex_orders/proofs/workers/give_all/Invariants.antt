@@ -1,4 +1,4 @@
-use Rattle.apex_orders.proofs.Common.{◌≡◌, ◌+◌, ◌<◌, ◌≤◌, ℕ, length, slice_get, Some, Worker, HasPointAt, IsGivenOut, IsSearch, IsTrialOf}
+use Rattle.apex_orders.proofs.Common.{◌≡◌, ◌+◌, ◌<◌, ◌≤◌, ℕ, length, slice_get, Some, Worker, HasPointAt, IsSearch, IsUnderTrial, IsTrialOf}
 use Rattle.apex_orders.proofs.workers.give_all.Given as goal
 
 abbrev pub invariant-loop-k : goal.invariant-loop-k
@@ -13,7 +13,6 @@ invariant-loop-k l = record {
   last : l.k ≡ length l.workers → l.left ≡ 0;
   many : length l.workers ≡ length l.initial.workers;
   rest : (j : ℕ) (worker : Worker) → l.k ≤ j → slice_get l.workers j ≡ Some worker → IsTrialOf l.config worker.trial;
-  given : (j : ℕ) (worker : Worker) → j < l.k → slice_get l.workers j ≡ Some worker
-      → IsGivenOut l.clock l.config l.scripts l.initial.current.orders l.initial.current.points.calls worker;
+  given : (j : ℕ) (worker : Worker) → j < l.k → slice_get l.workers j ≡ Some worker → IsUnderTrial l.clock l.config l.scripts l.current worker;
   points : (i : ℕ) → l.initial.current.points.first ≤ i → i < l.current.points.first → (one : HasPointAt l.workers i) × (one.index < l.k);
 }

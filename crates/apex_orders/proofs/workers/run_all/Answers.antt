@@ -11,5 +11,5 @@ pub for_each_mut-requires-sync-F : goal.for_each_mut-requires-sync-F
 for_each_mut-requires-sync-F g c κs within = search (shared_sync, crosses, sendable) depth 8
 
 pub for_each_mut-requires-clause-accepts : goal.for_each_mut-requires-clause-accepts
-for_each_mut-requires-clause-accepts g c κs within i p below is κs-2 a b n same ranges buffer size lifetimes =
+for_each_mut-requires-clause-accepts g c κs within i p below is κs-2 a b n m same ranges buffer size lifetimes =
     (c.requires.shared, c.requires.workers i p.now (slice_get-get_or c.args.workers.now i p.now below ∙ ap Some (sym is)))

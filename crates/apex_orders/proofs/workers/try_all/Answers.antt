@@ -1,8 +1,8 @@
-use Rattle.apex_orders.proofs.Common.{◌≡◌, ℕ, ◌<◌, List, length, sym, ap, ◌∙◌, subst, arith, slice_get, Some, slice_get-get_or, slice_get_within, get_or_from_slice_get, PortsView, Worker, HasDone, HasMade, HasTriedAll, IsLaterWorker, IsPointOf}
+use Rattle.apex_orders.proofs.Common.{◌≡◌, ℕ, ◌≤◌, ◌+◌, ◌^◌, [], List, false, length, length-append, sym, ap, ◌∙◌, subst, arith, slice_get, Some, slice_get-get_or, slice_get_within, get_or_from_slice_get, PortsView, Configuration, Scripts, Worker, AreGiven, HasLeft, HasTriedAll, IsUnderTrial, IsLaterWorker, IsPointOf}
 use Rattle.std.specs.Prelude.{get_or}
+use Rattle.std.specs.Result.{is_err}
 use Rattle.apex_orders.proofs.Levels.{still_made}
-use Rattle.apex_orders.proofs.SearchLemmas.{includes_along, keeps_along}
-use Rattle.apex_orders.proofs.WorkerLemmas.{includes_same, keeps_same, ok_then, when_ok}
+use Rattle.apex_orders.proofs.WorkerLemmas.{when_ok}
 use Rattle.apex_orders.proofs.workers.try_all.Goals as goal
 
 -- a worker that has run has the same points
@@ -14,55 +14,80 @@ still_of old new i later is =
     let within = is.within in
     record { past = omega (arith, past, first); within = omega (arith, within, first, count) }
 
-pub finish_all-requires-clause-done : goal.finish_all-requires-clause-done
-finish_all-requires-clause-done g c k worker at =
+-- a worker has fewer points than a number can be
+few_left : (config : Configuration) (scripts : Scripts) (worker : Worker) (most : ℕ) → AreGiven config scripts worker → HasLeft worker → 2 ^ 64 ≤ most + 1 → length worker.points.items ≤ most
+few_left config scripts worker most given left whole =
+    let all = ap (λ (points : List PortsView). length points) left.all in
+    let within = given.within in
+    let room = given.room in
+    omega (arith, all, within, room, whole, length-append left.done worker.points.items)
+
+-- a worker that has none left has tried all
+all_tried : (worker : Worker) → HasLeft worker → worker.points.items ≡ [] → HasTriedAll worker
+all_tried worker left none =
+    let all = ap (λ (points : List PortsView). length points) left.all in
+    let count = left.count in
+    let no = ap (λ (points : List PortsView). length points) none in
+    omega (arith, all, count, no, length-append left.done worker.points.items)
+
+pub run_all-requires-clause-workers : goal.run_all-requires-clause-workers
+run_all-requires-clause-workers g c κs within k worker at =
+    let was = c.requires.given k worker at in
+    record { valid = was.valid; left = was.left; tried = was.tried }
+
+pub returns-clause-given : goal.returns-clause-given
+returns-clause-given g c k worker at =
+    let clock = c.args.clock in
     let config = c.args.config.now in
     let scripts = c.args.scripts.now in
-    let given = c.give_all.new.workers in
-    let ran = c.run_all.new.workers in
-    let within = slice_get_within ran k worker at in
+    let current = c.args.current.now in
+    let old = get_or c.args.workers.now k worker in
+    let new = get_or c.run_all.new.workers k worker in
     let many = c.run_all.ensures.count in
-    let old = get_or given k worker in
-    let new = get_or ran k worker in
-    let own : new ≡ worker = get_or_from_slice_get ran k worker worker at in
-    let inside : k < length given = omega (arith, within, many) in
-    let was = c.in_ok-give_all.ensures.given k old (slice_get-get_or given k worker inside) in
-    let current = c.give_all.new.current in
-    subst (HasDone c.args.clock config scripts current) own
-    (ok_then new.result (HasTriedAll c.args.clock config scripts current new) (c.run_all.ensures.ran k worker inside)
-    (λ through. record {
-      valid = through.valid;
-      tried = through.tried;
-      base = keeps_same new.base.value current.orders (c.in_ok-give_all.ensures.orders ∙ sym (through.later.base ∙ was.base));
-      made = still_made config scripts current.points.calls old new through.later (subst (λ (n : ℕ). HasMade config scripts n old) (sym c.in_ok-give_all.ensures.calls) was.made);
-    }))
+    let inside = slice_get_within c.run_all.new.workers k worker at in
+    let own : new ≡ worker = get_or_from_slice_get c.run_all.new.workers k worker worker at in
+    let ok = c.have_run.ensures (c.if-not-have_run.false) k worker at in
+    let ran = when_ok new.result _ (subst (λ (w : Worker). is_err w.result ≡ false) (sym own) ok) (c.run_all.ensures.ran k worker (omega (arith, inside, many))) in
+    let was = c.requires.given k old (slice_get-get_or c.args.workers.now k worker (omega (arith, inside, many))) in
+    subst (IsUnderTrial clock config scripts current) own (record {
+      valid = ran.valid;
+      base = ran.later.base ∙ was.base;
+      made = still_made config scripts current.points.calls old new ran.later was.made;
+      left = ran.left;
+      tried = ran.tried;
+    })
 
-pub returns-clause-continued : goal.returns-clause-continued
-returns-clause-continued g c =
-    let start = c.args.current.now in
-    let both = c.give_all.new.current in
-    let end = c.finish_all.new.current in
-    let given = c.give_all.new.workers in
-    let ran = c.run_all.new.workers in
-    let told = c.in_ok-give_all.ensures in
-    let finished = c.in_ok-finish_all.ensures in
-    let last = told.first in
+pub returns-clause-workers : goal.returns-clause-workers
+returns-clause-workers g c k worker at = (returns-clause-given g c k worker at).valid.trial
+
+pub returns-clause-points : goal.returns-clause-points
+returns-clause-points g c i at =
+    let old = c.args.workers.now in
+    let new = c.run_all.new.workers in
     let many = c.run_all.ensures.count in
+    let k = at.index in
+    let inside = slice_get_within old k at.worker at.here in
+    let worker = get_or new k at.worker in
+    let here : slice_get new k ≡ Some worker = slice_get-get_or new k at.worker (omega (arith, inside, many)) in
+    let ok = c.have_run.ensures (c.if-not-have_run.false) k worker here in
+    let ran = when_ok worker.result _ ok (c.run_all.ensures.ran k at.worker inside) in
     record {
-      valid = finished.valid;
-      later = record {
-        orders = keeps_along start.orders both.orders end.orders (keeps_same start.orders both.orders told.orders) finished.later.orders;
-        replies = includes_along start.replies both.replies end.replies (includes_same start.replies both.replies told.replies) finished.later.replies;
-      };
-      first = finished.level.first ∙ told.first;
-      tried = λ i past below.
-          let one = told.points i past (omega (arith, below, last)) in
-          let k = one.index in
-          let within = slice_get_within given k one.worker one.here in
-          let old = get_or given k one.worker in
-          let new = get_or ran k one.worker in
-          let here : slice_get ran k ≡ Some new = slice_get-get_or ran k one.worker (omega (arith, within, many)) in
-          let through = when_ok new.result _ (finished.ran k new here) (c.run_all.ensures.ran k one.worker within) in
-          let is = subst (λ (worker : Worker). IsPointOf worker i) (sym (get_or_from_slice_get given k one.worker one.worker one.here)) one.is in
-          finished.tried k i new here (still_of old new i through.later is);
+      index = k;
+      worker = worker;
+      here = here;
+      is = still_of (get_or old k at.worker) worker i ran.later (subst (λ (w : Worker). IsPointOf w i) (sym (get_or_from_slice_get old k at.worker at.worker at.here)) at.is);
     }
+
+pub returns-clause-all : goal.returns-clause-all
+returns-clause-all g c whole k worker at =
+    let config = c.args.config.now in
+    let scripts = c.args.scripts.now in
+    let old = get_or c.args.workers.now k worker in
+    let new = get_or c.run_all.new.workers k worker in
+    let many = c.run_all.ensures.count in
+    let inside = slice_get_within c.run_all.new.workers k worker at in
+    let own : new ≡ worker = get_or_from_slice_get c.run_all.new.workers k worker worker at in
+    let ok = c.have_run.ensures (c.if-not-have_run.false) k worker at in
+    let ran = when_ok new.result _ (subst (λ (w : Worker). is_err w.result ≡ false) (sym own) ok) (c.run_all.ensures.ran k worker (omega (arith, inside, many))) in
+    let was = c.requires.given k old (slice_get-get_or c.args.workers.now k worker (omega (arith, inside, many))) in
+    subst HasTriedAll own (all_tried new ran.left (ran.all (few_left config scripts old c.args.most was.valid.given was.left (omega (arith, whole)))))

@@ -1,4 +1,4 @@
-use Rattle.apex_orders.proofs.Common.{◌≡◌, ◌+◌, ◌++◌, zero, suc, [], ◌∷◌, List, ℕ, Some, length, sym, ap, ◌∙◌, subst, arith, slice_get, slice_get_within, Configuration, PortsView, Scripts, IsAfter, AreHashes}
+use Rattle.apex_orders.proofs.Common.{◌≡◌, ◌+◌, ◌++◌, zero, suc, [], ◌∷◌, List, ℕ, Some, length, sym, ap, ◌∙◌, subst, arith, slice_get, Configuration, PortsView, Scripts, IsAfter}
 use Rattle.apex_orders.proofs.points.Points.new.Goals as goal
 
 first_after : (config : Configuration) (scripts : Scripts) (ports one : PortsView) (order : List ℕ) (j : ℕ) → IsAfter config scripts [] ports → slice_get (ports ∷ []) j ≡ Some one → slice_get ([] ∷ []) j ≡ Some order
@@ -19,7 +19,7 @@ returns-clause-points c = λ scripts.
       history = ap (λ (v : PortsView). v.history) c.in_ok-save.ensures ∙ c.in_ok-ports.ensures.history;
     } in
     record {
-      hashed = subst (λ (hashes : List ℕ). AreHashes config scripts ([] ∷ []) 1 hashes) (sym c.in_ok-hashes.ensures) (record { count = omega arith; each = λ k order at. absurd (let within = slice_get_within ([] ∷ []) (1 + k) order at in omega (arith, within)) });
+      next = omega arith;
       level = omega arith;
       count = let one = ap (λ (ps : List PortsView). length ps) saved in omega (arith, one);
       each = λ j one order at listed.

@@ -8,5 +8,4 @@ invariant-loop l = record {
   first : l.self.first ≡ l.fn.self.first;
   next : l.self.next ≡ l.fn.self.next;
   calls : l.self.calls ≡ l.fn.self.calls;
-  hashes : l.self.hashes ≡ l.fn.self.hashes;
 }

@@ -17,5 +17,7 @@ returns c clock =
         };
         unanswered = λ q one at here k below. absurd (omega (arith, below, first));
       };
-      tried = λ k below. absurd (omega (arith, below, first));
+      begun = omega arith;
+      trial = λ begun. absurd (omega (arith, begun, first));
+      tried = λ k below. absurd (omega (arith, below));
     }

@@ -1,4 +1,4 @@
-use Rattle.apex_orders.proofs.Common.{◌≡◌, ◌+◌, ◌<◌, ◌≤◌, List, ℕ, suc, length, sym, subst, arith, slice_get_within, AreHashes, AreLevels}
+use Rattle.apex_orders.proofs.Common.{◌≡◌, ◌+◌, ◌<◌, ℕ, suc, length, sym, subst, arith, AreLevels}
 use Rattle.apex_orders.proofs.Levels.{levels_next}
 use Rattle.apex_orders.proofs.search.Search.end_level.Goals as goal
 
@@ -6,12 +6,12 @@ pub returns-clause-valid : goal.returns-clause-valid
 returns-clause-valid c =
     let config = c.args.config.now in
     let scripts = c.args.scripts.now in
-    let was = c.requires in
+    let was = c.requires.valid in
     let orders = c.args.self.now.orders in
     let points = c.args.self.now.points in
     let states = c.len-states.ensures in
     let more : suc points.calls ≡ points.calls + 1 = omega arith in
-    let all : points.next ≤ points.first = omega (arith, c.if-self.false) in
+    let all = c.requires.all in
     let some : points.next < length orders = omega (arith, c.if-self-states.false, states) in
     record {
       all = was.all;
@@ -19,10 +19,7 @@ returns-clause-valid c =
       clocked = was.clocked;
       apart = was.apart;
       points = record {
-        hashed = subst (λ (x : ℕ × List ℕ). AreHashes config scripts orders x.0 x.1) (λ i. (sym states i, sym c.clear.ensures i)) (record {
-          count = omega arith;
-          each = λ k order at. absurd (let within = slice_get_within orders (length orders + k) order at in omega (arith, within));
-        });
+        next = omega (arith, states);
         level = let level = was.points.level in omega (arith, level, some, states);
         count = was.points.count;
         each = was.points.each;

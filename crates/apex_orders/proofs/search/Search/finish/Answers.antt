@@ -1,13 +1,12 @@
-use Rattle.apex_orders.proofs.Common.{◌≡◌, ⊎_elim, ◌+◌, ◌++◌, ◌-◌, ◌<◌, ℕ, Some, length, sym, ap, ◌∙◌, subst, arith, slice_get, Has, IsWorker, HasContinued, HasMade, HasTriedEnough, Keeps, order_given, orders_known}
+use Rattle.apex_orders.proofs.Common.{◌≡◌, ⊎_elim, ◌+◌, ◌++◌, ◌-◌, ◌<◌, ℕ, Some, length, sym, ap, ◌∙◌, subst, arith, slice_get, Has, HasTriedEnough, order_given, orders_known}
 use Rattle.apex_orders.proofs.GrowthLemmas.{order_here}
 use Rattle.apex_orders.proofs.Having.{has_either}
-use Rattle.apex_orders.proofs.WorkerLemmas.{tried_along, when_ok}
+use Rattle.apex_orders.proofs.WorkerLemmas.{tried_along}
 use Rattle.apex_orders.proofs.search.Search.finish.Goals as goal
 
 pub add_points-requires-clause-valid : goal.add_points-requires-clause-valid
 add_points-requires-clause-valid c =
     let was = c.requires.valid in
-    let worker = when_ok c.args.worker.now.result (IsWorker c.args.clock c.args.config.now c.args.scripts.now c.args.worker.now) (sym c.is_err.ensures.value ∙ c.if-is_err.false) c.requires.worker in
     record {
       all = was.all;
       orders = was.orders;
@@ -15,20 +14,16 @@ add_points-requires-clause-valid c =
       apart = was.apart;
       points = was.points;
       levels = was.levels;
-      found = λ one has. ⊎_elim (λ (before : Has c.args.self.now.replies one). was.found one before) (λ (new : Has c.args.worker.now.replies one). worker.replies one new) (c.in_ok-add_all.ensures.only one has);
+      found = λ one has.
+          ⊎_elim
+          (λ (before : Has c.args.self.now.replies one). was.found one before)
+          (λ (new : Has c.args.worker.now.replies one). c.requires.worker.replies one new)
+          (c.in_ok-add_all.ensures.only one has);
       uses = was.uses;
     }
 
-pub add_points-requires-clause-worker : goal.add_points-requires-clause-worker
-add_points-requires-clause-worker c =
-    when_ok c.args.worker.now.result (IsWorker c.args.clock c.args.config.now c.args.scripts.now c.args.worker.now) (sym c.is_err.ensures.value ∙ c.if-is_err.false) c.requires.worker
-
-pub add_points-requires-clause-base : goal.add_points-requires-clause-base
-add_points-requires-clause-base c = when_ok c.args.worker.now.result (Keeps c.args.worker.now.base.value c.args.self.now.orders) (sym c.is_err.ensures.value ∙ c.if-is_err.false) c.requires.base
-
-pub add_points-requires-clause-made : goal.add_points-requires-clause-made
-add_points-requires-clause-made c =
-    when_ok c.args.worker.now.result (HasMade c.args.config.now c.args.scripts.now c.args.self.now.points.calls c.args.worker.now) (sym c.is_err.ensures.value ∙ c.if-is_err.false) c.requires.made
+pub add_points-requires-clause-marks : goal.add_points-requires-clause-marks
+add_points-requires-clause-marks c = let fit = c.requires.marks in record { count = fit.count; known = fit.known; new = fit.new }
 
 pub returns-clause-later : goal.returns-clause-later
 returns-clause-later c =
@@ -42,18 +37,16 @@ returns-clause-tried c from to range k past below order at =
     let clock = c.args.clock in
     let old = c.args.worker.now in
     let new = c.add_points.new.self in
-    let ok = sym c.is_err.ensures.value ∙ c.if-is_err.false in
-    let worker = when_ok old.result (IsWorker clock config scripts old) ok c.requires.worker in
     let known = c.args.self.now.replies in
-    let continued = when_ok old.result (HasContinued clock config scripts known old) ok c.requires.tried in
-    let base = when_ok old.result (Keeps old.base.value c.args.self.now.orders) ok c.requires.base in
+    let base = c.requires.base in
+    let whole = c.requires.all in
     let later = c.in_ok-add_points.ensures.later in
     let first = range.first in
     let last = range.last in
     let j : ℕ = k - old.first in
     let index : old.first + j ≡ k = omega (arith, first, past) in
     let within : j < length old.given.value.items = omega (arith, first, last, past, below) in
-    let all = worker.given.within in
+    let all = c.requires.worker.given.within in
     let inside : old.first + j < length old.base.value = omega (arith, all, within) in
     let there : slice_get new.orders k ≡ Some (order_given old j) =
     ap (λ (n : ℕ). slice_get new.orders n) (sym index)
@@ -68,7 +61,4 @@ returns-clause-tried c from to range k past below order at =
     (λ (before : Has known one). c.in_ok-add_all.ensures.kept one before)
     (λ (found : Has old.replies one). c.in_ok-add_all.ensures.added one found)
     (has_either known old.replies one has)))
-    (continued j within))
-
-pub returns-clause-run : goal.returns-clause-run
-returns-clause-run c = sym c.is_err.ensures.value ∙ c.if-is_err.false
+    (c.requires.tried j (omega (arith, within, whole))))

@@ -1,4 +1,4 @@
-use Rattle.apex_orders.proofs.Common.{List, ℕ, [], refl, sym, subst, arith, AreLevels, ArePoints, Has, AreOrders, AreApart, AreClocked, AreFound}
+use Rattle.apex_orders.proofs.Common.{◌∙◌, ap, length, List, ℕ, [], refl, sym, subst, AreLevels, ArePoints, Has, AreOrders, AreApart, AreClocked, AreFound}
 use Rattle.apex_orders.proofs.SearchLemmas.{first_valid, first_clocked, first_apart, none_found}
 use Rattle.apex_orders.proofs.Levels.{first_levels}
 use Rattle.apex_orders.proofs.search.Search.new.Goals as goal
@@ -24,4 +24,4 @@ pub returns-clause-first : goal.returns-clause-first
 returns-clause-first c = subst (λ (orders : List (List ℕ)). Has orders []) (sym c.new-orders.ensures) (0, refl)
 
 pub returns-clause-level : goal.returns-clause-level
-returns-clause-level c some = let first = c.in_ok-points.ensures.first in let next = c.in_ok-points.ensures.next in omega (arith, first, next)
+returns-clause-level c = c.in_ok-points.ensures.next ∙ sym (ap (λ (orders : List (List ℕ)). length orders) c.new-orders.ensures)

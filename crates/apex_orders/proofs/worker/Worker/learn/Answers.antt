@@ -1,7 +1,6 @@
-use Rattle.apex_orders.proofs.Common.{◌≡◌, ◌+◌, ◌++◌, ◌∷◌, [], List, ℕ, map, refl, ap, sym, ◌∙◌, subst, Configuration, PortsView, FoundPoint, Worker, Has, IsClocked, hash_of, IsOrder, history_of, calls_made, Knows, KnowsFrom, AreOrders, AreClocked, AreHashed, HasPoint, IsFoundBy, Keeps, order_given, order_found, orders_known}
-use Rattle.apex_orders.proofs.Levels.{knows_of}
+use Rattle.apex_orders.proofs.Common.{◌≡◌, ◌+◌, ◌++◌, ◌∷◌, [], List, ℕ, map, refl, ap, sym, ◌∙◌, subst, Configuration, PortsView, FoundPoint, Worker, Has, IsClocked, hash_of, IsOrder, history_of, calls_made, Knows, AreAllApart, AreOrders, AreClocked, AreHashed, HasPoint, IsFoundBy, Keeps, order_given, order_found, orders_known}
 use Rattle.apex_orders.proofs.SearchLemmas.{clocked_push, keeps_push, knows_push, longer_is_order, orders_push}
-use Rattle.apex_orders.proofs.WorkerLemmas.{found_push, given_known, hashes_push, known_push, known_to_search, point_known}
+use Rattle.apex_orders.proofs.WorkerLemmas.{apart_push, found_push, given_known, hashes_push, known_push, point_known}
 use Rattle.apex_orders.proofs.worker.Worker.learn.Goals as goal
 
 pub has_found-requires-clause-hashed : goal.has_found-requires-clause-hashed
@@ -21,6 +20,7 @@ returns-then-has_found-clause-valid c =
       given = record { within = was.given.within; room = was.given.room; each = was.given.each };
       found = λ one has. let is = was.found one has in record { before = is.before; partition = is.partition; hash = is.hash; after = is.after; made = is.made };
       hashed = was.hashed;
+      apart = was.apart;
       orders = was.orders;
       clocked = was.clocked;
       replies = was.replies;
@@ -34,42 +34,6 @@ returns-then-has_found-clause-known c =
     let was = c.requires.valid in
     let point : HasPoint c.args.self.now.found.items c.args.self.now.trial.ports = c.has_found.ensures.found.0 c.if-has_found.true in
     point_known c.args.shared.now.config.now c.args.shared.now.scripts.now c.args.self.now c.args.self.now.trial.ports was.found was.trial.ports point
-
-pub is_among-requires-clause-trial : goal.is_among-requires-clause-trial
-is_among-requires-clause-trial c =
-    let was = c.requires.valid in
-    record { ports = ap (λ (v : PortsView). v.config) c.has_found.ensures.ports ∙ was.trial.ports; other = c.has_found.ensures.other ∙ was.trial.other }
-
-pub is_among-requires-clause-hash : goal.is_among-requires-clause-hash
-is_among-requires-clause-hash c =
-    let was = c.requires.valid in
-    c.hash_of-hash.ensures ∙ (λ i. hash_of (was.trial.ports i) (sym c.has_found.ensures.ports i).history)
-
-pub returns-then-is_among-clause-valid : goal.returns-then-is_among-clause-valid
-returns-then-is_among-clause-valid c =
-    let was = c.requires.valid in
-    record {
-      all = was.all;
-      trial = c.is_among.ensures.trial;
-      given = record { within = was.given.within; room = was.given.room; each = was.given.each };
-      found = λ one has. let is = was.found one has in record { before = is.before; partition = is.partition; hash = is.hash; after = is.after; made = is.made };
-      hashed = was.hashed;
-      orders = was.orders;
-      clocked = was.clocked;
-      replies = was.replies;
-    }
-
-pub returns-then-is_among-clause-later : goal.returns-then-is_among-clause-later
-returns-then-is_among-clause-later c = record { base = refl; first = refl; given = refl; orders = λ k x at. at; replies = λ x has. has }
-
-pub returns-then-is_among-clause-known : goal.returns-then-is_among-clause-known
-returns-then-is_among-clause-known c =
-    let config = c.args.shared.now.config.now in
-    let scripts = c.args.shared.now.scripts.now in
-    let old = c.args.self.now in
-    let h = old.trial.ports.history in
-    let found = subst (λ (v : PortsView). KnowsFrom config scripts c.args.shared.now.orders.now c.args.shared.now.points.now.next v.history) c.has_found.ensures.ports (c.is_among.ensures.known.0 c.if-is_among.true) in
-    known_to_search config scripts c.args.shared.now.orders.now old h c.requires.base (knows_of config scripts c.args.shared.now.orders.now c.args.shared.now.points.now.next h found)
 
 -- the point that is kept
 module _ (old : Worker) (j p hash : ℕ) (saved : PortsView) where
@@ -91,7 +55,7 @@ returns-clause-valid c =
     let longer = order ++ c.args.p ∷ [] in
     let ports = old.trial.ports in
     let saved = c.in_ok-saved.saved in
-    let is_saved : saved ≡ ports = c.in_ok-saved.ensures ∙ (c.is_among.ensures.ports ∙ c.has_found.ensures.ports) in
+    let is_saved : saved ≡ ports = c.in_ok-saved.ensures ∙ c.has_found.ensures.ports in
     let hash = c.hash_of-hash.result in
     let one = new_point old c.args.j c.args.p hash saved in
     let hashed : hash ≡ hash_of config saved.history = c.hash_of-hash.ensures ∙ (λ i. hash_of (was.trial.ports i) (sym is_saved i).history) in
@@ -104,12 +68,14 @@ returns-clause-valid c =
     let mine : IsFoundBy config scripts old one = record { before = c.requires.within; partition = c.requires.partition; hash = hashed; after = record { configured = configured; history = leads }; made = ap (λ (v : PortsView). calls_made config v.history) is_saved ∙ c.requires.made } in
     record {
       all = was.all;
-      trial = c.is_among.ensures.trial;
+      trial = record { ports = ap (λ (v : PortsView). v.config) c.has_found.ensures.ports ∙ was.trial.ports; other = c.has_found.ensures.other ∙ was.trial.other };
       given = record { within = was.given.within; room = was.given.room; each = was.given.each };
       found = λ other has.
           let is = found_push config scripts old old.found.items one other was.found mine (subst (λ (points : List FoundPoint). Has points other) items has) in
           record { before = is.before; partition = is.partition; hash = is.hash; after = is.after; made = is.made };
       hashed = subst (λ (x : List FoundPoint × List ℕ). AreHashed config x.0 x.1) (λ i. (sym items i, sym c.in_ok-push.ensures i)) (hashes_push config old.found.items old.hashes one hash was.hashed hashed configured);
+      apart = subst (AreAllApart config) (sym items)
+          (apart_push config old.found.items one ports was.apart (sym is_saved) was.trial.ports (λ (point : HasPoint old.found.items ports). absurd (let is = c.has_found.ensures.found.1 point in let no = c.if-has_found.false in cc)));
       orders = subst (AreOrders config) (sym more) (orders_push config scripts (orders_known old) longer was.orders is_order);
       clocked = subst (AreClocked c.args.shared.now.clock config scripts) (sym more)
           (clocked_push config scripts c.args.shared.now.clock (orders_known old) longer was.clocked (subst (IsClocked c.args.shared.now.clock scripts) c.requires.history c.requires.clocked));

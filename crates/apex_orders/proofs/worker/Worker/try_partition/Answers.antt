@@ -35,6 +35,7 @@ returns-then-not-branch-clause-valid c =
       given = record { within = was.given.within; room = was.given.room; each = was.given.each };
       found = λ one has. let is = was.found one has in record { before = is.before; partition = is.partition; hash = is.hash; after = is.after; made = is.made };
       hashed = was.hashed;
+      apart = was.apart;
       orders = was.orders;
       clocked = was.clocked;
       replies = subst (AreFound c.args.shared.now.clock c.args.shared.now.config.now c.args.shared.now.scripts.now) (sym (c.in_ok-answer_next.ensures.unchanged no)) was.replies;
@@ -73,6 +74,7 @@ learn-requires-clause-valid c =
       given = record { within = was.given.within; room = was.given.room; each = was.given.each };
       found = λ point has. let is = was.found point has in record { before = is.before; partition = is.partition; hash = is.hash; after = is.after; made = is.made };
       hashed = was.hashed;
+      apart = was.apart;
       orders = was.orders;
       clocked = was.clocked;
       replies = found_one config scripts c.args.shared.now.clock old.replies c.answer_next.new.replies order c.args.p one was.replies (was.orders (old.first + c.args.j) order here)

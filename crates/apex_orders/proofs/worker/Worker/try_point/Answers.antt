@@ -28,6 +28,7 @@ try_those-requires-clause-valid c =
       given = record { within = was.given.within; room = was.given.room; each = was.given.each };
       found = λ one has. let is = was.found one has in record { before = is.before; partition = is.partition; hash = is.hash; after = is.after; made = is.made };
       hashed = was.hashed;
+      apart = was.apart;
       orders = was.orders;
       clocked = was.clocked;
       replies = was.replies;

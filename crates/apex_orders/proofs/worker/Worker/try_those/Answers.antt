@@ -1,4 +1,4 @@
-use Rattle.apex_orders.proofs.Common.{◌≡◌, ◌<◌, ◌+◌, ◌++◌, ℕ, Bool, List, slice_get, true, refl, sym, ap, ◌∙◌, subst, arith, false≢true, PortsView, Worker, is_tried, HasTriedCall, IsNextDue, IsReady, history_of, IsLaterWorker, IsWorkerOf, Keeps, order_given, orders_known}
+use Rattle.apex_orders.proofs.Common.{◌≡◌, ◌<◌, ◌+◌, ◌++◌, ℕ, Bool, List, slice_get, true, refl, sym, ap, ◌∙◌, subst, arith, false≢true, PortsView, Worker, is_tried, HasTriedCall, IsNextDue, IsReady, history_of, IsLaterWorker, IsWorkerOf, order_given, orders_known}
 use Rattle.apex_orders.proofs.ChoiceLemmas.{one_more}
 use Rattle.apex_orders.proofs.SearchLemmas.{tried_kept}
 use Rattle.apex_orders.proofs.WorkerLemmas.{includes_behind, later_along, same_given}
@@ -15,9 +15,6 @@ loop-p-init c = record {
 
 pub try_partition-requires-clause-valid : goal.try_partition-requires-clause-valid
 try_partition-requires-clause-valid c = c.loop-p.invariant.valid
-
-pub try_partition-requires-clause-base : goal.try_partition-requires-clause-base
-try_partition-requires-clause-base c = subst (Keeps c.args.shared.now.orders.now) (sym c.loop-p.invariant.later.base) c.requires.base
 
 pub try_partition-requires-clause-given : goal.try_partition-requires-clause-given
 try_partition-requires-clause-given c = ap (λ (ps : List PortsView). slice_get ps c.args.j) c.loop-p.invariant.later.given ∙ c.requires.given

@@ -1,20 +1,37 @@
-use Rattle.apex_orders.proofs.Common.{◌≡◌, ⊎_elim, ◌+◌, ◌∷◌, [], List, length, length-append, sym, ap, ◌∙◌, subst, slice_get, Some, ℕ, Worker, IsTrialOf}
+use Rattle.apex_orders.proofs.Common.{◌≡◌, ⊎_elim, arith, ◌++◌, ◌∷◌, [], List, length, length-append, sym, ap, ◌∙◌, subst, slice_get, Some, ℕ, Worker, IsTrialOf, CanAllTry}
+use Rattle.apex_orders.specs.Workers.{CanAllMark}
+use Rattle.apex_orders.specs.declared.marks.Marks.{Marks}
 use Rattle.apex_orders.proofs.Lists.{before_or_last}
 use Rattle.apex_orders.proofs.workers.Workers.make.Goals as goal
 
+-- what holds of each item, and of one more
+each_and_last : {X : Type 0} (P : X → Type 0) (xs : List X) (x : X) → ((k : ℕ) (y : X) → slice_get xs k ≡ Some y → P y) → P x → (k : ℕ) (y : X) → slice_get (xs ++ x ∷ []) k ≡ Some y → P y
+each_and_last {X} P xs x each last k y at =
+    ⊎_elim
+    (λ (before : slice_get xs k ≡ Some y). each k y before)
+    (λ (is : (k ≡ length xs) × (x ≡ y)). subst P is.1 last)
+    (before_or_last xs x k y at)
+
 pub loop-preserved : goal.loop-preserved
 loop-preserved c =
-    let before = c.loop.self.all.items in
-    let made = c.in_ok-new.field-0 in
-    let items = c.in_ok-push.ensures.items in
+    let was = c.loop.invariant in
+    let config = c.args.config.now in
+    let all = c.loop.self.all.items in
+    let worker = c.in_ok-new-2.field-0 in
+    let marks = c.loop.self.marks.items in
+    let one = c.in_ok-new.field-0 in
+    let pushed = c.in_ok-push-2.ensures.items in
+    let marked = c.in_ok-push.ensures.items in
+    let more = ap (λ (xs : List Worker). length xs) pushed ∙ length-append all (worker ∷ []) in
+    let others = ap (λ (xs : List Marks). length xs) marked ∙ length-append marks (one ∷ []) in
+    let same = was.workers.count in
+    let count = was.count in
     record {
       workers = record {
-        some = c.loop.invariant.workers.some;
-        each = λ k worker at.
-            ⊎_elim
-            (λ (was : slice_get before k ≡ Some worker). c.loop.invariant.workers.each k worker was)
-            (λ (last : (k ≡ length before) × (made ≡ worker)). subst (λ (w : Worker). IsTrialOf c.args.config.now w.trial) last.1 c.in_ok-new.ensures)
-            (before_or_last before made k worker (ap (λ (workers : List Worker). slice_get workers k) (sym items) ∙ at));
+        some = was.workers.some;
+        each = subst (CanAllTry config) (sym pushed) (each_and_last (λ (w : Worker). IsTrialOf config w.trial) all worker was.workers.each c.in_ok-new-2.ensures);
+        count = omega (arith, more, others, same);
+        marks = subst (CanAllMark config) (sym marked) (each_and_last (λ (m : Marks). IsTrialOf config m.trial) marks one was.workers.marks c.in_ok-new.ensures);
       };
-      count = ap (λ (workers : List Worker). length workers) items ∙ (length-append before (made ∷ []) ∙ ap (λ (n : ℕ). n + 1) c.loop.invariant.count);
+      count = omega (arith, more, count);
     }

@@ -1,5 +1,5 @@
 use Rattle.apex_orders.proofs.Common.{◌≡◌, ℕ, List, length, slice_get, Some}
-use Rattle.apex_orders.proofs.rounds.no_answers.Given as goal
+use Rattle.apex_orders.proofs.answer.no_answers.Given as goal
 
 abbrev pub invariant-loop : goal.invariant-loop
 invariant-loop l = record {
