@@ -59,7 +59,7 @@ IsSearchFor config scripts one k search =
     (clock : Bool) (bound : ℕ) (parts : List ScriptPart) (part : ScriptPart) → IsSearcher clock config bound parts one
     → slice_get parts k ≡ Some part → part.scripts.items ≡ scripts → IsOutcomeSearch clock config scripts search
 
--- whatever was searched, the other is a searcher of these parts if the first is
+-- a searcher of some parts before is one of the same parts afterwards, whatever the clock, the configuration and the bound are
 abbrev pub IsStillSearcher : Searcher → Searcher → Type 0
 IsStillSearcher before after =
     (clock : Bool) (config : Configuration) (bound : ℕ) (parts : List ScriptPart) → IsSearcher clock config bound parts before → IsSearcher clock config bound parts after
