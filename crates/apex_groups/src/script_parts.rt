@@ -79,7 +79,10 @@ pub(crate) fn outcomes_by<R: Threads + Sync, P: Progress>(
     )?;
     match searched {
         Searched::All(found) => Ok(found),
-        Searched::GivenUp(_, fault) => Err(fault),
+        Searched::GivenUp(search, fault) => {
+            search.free(rt);
+            Err(fault)
+        }
     }
 }
 

@@ -114,7 +114,7 @@ marks_send : IsSend Marks.the_row
 marks_send = declared_send Marks.the_type (search (sendable, crosses, as_row_send) depth 12, (search (sendable, crosses, as_row_send) depth 12, (search (as_row_send, trial.the_send), tt)))
 
 workers_send : IsSend Workers.the_row
-workers_send = declared_send Workers.the_type (search (crosses, worker_send), (search (sendable, crosses, marks_send) depth 12, (search sendable, tt)))
+workers_send = declared_send Workers.the_type (search (crosses, worker_send), (search (sendable, crosses, marks_send) depth 12, (search (sendable, crosses) depth 12, (search sendable, tt))))
 
 rounds_send : IsSend Rounds.the_row
 rounds_send = declared_send Rounds.the_type (search_send, (workers_send, (search sendable, (search (as_row_send, ports.the_send Heap.the_row ghosts heap_send frees), (search (sendable, crosses, packed.the_send) depth 12, tt)))))
@@ -202,7 +202,10 @@ shared_sync κ = declared_sync (Shared.the_type κ) (
     search (sendable, as_row_sync, config.the_sync),
     (
       search (sendable, as_row_sync, script.the_sync),
-      (search sendable, (search (sendable, as_row_sync, uses.the_sync), (search (sendable, crosses, as_row_sync) depth 12, (search (sendable, as_row_sync, replies.the_sync), tt)))),
+      (
+        search sendable,
+        (search (sendable, as_row_sync, uses.the_sync), (search (sendable, crosses, as_row_sync) depth 12, (search (sendable, as_row_sync, replies.the_sync), (search (sendable, crosses, as_row_sync) depth 12, tt)))),
+      ),
     ),
   ),
 )

@@ -120,11 +120,12 @@ CanAllTry config workers = (k : ℕ) (worker : Worker) → slice_get workers k �
 abbrev pub CanAllMark : Configuration → List Marks → Type 0
 CanAllMark config marks = (k : ℕ) (one : Marks) → slice_get marks k ≡ Some one → IsTrialOf config one.trial
 
--- so can those that were made, with marks for each, and at least one thread may run
+-- so can those that were made, with marks and a weight for each, and at least one thread may run
 pub record AreWorkers (config : Configuration) (workers : Workers) : Type 0 where
   pub some : 0 < workers.threads
   pub each : CanAllTry config workers.all.items
   pub count : length workers.marks.items ≡ length workers.all.items
+  pub weights : length workers.weights.items ≡ length workers.all.items
   pub marks : CanAllMark config workers.marks.items
 
 -- the index is that of the order to one of the worker's points
@@ -243,14 +244,14 @@ pub record CanRun (shared : Shared) (worker : Worker) : Type 0 where
   pub left : HasLeft worker
   pub tried : AreContinued shared worker
 
--- the worker has tried more of its points, and all that were left if they were at most so many
-pub record HasRunOn (shared : Shared) (most : ℕ) (old new : Worker) : Type 0 where
+-- the worker has tried more of its points, and all that were left unless they were more than one part
+pub record HasRunOn (shared : Shared) (parts : ℕ) (old new : Worker) : Type 0 where
   pub valid : IsWorkerOf shared new
   pub later : IsLaterWorker old new
   pub left : HasLeft new
   pub tried : AreContinued shared new
-  pub all : length old.points.items ≤ most → new.points.items ≡ []
+  pub all : parts ≤ 1 → new.points.items ≡ []
 
 -- this holds unless memory ran out
 abbrev pub HasRun : Shared → ℕ → Worker → Worker → Type 0
-HasRun shared most old new = OnOk new.result (HasRunOn shared most old new)
+HasRun shared parts old new = OnOk new.result (HasRunOn shared parts old new)

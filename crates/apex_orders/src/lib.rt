@@ -28,6 +28,7 @@ mod rounds;
 pub mod same_state;
 mod search;
 mod shared;
+mod shares;
 mod sizes;
 pub mod state_law;
 pub mod step;

@@ -2,8 +2,8 @@
 ghost use Rattle.std.specs.Prelude.{◌≡◌, ◌<◌, ◌≤◌, length, slice_get, Some, IfOk, OnOk, IsTrue, ◌↔◌};
 ghost use Rattle.apex_orders.specs.Hashes.{hash_of};
 ghost use Rattle.apex_orders.specs.Known.{IsTrialOf};
-ghost use Rattle.apex_orders.specs.Workers.{AreHashed, HasPoint};
-ghost use Rattle.apex_orders.specs.Marks.{AreAllHashed, AreMarks, HasHashes, IsFoundBefore};
+ghost use Rattle.apex_orders.specs.Workers.{AreHashed, CanAllMark, HasPoint};
+ghost use Rattle.apex_orders.specs.Marks.{AreAllHashed, AreAllMarked, AreMarks, HasHashes, IsFoundBefore};
 ghost use Rattle.apex_orders.specs.declared.found_point.FoundPoint.{FoundPoint};
 
 use crate::found_point::{FoundPoint, has_found};
@@ -12,6 +12,8 @@ use crate::worker::Worker;
 use apex_module::Config;
 use apex_types::OutOfMemory;
 use std::alloc::Global;
+use std::thread;
+use std::thread::Threads;
 
 /// For each point that a worker found, whether a worker before it found it, too.
 #[derive(Drop)]
@@ -126,4 +128,39 @@ fn has_point(config: &Config, worker: &Worker, one: &FoundPoint, trial: &mut Tri
     }
     trial.ports.restore(one.saved.saved());
     has_found(&worker.found, &worker.hashes, trial, one.hash)
+}
+
+/// Marks what several workers found, in at most `threads` threads.
+pub(crate) fn mark_all<R: Threads + Sync>(
+    rt: &R,
+    threads: usize,
+    config: &Config,
+    workers: &[Worker],
+    marks: &mut [Marks],
+) -> Result<(), OutOfMemory>
+    requires threads { 0 < threads }
+    requires hashed { AreAllHashed config.now workers.now }
+    requires marks { CanAllMark config.now marks.old }
+    requires each { length marks.old ≡ length workers.now }
+    ensures marks { OnOk result (CanAllMark config.now marks.new) }
+    ensures each { OnOk result (length marks.new ≡ length marks.old) }
+    ensures marked { OnOk result (AreAllMarked workers.now marks.new) }
+{
+    thread::for_each_mut(
+        rt,
+        marks,
+        threads,
+        &|k: usize, one: &mut Marks|
+            requires { IsTrialOf config.now one.old.trial × AreAllHashed config.now workers.now
+                × (k < length workers.now) }
+            ensures { IsTrialOf config.entry.now one.new.trial
+                × OnOk one.new.result (AreMarks workers.entry.now k one.new.known.items) }
+        { one.mark(config, workers, k) },
+    );
+    for k in 0..marks.len() {
+        if marks[k].result.is_err() {
+            return Err(OutOfMemory);
+        }
+    }
+    Ok(())
 }

@@ -87,6 +87,11 @@ impl OutcomeSearch {
         }))
     }
 
+    /// Frees the memory of the search, a part in each thread. If a search is dropped, one thread frees it.
+    pub fn free<R: Threads + Sync>(self, rt: &R) {
+        self.rounds.free(rt);
+    }
+
     /// Tells `progress` how far the search is. Returns whether it is to go on.
     pub fn report<P: Progress>(&self, progress: &mut P) -> bool
         ensures { result ≡ false → P.CanStop }

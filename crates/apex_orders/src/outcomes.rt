@@ -56,7 +56,10 @@ pub fn all_outcomes<R: Threads + Sync>(
     )?;
     match searched {
         Searched::All(found) => Ok(found),
-        Searched::GivenUp(_, fault) => Err(fault),
+        Searched::GivenUp(search, fault) => {
+            search.free(rt);
+            Err(fault)
+        }
     }
 }
 

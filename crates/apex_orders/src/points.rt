@@ -5,13 +5,11 @@ ghost use Rattle.apex_orders.specs.Orders.{Scripts};
 
 use crate::boxed_ports::BoxedPorts;
 use apex_module::Config;
-use apex_ports::{Ports, SavedPorts, Script};
+use apex_ports::{Ports, SavedPorts};
 use apex_types::OutOfMemory;
 use std::alloc::Global;
 use std::collections::VecDeque;
-
-/// The work to try a point's next calls is that for each byte that is saved for it, and for so many bytes more.
-const WORK_EACH: usize = 1_000;
+use std::mem;
 
 /// What is kept of the points, which are found by levels: those after the same number of calls are a level.
 #[derive(Drop)]
@@ -48,52 +46,23 @@ impl Points {
         })
     }
 
-    /// Moves the first saved ports to the list, which is empty.
-    pub(crate) fn take(
-        &mut self,
-        count: usize,
-        to: &mut VecDeque<BoxedPorts>,
-    ) -> Result<(), OutOfMemory>
+    /// Takes the first saved ports.
+    pub(crate) fn take(&mut self, count: usize) -> Result<VecDeque<BoxedPorts>, OutOfMemory>
         requires count { count ≤ length self.old.saved.items }
         requires room { self.old.first + count ≤ usize.MAX }
-        requires empty { to.old.items ≡ [] }
-        ensures taken { OnOk result
-            (self.old.saved.items ≡ to.new.items ++ self.new.saved.items) }
-        ensures count { OnOk result (length to.new.items ≡ count) }
+        ensures taken { IfOk result
+            (λ taken. self.old.saved.items ≡ taken.items ++ self.new.saved.items) }
+        ensures count { IfOk result (λ taken. length taken.items ≡ count) }
         ensures first { OnOk result (self.new.first ≡ self.old.first + count) }
         ensures next { OnOk result (self.new.next ≡ self.old.next) }
         ensures calls { OnOk result (self.new.calls ≡ self.old.calls) }
     {
-        to.reserve(count)?;
-        for _ in 0..count {
-            let ports = self.saved.pop_front().unwrap();
-            self.bytes = self.bytes.saturating_sub(ports.bytes());
-            to.push_back(ports)?;
-        }
+        let bytes = self.bytes.saturating_mul(count) / self.saved.len().max(1);
+        let rest = self.saved.split_off(count)?;
+        let taken = mem::replace(&mut self.saved, rest);
+        self.bytes = self.bytes.saturating_sub(bytes);
         self.first += count;
-        Ok(())
-    }
-
-    /// How many of the first `left` points are about the same work as an equal share of them for each of so many workers.
-    pub(crate) fn share(&self, left: usize, workers: usize) -> usize
-        ensures within { result ≤ left }
-        ensures last { workers ≤ 1 → result ≡ left }
-    {
-        if workers <= 1 {
-            return left;
-        }
-        let work = left.saturating_mul(WORK_EACH).saturating_add(self.bytes);
-        let most = work / workers;
-        let mut done: usize = 0;
-        for count in 0..left.min(self.saved.len()) {
-            if done >= most {
-                return count;
-            }
-            done = done
-                .saturating_add(WORK_EACH)
-                .saturating_add(self.saved[count].bytes());
-        }
-        left
+        Ok(taken)
     }
 
     /// Adds a point.

@@ -63,9 +63,6 @@ pub(crate) fn search_points<R: Threads + Sync, P: Progress>(
     Ok(rounds.into_found(rt, given_up))
 }
 
-/// After how many points of each worker a search tells how far it is.
-const POINTS_AT_ONCE: usize = 8_192;
-
 /// A search, its workers and the answers that it found. Either all points of the level are still to be given to workers, or
 /// all are given out.
 #[derive(Drop)]
@@ -294,17 +291,19 @@ impl Rounds {
         ensures all { IfOk result (λ done. IsTrue done → HaveTriedAll self.new.workers.all.items) }
         ensures stopped { IfOk result (λ done. done ≡ false → P.CanStop) }
     {
-        for _ in 0..self.workers.most_left() / POINTS_AT_ONCE {
-            self.try_next(rt, alloc, config, scripts, clock, asked, POINTS_AT_ONCE)?;
+        let parts = self.workers.parts();
+        for done in 1..parts {
+            let left = parts - done + 1;
+            self.try_next(rt, alloc, config, scripts, clock, asked, left)?;
             if !self.report(progress) {
                 return Ok(false);
             }
         }
-        self.try_next(rt, alloc, config, scripts, clock, asked, usize::MAX)?;
+        self.try_next(rt, alloc, config, scripts, clock, asked, 1)?;
         Ok(true)
     }
 
-    /// Lets each worker try at most so many of its points.
+    /// Lets each worker try the first of so many equal parts of the points that it has yet to try.
     fn try_next<R: Threads + Sync>(
         &mut self,
         rt: &R,
@@ -313,7 +312,7 @@ impl Rounds {
         scripts: &[Script],
         clock: bool,
         asked: &[Asked],
-        most: usize,
+        parts: usize,
     ) -> Result<(), OutOfMemory>
         requires under_way { IsUnderWay clock config.now scripts.now asked.now self.old }
         requires given { self.old.first < self.old.current.points.first }
@@ -321,12 +320,11 @@ impl Rounds {
             (IsUnderWay clock config.now scripts.now asked.now self.new) }
         ensures first { self.new.first ≡ self.old.first }
         ensures current { self.new.current ≡ self.old.current }
-        ensures all { OnOk result
-            (most ≡ usize.MAX → HaveTriedAll self.new.workers.all.items) }
+        ensures all { OnOk result (parts ≤ 1 → HaveTriedAll self.new.workers.all.items) }
     {
         let current = &self.current;
         self.workers
-            .try_next(rt, alloc, config, scripts, clock, most, current)?;
+            .try_next(rt, alloc, config, scripts, clock, parts, current)?;
         Ok(())
     }
 
@@ -353,6 +351,13 @@ impl Rounds {
         self.current.end_level(config, scripts, clock);
         self.first = self.current.points.first;
         Ok(())
+    }
+
+    /// Frees the memory, a part in each thread.
+    pub(crate) fn free<R: Threads + Sync>(self, rt: &R) {
+        let current = self.current;
+        let points = current.points;
+        self.workers.free(rt, points.saved);
     }
 
     /// What was found, with why the search was given up.

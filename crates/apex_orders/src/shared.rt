@@ -4,6 +4,7 @@ use crate::replies::Replies;
 use apex_module::Config;
 use apex_ports::Script;
 use std::alloc::Global;
+use std::sync::atomic::AtomicUsize;
 
 /// What all workers of a search read, from whichever thread.
 #[derive(Clone, Copy)]
@@ -18,4 +19,6 @@ pub(crate) struct Shared<'a> {
     pub(crate) from: &'a [usize],
     /// The replies that the search had found.
     pub(crate) known: &'a Replies,
+    /// The number of the worker that has ended last.
+    pub(crate) last: &'a AtomicUsize,
 }

@@ -29,6 +29,7 @@ use std::alloc::Global;
 use std::collections::VecDeque;
 use std::mem;
 use std::snapshot::Snapshot;
+use std::sync::atomic::Ordering;
 
 /// For how many points a worker keeps memory to use again.
 const MOST_SPARE: usize = 16_384;
@@ -121,21 +122,22 @@ impl Worker {
         self.hashes.clear();
         self.replies.clear();
         self.tried = 0;
-        self.points.clear();
         let bytes = points.bytes;
-        points.take(count, &mut self.points)?;
+        self.points = points.take(count)?;
         self.bytes = bytes.saturating_sub(points.bytes);
         self.given = Snapshot::of(&self.points);
         Ok(())
     }
 
-    /// Tries the next calls of enough partitions after each of its next points, of which it takes at most so many.
-    pub(crate) fn run(&mut self, shared: &Shared<'_>, most: usize)
+    /// Tries the first of so many equal parts of the points that it has yet to try, and tells the others that the worker with
+    /// this number has ended.
+    pub(crate) fn run(&mut self, shared: &Shared<'_>, number: usize, parts: usize)
         requires shared { IsShared shared.now }
         requires ready { CanRun shared.now self.old }
-        ensures { HasRun shared.now most self.old self.new }
+        ensures { HasRun shared.now parts self.old self.new }
     {
-        self.result = self.try_points(shared, most);
+        self.result = self.try_points(shared, parts);
+        shared.last.store(number, Ordering::Relaxed);
     }
 
     /// Frees all saved ports.
@@ -145,7 +147,8 @@ impl Worker {
         self.spare.clear();
     }
 
-    fn try_points(&mut self, shared: &Shared<'_>, most: usize) -> Result<(), OutOfMemory>
+    /// Tries the next calls of enough partitions after each point of the first of so many equal parts of those that are left.
+    fn try_points(&mut self, shared: &Shared<'_>, parts: usize) -> Result<(), OutOfMemory>
         requires valid { IsWorkerOf shared.now self.old }
         requires shared { IsShared shared.now }
         requires left { HasLeft self.old }
@@ -154,14 +157,13 @@ impl Worker {
         ensures later { OnOk result (IsLaterWorker self.old self.new) }
         ensures left { OnOk result (HasLeft self.new) }
         ensures tried { OnOk result (AreContinued shared.now self.new) }
-        ensures all { OnOk result (length self.old.points.items ≤ most
-            → self.new.points.items ≡ []) }
+        ensures all { OnOk result (parts ≤ 1 → self.new.points.items ≡ []) }
     {
         let mut choice = Choice::new(shared.alloc);
         let mut points = mem::replace(&mut self.points, VecDeque::new(shared.alloc));
         let first = self.tried;
         let mut bytes: usize = 0;
-        let count = points.len().min(most);
+        let count = first_part(points.len(), parts);
         for n in 0..count {
             let saved = points.pop_front().unwrap();
             self.try_point(shared, first + n, &saved, &mut choice)?;
@@ -329,6 +331,17 @@ fn answer_next(
     };
     replies.add_unless_known(shared.alloc, shared.known, made)?;
     Ok(true)
+}
+
+/// How many of the points are in the first of so many equal parts.
+fn first_part(points: usize, parts: usize) -> usize
+    ensures within { result ≤ points }
+    ensures only { parts ≤ 1 → result ≡ points }
+{
+    if parts <= 1 {
+        return points;
+    }
+    points / parts
 }
 
 /// Keeps the memory of saved ports to use it again, unless there is enough.

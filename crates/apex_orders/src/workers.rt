@@ -2,21 +2,23 @@
 ghost use Rattle.std.specs.Prelude.{◌≡◌, ◌<◌, ◌≤◌, ◌+◌, ℕ, length, slice_get, slice_index_or, Some, OnOk, IsTrue, is_err, false};
 ghost use Rattle.apex_orders.specs.Known.{IsSameLevel, IsTrialOf};
 ghost use Rattle.apex_orders.specs.Searching.{HasLevel, HasTried, IsLater, IsSearch};
-ghost use Rattle.apex_orders.specs.Marks.{AreAllHashed, AreAllMarked, AreMarks};
-ghost use Rattle.apex_orders.specs.Workers.{AreUnderTrial, AreWorkers, CanAllMark, CanAllTry, CanRun, HasGivenAll, HasPointAt, HasRun, HavePoints, HaveTriedAll, IsShared};
+ghost use Rattle.apex_orders.specs.Marks.{AreAllMarked};
+ghost use Rattle.apex_orders.specs.Workers.{AreUnderTrial, AreWorkers, CanAllTry, CanRun, HasGivenAll, HasPointAt, HasRun, HavePoints, HaveTriedAll, IsShared};
 ghost use Rattle.apex_orders.specs.declared.worker.Worker.{Worker};
 
 use crate::boxed_ports::BoxedPorts;
-use crate::marks::Marks;
+use crate::marks::{Marks, mark_all};
 use crate::orders::Orders;
 use crate::search::Search;
 use crate::shared::Shared;
+use crate::shares::{FIRST_WEIGHT, lighten, share_of, share_out};
 use crate::worker::Worker;
 use apex_module::Config;
 use apex_ports::Script;
 use apex_types::OutOfMemory;
-use std::alloc::{AllocError, Global};
+use std::alloc::Global;
 use std::collections::VecDeque;
+use std::sync::atomic::{AtomicUsize, Ordering};
 use std::thread;
 use std::thread::Threads;
 
@@ -26,12 +28,23 @@ const POINTS_EACH: usize = 128;
 /// The most threads that share points: the more there are, the longer they wait for the one that adds what all found.
 const MOST_THREADS: usize = 8;
 
+/// Trying a point costs about as much as its saved bytes and this many more.
+const WORK_EACH: usize = 1_000;
+
+/// How much work one worker does before the search tells how far it is: about a sixtieth of a second.
+const WORK_ALONE: usize = 8_000_000;
+
+/// How much each of several workers does, which wait for each other afterwards: about an eighth of a second.
+const WORK_TOGETHER: usize = 64_000_000;
+
 /// The workers that a search has made.
 #[derive(Drop)]
 pub(crate) struct Workers {
     pub(crate) all: Vec<Worker>,
     /// For each worker the marks of what it finds.
     pub(crate) marks: Vec<Marks>,
+    /// For each worker how much of a level it is given, compared with the others.
+    pub(crate) weights: Vec<usize>,
     /// How many threads may run beside each other, this one included.
     pub(crate) threads: usize,
 }
@@ -44,6 +57,7 @@ impl Workers {
         Workers {
             all: Vec::new(alloc),
             marks: Vec::new(alloc),
+            weights: Vec::new(alloc),
             threads: 1,
         }
     }
@@ -53,6 +67,7 @@ impl Workers {
         ensures some { 0 < self.new.threads }
         ensures same { self.new.all ≡ self.old.all }
         ensures marks { self.new.marks ≡ self.old.marks }
+        ensures weights { self.new.weights ≡ self.old.weights }
     {
         let processors = match thread::available_parallelism(rt) {
             Ok(processors) => processors.get(),
@@ -86,11 +101,12 @@ impl Workers {
         let threads = self.threads.min(count / POINTS_EACH).max(1);
         self.make(alloc, config, threads, &current.orders)?;
         let workers = self.all.as_mut_slice();
-        give_all(config, scripts, clock, count, workers, current)?;
+        let weights = self.weights.as_slice();
+        give_all(config, scripts, clock, count, weights, workers, current)?;
         Ok(())
     }
 
-    /// Lets each worker try the next calls of enough partitions after its next points, at most so many.
+    /// Lets each worker try the first of so many equal parts of the points that it has yet to try.
     pub(crate) fn try_next<R: Threads + Sync>(
         &mut self,
         rt: &R,
@@ -98,7 +114,7 @@ impl Workers {
         config: &Config,
         scripts: &[Script],
         clock: bool,
-        most: usize,
+        parts: usize,
         current: &Search,
     ) -> Result<(), OutOfMemory>
         requires workers { AreWorkers config.now self.old }
@@ -110,13 +126,16 @@ impl Workers {
             current.now self.new.all.items) }
         ensures points { OnOk result ((i : ℕ) → HasPointAt self.old.all.items i
             → HasPointAt self.new.all.items i) }
-        ensures all { OnOk result (most ≡ usize.MAX → HaveTriedAll self.new.all.items) }
+        ensures all { OnOk result (parts ≤ 1 → HaveTriedAll self.new.all.items) }
     {
-        let threads = self.threads_for(self.most_left());
+        let threads = self.threads_for(self.left() / self.all.len().max(1));
+        let last = AtomicUsize::new(0);
         let workers = self.all.as_mut_slice();
         try_all(
-            rt, alloc, config, scripts, clock, threads, most, workers, current,
+            rt, alloc, config, scripts, clock, threads, parts, &last, workers, current,
         )?;
+        let slowest = last.load(Ordering::Relaxed);
+        lighten(self.weights.as_mut_slice(), slowest, threads);
         Ok(())
     }
 
@@ -151,7 +170,7 @@ impl Workers {
         Ok(())
     }
 
-    /// How many threads are worth their start if there are so many points for each.
+    /// How many threads to start if each gets about this many points.
     fn threads_for(&self, points: usize) -> usize
         requires { 0 < self.now.threads }
         ensures { 0 < result }
@@ -162,13 +181,28 @@ impl Workers {
         self.threads
     }
 
-    /// How many points the worker has yet to try that has the most left.
-    pub(crate) fn most_left(&self) -> usize {
-        let mut most: usize = 0;
+    /// How many points the workers have yet to try.
+    fn left(&self) -> usize {
+        let mut left: usize = 0;
         for worker in self.all.as_slice() {
-            most = most.max(worker.points.len());
+            left = left.saturating_add(worker.points.len());
         }
-        most
+        left
+    }
+
+    /// In how many parts the workers try what is left, so that the search can tell after each part how far it is.
+    pub(crate) fn parts(&self) -> usize
+        ensures { 0 < result }
+    {
+        let work = self
+            .left()
+            .saturating_mul(WORK_EACH)
+            .saturating_add(self.bytes());
+        let workers = self.all.len();
+        if workers <= 1 {
+            return work / WORK_ALONE + 1;
+        }
+        work / workers / WORK_TOGETHER + 1
     }
 
     /// How many points all workers have found since the search last added what they found.
@@ -214,6 +248,7 @@ impl Workers {
     {
         for _ in self.all.len()..count {
             self.marks.push(Marks::new(alloc, config)?)?;
+            self.weights.push(FIRST_WEIGHT)?;
             self.all.push(Worker::new(alloc, config, orders)?)?;
         }
         Ok(())
@@ -226,10 +261,12 @@ fn give_all(
     scripts: &[Script],
     clock: bool,
     count: usize,
+    weights: &[usize],
     workers: &mut [Worker],
     current: &mut Search,
 ) -> Result<(), OutOfMemory>
     requires some { 0 < length workers.old }
+    requires each { length weights.now ≡ length workers.old }
     requires workers { CanAllTry config.now workers.old }
     requires valid { IsSearch clock config.now scripts.now current.old }
     requires all { current.old.points.first + count ≡ current.old.points.next }
@@ -243,7 +280,7 @@ fn give_all(
 {
     let mut left = count;
     for k in 0..workers.len() {
-        let share = current.points.share(left, workers.len() - k);
+        let share = share_of(left, weights, k);
         let worker = &mut workers[k];
         current.give(config, scripts, clock, share, worker)?;
         left -= share;
@@ -251,17 +288,8 @@ fn give_all(
     Ok(())
 }
 
-/// Moves the saved ports to the workers, about as many to each.
-fn share_out(saved: &mut VecDeque<BoxedPorts>, workers: &mut [Worker]) -> Result<(), AllocError> {
-    for k in 0..workers.len() {
-        let share = saved.len() / (workers.len() - k);
-        let at = saved.len() - share;
-        workers[k].points = saved.split_off(at)?;
-    }
-    Ok(())
-}
-
-/// Lets each worker try its next points, at most so many, in at most `threads` threads.
+/// Lets each worker try the first of so many equal parts of its points, in at most `threads` threads. `last` becomes the number
+/// of the worker that ends last.
 fn try_all<R: Threads + Sync>(
     rt: &R,
     alloc: Global,
@@ -269,7 +297,8 @@ fn try_all<R: Threads + Sync>(
     scripts: &[Script],
     clock: bool,
     threads: usize,
-    most: usize,
+    parts: usize,
+    last: &AtomicUsize,
     workers: &mut [Worker],
     current: &Search,
 ) -> Result<(), OutOfMemory>
@@ -282,7 +311,7 @@ fn try_all<R: Threads + Sync>(
     ensures count { length workers.new ≡ length workers.old }
     ensures points { OnOk result ((i : ℕ) → HasPointAt workers.old i
         → HasPointAt workers.new i) }
-    ensures all { OnOk result (most ≡ usize.MAX → HaveTriedAll workers.new) }
+    ensures all { OnOk result (parts ≤ 1 → HaveTriedAll workers.new) }
 {
     let shared = Shared {
         alloc,
@@ -292,20 +321,21 @@ fn try_all<R: Threads + Sync>(
         uses: current.uses.as_slice(),
         from: current.from.as_slice(),
         known: &current.replies,
+        last,
     };
-    run_all(rt, threads, &shared, most, workers);
+    run_all(rt, threads, &shared, parts, workers);
     if !have_run(workers) {
         return Err(OutOfMemory);
     }
     Ok(())
 }
 
-/// Runs the workers, in at most `threads` threads; each tries at most so many points.
+/// Runs the workers, in at most `threads` threads; each tries the first of so many equal parts of its points.
 fn run_all<R: Threads + Sync>(
     rt: &R,
     threads: usize,
     shared: &Shared<'_>,
-    most: usize,
+    parts: usize,
     workers: &mut [Worker],
 )
     requires threads { 0 < threads }
@@ -313,10 +343,15 @@ fn run_all<R: Threads + Sync>(
     requires workers { (k : ℕ) (worker : Worker) → slice_get workers.old k ≡ Some worker
         → CanRun shared.now worker }
     ensures count { length workers.new ≡ length workers.old }
-    ensures ran { (k : ℕ) (d : Worker) → k < length workers.old → HasRun shared.now most
+    ensures ran { (k : ℕ) (d : Worker) → k < length workers.old → HasRun shared.now parts
         (slice_index_or workers.old k d) (slice_index_or workers.new k d) }
 {
-    thread::for_each_mut(rt, workers, threads, &|_, worker| worker.run(shared, most));
+    thread::for_each_mut(
+        rt,
+        workers,
+        threads,
+        &|k, worker| worker.run(shared, k, parts),
+    );
 }
 
 /// Whether there was memory for what the workers tried.
@@ -330,41 +365,6 @@ fn have_run(workers: &[Worker]) -> bool
         }
     }
     true
-}
-
-/// Marks what several workers found, in at most `threads` threads.
-fn mark_all<R: Threads + Sync>(
-    rt: &R,
-    threads: usize,
-    config: &Config,
-    workers: &[Worker],
-    marks: &mut [Marks],
-) -> Result<(), OutOfMemory>
-    requires threads { 0 < threads }
-    requires hashed { AreAllHashed config.now workers.now }
-    requires marks { CanAllMark config.now marks.old }
-    requires each { length marks.old ≡ length workers.now }
-    ensures marks { OnOk result (CanAllMark config.now marks.new) }
-    ensures each { OnOk result (length marks.new ≡ length marks.old) }
-    ensures marked { OnOk result (AreAllMarked workers.now marks.new) }
-{
-    thread::for_each_mut(
-        rt,
-        marks,
-        threads,
-        &|k: usize, one: &mut Marks|
-            requires { IsTrialOf config.now one.old.trial × AreAllHashed config.now workers.now
-                × (k < length workers.now) }
-            ensures { IsTrialOf config.entry.now one.new.trial
-                × OnOk one.new.result (AreMarks workers.entry.now k one.new.known.items) }
-        { one.mark(config, workers, k) },
-    );
-    for k in 0..marks.len() {
-        if marks[k].result.is_err() {
-            return Err(OutOfMemory);
-        }
-    }
-    Ok(())
 }
 
 /// Adds what the workers found, in the order of their points.

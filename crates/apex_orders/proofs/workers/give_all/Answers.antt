@@ -29,11 +29,13 @@ loop-k-preserved c =
     let workers = c.loop-k.workers in
     let k = c.loop-k.k in
     let left = c.loop-k.left in
-    let share = c.share-share.result in
+    let share = c.share_of-share.result in
     let worker = c.give.new.worker in
-    let fits = c.share-share.ensures.within in
+    let fits = c.share_of-share.ensures.within in
     let first = now.first in
     let begun = was.low in
+    let many = was.many in
+    let each = c.requires.each in
     let within : k < length workers = omega (arith, c.loop-k-test.true) in
     let count = length-set workers k worker in
     let start = c.loop-k.current.points.first in
@@ -45,7 +47,7 @@ loop-k-preserved c =
       calls = now.calls ∙ was.calls;
       first = moved_on c.give.new.self.points.first start share left (c.args.current.now.points.first + c.args.count) first fits was.first;
       low = omega (arith, first, begun);
-      last = λ end. let all = c.share-share.ensures.last (omega (arith, end, count, within)) in omega (arith, all);
+      last = λ end. let all = c.share_of-share.ensures.last (omega (arith, end, count, within, many, each)) in omega (arith, all);
       many = count ∙ was.many;
       rest = λ j other past at. was.rest j other (omega (arith, past)) (sym (set_elsewhere workers k worker j (λ same. absurd (omega (arith, past, same)))) ∙ at);
       given = λ j other below at.

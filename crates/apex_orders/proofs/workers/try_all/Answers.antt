@@ -1,4 +1,4 @@
-use Rattle.apex_orders.proofs.Common.{◌≡◌, ℕ, ◌≤◌, ◌+◌, ◌^◌, [], List, false, length, length-append, sym, ap, ◌∙◌, subst, arith, slice_get, Some, slice_get-get_or, slice_get_within, get_or_from_slice_get, PortsView, Configuration, Scripts, Worker, AreGiven, HasLeft, HasTriedAll, IsUnderTrial, IsLaterWorker, IsPointOf}
+use Rattle.apex_orders.proofs.Common.{◌≡◌, ℕ, [], List, false, length, length-append, sym, ap, ◌∙◌, subst, arith, slice_get, Some, slice_get-get_or, slice_get_within, get_or_from_slice_get, PortsView, Worker, HasLeft, HasTriedAll, IsUnderTrial, IsLaterWorker, IsPointOf}
 use Rattle.std.specs.Prelude.{get_or}
 use Rattle.std.specs.Result.{is_err}
 use Rattle.apex_orders.proofs.Levels.{still_made}
@@ -13,14 +13,6 @@ still_of old new i later is =
     let past = is.past in
     let within = is.within in
     record { past = omega (arith, past, first); within = omega (arith, within, first, count) }
-
--- a worker has fewer points than a number can be
-few_left : (config : Configuration) (scripts : Scripts) (worker : Worker) (most : ℕ) → AreGiven config scripts worker → HasLeft worker → 2 ^ 64 ≤ most + 1 → length worker.points.items ≤ most
-few_left config scripts worker most given left whole =
-    let all = ap (λ (points : List PortsView). length points) left.all in
-    let within = given.within in
-    let room = given.room in
-    omega (arith, all, within, room, whole, length-append left.done worker.points.items)
 
 -- a worker that has none left has tried all
 all_tried : (worker : Worker) → HasLeft worker → worker.points.items ≡ [] → HasTriedAll worker
@@ -79,15 +71,11 @@ returns-clause-points g c i at =
     }
 
 pub returns-clause-all : goal.returns-clause-all
-returns-clause-all g c whole k worker at =
-    let config = c.args.config.now in
-    let scripts = c.args.scripts.now in
-    let old = get_or c.args.workers.now k worker in
+returns-clause-all g c few k worker at =
     let new = get_or c.run_all.new.workers k worker in
     let many = c.run_all.ensures.count in
     let inside = slice_get_within c.run_all.new.workers k worker at in
     let own : new ≡ worker = get_or_from_slice_get c.run_all.new.workers k worker worker at in
     let ok = c.have_run.ensures (c.if-not-have_run.false) k worker at in
     let ran = when_ok new.result _ (subst (λ (w : Worker). is_err w.result ≡ false) (sym own) ok) (c.run_all.ensures.ran k worker (omega (arith, inside, many))) in
-    let was = c.requires.given k old (slice_get-get_or c.args.workers.now k worker (omega (arith, inside, many))) in
-    subst HasTriedAll own (all_tried new ran.left (ran.all (few_left config scripts old c.args.most was.valid.given was.left (omega (arith, whole)))))
+    subst HasTriedAll own (all_tried new ran.left (ran.all few))

@@ -1,4 +1,4 @@
-use Rattle.apex_orders.proofs.Common.{◌≡◌, ◌≤◌, length, [], AreContinued, HasLeft, IsLaterWorker, IsWorkerOf}
+use Rattle.apex_orders.proofs.Common.{◌≡◌, ◌≤◌, [], AreContinued, HasLeft, IsLaterWorker, IsWorkerOf}
 use Rattle.apex_orders.proofs.WorkerLemmas.{all_on_ok}
 use Rattle.apex_orders.proofs.worker.Worker.run.Goals as goal
 
@@ -8,8 +8,8 @@ returns c =
     let start = c.args.self.now in
     let ran = c.try_points-self.new.self in
     let told = c.try_points-self.ensures in
-    all_on_ok c.try_points-self.result (IsWorkerOf shared ran) (IsLaterWorker start ran) (HasLeft ran) (AreContinued shared ran) (length start.points.items ≤ c.args.most → ran.points.items ≡ []) _
-    (λ (is : IsWorkerOf shared ran) (later : IsLaterWorker start ran) (left : HasLeft ran) (tried : AreContinued shared ran) (all : length start.points.items ≤ c.args.most → ran.points.items ≡ []).
+    all_on_ok c.try_points-self.result (IsWorkerOf shared ran) (IsLaterWorker start ran) (HasLeft ran) (AreContinued shared ran) (c.args.parts ≤ 1 → ran.points.items ≡ []) _
+    (λ (is : IsWorkerOf shared ran) (later : IsLaterWorker start ran) (left : HasLeft ran) (tried : AreContinued shared ran) (all : c.args.parts ≤ 1 → ran.points.items ≡ []).
     record {
       valid = record {
         all = is.all;

@@ -128,7 +128,7 @@ pub returns-clause-all : goal.returns-clause-all
 returns-clause-all c few =
     let more = c.loop-n.invariant.more in
     let end = c.loop-n-test.false in
-    let count = c.min-count.ensures in
+    let count = c.first_part-count.ensures.only few in
     let len = c.len.ensures in
     let same = ap (λ (points : _). length points.items) c.replace-points.ensures.value in
-    nil_from_length c.loop-n.points.items (omega (arith, more, end, count, few, len, same))
+    nil_from_length c.loop-n.points.items (omega (arith, more, end, count, len, same))

@@ -8,7 +8,7 @@ use Rattle.apex_orders.proofs.WorkerLemmas.{when_ok}
 use Rattle.apex_orders.specs.Marks.{AreMarks}
 use Rattle.apex_orders.specs.declared.marks.Marks.{Marks}
 use Rattle.apex_orders.proofs.Crossing.{worker_sync}
-use Rattle.apex_orders.proofs.workers.mark_all.Goals as goal
+use Rattle.apex_orders.proofs.marks.mark_all.Goals as goal
 
 pub for_each_mut-requires-sync-F : goal.for_each_mut-requires-sync-F
 for_each_mut-requires-sync-F g c κs within = search (worker_sync, config.the_sync, crosses, sendable) depth 8
