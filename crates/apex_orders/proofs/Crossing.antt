@@ -7,10 +7,6 @@ use Rattle.std_alloc.proofs.SendSync.{Vec-send, Vec-sync}
 use Rattle.std_heap.specs.contracts.Global as Heap
 use Rattle.std_heap.specs.contracts.GlobalAllocator.TheImpl.{ghosts}
 use Rattle.apex_ports.proofs.ghost_history.Log.TheSendSync as log
-use Rattle.apex_ports.proofs.partition.SavedPartition.TheSendSync as partition
-use Rattle.apex_ports.proofs.partition.PortState.TheSendSync as port
-use Rattle.apex_ports.proofs.saved_channel.SavedChannel.TheSendSync as channel
-use Rattle.apex_ports.proofs.stored_messages.StoredMessages.TheSendSync as stored
 use Rattle.apex_ports.specs.contracts.ghost_history.Log as Log
 use Rattle.apex_ports.specs.contracts.ghost_history.GhostHistory as GhostHistory
 use Rattle.apex_ports.specs.contracts.ghost_history.GhostHistory.TheInside as GhostHistoryInside
@@ -22,7 +18,6 @@ use Rattle.apex_ports.specs.contracts.ports.Ports.TheInside as PortsInside
 use Rattle.apex_orders.specs.contracts.trial.Trial as Trial
 use Rattle.apex_ports.specs.contracts.ports.saved.SavedPorts as SavedPorts
 use Rattle.apex_ports.specs.contracts.ports.saved.SavedPorts.TheInside as SavedPortsInside
-use Rattle.apex_ports.specs.contracts.ports.saved.SavedState as SavedState
 use Rattle.apex_module.proofs.config.Config.TheSendSync as config
 use Rattle.apex_ports.proofs.ports.Ports.TheSendSync as ports
 use Rattle.apex_ports.proofs.script.Script.TheSendSync as script
@@ -32,8 +27,6 @@ use Rattle.apex_orders.proofs.order.PackedOrder.TheSendSync as packed
 use Rattle.apex_orders.proofs.orders.Orders.TheSendSync as orders
 use Rattle.apex_orders.proofs.replies.Replies.TheSendSync as replies
 use Rattle.apex_orders.proofs.trial.Trial.TheSendSync as trial
-use Rattle.apex_orders.specs.contracts.boxed_ports.BoxedPorts as BoxedPorts
-use Rattle.apex_orders.specs.contracts.boxed_ports.BoxedPorts.TheInside as BoxedPortsInside
 use Rattle.apex_orders.specs.contracts.points.Points as Points
 use Rattle.apex_orders.specs.contracts.shared.Shared as Shared
 use Rattle.apex_orders.specs.contracts.found_point.FoundPoint as FoundPoint
@@ -47,30 +40,12 @@ use Rattle.apex_orders.specs.contracts.outcome_search.OutcomeSearch as OutcomeSe
 ghost_history_send : IsSend GhostHistory.the_row
 ghost_history_send = view_send _ _ _ _ _ (declared_send GhostHistoryInside.the_type (log.the_send, tt))
 
-state_send : IsSend (SavedState.the_row Heap.the_row ghosts)
-state_send = declared_send (SavedState.the_type Heap.the_row ghosts) (
-  search (crosses, as_row_send, Vec-send, partition.the_send),
-  (
-    search (crosses, as_row_send, Vec-send, port.the_send),
-    (
-      search (as_row_send, stored.the_send Heap.the_row ghosts heap_send frees),
-      (
-        search (crosses, as_row_send, Vec-send, channel.the_send),
-        (search (sendable, crosses, as_row_send, Vec-send), tt),
-      ),
-    ),
-  ),
-)
-
 saved_ports_send : IsSend (SavedPorts.the_row Heap.the_row ghosts)
 saved_ports_send = view_send _ _ _ _ _ (declared_send (SavedPortsInside.the_type Heap.the_row ghosts)
-    (search (sendable, crosses, as_row_send), (ghost_history_send, (state_send, tt))))
-
-boxed_ports_send : IsSend BoxedPorts.the_row
-boxed_ports_send = view_send _ _ _ _ _ (declared_send BoxedPortsInside.the_type (search (crosses, saved_ports_send), (search sendable, tt)))
+    (search (sendable, crosses, as_row_send), (ghost_history_send, (search (sendable, crosses, as_row_send, Vec-send) depth 12, tt))))
 
 found_point_send : IsSend FoundPoint.the_row
-found_point_send = declared_send FoundPoint.the_type (search sendable, (search sendable, (search sendable, (boxed_ports_send, tt))))
+found_point_send = declared_send FoundPoint.the_type (search sendable, (search sendable, (search sendable, (saved_ports_send, tt))))
 
 pub worker_send : IsSend Worker.the_row
 worker_send = declared_send Worker.the_type (
@@ -82,14 +57,14 @@ worker_send = declared_send Worker.the_type (
       (
         search sendable,
         (
-          search (crosses, boxed_ports_send),
+          search (crosses, saved_ports_send),
           (
             search (crosses, found_point_send),
             (
               search (sendable, crosses, as_row_send) depth 12,
               (
                 search (as_row_send, replies.the_send),
-                (search (crosses, boxed_ports_send), (search sendable, (search (sendable, crosses, as_row_send) depth 12, (search (as_row_send, trial.the_send), tt)))),
+                (search (crosses, saved_ports_send), (search sendable, (search (sendable, crosses, as_row_send) depth 12, (search (as_row_send, trial.the_send), tt)))),
               ),
             ),
           ),
@@ -102,7 +77,7 @@ worker_send = declared_send Worker.the_type (
 -- ---- a search with its workers
 
 points_send : IsSend Points.the_row
-points_send = declared_send Points.the_type (search sendable, (search sendable, (search sendable, (search (crosses, boxed_ports_send), (search sendable, tt)))))
+points_send = declared_send Points.the_type (search sendable, (search sendable, (search sendable, (search (crosses, saved_ports_send), (search sendable, tt)))))
 
 search_send : IsSend Search.the_row
 search_send = declared_send Search.the_type (
@@ -130,27 +105,9 @@ log_sync = record { shared = λ d b o κ q. whole-keyless _ _ (λ x vs. (log.the
 ghost_history_sync : IsSync GhostHistory.the_row
 ghost_history_sync = view_sync _ _ _ _ _ (declared_sync GhostHistoryInside.the_type (log_sync, tt))
 
-state_sync : IsSync (SavedState.the_row Heap.the_row ghosts)
-state_sync = declared_sync (SavedState.the_type Heap.the_row ghosts) (
-  search (crosses, as_row_sync, Vec-sync, partition.the_sync),
-  (
-    search (crosses, as_row_sync, Vec-sync, port.the_sync),
-    (
-      search (as_row_sync, stored.the_sync Heap.the_row ghosts heap_sync),
-      (
-        search (crosses, as_row_sync, Vec-sync, channel.the_sync),
-        (search (sendable, crosses, as_row_sync, Vec-sync), tt),
-      ),
-    ),
-  ),
-)
-
 saved_ports_sync : IsSync (SavedPorts.the_row Heap.the_row ghosts)
 saved_ports_sync = view_sync _ _ _ _ _ (declared_sync (SavedPortsInside.the_type Heap.the_row ghosts)
-    (search (sendable, crosses, as_row_sync), (ghost_history_sync, (state_sync, tt))))
-
-boxed_ports_sync : IsSync BoxedPorts.the_row
-boxed_ports_sync = view_sync _ _ _ _ _ (declared_sync BoxedPortsInside.the_type (search (crosses, saved_ports_sync), (search sendable, tt)))
+    (search (sendable, crosses, as_row_sync), (ghost_history_sync, (search (sendable, crosses, as_row_sync, Vec-sync) depth 12, tt))))
 
 kept_state_sync : IsSync (State.the_row Heap.the_row ghosts)
 kept_state_sync = declared_sync (State.the_type Heap.the_row ghosts) (
@@ -166,7 +123,7 @@ trial_sync : IsSync Trial.the_row
 trial_sync = declared_sync Trial.the_type (search (as_row_sync, ports_sync), (search (as_row_sync, ports_sync), (search (sendable, as_row_sync) depth 12, tt)))
 
 found_point_sync : IsSync FoundPoint.the_row
-found_point_sync = declared_sync FoundPoint.the_type (search sendable, (search sendable, (search sendable, (boxed_ports_sync, tt))))
+found_point_sync = declared_sync FoundPoint.the_type (search sendable, (search sendable, (search sendable, (saved_ports_sync, tt))))
 
 pub worker_sync : IsSync Worker.the_row
 worker_sync = declared_sync Worker.the_type (
@@ -178,14 +135,14 @@ worker_sync = declared_sync Worker.the_type (
       (
         search sendable,
         (
-          search (crosses, boxed_ports_sync),
+          search (crosses, saved_ports_sync),
           (
             search (crosses, found_point_sync),
             (
               search (sendable, as_row_sync, hashes.the_sync) depth 12,
               (
                 search (as_row_sync, replies.the_sync),
-                (search (crosses, boxed_ports_sync), (search sendable, (search (sendable, crosses, as_row_sync) depth 12, (search (as_row_sync, trial_sync), tt)))),
+                (search (crosses, saved_ports_sync), (search sendable, (search (sendable, crosses, as_row_sync) depth 12, (search (as_row_sync, trial_sync), tt)))),
               ),
             ),
           ),

@@ -21,6 +21,7 @@ pub mod Levels
 pub mod Lists
 pub mod MarkLemmas
 pub mod SameWays
+pub mod SavedAlike
 pub mod SearchLemmas
 pub mod SeenAlike
 pub mod StateSteps

@@ -12,10 +12,10 @@ abbrev of_port : Option Port → Validity → Validity
 of_port None last = Invalid
 of_port (Some port) last = last
 
-abbrev shown_of : Bool → Option Port → Validity → Validity
+abbrev pub shown_of : Bool → Option Port → Validity → Validity
 shown_of created port last = of_port (sampling_only (if created then port else None)) last
 
-shown_is : (config : Configuration) (h : History) (p id : ℕ) → last_shown config h p id ≡ shown_of (is_created p id h) (port_of config p id) (last_validity_of p id h)
+pub shown_is : (config : Configuration) (h : History) (p id : ℕ) → last_shown config h p id ≡ shown_of (is_created p id h) (port_of config p id) (last_validity_of p id h)
 shown_is config h p id = of_sampling (sampling_port config (seen config h p) p id)
   where
     of_sampling : (o : Option Port) → validity_shown (seen config h p) id o ≡ of_port o (last_validity_of p id h)

@@ -244,7 +244,7 @@ pub record CanRun (shared : Shared) (worker : Worker) : Type 0 where
   pub left : HasLeft worker
   pub tried : AreContinued shared worker
 
--- the worker has tried more of its points, and all that were left unless they were more than one part
+-- the worker has tried more of its points, and all that were left if they were one part
 pub record HasRunOn (shared : Shared) (parts : ℕ) (old new : Worker) : Type 0 where
   pub valid : IsWorkerOf shared new
   pub later : IsLaterWorker old new

@@ -4,7 +4,6 @@
 
 mod answer;
 pub mod asked;
-mod boxed_ports;
 mod choice;
 pub mod clock_law;
 mod commuting;

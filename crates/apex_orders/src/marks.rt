@@ -126,8 +126,8 @@ fn has_point(config: &Config, worker: &Worker, one: &FoundPoint, trial: &mut Tri
     if worker.hashes.up_to_last(one.hash) == 0 {
         return false;
     }
-    trial.ports.restore(one.saved.saved());
-    has_found(&worker.found, &worker.hashes, trial, one.hash)
+    trial.ports.restore(&one.saved);
+    has_found(&worker.found, &worker.hashes, &one.saved, trial, one.hash)
 }
 
 /// Marks what several workers found, in at most `threads` threads.

@@ -3,7 +3,6 @@ ghost use Rattle.std.specs.Prelude.{◌≡◌, ◌+◌, ◌-◌, ◌<◌, ◌≤
 ghost use Rattle.apex_orders.specs.Known.{ArePoints, IsSameLevel};
 ghost use Rattle.apex_orders.specs.Orders.{Scripts};
 
-use crate::boxed_ports::BoxedPorts;
 use apex_module::Config;
 use apex_ports::{Ports, SavedPorts};
 use apex_types::OutOfMemory;
@@ -20,7 +19,7 @@ pub(crate) struct Points {
     pub(crate) calls: usize,
     /// The index of the first point whose ports are saved.
     pub(crate) first: usize,
-    pub(crate) saved: VecDeque<BoxedPorts>,
+    pub(crate) saved: VecDeque<SavedPorts>,
     /// About how many bytes the saved ports take.
     pub(crate) bytes: usize,
 }
@@ -36,7 +35,7 @@ impl Points {
     {
         let ports = Ports::new(alloc, config.copy()?)?;
         let mut saved = VecDeque::new(alloc);
-        saved.push_back(BoxedPorts::save(alloc, &ports)?)?;
+        saved.push_back(ports.save(alloc)?)?;
         Ok(Points {
             next: 1,
             calls: 0,
@@ -47,7 +46,7 @@ impl Points {
     }
 
     /// Takes the first saved ports.
-    pub(crate) fn take(&mut self, count: usize) -> Result<VecDeque<BoxedPorts>, OutOfMemory>
+    pub(crate) fn take(&mut self, count: usize) -> Result<VecDeque<SavedPorts>, OutOfMemory>
         requires count { count ≤ length self.old.saved.items }
         requires room { self.old.first + count ≤ usize.MAX }
         ensures taken { IfOk result
@@ -66,7 +65,7 @@ impl Points {
     }
 
     /// Adds a point.
-    pub(crate) fn push(&mut self, saved: BoxedPorts) -> Result<(), OutOfMemory>
+    pub(crate) fn push(&mut self, saved: SavedPorts) -> Result<(), OutOfMemory>
         ensures level { IsSameLevel self.old self.new }
         ensures saved { OnOk result
             (self.new.saved.items ≡ self.old.saved.items ++ saved ∷ []) }
@@ -82,14 +81,14 @@ impl Points {
         requires within { index < self.now.first + length self.now.saved.items }
         ensures { slice_get self.now.saved.items (index - self.now.first) ≡ Some result.now }
     {
-        self.saved.get(index - self.first).unwrap().saved()
+        self.saved.get(index - self.first).unwrap()
     }
 }
 
 /// Adds saved ports that are not used to the list.
 pub(crate) fn add_unused(
-    spare: &mut Vec<BoxedPorts>,
-    unused: Option<BoxedPorts>,
+    spare: &mut Vec<SavedPorts>,
+    unused: Option<SavedPorts>,
 ) -> Result<(), OutOfMemory> {
     if let Some(ports) = unused {
         spare.push(ports)?;

@@ -303,7 +303,7 @@ impl Rounds {
         Ok(true)
     }
 
-    /// Lets each worker try the first of so many equal parts of the points that it has yet to try.
+    /// Each worker tries the next of `parts` equal parts of its points.
     fn try_next<R: Threads + Sync>(
         &mut self,
         rt: &R,

@@ -10,7 +10,6 @@ ghost use Rattle.apex_orders.specs.Searching.{HasLevel, HasTriedFrom, IsLater, I
 ghost use Rattle.apex_orders.specs.Workers.{HasLeft, HasContinued, HasMade, HasTriedAll, IsRange, IsWorker, orders_known};
 
 use crate::asked::Asked;
-use crate::boxed_ports::BoxedPorts;
 use crate::found_point::FoundPoint;
 use crate::last_uses::{LastUses, last_uses};
 use crate::orders::Orders;
@@ -18,7 +17,7 @@ use crate::points::{Points, add_unused};
 use crate::replies::Replies;
 use crate::worker::Worker;
 use apex_module::Config;
-use apex_ports::Script;
+use apex_ports::{SavedPorts, Script};
 use apex_types::OutOfMemory;
 use std::alloc::Global;
 
@@ -193,7 +192,7 @@ impl Search {
         i: usize,
         one: FoundPoint,
         is_known: bool,
-    ) -> Result<Option<BoxedPorts>, OutOfMemory>
+    ) -> Result<Option<SavedPorts>, OutOfMemory>
         requires valid { IsSearch clock config.now scripts.now self.old }
         requires within { i < length self.old.orders }
         requires partition { one.partition < length config.now.partitions }

@@ -1,8 +1,8 @@
 //! How much of a level each worker is given. Neither points nor processors are equal, so the shares follow the workers' speed.
 ghost use Rattle.std.specs.Prelude.{◌≡◌, ◌<◌, ◌≤◌, ◌+◌, length};
 
-use crate::boxed_ports::BoxedPorts;
 use crate::worker::Worker;
+use apex_ports::SavedPorts;
 use std::alloc::AllocError;
 use std::collections::VecDeque;
 
@@ -46,7 +46,7 @@ pub(crate) fn lighten(weights: &mut [usize], last: usize, threads: usize)
 
 /// Moves the saved ports to the workers, about as many to each.
 pub(crate) fn share_out(
-    saved: &mut VecDeque<BoxedPorts>,
+    saved: &mut VecDeque<SavedPorts>,
     workers: &mut [Worker],
 ) -> Result<(), AllocError> {
     for k in 0..workers.len() {

@@ -7,7 +7,7 @@ const LISTED: usize = 12;
 
 /// What a point of the level and of the next one takes in lists besides, in bytes: its entry in a worker's list, its hash
 /// and where the hash is found.
-const HASHED: usize = 90;
+const HASHED: usize = 100;
 
 /// What a reply takes in a list, in bytes: a message of the greatest length is part of it.
 const REPLY: usize = 1_600;

@@ -11,7 +11,6 @@ ghost use Rattle.apex_orders.specs.Steps.{MakesNothing};
 ghost use Rattle.apex_orders.specs.Prelude.{IsSound};
 ghost use Rattle.apex_orders.specs.Workers.{AreHashed, CanRun, IsContinued, AreContinued, HasLeft, HasRun, HasPoint, HasTriedCall, IsAnswered, IsLaterWorker, IsReady, IsShared, IsWorkerOf, KnowsPoint, history_given, order_given};
 
-use crate::boxed_ports::BoxedPorts;
 use crate::choice::{Choice, choose, is_tried};
 use crate::found_point::{FoundPoint, has_found};
 use crate::hash::hash_of;
@@ -23,7 +22,7 @@ use crate::shared::Shared;
 use crate::step::make_next;
 use crate::trial::Trial;
 use apex_module::Config;
-use apex_ports::Ports;
+use apex_ports::{Ports, SavedPorts};
 use apex_types::{MESSAGE_LIMIT, OutOfMemory};
 use std::alloc::Global;
 use std::collections::VecDeque;
@@ -43,18 +42,18 @@ pub(crate) struct Worker {
     /// The index of the order to the first point.
     pub(crate) first: usize,
     /// The points that it was given; only contracts see them.
-    pub(crate) given: Snapshot<VecDeque<BoxedPorts>>,
+    pub(crate) given: Snapshot<VecDeque<SavedPorts>>,
     /// How many of them it has tried.
     pub(crate) tried: usize,
     /// Those of them whose next calls it has yet to try.
-    pub(crate) points: VecDeque<BoxedPorts>,
+    pub(crate) points: VecDeque<SavedPorts>,
     /// The points that it found, each once, and their hashes.
     pub(crate) found: VecDeque<FoundPoint>,
     pub(crate) hashes: HashIndex,
     /// The replies that it found, each once.
     pub(crate) replies: Replies,
     /// What was saved before, whose memory is used again.
-    pub(crate) spare: Vec<BoxedPorts>,
+    pub(crate) spare: Vec<SavedPorts>,
     /// About how many bytes are saved for the points that it has yet to try and for those that it found.
     pub(crate) bytes: usize,
     /// Whether there was memory for what it tried.
@@ -129,8 +128,8 @@ impl Worker {
         Ok(())
     }
 
-    /// Tries the first of so many equal parts of the points that it has yet to try, and tells the others that the worker with
-    /// this number has ended.
+    /// Tries the next of `parts` equal parts of the worker's points. Then `shared` tells that the worker with this number
+    /// has ended.
     pub(crate) fn run(&mut self, shared: &Shared<'_>, number: usize, parts: usize)
         requires shared { IsShared shared.now }
         requires ready { CanRun shared.now self.old }
@@ -147,7 +146,7 @@ impl Worker {
         self.spare.clear();
     }
 
-    /// Tries the next calls of enough partitions after each point of the first of so many equal parts of those that are left.
+    /// Tries the next calls of enough partitions after each point of that part.
     fn try_points(&mut self, shared: &Shared<'_>, parts: usize) -> Result<(), OutOfMemory>
         requires valid { IsWorkerOf shared.now self.old }
         requires shared { IsShared shared.now }
@@ -181,7 +180,7 @@ impl Worker {
         &mut self,
         shared: &Shared<'_>,
         j: usize,
-        saved: &BoxedPorts,
+        saved: &SavedPorts,
         choice: &mut Choice,
     ) -> Result<(), OutOfMemory>
         requires valid { IsWorkerOf shared.now self.old }
@@ -192,7 +191,7 @@ impl Worker {
         ensures tried { OnOk result
             (IsContinued shared.now self.new (order_given self.old j)) }
     {
-        self.trial.ports.restore(saved.saved());
+        self.trial.ports.restore(saved);
         choose(
             shared.alloc,
             &self.trial.ports,
@@ -212,7 +211,7 @@ impl Worker {
         &mut self,
         shared: &Shared<'_>,
         j: usize,
-        saved: &BoxedPorts,
+        saved: &SavedPorts,
         tried: &[bool],
     ) -> Result<(), OutOfMemory>
         requires valid { IsWorkerOf shared.now self.old }
@@ -242,7 +241,7 @@ impl Worker {
         &mut self,
         shared: &Shared<'_>,
         j: usize,
-        saved: &BoxedPorts,
+        saved: &SavedPorts,
         is_there: bool,
         p: usize,
     ) -> Result<(), OutOfMemory>
@@ -286,10 +285,11 @@ impl Worker {
             (KnowsPoint shared.now self.new self.old.trial.ports.history) }
     {
         let hash = hash_of(&self.trial.ports);
-        if has_found(&self.found, &self.hashes, &mut self.trial, hash) {
+        let saved = save(shared.alloc, &self.trial.ports, &mut self.spare)?;
+        if has_found(&self.found, &self.hashes, &saved, &mut self.trial, hash) {
+            keep(&mut self.spare, saved)?;
             return Ok(());
         }
-        let saved = save(shared.alloc, &self.trial.ports, &mut self.spare)?;
         self.bytes = self.bytes.saturating_add(saved.bytes());
         self.hashes.push(shared.alloc, hash)?;
         self.found.push_back(FoundPoint {
@@ -333,7 +333,7 @@ fn answer_next(
     Ok(true)
 }
 
-/// How many of the points are in the first of so many equal parts.
+/// How many points are in the next of `parts` equal parts of them.
 fn first_part(points: usize, parts: usize) -> usize
     ensures within { result ≤ points }
     ensures only { parts ≤ 1 → result ≡ points }
@@ -345,7 +345,7 @@ fn first_part(points: usize, parts: usize) -> usize
 }
 
 /// Keeps the memory of saved ports to use it again, unless there is enough.
-fn keep(spare: &mut Vec<BoxedPorts>, saved: BoxedPorts) -> Result<(), OutOfMemory> {
+fn keep(spare: &mut Vec<SavedPorts>, saved: SavedPorts) -> Result<(), OutOfMemory> {
     if spare.len() < MOST_SPARE {
         spare.push(saved)?;
     }
@@ -356,18 +356,18 @@ fn keep(spare: &mut Vec<BoxedPorts>, saved: BoxedPorts) -> Result<(), OutOfMemor
 fn save(
     alloc: Global,
     ports: &Ports,
-    spare: &mut Vec<BoxedPorts>,
-) -> Result<BoxedPorts, OutOfMemory>
+    spare: &mut Vec<SavedPorts>,
+) -> Result<SavedPorts, OutOfMemory>
     ensures { IfOk result (λ saved. saved ≡ ports.now) }
 {
     match spare.pop() {
-        None => BoxedPorts::save(alloc, ports),
-        Some(old) => old.save_over(alloc, ports),
+        None => ports.save(alloc),
+        Some(old) => ports.save_over(old),
     }
 }
 
 /// Sets the ports to what was saved, unless they are there already.
-fn return_to(ports: &mut Ports, saved: &BoxedPorts, is_there: bool)
+fn return_to(ports: &mut Ports, saved: &SavedPorts, is_there: bool)
     requires config { saved.now.config ≡ ports.old.config }
     requires there { is_there ≡ true → ports.old.history ≡ saved.now.history }
     requires sound { is_there ≡ true → IsSound ports.old.config ports.old.history }
@@ -376,6 +376,6 @@ fn return_to(ports: &mut Ports, saved: &BoxedPorts, is_there: bool)
     ensures sound { IsSound ports.new.config ports.new.history }
 {
     if !is_there {
-        ports.restore(saved.saved());
+        ports.restore(saved);
     }
 }

@@ -6,7 +6,6 @@ ghost use Rattle.apex_orders.specs.Marks.{AreAllMarked};
 ghost use Rattle.apex_orders.specs.Workers.{AreUnderTrial, AreWorkers, CanAllTry, CanRun, HasGivenAll, HasPointAt, HasRun, HavePoints, HaveTriedAll, IsShared};
 ghost use Rattle.apex_orders.specs.declared.worker.Worker.{Worker};
 
-use crate::boxed_ports::BoxedPorts;
 use crate::marks::{Marks, mark_all};
 use crate::orders::Orders;
 use crate::search::Search;
@@ -14,7 +13,7 @@ use crate::shared::Shared;
 use crate::shares::{FIRST_WEIGHT, lighten, share_of, share_out};
 use crate::worker::Worker;
 use apex_module::Config;
-use apex_ports::Script;
+use apex_ports::{SavedPorts, Script};
 use apex_types::OutOfMemory;
 use std::alloc::Global;
 use std::collections::VecDeque;
@@ -106,7 +105,7 @@ impl Workers {
         Ok(())
     }
 
-    /// Lets each worker try the first of so many equal parts of the points that it has yet to try.
+    /// Each worker tries the next of `parts` equal parts of its points.
     pub(crate) fn try_next<R: Threads + Sync>(
         &mut self,
         rt: &R,
@@ -224,7 +223,7 @@ impl Workers {
     }
 
     /// Frees the saved ports and those that the workers keep, a part in each thread.
-    pub(crate) fn free<R: Threads + Sync>(self, rt: &R, saved: VecDeque<BoxedPorts>) {
+    pub(crate) fn free<R: Threads + Sync>(self, rt: &R, saved: VecDeque<SavedPorts>) {
         let mut left = saved;
         let mut all = self.all;
         let threads = all.len().max(1);
@@ -288,7 +287,7 @@ fn give_all(
     Ok(())
 }
 
-/// Lets each worker try the first of so many equal parts of its points, in at most `threads` threads. `last` becomes the number
+/// Each worker tries the next of `parts` equal parts of its points, in at most `threads` threads. `last` becomes the number
 /// of the worker that ends last.
 fn try_all<R: Threads + Sync>(
     rt: &R,
@@ -330,7 +329,7 @@ fn try_all<R: Threads + Sync>(
     Ok(())
 }
 
-/// Runs the workers, in at most `threads` threads; each tries the first of so many equal parts of its points.
+/// Runs the workers, in at most `threads` threads. Each tries the next of `parts` equal parts of its points.
 fn run_all<R: Threads + Sync>(
     rt: &R,
     threads: usize,

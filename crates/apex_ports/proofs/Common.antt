@@ -35,14 +35,12 @@ pub use Rattle.apex_ports.specs.Ports.{is_created, creates, is_source_of, is_des
 pub use Rattle.apex_ports.specs.PortsView.{PortsView}
 pub use Rattle.apex_ports.specs.ReplyTable.{oldest_reply, depth_of, depth_in, send_row, oldest_row, receive_row, write_row, reply_of, reply_to, service_row, row_of, size_of, create_queuing_row, create_sampling_row, id_row, clear_row, last_row, read_row, status_row, set_mode_row, queuing_status_reply, sampling_status_reply, channel_size, size_in, size_of_port, last_reply}
 pub use Rattle.apex_ports.specs.Rules.{IsConserved, AlwaysConserved}
-pub use Rattle.apex_ports.specs.Saved.{EachPair, IsSavedTable, HasAsManyPorts, IsPartitionSaved, messages_from, is_saved_queue, count_saved, restored, IsAmong, IsSavedFrom, HasRoomFor, AreRestored, AreSaved}
+pub use Rattle.apex_ports.specs.Saved.{EachOf, Reads, HasAsManyPorts, IsSameTable, AreWithin, IsRingFor, IsQueuePackable, IsSamplePackable, IsSlotPackable, IsPackable, HasRoomFor, AreCounts, IsSavedKept}
 pub use Rattle.apex_ports.specs.Seen.{Seen, seen, waiting_of, queuing_port, sampling_port, sample_of, validity_shown}
 pub use Rattle.apex_ports.specs.Sound.{IsSound}
 pub use Rattle.apex_ports.specs.declared.channel.ChannelState.{ChannelState}
 pub use Rattle.apex_ports.specs.declared.history.Entry.{Entry}
 pub use Rattle.apex_ports.specs.declared.partition.PartitionState.{PartitionState}
 pub use Rattle.apex_ports.specs.declared.partition.PortState.{PortState}
-pub use Rattle.apex_ports.specs.declared.partition.SavedPartition.{SavedPartition}
 pub use Rattle.apex_ports.specs.declared.rows.Row.{Row}
 pub use Rattle.apex_ports.specs.declared.rows.Row.TheVariants.{Refused, Sent}
-pub use Rattle.apex_ports.specs.declared.saved_channel.SavedChannel.{SavedChannel}

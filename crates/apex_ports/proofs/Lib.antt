@@ -1,4 +1,5 @@
 pub mod Common
+pub mod Apart
 pub mod Appends
 pub mod ChannelSteps
 pub mod Conserved
@@ -6,18 +7,19 @@ pub mod Counts
 pub mod Crossing
 pub mod Histories
 pub mod Idle
-pub mod InPlace
 pub mod Interference
 pub mod LawfulSteps
 pub mod Lookups
 pub mod MessageRings
 pub mod Noting
 pub mod OneChannel
+pub mod PackedItems
 pub mod PartitionSteps
 pub mod Refused
+pub mod Restoring
 pub mod RowCalls
 pub mod RowFacts
-pub mod Saving
+pub mod SameBytes
 pub mod Sizes
 pub mod Stays
 pub mod Stored

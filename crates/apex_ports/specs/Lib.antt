@@ -13,6 +13,7 @@ pub mod MessageRing
 pub mod Modes
 pub mod Noted
 pub mod OneChannel
+pub mod Packed
 pub mod Ports
 pub mod PortsView
 pub mod Refused
@@ -20,6 +21,7 @@ pub mod ReplyTable
 pub mod Rows
 pub mod Rules
 pub mod RunFault
+pub mod SameSaved
 pub mod Saved
 pub mod Seen
 pub mod Services

@@ -1,123 +1,96 @@
--- Saved ports follow from the history as the state does, without its unused room.
-use Rattle.std.specs.Prelude.{ℕ, Bool, true, false, ◌≡◌, ◌-◌, ◌<◌, ◌≤◌, List, [], length, take, drop, slice_get, unwrap_or, Option, None, Some}
-use Rattle.apex_types.specs.declared.sample.Sample.{Sample}
+-- Saved ports follow from the history as the state does, and their bytes are read back.
+use Rattle.std.specs.Prelude.{ℕ, ◌≡◌, ◌^◌, ◌<◌, ◌≤◌, List, ◌++◌, length, slice_get, Option, None, Some}
 use Rattle.std.specs.declared.vec.Vec.{Vec}
-use Rattle.apex_module.specs.Configuration.{Configuration, ports_of}
+use Rattle.apex_types.specs.declared.message.TheConstants.{MESSAGE_LIMIT}
+use Rattle.apex_types.specs.declared.sample.Sample.{Sample}
+use Rattle.apex_module.specs.Configuration.{Configuration}
 use Rattle.apex_ports.specs.declared.partition.PartitionState.{PartitionState}
-use Rattle.apex_ports.specs.declared.partition.PortState.{PortState}
-use Rattle.apex_ports.specs.declared.partition.SavedPartition.{SavedPartition}
+use Rattle.apex_ports.specs.declared.channel.Queue.{Queue}
 use Rattle.apex_ports.specs.declared.channel.ChannelState.{ChannelState}
-use Rattle.apex_ports.specs.declared.channel.ChannelState.TheVariants as state
-use Rattle.apex_ports.specs.declared.saved_channel.SavedChannel.{SavedChannel}
-use Rattle.apex_ports.specs.declared.saved_channel.SavedChannel.TheVariants as saved
+use Rattle.apex_ports.specs.declared.channel.ChannelState.TheVariants.{Queuing, Sampling}
 use Rattle.apex_ports.specs.ChannelStates.{has_queue, ring_depth, message_size}
-use Rattle.apex_ports.specs.Channels.{last_validity_of}
 use Rattle.apex_ports.specs.History.{History}
-use Rattle.apex_ports.specs.Kept.{EachAt, IsChannelKept, AreCounted, state_at, created_in, last_in}
-use Rattle.apex_ports.specs.MessageRing.{messages, AreShort}
-use Rattle.apex_ports.specs.Modes.{mode_of}
-use Rattle.apex_ports.specs.Ports.{is_created}
-use Rattle.apex_ports.specs.ReplyTable.{channel_size, depth_of}
-use Rattle.apex_ports.specs.Slots.{slot}
+use Rattle.apex_ports.specs.Kept.{EachAt, AreKept, AreCounted}
+use Rattle.apex_ports.specs.MessageRing.{Messages, AreShort}
+use Rattle.apex_ports.specs.Packed.{packed_state}
 use Rattle.apex_ports.specs.Sound.{IsSound}
 
--- what holds for the items at the same index of both lists
-abbrev pub EachPair : {X Y : Type 0} → (X → Y → Type 0) → List X → List Y → Type 0
-EachPair {X} {Y} P xs ys = (k : ℕ) (x : X) (y : Y) → slice_get xs k ≡ Some x → slice_get ys k ≡ Some y → P x y
+-- the lists are of the same length, and the items at the same index are so related
+pub record EachOf {X Y : Type 0} (P : X → Y → Type 0) (xs : List X) (ys : List Y) : Type 0 where
+  pub count : length ys ≡ length xs
+  pub each : (k : ℕ) (x : X) (y : Y) → slice_get xs k ≡ Some x → slice_get ys k ≡ Some y → P x y
+
+-- if the bytes before begin with something packed that fits, this is what is read, and the bytes behind it are left
+abbrev pub Reads : {X : Type 0} → (X → List ℕ) → (X → Type 0) → (X → Type 0) → List ℕ → List ℕ → Type 0
+Reads {X} packed Fits IsRead before after = (x : X) (rest : List ℕ) → Fits x → before ≡ packed x ++ rest → IsRead x × (after ≡ rest)
 
 -- ---- partitions
 
--- the saved ports from one index up to another
-abbrev pub ports_from : List PortState → ℕ → ℕ → List PortState
-ports_from all first end = take (end - first) (drop first all)
+-- a partition has as many ports as a saved one
+abbrev pub HasAsManyPorts : {A : Type 0} → PartitionState A → PartitionState A → Type 0
+HasAsManyPorts state saved = length saved.ports.items ≡ length state.ports.items
 
--- it has the mode, and its ports are among the saved ones
-pub record IsSavedTable {A : Type 0} (all : List PortState) (state : PartitionState A) (partition : SavedPartition) : Type 0 where
-  pub mode : partition.mode ≡ state.mode
-  pub ports : ports_from all partition.first partition.end ≡ state.ports.items
-  pub ordered : partition.first ≤ partition.end
-  pub within : partition.end ≤ length all
-
--- the partition has as many ports as the saved one
-pub record HasAsManyPorts {A : Type 0} (all : List PortState) (state : PartitionState A) (partition : SavedPartition) : Type 0 where
-  pub count : length state.ports.items ≡ partition.end - partition.first
-  pub ordered : partition.first ≤ partition.end
-  pub within : partition.end ≤ length all
-
--- it follows from the history as the state of the partition does
-pub record IsPartitionSaved (config : Configuration) (history : History) (all : List PortState) (p : ℕ) (partition : SavedPartition) : Type 0 where
-  pub mode : partition.mode ≡ mode_of p history
-  pub ports : length (ports_from all partition.first partition.end) ≡ length (ports_of config p)
-  pub created : (id : ℕ) → created_in (state_at (ports_from all partition.first partition.end) id) ≡ is_created p id history
-  pub last : (id : ℕ) → last_in (state_at (ports_from all partition.first partition.end) id) ≡ last_validity_of p id history
-  pub ordered : partition.first ≤ partition.end
-  pub within : partition.end ≤ length all
+-- a partition has the mode and the ports of a saved one
+pub record IsSameTable {A : Type 0} (saved state : PartitionState A) : Type 0 where
+  pub mode : state.mode ≡ saved.mode
+  pub ports : state.ports.items ≡ saved.ports.items
 
 -- ---- channels
 
--- the saved messages from one index up to another
-abbrev pub messages_from : List (List ℕ) → ℕ → ℕ → List (List ℕ)
-messages_from all first end = take (end - first) (drop first all)
+-- no more messages wait than may, none is too long, and their number and each length fit into their bytes
+pub record AreWithin (waiting : Messages) : Type 0 where
+  pub few : length waiting.items ≤ waiting.capacity
+  pub small : waiting.capacity < 2 ^ 32
+  pub short : AreShort waiting.size waiting.items
+  pub wide : waiting.size ≤ MESSAGE_LIMIT
 
--- the sample, with its message from the saved ones
-abbrev pub sample_saved : List (List ℕ) → SavedChannel → Option Sample
-sample_saved all (saved.Written index at) = Some (record { message = unwrap_or (slice_get all index) []; at = at })
-sample_saved all channel = None
+-- a ring is of the capacity and the size of a saved one
+pub record IsRingFor (waiting saved : Messages) : Type 0 where
+  pub capacity : waiting.capacity ≡ saved.capacity
+  pub size : waiting.size ≡ saved.size
+  pub within : AreWithin saved
 
-abbrev pub is_saved_queue : SavedChannel → Bool
-is_saved_queue (saved.Queuing queue) = true
-is_saved_queue channel = false
+-- the counts and the messages fit into their bytes
+pub record IsQueuePackable {A : Type 0} (queue : Queue A) : Type 0 where
+  pub waiting : AreWithin queue.waiting
+  pub accepted : queue.accepted < 2 ^ 64
+  pub received : queue.received < 2 ^ 64
+  pub cleared : queue.cleared < 2 ^ 64
 
--- the number of messages that wait
-abbrev pub count_saved : SavedChannel → ℕ
-count_saved (saved.Queuing queue) = queue.end - queue.first
-count_saved channel = 0
+-- the moment and the message fit into their bytes
+pub record IsSamplePackable (size : ℕ) (sample : Sample) : Type 0 where
+  pub at : sample.at.0 < 2 ^ 64
+  pub short : length sample.message ≤ size
+  pub wide : length sample.message ≤ MESSAGE_LIMIT
 
--- the state of the channel with this depth and size
-abbrev pub restored : {A : Type 0} → List (List ℕ) → ℕ → ℕ → SavedChannel → ChannelState A
-restored all depth size (saved.Queuing queue) = state.Queuing (record {
-  waiting = messages (messages_from all queue.first queue.end) depth size;
-  accepted = queue.accepted;
-  received = queue.received;
-  cleared = queue.cleared;
-})
-restored all depth size channel = state.Sampling (slot (sample_saved all channel) size)
+abbrev pub IsSlotPackable : ℕ → Option Sample → Type 0
+IsSlotPackable size None = Unit {0}
+IsSlotPackable size (Some sample) = IsSamplePackable size sample
 
--- its messages are among the saved ones, and no longer than this
-abbrev pub IsAmong : List (List ℕ) → ℕ → SavedChannel → Type 0
-IsAmong all size (saved.Queuing queue) = (queue.first ≤ queue.end) × (queue.end ≤ length all) × AreShort size (messages_from all queue.first queue.end)
-IsAmong all size (saved.Written index at) = (index < length all) × (length (unwrap_or (slice_get all index) []) ≤ size)
-IsAmong all size saved.Unwritten = Unit {0}
+abbrev pub IsPackable : {A : Type 0} → ChannelState A → Type 0
+IsPackable (Queuing queue) = IsQueuePackable queue
+IsPackable (Sampling slot) = IsSlotPackable slot.size slot.sample
 
--- it is saved from the state
-pub record IsSavedFrom {A : Type 0} (all : List (List ℕ)) (state : ChannelState A) (channel : SavedChannel) : Type 0 where
-  pub same : state ≡ restored all (ring_depth state) (message_size state) channel
-  pub among : IsAmong all (message_size state) channel
-
--- the channel is of the kind of the saved one, and has room for its messages
-pub record HasRoomFor {A : Type 0} (all : List (List ℕ)) (state : ChannelState A) (channel : SavedChannel) : Type 0 where
-  pub kind : has_queue state ≡ is_saved_queue channel
-  pub room : count_saved channel ≤ ring_depth state
-  pub among : IsAmong all (message_size state) channel
-
--- each channel is what was saved, with the depth and the size that it had
-abbrev pub AreRestored : {A : Type 0} → List (List ℕ) → List (ChannelState A) → List SavedChannel → List (ChannelState A) → Type 0
-AreRestored {A} all old saved new =
-    (c : ℕ) (was : ChannelState A) (one : SavedChannel) (state : ChannelState A)
-    → slice_get old c ≡ Some was → slice_get saved c ≡ Some one → slice_get new c ≡ Some state
-    → state ≡ restored all (ring_depth was) (message_size was) one
+-- a channel is of the kind, the depth and the size of a saved one
+pub record HasRoomFor {A : Type 0} (state saved : ChannelState A) : Type 0 where
+  pub kind : has_queue state ≡ has_queue saved
+  pub depth : ring_depth state ≡ ring_depth saved
+  pub size : message_size state ≡ message_size saved
+  pub packable : IsPackable saved
 
 -- ---- the whole
 
-pub record AreSaved (A : Type 0) (config : Configuration) (history : History) (partitions : List SavedPartition) (tables : List PortState) (all : List (List ℕ)) (channels : List SavedChannel) : Type 0 where
-  pub all_partitions : length partitions ≡ length config.partitions
-  pub all_channels : length channels ≡ length config.channels
-  pub each_partition : EachAt (IsPartitionSaved config history tables) partitions
-  pub each_channel : EachAt (λ c one. IsChannelKept {A = A} config history c (restored all (depth_of config c) (channel_size config c) one)) channels
-  pub each_among : EachAt (λ c one. IsAmong all (channel_size config c) one) channels
+-- there are as many counts as before, each of 64 bits
+abbrev pub AreCounts : List ℕ → List ℕ → Type 0
+AreCounts = EachOf (λ _ n. n < 2 ^ 64)
 
--- what holds for the saved ports of a module
-pub record IsSavedKept {A : Type 0} (config : Configuration) (history : History) (partitions : List SavedPartition) (tables : Vec PortState A) (all : List (List ℕ)) (channels : List SavedChannel) (calls : List ℕ) : Type 0 where
+-- the bytes are a packed state that follows from the history
+pub record IsSavedKept {A : Type 0} (config : Configuration) (history : History) (bytes : Vec ℕ A) : Type 0 where
+  pub partitions : List (PartitionState A)
+  pub channels : List (ChannelState A)
+  pub calls : List ℕ
   pub sound : IsSound config history
-  pub saved : AreSaved A config history partitions tables.items all channels
+  pub kept : AreKept config history partitions channels
+  pub packable : EachAt (λ _ state. IsPackable state) channels
   pub counted : AreCounted config history calls
+  pub packed : bytes.items ≡ packed_state partitions channels calls

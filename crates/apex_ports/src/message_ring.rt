@@ -72,7 +72,9 @@ impl<A: Allocator> MessageRing<A> {
 
     /// The number of messages that wait.
     pub(crate) fn len(&self) -> usize
-        ensures { result ≡ length self.now.items }
+        ensures count { result ≡ length self.now.items }
+        ensures few { result ≤ self.now.capacity }
+        ensures small { self.now.capacity < 2 ^ 32 }
     {
         self.places.len()
     }
@@ -102,6 +104,18 @@ impl<A: Allocator> MessageRing<A> {
         put_message(self.slots.as_mut_slice(), self.size, place.slot, message);
         let _ = self.places.push_back(place);
         self.next = next_slot(place.slot, self.places.capacity());
+    }
+
+    /// Appends a message if there is room for it. It is dropped otherwise.
+    pub(crate) fn push_fitting(&mut self, message: &[u8])
+        ensures { length self.old.items < self.old.capacity →
+            length message.now ≤ self.old.size → self.new
+            ≡ messages (self.old.items ++ message.now ∷ []) self.old.capacity self.old.size }
+    {
+        if self.places.len() >= self.places.capacity() || message.len() > self.size as usize {
+            return;
+        }
+        self.push_back(message);
     }
 
     /// Removes the oldest message, if there is one.

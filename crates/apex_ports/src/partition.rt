@@ -1,11 +1,11 @@
 //! The state of a partition: its mode and its table of ports.
-ghost use Rattle.std.specs.Prelude.{◌≡◌, ℕ, ◌-◌, ◌<◌, ◌≤◌, ◌==◌, if◌then◌else◌, true, false, length, Some, IfOk};
+ghost use Rattle.std.specs.Prelude.{◌≡◌, ℕ, ◌<◌, ◌≤◌, ◌==◌, if◌then◌else◌, true, false, length, Some};
 ghost use Rattle.apex_types.specs.declared.validity.Validity.TheVariants.{Invalid};
 ghost use Rattle.apex_ports.specs.Kept.{state_at, created_in, last_in};
 ghost use Rattle.apex_ports.specs.Modes.{is_start};
 
 use apex_types::{Mode, Validity};
-use std::alloc::{AllocError, Allocator};
+use std::alloc::Allocator;
 
 /// Whether a port is created, and what its last read showed.
 #[derive(Clone, Copy, Debug)]
@@ -21,45 +21,7 @@ pub(crate) struct PartitionState<A: Allocator> {
     pub(crate) ports: Vec<PortState, A>,
 }
 
-/// The saved state of a partition: its mode, and its ports as the saved ones from one index up to another.
-#[derive(Clone, Copy)]
-pub(crate) struct SavedPartition {
-    pub(crate) mode: Mode,
-    pub(crate) first: usize,
-    pub(crate) end: usize,
-}
-
 impl<A: Allocator> PartitionState<A> {
-    ghost use Rattle.std.specs.Prelude.{List, ◌++◌};
-    ghost use Rattle.apex_ports.specs.Saved.{IsSavedTable, HasAsManyPorts};
-    ghost use Rattle.apex_ports.specs.declared.partition.PortState.{PortState};
-
-    /// Saves the state. Its ports are added to the saved ones.
-    pub(crate) fn save(&self, stored: &mut Vec<PortState, A>) -> Result<SavedPartition, AllocError>
-        ensures saved { IfOk result (λ saved. IsSavedTable stored.new.items self.now saved) }
-        ensures more { IfOk result
-            (λ _. (more : List PortState) × (stored.new.items ≡ stored.old.items ++ more)) }
-    {
-        let first = stored.len();
-        stored.extend_from_slice(self.ports.as_slice())?;
-        Ok(SavedPartition {
-            mode: self.mode,
-            first,
-            end: stored.len(),
-        })
-    }
-
-    /// Restores the state to what was saved of one with as many ports.
-    pub(crate) fn restore(&mut self, saved: &SavedPartition, stored: &[PortState])
-        requires { HasAsManyPorts stored.now self.old saved.now }
-        ensures { IsSavedTable stored.now self.new saved.now }
-    {
-        self.mode = saved.mode;
-        self.ports
-            .as_mut_slice()
-            .copy_from_slice(&stored[saved.first..saved.end]);
-    }
-
     /// The state of the port with an identifier, which is its index, counted from 1.
     pub(crate) fn port(&self, id: u32) -> Option<PortState>
         ensures { result ≡ state_at self.now.ports.items id }

@@ -66,6 +66,16 @@ impl<A: Allocator> SampleSlot<A> {
         self.at = at;
     }
 
+    /// Replaces the sample if the message fits. It is unchanged otherwise.
+    pub(crate) fn put_fitting(&mut self, message: &[u8], at: Moment)
+        ensures { length message.now ≤ self.old.size → self.new
+            ≡ slot (Some (record { message = message.now; at = at })) self.old.size }
+    {
+        if message.len() <= self.message.size() as usize {
+            self.put(message, at);
+        }
+    }
+
     /// Removes the sample.
     pub(crate) fn clear(&mut self)
         ensures { self.new ≡ slot None self.old.size }

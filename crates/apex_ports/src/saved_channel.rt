@@ -1,169 +1,160 @@
-//! The saved state of a channel. Its messages are among those that are saved of all channels.
-ghost use Rattle.std.specs.Prelude.{◌≡◌, ◌-◌, ◌≤◌, ◌++◌, List, ℕ, length, IfOk};
-ghost use Rattle.apex_ports.specs.MessageRing.{messages, AreShort};
-ghost use Rattle.apex_ports.specs.Saved.{messages_from};
+//! Saves the state of a channel as bytes, and restores it.
+ghost use Rattle.std.specs.Prelude.{◌≡◌, ◌++◌, OnOk};
+ghost use Rattle.apex_ports.specs.Packed.{packed_messages};
+ghost use Rattle.apex_ports.specs.Saved.{Reads, AreWithin, IsRingFor};
 
 use crate::channel::{ChannelState, Queue};
 use crate::message_ring::MessageRing;
+use crate::packing::{put_count, put_message, put_number};
 use crate::sample_slot::SampleSlot;
-use crate::stored_messages::StoredMessages;
+use crate::unpacking::Reader;
 use apex_types::Moment;
 use std::alloc::{AllocError, Allocator};
 
-/// The messages that wait on a queuing channel, as the saved ones from one index up to another, and the channel's counts.
-#[derive(Clone, Copy, Drop)]
-pub(crate) struct SavedQueue {
-    pub(crate) first: usize,
-    pub(crate) end: usize,
-    pub(crate) accepted: u64,
-    pub(crate) received: u64,
-    pub(crate) cleared: u64,
-}
+/// What the counts of a queue and the number of its messages take, in bytes.
+const QUEUE_BYTES: usize = 28;
 
-/// The saved state of a channel of either kind. A sample has the index of its message.
-#[derive(Drop)]
-pub(crate) enum SavedChannel {
-    Queuing(SavedQueue),
-    Unwritten,
-    Written { index: usize, at: Moment },
-}
+/// What a sample takes besides its message, in bytes: that there is one, and its moment.
+const SAMPLE_BYTES: usize = 9;
+
+/// What the length of a message takes, in bytes.
+const LENGTH_BYTES: usize = 2;
 
 impl<A: Allocator> ChannelState<A> {
-    ghost use Rattle.apex_ports.specs.ChannelStates.{message_size, ring_depth};
-    ghost use Rattle.apex_ports.specs.Saved.{restored, HasRoomFor, IsSavedFrom};
+    ghost use Rattle.apex_ports.specs.Packed.{packed_channel};
+    ghost use Rattle.apex_ports.specs.Saved.{HasRoomFor, IsPackable};
 
-    /// Saves the channel. Its messages are added to the saved ones.
-    pub(crate) fn save(&self, stored: &mut StoredMessages<A>) -> Result<SavedChannel, AllocError>
-        ensures saved { IfOk result (λ saved. IsSavedFrom stored.new self.now saved) }
-        ensures more { IfOk result
-            (λ _. (more : List (List ℕ)) × (stored.new ≡ stored.old ++ more)) }
+    /// Writes the state behind the bytes.
+    pub(crate) fn save(&self, bytes: &mut Vec<u8, A>) -> Result<(), AllocError>
+        ensures saved { OnOk result
+            (bytes.new.items ≡ bytes.old.items ++ packed_channel self.now) }
+        ensures packable { OnOk result (IsPackable self.now) }
     {
         match self {
+            ChannelState::Queuing(queue) => queue.save(bytes),
+            ChannelState::Sampling(slot) => slot.save(bytes),
+        }
+    }
+
+    /// Restores the state that is read next, of a channel of the same kind, depth and size.
+    pub(crate) fn restore(&mut self, reader: &mut Reader<'_>)
+        ensures { Reads packed_channel (HasRoomFor self.old)
+            (λ saved. self.new ≡ saved) reader.old reader.new }
+    {
+        match self {
+            ChannelState::Queuing(queue) => queue.restore(reader),
+            ChannelState::Sampling(slot) => slot.restore(reader),
+        }
+    }
+
+    /// How many bytes `save` writes.
+    pub(crate) fn saved_len(&self) -> usize {
+        match self {
             ChannelState::Queuing(queue) => {
-                let queue = queue.save(stored)?;
-                Ok(SavedChannel::Queuing(queue))
+                QUEUE_BYTES.saturating_add(messages_len(&queue.waiting))
             }
-            ChannelState::Sampling(slot) => slot.save(stored),
+            ChannelState::Sampling(slot) => match slot.get() {
+                Some(sample) => SAMPLE_BYTES + LENGTH_BYTES + sample.message.len(),
+                None => 1,
+            },
         }
-    }
-
-    /// Restores the channel to what was saved. Its depth and its size don't change.
-    pub(crate) fn restore(&mut self, saved: &SavedChannel, stored: &StoredMessages<A>)
-        requires { HasRoomFor stored.now self.old saved.now }
-        ensures { self.new
-            ≡ restored stored.now (ring_depth self.old) (message_size self.old) saved.now }
-    {
-        match (self, saved) {
-            (ChannelState::Queuing(queue), SavedChannel::Queuing(saved)) => {
-                queue.restore(*saved, stored);
-            }
-            (ChannelState::Sampling(slot), SavedChannel::Unwritten) => slot.clear(),
-            (ChannelState::Sampling(slot), SavedChannel::Written { index, at }) => {
-                slot.put(stored.get(*index).unwrap(), *at);
-            }
-            _ => unreachable!(),
-        }
-    }
-}
-
-impl<A: Allocator> SampleSlot<A> {
-    ghost use Rattle.std.specs.Prelude.{false};
-    ghost use Rattle.apex_ports.specs.Saved.{IsAmong, is_saved_queue, sample_saved};
-
-    fn save(&self, stored: &mut StoredMessages<A>) -> Result<SavedChannel, AllocError>
-        ensures sample { IfOk result
-            (λ saved. sample_saved stored.new saved ≡ self.now.sample) }
-        ensures among { IfOk result (λ saved. IsAmong stored.new self.now.size saved) }
-        ensures kind { IfOk result (λ saved. is_saved_queue saved ≡ false) }
-        ensures more { IfOk result
-            (λ _. (more : List (List ℕ)) × (stored.new ≡ stored.old ++ more)) }
-    {
-        let Some(sample) = self.get() else {
-            return Ok(SavedChannel::Unwritten);
-        };
-        let index = stored.len();
-        stored.push(sample.message)?;
-        Ok(SavedChannel::Written {
-            index,
-            at: sample.at,
-        })
     }
 }
 
 impl<A: Allocator> Queue<A> {
-    fn save(&self, stored: &mut StoredMessages<A>) -> Result<SavedQueue, AllocError>
-        ensures waiting { IfOk result (λ saved. self.now.waiting.items
-            ≡ messages_from stored.new saved.first saved.end) }
-        ensures ordered { IfOk result (λ saved. saved.first ≤ saved.end) }
-        ensures within { IfOk result (λ saved. saved.end ≤ length stored.new) }
-        ensures accepted { IfOk result (λ saved. saved.accepted ≡ self.now.accepted) }
-        ensures received { IfOk result (λ saved. saved.received ≡ self.now.received) }
-        ensures cleared { IfOk result (λ saved. saved.cleared ≡ self.now.cleared) }
-        ensures short { AreShort self.now.waiting.size self.now.waiting.items }
-        ensures more { IfOk result
-            (λ _. (more : List (List ℕ)) × (stored.new ≡ stored.old ++ more)) }
+    ghost use Rattle.apex_ports.specs.Packed.{packed_queue};
+    ghost use Rattle.apex_ports.specs.Saved.{IsQueuePackable, HasRoomFor};
+    ghost use Rattle.apex_ports.specs.declared.channel.ChannelState.TheVariants.{Queuing};
+
+    fn save(&self, bytes: &mut Vec<u8, A>) -> Result<(), AllocError>
+        ensures saved { OnOk result (bytes.new.items ≡ bytes.old.items ++ packed_queue self.now) }
+        ensures packable { OnOk result (IsQueuePackable self.now) }
     {
-        let _ = self.waiting.size();
-        let first = stored.len();
-        save_waiting(&self.waiting, stored)?;
-        Ok(SavedQueue {
-            first,
-            end: stored.len(),
-            accepted: self.accepted,
-            received: self.received,
-            cleared: self.cleared,
-        })
+        put_number(bytes, self.accepted)?;
+        put_number(bytes, self.received)?;
+        put_number(bytes, self.cleared)?;
+        save_waiting(&self.waiting, bytes)
     }
 
-    fn restore(&mut self, saved: SavedQueue, stored: &StoredMessages<A>)
-        requires room { saved.end - saved.first ≤ self.old.waiting.capacity }
-        requires ordered { saved.first ≤ saved.end }
-        requires within { saved.end ≤ length stored.now }
-        requires short { AreShort self.old.waiting.size
-            (messages_from stored.now saved.first saved.end) }
-        ensures waiting { self.new.waiting
-            ≡ messages (messages_from stored.now saved.first saved.end)
-            self.old.waiting.capacity self.old.waiting.size }
-        ensures accepted { self.new.accepted ≡ saved.accepted }
-        ensures received { self.new.received ≡ saved.received }
-        ensures cleared { self.new.cleared ≡ saved.cleared }
+    fn restore(&mut self, reader: &mut Reader<'_>)
+        ensures { Reads packed_queue (λ saved. HasRoomFor (Queuing self.old) (Queuing saved))
+            (λ saved. self.new ≡ saved) reader.old reader.new }
     {
-        put_messages(&mut self.waiting, stored, saved.first, saved.end);
-        self.accepted = saved.accepted;
-        self.received = saved.received;
-        self.cleared = saved.cleared;
+        self.accepted = reader.number();
+        self.received = reader.number();
+        self.cleared = reader.number();
+        restore_waiting(&mut self.waiting, reader);
     }
 }
 
-// Adds all messages that wait to the saved ones.
+impl<A: Allocator> SampleSlot<A> {
+    ghost use Rattle.apex_ports.specs.Packed.{packed_sample};
+    ghost use Rattle.apex_ports.specs.Saved.{IsSlotPackable};
+    ghost use Rattle.apex_ports.specs.Slots.{slot};
+
+    fn save(&self, bytes: &mut Vec<u8, A>) -> Result<(), AllocError>
+        ensures saved { OnOk result
+            (bytes.new.items ≡ bytes.old.items ++ packed_sample self.now.sample) }
+        ensures packable { OnOk result (IsSlotPackable self.now.size self.now.sample) }
+    {
+        let Some(sample) = self.get() else {
+            bytes.push(0)?;
+            return Ok(());
+        };
+        bytes.push(1)?;
+        put_number(bytes, sample.at.0)?;
+        put_message(bytes, sample.message)
+    }
+
+    fn restore(&mut self, reader: &mut Reader<'_>)
+        ensures { Reads packed_sample (IsSlotPackable self.old.size)
+            (λ sample. self.new ≡ slot sample self.old.size) reader.old reader.new }
+    {
+        if reader.byte() == 0 {
+            self.clear();
+            return;
+        }
+        let at = Moment(reader.number());
+        self.put_fitting(reader.message(), at);
+    }
+}
+
+// How many bytes the messages take with their lengths.
+fn messages_len<A: Allocator>(waiting: &MessageRing<A>) -> usize {
+    let mut len: usize = 0;
+    for index in 0..waiting.len() {
+        let message = waiting.get(index).unwrap();
+        len = len.saturating_add(LENGTH_BYTES + message.len());
+    }
+    len
+}
+
+// Writes the number of messages that wait, and each message.
 fn save_waiting<A: Allocator>(
     waiting: &MessageRing<A>,
-    stored: &mut StoredMessages<A>,
+    bytes: &mut Vec<u8, A>,
 ) -> Result<(), AllocError>
-    ensures { IfOk result (λ _. stored.new ≡ stored.old ++ waiting.now.items) }
+    ensures saved { OnOk result
+        (bytes.new.items ≡ bytes.old.items ++ packed_messages waiting.now.items) }
+    ensures within { AreWithin waiting.now }
 {
-    for index in 0..waiting.len() {
-        stored.push(waiting.get(index).unwrap())?;
+    let _ = waiting.size();
+    let count = waiting.len();
+    put_count(bytes, count as u32)?;
+    for index in 0..count {
+        put_message(bytes, waiting.get(index).unwrap())?;
     }
     Ok(())
 }
 
-// Replaces the waiting messages with the saved ones from one index up to another.
-fn put_messages<A: Allocator>(
-    waiting: &mut MessageRing<A>,
-    stored: &StoredMessages<A>,
-    first: usize,
-    end: usize,
-)
-    requires room { end - first ≤ waiting.old.capacity }
-    requires ordered { first ≤ end }
-    requires within { end ≤ length stored.now }
-    requires short { AreShort waiting.old.size (messages_from stored.now first end) }
-    ensures { waiting.new ≡ messages (messages_from stored.now first end)
-        waiting.old.capacity waiting.old.size }
+// Replaces the messages that wait with those that are read next, as far as they fit.
+fn restore_waiting<A: Allocator>(waiting: &mut MessageRing<A>, reader: &mut Reader<'_>)
+    ensures { Reads (λ saved. packed_messages saved.items) (IsRingFor waiting.old)
+        (λ saved. waiting.new ≡ saved) reader.old reader.new }
 {
+    let count = reader.count();
     waiting.clear();
-    for index in first..end {
-        waiting.push_back(stored.get(index).unwrap());
+    for _ in 0..count {
+        waiting.push_fitting(reader.message());
     }
 }

@@ -6,9 +6,6 @@ use apex_types::MESSAGE_LIMIT;
 use std::alloc::{AllocError, Allocator, Global};
 use std::marker::Model;
 
-/// What a part takes in a list, in bytes.
-const PART_BYTES: usize = 16;
-
 /// The bytes from one index up to another.
 #[derive(Clone, Copy, Debug)]
 pub(crate) struct Part {
@@ -52,20 +49,6 @@ impl<A: Allocator> StoredMessages<A> {
         ensures { result ≡ length self.now }
     {
         self.parts.len()
-    }
-
-    /// Removes all messages.
-    pub(crate) fn clear(&mut self)
-        ensures { self.new ≡ [] }
-    {
-        self.parts.clear();
-        self.bytes.clear();
-    }
-
-    /// About how many bytes of memory the messages take.
-    pub(crate) fn bytes(&self) -> usize {
-        let parts = self.parts.len().saturating_mul(PART_BYTES);
-        parts.saturating_add(self.bytes.len())
     }
 
     /// Adds a message. If memory runs out, the messages are unchanged.

@@ -1,28 +1,28 @@
-//! Saves the state of ports in little memory, and restores it.
-ghost use Rattle.std.specs.Prelude.{◌≡◌, length, IfOk, OnOk};
+//! Saves the state of ports in one piece of bytes, and restores it.
+ghost use Rattle.std.specs.Prelude.{◌≡◌, ◌++◌, ◌↔◌, IfOk, IsTrue, OnOk};
+ghost use Rattle.std.specs.List.{flat_map};
 ghost use Rattle.apex_ports.specs.Kept.{EachAt};
-ghost use Rattle.apex_ports.specs.Saved.{EachPair, IsSavedTable, HasAsManyPorts, IsSavedFrom, HasRoomFor, AreRestored};
+ghost use Rattle.apex_ports.specs.Packed.{packed_number, packed_partition, packed_channel};
+ghost use Rattle.apex_ports.specs.SameSaved.{IsSameSaved};
+ghost use Rattle.apex_ports.specs.Saved.{Reads, EachOf, AreCounts, HasAsManyPorts, IsSameTable, HasRoomFor, IsPackable};
 
 use crate::channel::ChannelState;
 use crate::ghost_history::GhostHistory;
-use crate::partition::{PartitionState, PortState, SavedPartition};
+use crate::packing::put_number;
+use crate::partition::PartitionState;
 use crate::ports::Ports;
-use crate::saved_channel::SavedChannel;
-use crate::stored_messages::StoredMessages;
+use crate::unpacking::Reader;
 use apex_module::Config;
 use apex_types::OutOfMemory;
 use std::alloc::{AllocError, Allocator, Global};
 use std::marker::Model;
 use std::snapshot::Snapshot;
 
-/// What a partition with its calls, a port and a channel take where they are saved, and the lists besides, in bytes.
-const PARTITION_BYTES: usize = 32;
+/// What the mode of a partition and the number of its calls take, in bytes.
+const PARTITION_BYTES: usize = 9;
 
-const PORT_BYTES: usize = 2;
-
-const CHANNEL_BYTES: usize = 48;
-
-const FIXED_BYTES: usize = 384;
+/// About what saved ports take besides their bytes, in bytes.
+const FIXED_BYTES: usize = 64;
 
 /// The saved state of ports: their modes, created ports, messages, samples and counts, without unused room and without
 /// the configuration. A contract sees the configuration and the history that the ports had.
@@ -30,17 +30,7 @@ const FIXED_BYTES: usize = 384;
 pub struct SavedPorts<A: Allocator = Global> {
     config: Snapshot<Config>,
     history: GhostHistory,
-    state: SavedState<A>,
-}
-
-/// What is saved of the partitions and the channels, and the number of calls of each partition.
-#[derive(Drop)]
-struct SavedState<A: Allocator> {
-    partitions: Vec<SavedPartition, A>,
-    tables: Vec<PortState, A>,
-    messages: StoredMessages<A>,
-    channels: Vec<SavedChannel, A>,
-    calls: Vec<u64, A>,
+    bytes: Vec<u8, A>,
 }
 
 impl<A: Allocator> Model for SavedPorts<A> {
@@ -52,9 +42,7 @@ impl<A: Allocator> Model for SavedPorts<A> {
 
     ghost view = { λ saved. record { config = saved.config.value; history = saved.history } };
 
-    ghost invariant = { λ saved. IsSavedKept saved.config.value saved.history
-        saved.state.partitions.items saved.state.tables saved.state.messages
-        saved.state.channels.items saved.state.calls.items };
+    ghost invariant = { λ saved. IsSavedKept saved.config.value saved.history saved.bytes };
 }
 
 impl<A: Allocator + Copy> Ports<A> {
@@ -62,13 +50,7 @@ impl<A: Allocator + Copy> Ports<A> {
     pub fn save(&self, alloc: A) -> Result<SavedPorts<A>, OutOfMemory>
         ensures { IfOk result (λ saved. saved ≡ self.now) }
     {
-        self.save_in(SavedState {
-            partitions: Vec::new(alloc),
-            tables: Vec::new(alloc),
-            messages: StoredMessages::new(alloc),
-            channels: Vec::new(alloc),
-            calls: Vec::new(alloc),
-        })
+        self.save_in(Vec::new(alloc))
     }
 }
 
@@ -77,46 +59,53 @@ impl<A: Allocator> Ports<A> {
     pub fn save_over(&self, old: SavedPorts<A>) -> Result<SavedPorts<A>, OutOfMemory>
         ensures { IfOk result (λ saved. saved ≡ self.now) }
     {
-        self.save_in(old.state)
+        self.save_in(old.bytes)
     }
 
-    // Saves the state of the ports in these lists, whatever they hold.
-    fn save_in(&self, old: SavedState<A>) -> Result<SavedPorts<A>, OutOfMemory>
+    // Saves the state of the ports in place of these bytes.
+    fn save_in(&self, mut bytes: Vec<u8, A>) -> Result<SavedPorts<A>, OutOfMemory>
         ensures { IfOk result (λ saved. saved ≡ self.now) }
     {
-        let mut state = old;
-        save_partitions(
-            self.state.partitions.as_slice(),
-            &mut state.partitions,
-            &mut state.tables,
-        )?;
-        save_channels(
-            self.state.channels.as_slice(),
-            &mut state.channels,
-            &mut state.messages,
-        )?;
-        state.calls.clear();
-        state.calls.extend_from_slice(self.calls.as_slice())?;
+        bytes.clear();
+        bytes.reserve_exact(self.saved_len())?;
+        save_partitions(self.state.partitions.as_slice(), &mut bytes)?;
+        save_channels(self.state.channels.as_slice(), &mut bytes)?;
+        save_calls(self.calls.as_slice(), &mut bytes)?;
         Ok(SavedPorts {
             config: Snapshot::of(&self.config),
             history: self.state.history.copy(),
-            state,
+            bytes,
         })
+    }
+
+    // How many bytes `save_in` writes.
+    fn saved_len(&self) -> usize {
+        let mut len: usize = 0;
+        for partition in &self.state.partitions {
+            len = len
+                .saturating_add(partition.ports.len())
+                .saturating_add(PARTITION_BYTES);
+        }
+        for channel in &self.state.channels {
+            len = len.saturating_add(channel.saved_len());
+        }
+        len
     }
 }
 
 impl<A: Allocator> SavedPorts<A> {
     /// About how many bytes of memory it takes.
     pub fn bytes(&self) -> usize {
-        let state = &self.state;
-        let partitions = state.partitions.len().saturating_mul(PARTITION_BYTES);
-        let channels = state.channels.len().saturating_mul(CHANNEL_BYTES);
-        let ports = state.tables.len().saturating_mul(PORT_BYTES);
-        FIXED_BYTES
-            .saturating_add(partitions)
-            .saturating_add(channels)
-            .saturating_add(ports)
-            .saturating_add(state.messages.bytes())
+        self.bytes.len().saturating_add(FIXED_BYTES)
+    }
+
+    /// Whether both were saved from ports of the same modes, ports, messages, samples and counts.
+    /// It compares their bytes.
+    pub fn is_same(&self, other: &SavedPorts<A>) -> bool
+        requires { self.now.config ≡ other.now.config }
+        ensures { IsTrue result ↔ IsSameSaved self.now.config self.now.history other.now.history }
+    {
+        self.bytes.as_slice() == other.bytes.as_slice()
     }
 }
 
@@ -129,95 +118,75 @@ impl<A: Allocator> Ports<A> {
         ensures restored { self.new ≡ saved.now }
         ensures sound { IsSound self.new.config self.new.history }
     {
-        restore_partitions(
-            self.state.partitions.as_mut_slice(),
-            saved.state.partitions.as_slice(),
-            saved.state.tables.as_slice(),
-        );
-        restore_channels(
-            self.state.channels.as_mut_slice(),
-            saved.state.channels.as_slice(),
-            &saved.state.messages,
-        );
-        self.calls
-            .as_mut_slice()
-            .copy_from_slice(saved.state.calls.as_slice());
+        let mut reader = Reader::new(saved.bytes.as_slice());
+        restore_partitions(self.state.partitions.as_mut_slice(), &mut reader);
+        restore_channels(self.state.channels.as_mut_slice(), &mut reader);
+        restore_calls(self.calls.as_mut_slice(), &mut reader);
         self.state.history = saved.history.copy();
     }
 }
 
-// The number of all ports.
-fn count_ports<A: Allocator>(partitions: &[PartitionState<A>]) -> usize {
-    let mut count: usize = 0;
-    for partition in partitions {
-        count = count.saturating_add(partition.ports.len());
-    }
-    count
-}
-
 fn save_partitions<A: Allocator>(
     partitions: &[PartitionState<A>],
-    saved: &mut Vec<SavedPartition, A>,
-    stored: &mut Vec<PortState, A>,
+    bytes: &mut Vec<u8, A>,
 ) -> Result<(), AllocError>
-    ensures count { OnOk result (length saved.new.items ≡ length partitions.now) }
-    ensures same { OnOk result
-        (EachPair (IsSavedTable stored.new.items) partitions.now saved.new.items) }
+    ensures { OnOk result
+        (bytes.new.items ≡ bytes.old.items ++ flat_map packed_partition partitions.now) }
 {
-    saved.clear();
-    stored.clear();
-    saved.reserve_exact(partitions.len())?;
-    stored.reserve_exact(count_ports(partitions))?;
     for partition in partitions {
-        let one = partition.save(stored)?;
-        saved.push(one)?;
+        partition.save(bytes)?;
     }
     Ok(())
 }
 
 fn save_channels<A: Allocator>(
     channels: &[ChannelState<A>],
-    saved: &mut Vec<SavedChannel, A>,
-    stored: &mut StoredMessages<A>,
+    bytes: &mut Vec<u8, A>,
 ) -> Result<(), AllocError>
-    ensures count { OnOk result (length saved.new.items ≡ length channels.now) }
-    ensures same { OnOk result
-        (EachPair (IsSavedFrom stored.new) channels.now saved.new.items) }
+    ensures saved { OnOk result
+        (bytes.new.items ≡ bytes.old.items ++ flat_map packed_channel channels.now) }
+    ensures packable { OnOk result (EachAt (λ _ state. IsPackable state) channels.now) }
 {
-    saved.clear();
-    stored.clear();
-    saved.reserve_exact(channels.len())?;
     for channel in channels {
-        let one = channel.save(stored)?;
-        saved.push(one)?;
+        channel.save(bytes)?;
     }
     Ok(())
 }
 
-fn restore_partitions<A: Allocator>(
-    partitions: &mut [PartitionState<A>],
-    saved: &[SavedPartition],
-    stored: &[PortState],
-)
-    requires count { length partitions.old ≡ length saved.now }
-    requires ports { EachPair (HasAsManyPorts stored.now) partitions.old saved.now }
-    ensures { EachPair (IsSavedTable stored.now) partitions.new saved.now }
+// Writes the number of calls of each partition.
+fn save_calls<A: Allocator>(calls: &[u64], bytes: &mut Vec<u8, A>) -> Result<(), AllocError>
+    ensures { OnOk result
+        (bytes.new.items ≡ bytes.old.items ++ flat_map packed_number calls.now) }
 {
-    for p in 0..saved.len() {
-        partitions[p].restore(&saved[p], stored);
+    for count in calls {
+        put_number(bytes, *count)?;
+    }
+    Ok(())
+}
+
+fn restore_partitions<A: Allocator>(partitions: &mut [PartitionState<A>], reader: &mut Reader<'_>)
+    ensures { Reads (flat_map packed_partition) (EachOf HasAsManyPorts partitions.old)
+        (λ saved. EachOf IsSameTable saved partitions.new) reader.old reader.new }
+{
+    for partition in partitions.iter_mut() {
+        partition.restore(reader);
     }
 }
 
-fn restore_channels<A: Allocator>(
-    channels: &mut [ChannelState<A>],
-    saved: &[SavedChannel],
-    stored: &StoredMessages<A>,
-)
-    requires count { length channels.old ≡ length saved.now }
-    requires room { EachPair (HasRoomFor stored.now) channels.old saved.now }
-    ensures { AreRestored stored.now channels.old saved.now channels.new }
+fn restore_channels<A: Allocator>(channels: &mut [ChannelState<A>], reader: &mut Reader<'_>)
+    ensures { Reads (flat_map packed_channel) (EachOf HasRoomFor channels.old)
+        (λ saved. channels.new ≡ saved) reader.old reader.new }
 {
-    for c in 0..saved.len() {
-        channels[c].restore(&saved[c], stored);
+    for channel in channels.iter_mut() {
+        channel.restore(reader);
+    }
+}
+
+fn restore_calls(calls: &mut [u64], reader: &mut Reader<'_>)
+    ensures { Reads (flat_map packed_number) (AreCounts calls.old)
+        (λ saved. calls.new ≡ saved) reader.old reader.new }
+{
+    for count in calls.iter_mut() {
+        *count = reader.number();
     }
 }

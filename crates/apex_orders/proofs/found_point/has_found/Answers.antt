@@ -29,6 +29,9 @@ pub is_point_at-requires-clause-config : goal.is_point_at-requires-clause-config
 is_point_at-requires-clause-config c =
     c.loop-count.invariant.other ∙ (c.requires.config ∙ sym (ap (λ (v : PortsView). v.config) c.loop-count.invariant.ports))
 
+pub is_point_at-requires-clause-saved : goal.is_point_at-requires-clause-saved
+is_point_at-requires-clause-saved c = c.requires.saved ∙ sym c.loop-count.invariant.ports
+
 pub returns-then-is_point_at-clause-found : goal.returns-then-is_point_at-clause-found
 returns-then-is_point_at-clause-found c =
     let point = c.is_point_at.ensures.same c.if-is_point_at.true in (

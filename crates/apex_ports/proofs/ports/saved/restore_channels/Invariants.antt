@@ -1,6 +1,7 @@
-use Rattle.apex_ports.proofs.Common.{◌≡◌, message_size, ring_depth, restored}
-use Rattle.apex_ports.proofs.InPlace.{IsDone}
+use Rattle.apex_ports.proofs.Common.{◌≡◌, HasRoomFor}
+use Rattle.apex_ports.specs.Packed.{packed_channel}
+use Rattle.apex_ports.proofs.PackedItems.{AreReading}
 use Rattle.apex_ports.proofs.ports.saved.restore_channels.Given as goal
 
-abbrev pub invariant-loop-c : goal.invariant-loop-c
-invariant-loop-c g l = IsDone (λ was saved now. now ≡ restored l.stored (ring_depth was) (message_size was) saved) l.c l.initial.channels l.saved l.channels
+abbrev pub invariant-loop-channel : goal.invariant-loop-channel
+invariant-loop-channel g l = AreReading packed_channel HasRoomFor (λ saved now. now ≡ saved) l.initial.channels l.initial.reader l.channel-index l.channels l.reader

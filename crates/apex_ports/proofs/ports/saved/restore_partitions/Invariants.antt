@@ -1,6 +1,7 @@
-use Rattle.apex_ports.specs.Saved.{IsSavedTable}
-use Rattle.apex_ports.proofs.InPlace.{IsDone}
+use Rattle.apex_ports.proofs.Common.{HasAsManyPorts, IsSameTable}
+use Rattle.apex_ports.specs.Packed.{packed_partition}
+use Rattle.apex_ports.proofs.PackedItems.{AreReading}
 use Rattle.apex_ports.proofs.ports.saved.restore_partitions.Given as goal
 
-abbrev pub invariant-loop-p : goal.invariant-loop-p
-invariant-loop-p g l = IsDone (λ was saved now. IsSavedTable l.stored now saved) l.p l.initial.partitions l.saved l.partitions
+abbrev pub invariant-loop-partition : goal.invariant-loop-partition
+invariant-loop-partition g l = AreReading packed_partition HasAsManyPorts IsSameTable l.initial.partitions l.initial.reader l.partition-index l.partitions l.reader

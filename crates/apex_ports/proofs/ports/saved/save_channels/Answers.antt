@@ -1,22 +1,19 @@
-use Rattle.apex_ports.proofs.Common.{List, ℕ, length, sym, ap, ◌∙◌, subst, EachPair, IsSavedFrom}
+use Rattle.apex_ports.proofs.Common.{arith, slice_get_within, IsPackable}
+use Rattle.apex_ports.specs.Packed.{packed_channel}
 use Rattle.apex_ports.proofs.Lookups.{at_index}
-use Rattle.apex_ports.proofs.Saving.{all_still_saved, each_pair_push}
-use Rattle.apex_ports.proofs.Stays.{length_push}
+use Rattle.apex_ports.proofs.PackedItems.{one_written, below_one_more}
 use Rattle.apex_ports.proofs.ports.saved.save_channels.Goals as goal
 
 pub loop-channel-preserved : goal.loop-channel-preserved
 loop-channel-preserved g c =
-    let push = c.in_ok-push.ensures.items in
     let all = c.args.channels.now in
-    let saved = c.loop-channel.saved.items in
-    let item = c.channel-item.result in
     let i = c.loop-channel.channel-index in
-    let before = c.loop-channel.stored in
-    let grown = c.in_ok-one.ensures.more in
-    let still = subst (λ (messages : List (List ℕ)). EachPair (IsSavedFrom messages) all saved) (sym grown.1)
-    (all_still_saved before grown.0 all saved c.loop-channel.invariant.same) in
+    let item = c.channel-item.result in
+    let at = at_index all i item c.loop-channel-test.true c.channel-item.is in
     record {
-      count = ap length push ∙ length_push saved c.in_ok-one.one i c.loop-channel.invariant.count;
-      same = rw push (each_pair_push (IsSavedFrom c.save.new.stored) all saved i item c.in_ok-one.one c.loop-channel.invariant.count still
-          (at_index all i item c.loop-channel-test.true c.channel-item.is) c.in_ok-one.ensures.saved);
+      saved = one_written packed_channel all i item c.args.bytes.now.items c.loop-channel.bytes.items c.save.new.bytes.items at c.loop-channel.invariant.saved c.in_ok-save.ensures.saved;
+      packable = below_one_more IsPackable all i item at c.in_ok-save.ensures.packable c.loop-channel.invariant.packable;
     }
+
+pub returns-clause-packable : goal.returns-clause-packable
+returns-clause-packable g c = λ k x at. c.loop-channel.invariant.packable k x (let within = slice_get_within c.args.channels.now k x at in omega arith) at

@@ -1,8 +1,7 @@
-use Rattle.apex_ports.proofs.Common.{◌≡◌, length, EachPair, IsSavedTable}
+use Rattle.apex_ports.proofs.Common.{◌≡◌, ◌++◌, take}
+use Rattle.std.specs.List.{flat_map}
+use Rattle.apex_ports.specs.Packed.{packed_partition}
 use Rattle.apex_ports.proofs.ports.saved.save_partitions.Given as goal
 
 abbrev pub invariant-loop-partition : goal.invariant-loop-partition
-invariant-loop-partition g l = record {
-  count : length l.saved.items ≡ l.partition-index;
-  same : EachPair (IsSavedTable l.stored.items) l.partitions l.saved.items;
-}
+invariant-loop-partition g l = l.bytes.items ≡ l.initial.bytes.items ++ flat_map packed_partition (take l.partition-index l.partitions)
