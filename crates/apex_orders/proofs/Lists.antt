@@ -1,5 +1,7 @@
 -- Indexes of lists.
-use Rattle.apex_orders.proofs.Common.{◌≡◌, ◌⊎◌, inl, inr, ⊎_elim, ℕ, zero, suc, ◌+◌, ◌<◌, ◌≤◌, List, [], ◌∷◌, ◌++◌, length, take, Some, None, refl, ap, ◌∙◌, arith, slice_get}
+use Rattle.std.specs.Prelude.{slice_set}
+use Rattle.std.proofs.lemmas.List.{get_or_append_left, get_or-append_right}
+use Rattle.apex_orders.proofs.Common.{◌≡◌, ◌⊎◌, inl, inr, ⊎_elim, ℕ, zero, suc, ◌+◌, ◌-◌, ◌<◌, ◌≤◌, List, [], ◌∷◌, ◌++◌, length, take, Some, None, refl, sym, subst, ap, ◌∙◌, arith, slice_get, get_or, get_or-set_same, length-append, cases_lt}
 
 pub at_seam : {X : Type 0} (xs : List X) (x : X) (ys : List X) → slice_get (xs ++ x ∷ ys) (length xs) ≡ Some x
 at_seam [] x ys = refl
@@ -60,3 +62,32 @@ same_items (x ∷ xs) (y ∷ ys) count each =
     let head : x ≡ y = cc in
     let rest : xs ≡ ys = same_items xs ys (omega arith) (λ k within. each (suc k) (omega arith)) in
     cc
+
+-- ---- the last item kept apart
+
+-- what relates the items before the last one, and the last ones, relates all
+pub with_last : {X : Type 0} (R : ℕ → X → X → Type 0) (n : ℕ) (all front front' back : List X) (x y : X)
+    → all ≡ front ++ back → length front ≡ n → length front' ≡ length front → length back ≡ 1
+    → ((d : X) → get_or back 0 d ≡ x)
+    → ((i : ℕ) (d : X) → i < length front → R i (get_or front i d) (get_or front' i d))
+    → R n x y
+    → (i : ℕ) (d : X) → i < length all
+    → (get_or (front' ++ slice_set back 0 y) i d ≡ get_or (front' ++ slice_set back 0 y) i d) × R i (get_or all i d) (get_or (front' ++ slice_set back 0 y) i d)
+with_last {X} R n all front front' back x y is count same one first each last i d within = (
+  refl,
+  ⊎_elim
+      (λ (below : i < n).
+      let old = ap (λ (l : List X). get_or l i d) is ∙ get_or_append_left front back d i (omega (arith, below, count)) in
+      let new = get_or_append_left front' (slice_set back 0 y) d i (omega (arith, below, count, same)) in
+      subst (λ u. R i u (get_or (front' ++ slice_set back 0 y) i d)) (sym old)
+      (subst (R i (get_or front i d)) (sym new) (each i d (omega (arith, below, count)))))
+      (λ (above : n ≤ i).
+      let at : n ≡ i = omega (arith, above, within, ap length is, length-append front back, count, one) in
+      let none : i - n ≡ 0 = omega (arith, at) in
+      let old = ap (λ (l : List X). get_or l i d) is ∙ get_or-append_right front back n i d count above ∙ ap (λ k. get_or back k d) none ∙ first d in
+      let new = get_or-append_right front' (slice_set back 0 y) n i d (same ∙ count) above ∙ ap (λ k. get_or (slice_set back 0 y) k d) none
+      ∙ get_or-set_same back 0 y d (omega (arith, one)) in
+      subst (λ u. R i u (get_or (front' ++ slice_set back 0 y) i d)) (sym old)
+      (subst (R i x) (sym new) (subst (λ k. R k x y) at last)))
+      (cases_lt i n),
+)

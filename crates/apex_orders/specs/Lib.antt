@@ -19,3 +19,4 @@ pub mod StateLaw
 pub mod States
 pub mod Steps
 pub mod Workers
+pub mod Threads

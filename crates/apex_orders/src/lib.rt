@@ -31,6 +31,7 @@ mod shares;
 mod sizes;
 pub mod state_law;
 pub mod step;
+mod threads;
 mod trial;
 pub mod witness;
 mod worker;

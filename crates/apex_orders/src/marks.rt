@@ -7,12 +7,12 @@ ghost use Rattle.apex_orders.specs.Marks.{AreAllHashed, AreAllMarked, AreMarks, 
 ghost use Rattle.apex_orders.specs.declared.found_point.FoundPoint.{FoundPoint};
 
 use crate::found_point::{FoundPoint, has_found};
+use crate::threads::for_each_mut;
 use crate::trial::Trial;
 use crate::worker::Worker;
 use apex_module::Config;
 use apex_types::OutOfMemory;
 use std::alloc::Global;
-use std::thread;
 use std::thread::Threads;
 
 /// For each point that a worker found, whether a worker before it found it, too.
@@ -146,7 +146,7 @@ pub(crate) fn mark_all<R: Threads + Sync>(
     ensures each { OnOk result (length marks.new ≡ length marks.old) }
     ensures marked { OnOk result (AreAllMarked workers.now marks.new) }
 {
-    thread::for_each_mut(
+    for_each_mut(
         rt,
         marks,
         threads,

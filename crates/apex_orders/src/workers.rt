@@ -11,6 +11,7 @@ use crate::orders::Orders;
 use crate::search::Search;
 use crate::shared::Shared;
 use crate::shares::{FIRST_WEIGHT, lighten, share_of, share_out};
+use crate::threads::for_each_mut;
 use crate::worker::Worker;
 use apex_module::Config;
 use apex_ports::{SavedPorts, Script};
@@ -229,7 +230,7 @@ impl Workers {
         let threads = all.len().max(1);
         let workers = all.as_mut_slice();
         if left.is_empty() || share_out(&mut left, workers).is_ok() {
-            thread::for_each_mut(rt, workers, threads, &|_, worker| worker.free());
+            for_each_mut(rt, workers, threads, &|_, worker| worker.free());
         }
     }
 
@@ -345,7 +346,7 @@ fn run_all<R: Threads + Sync>(
     ensures ran { (k : ℕ) (d : Worker) → k < length workers.old → HasRun shared.now parts
         (slice_index_or workers.old k d) (slice_index_or workers.new k d) }
 {
-    thread::for_each_mut(
+    for_each_mut(
         rt,
         workers,
         threads,

@@ -20,7 +20,7 @@ for_each_mut-requires-clause-accepts g c κs within i p below at =
 
 pub loop-k-preserved : goal.loop-k-preserved
 loop-k-preserved g c j one below at =
-    let marks = c.for_each_mut.new.s in
+    let marks = c.for_each_mut.new.items in
     let k = c.loop-k.k in
     ⊎_elim
     (λ (now : j ≡ k).
@@ -34,9 +34,9 @@ loop-k-preserved g c j one below at =
 
 pub returns-clause-marked : goal.returns-clause-marked
 returns-clause-marked g c k one at =
-    let marks = c.for_each_mut.new.s in
+    let marks = c.for_each_mut.new.items in
     let inside = slice_get_within marks k one at in
-    let same = c.for_each_mut.auto.s in
+    let same = c.for_each_mut.auto.items in
     let end = c.loop-k-test.false in
     let change = (c.for_each_mut.ensures k one (omega (arith, inside, same))).1 in
     let own = change.left ∙ get_or_from_slice_get marks k one one at in
