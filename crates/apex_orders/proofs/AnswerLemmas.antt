@@ -10,6 +10,12 @@ pub none_there : {X : Type 0} (o : Option X) → is_some o ≡ false → o ≡ N
 none_there None is = refl
 none_there (Some x) is = absurd (cc)
 
+-- the item that was set
+pub set_here : {X : Type 0} (xs : List X) (i : ℕ) (y : X) → i < length xs → slice_get (set xs i y) i ≡ Some y
+set_here [] i y within = absurd (omega (arith, within))
+set_here (z ∷ xs) zero y within = refl
+set_here (z ∷ xs) (suc i) y within = set_here xs i y (omega (arith, within))
+
 pub set_elsewhere : {X : Type 0} (xs : List X) (i : ℕ) (y : X) (k : ℕ) → (k ≡ i → ⊥) → slice_get (set xs i y) k ≡ slice_get xs k
 set_elsewhere [] i y k other = refl
 set_elsewhere (z ∷ xs) zero y zero other = absurd (other refl)

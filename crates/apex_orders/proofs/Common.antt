@@ -34,7 +34,7 @@ pub use Rattle.apex_orders.specs.Points.{IsSamePoint, IsSameCalls, HasSameCounts
 pub use Rattle.apex_orders.specs.Searching.{AreAllAnswered, AreAnswersBy, AreDue, IsEnoughWith, IsSearched, IsGivenByAnOrder, IsOpen, HasMadeAll, AreEndsOf, HasMoreOrders, HaveOrders, IsGivenUp, Keeps, Knows, Includes, AreOrders, AreApart, AreClocked, IsUnansweredAt, IsTried, HasTried, IsFound, AreFound, HasEnded, IsAnsweredAfter, IsGivenAfter, IsSearchedInVain, HasTriedEnough, HasTriedFrom, HasLevel, IsLater, IsSearch, answer_by}
 pub use Rattle.apex_orders.specs.States.{IsSameChannel, IsSameState, IsSamePorts, last_shown, IsSamePartition}
 pub use Rattle.apex_orders.specs.Steps.{Makes, MakesNothing, possible}
-pub use Rattle.apex_orders.specs.Workers.{AreAllApart, HasNothingLeft, AreContinued, AreHashed, AreGiven, HasContinued, HasMade, HasPoint, HasTriedCall, IsAnswered, IsContinued, IsFoundBy, IsLaterWorker, IsRange, IsReady, IsShared, IsWorker, IsUnderWay, IsWorkerOf, AreWorkers, KnowsPoint, order_given, order_found, orders_known, AreUnderTrial, CanAllTry, CanRun, HasRun, HasRunOn, HasPointAt, IsPointOf, IsUnderTrial, HasTriedAll, HasLeft, HaveTriedAll, HavePoints, HasGivenAll, HasLooked, IsLevelUnderTrial}
+pub use Rattle.apex_orders.specs.Workers.{AreAllApart, HasNothingLeft, AreContinued, AreHashed, AreGiven, HasContinued, HasMade, HasPoint, HasTriedCall, IsAnswered, IsContinued, IsFoundBy, IsLaterWorker, IsRange, IsReady, IsShared, IsWorker, IsUnderWay, IsWorkerOf, AreWorkers, KnowsPoint, order_given, order_found, orders_known, AreUnderTrial, CanAllTry, CanRun, HasRun, HasRunOn, HasPointAt, IsPointOf, IsUnderTrial, HasTriedAll, HasLeft, HaveTriedAll, reach, HavePoints, HasGivenAll, HasLooked, IsLevelUnderTrial}
 pub use Rattle.apex_orders.specs.declared.asked.Asked.{Asked}
 pub use Rattle.apex_orders.specs.declared.last_uses.LastUse.{LastUse}
 pub use Rattle.apex_orders.specs.declared.last_uses.LastUses.{LastUses}

@@ -161,7 +161,7 @@ shared_sync κ = declared_sync (Shared.the_type κ) (
       search (sendable, as_row_sync, script.the_sync),
       (
         search sendable,
-        (search (sendable, as_row_sync, uses.the_sync), (search (sendable, crosses, as_row_sync) depth 12, (search (sendable, as_row_sync, replies.the_sync), (search (sendable, crosses, as_row_sync) depth 12, tt)))),
+        (search (sendable, as_row_sync, uses.the_sync), (search (sendable, crosses, as_row_sync) depth 12, (search (sendable, as_row_sync, replies.the_sync), (search sendable, (search (sendable, crosses, as_row_sync) depth 12, tt))))),
       ),
     ),
   ),

@@ -1,7 +1,7 @@
 -- Indexes of lists.
 use Rattle.std.specs.Prelude.{slice_set}
 use Rattle.std.proofs.lemmas.List.{get_or_append_left, get_or-append_right}
-use Rattle.apex_orders.proofs.Common.{◌≡◌, ◌⊎◌, inl, inr, ⊎_elim, ℕ, zero, suc, ◌+◌, ◌-◌, ◌<◌, ◌≤◌, List, [], ◌∷◌, ◌++◌, length, take, Some, None, refl, sym, subst, ap, ◌∙◌, arith, slice_get, get_or, get_or-set_same, length-append, cases_lt}
+use Rattle.apex_orders.proofs.Common.{◌≡◌, ◌⊎◌, inl, inr, ⊎_elim, ℕ, zero, suc, ◌+◌, ◌-◌, ◌<◌, ◌≤◌, List, [], ◌∷◌, ◌++◌, length, take, drop, Some, None, refl, sym, subst, ap, ◌∙◌, arith, slice_get, get_or, get_or-set_same, length-append, cases_lt, Has}
 
 pub at_seam : {X : Type 0} (xs : List X) (x : X) (ys : List X) → slice_get (xs ++ x ∷ ys) (length xs) ≡ Some x
 at_seam [] x ys = refl
@@ -62,6 +62,42 @@ same_items (x ∷ xs) (y ∷ ys) count each =
     let head : x ≡ y = cc in
     let rest : xs ≡ ys = same_items xs ys (omega arith) (λ k within. each (suc k) (omega arith)) in
     cc
+
+-- ---- one more item
+
+-- an item is one of those before, or the one that was inserted
+pub of_inserted : {X : Type 0} (xs : List X) (n : ℕ) (y : X) (k : ℕ) (x : X) → slice_get (take n xs ++ y ∷ drop n xs) k ≡ Some x → Has xs x ⊎ (y ≡ x)
+of_inserted xs zero y zero x at = inr cc
+of_inserted xs zero y (suc k) x at = inl (k, at)
+of_inserted [] (suc n) y zero x at = inr cc
+of_inserted [] (suc n) y (suc k) x at = absurd (cc)
+of_inserted (z ∷ xs) (suc n) y zero x at = inl (0, at)
+of_inserted (z ∷ xs) (suc n) y (suc k) x at =
+    ⊎_elim
+    (λ (has : Has xs x). inl (suc has.0, has.1))
+    (λ (is : y ≡ x). inr is)
+    (of_inserted xs n y k x at)
+
+pub inserted : {X : Type 0} (xs : List X) (n : ℕ) (y : X) → Has (take n xs ++ y ∷ drop n xs) y
+inserted xs zero y = (0, refl)
+inserted [] (suc n) y = (0, refl)
+inserted (z ∷ xs) (suc n) y = let rest = inserted xs n y in (suc rest.0, rest.1)
+
+pub kept_by_insert : {X : Type 0} (xs : List X) (n : ℕ) (y : X) (k : ℕ) (x : X) → slice_get xs k ≡ Some x → Has (take n xs ++ y ∷ drop n xs) x
+kept_by_insert xs zero y k x at = (suc k, at)
+kept_by_insert [] (suc n) y k x at = absurd (cc)
+kept_by_insert (z ∷ xs) (suc n) y zero x at = (0, at)
+kept_by_insert (z ∷ xs) (suc n) y (suc k) x at = let rest = kept_by_insert xs n y k x at in (suc rest.0, rest.1)
+
+-- items of the same number take the place of all
+pub all_replaced : {X : Type 0} (xs ys : List X) (n : ℕ) → length ys ≡ length xs → n ≡ length xs → take n (ys ++ drop (length ys) xs) ≡ ys
+all_replaced {X} xs ys n same all = ap (λ (m : ℕ). take m (ys ++ drop (length ys) xs)) all ∙ by_items xs ys same
+  where
+    by_items : (us vs : List X) → length vs ≡ length us → take (length us) (vs ++ drop (length vs) us) ≡ vs
+    by_items [] [] count = refl
+    by_items [] (v ∷ vs) count = absurd (omega (arith, count))
+    by_items (u ∷ us) [] count = absurd (omega (arith, count))
+    by_items (u ∷ us) (v ∷ vs) count = ap (λ (rest : List X). v ∷ rest) (by_items us vs (omega (arith, count)))
 
 -- ---- the last item kept apart
 

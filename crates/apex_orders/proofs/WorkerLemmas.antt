@@ -1,12 +1,12 @@
 -- What a worker is given, finds and knows.
-use Rattle.apex_orders.proofs.Common.{◌≡◌, ⊎_elim, ℕ, ◌+◌, ◌<◌, Bool, List, [], ◌∷◌, ◌++◌, length, map, Ok, Err, Result, OnOk, Some, false, sym, ap, ◌∙◌, subst, arith, append_assoc, map-append, length-append, slice_get, slice_get_within, Configuration, History, PortsView, PossibleReply, FoundPoint, Worker, Scripts, Has, IsSamePoint, hash_of, history_of, order_at, Keeps, Includes, Knows, HasTriedEnough}
-use Rattle.apex_orders.proofs.Common.{AreAllApart, AreGiven, AreHashed, HasContinued, HasPoint, IsFoundBy, IsLaterWorker, order_given, order_found, orders_known}
+use Rattle.apex_orders.proofs.Common.{◌≡◌, ⊎_elim, ℕ, ◌+◌, ◌<◌, ◌≤◌, Bool, List, [], ◌∷◌, ◌++◌, length, map, Ok, Err, Result, OnOk, Some, false, refl, append-nil, sym, ap, ◌∙◌, subst, arith, append_assoc, map-append, length-append, slice_get, slice_get_within, Configuration, History, PortsView, PossibleReply, FoundPoint, Worker, Scripts, Has, IsSamePoint, hash_of, history_of, order_at, Keeps, Includes, Knows, HasTriedEnough}
+use Rattle.apex_orders.proofs.Common.{AreAllApart, AreClocked, AreFound, AreGiven, AreHashed, AreOrders, HasContinued, HasLeft, HasPoint, IsFoundBy, IsLaterWorker, IsTrialOf, IsWorker, order_given, order_found, orders_known, reach}
 use Rattle.std.specs.Result.{is_err}
 use Rattle.apex_orders.proofs.Following.{same_along}
 use Rattle.apex_orders.proofs.GrowthLemmas.{order_here}
-use Rattle.apex_orders.proofs.Having.{has_before, has_behind, has_either, has_mapped, of_mapped}
+use Rattle.apex_orders.proofs.Having.{has_before, has_behind, has_either, has_mapped, has_none, of_mapped}
 use Rattle.apex_orders.proofs.Lists.{at_seam, before_or_last, stays_before}
-use Rattle.apex_orders.proofs.SearchLemmas.{includes_along, keeps_along, knows_kept, tried_kept}
+use Rattle.apex_orders.proofs.SearchLemmas.{includes_along, keeps_along, knows_kept, none_found, tried_kept}
 
 -- ---- one more point
 
@@ -169,6 +169,38 @@ includes_behind known old new includes one has =
     (λ (found : Has old one). has_behind known new one (includes one found))
     (has_either known old one has)
 
+-- ---- what it is given
+
+-- a worker that has found nothing knows the orders that the search had found
+none_known : (worker : Worker) (orders : List (List ℕ)) → worker.base.value ≡ orders → worker.found.items ≡ [] → orders_known worker ≡ orders
+none_known worker orders base none =
+    ap (λ (items : List FoundPoint). worker.base.value ++ map (order_found worker) items) none ∙ (append-nil worker.base.value ∙ base)
+
+-- a worker that has yet to begin
+pub has_begun : (clock : Bool) (config : Configuration) (scripts : Scripts) (worker : Worker) (orders : List (List ℕ)) → length scripts ≡ length config.partitions → IsTrialOf config worker.trial
+    → AreGiven config scripts worker → worker.base.value ≡ orders → worker.found.items ≡ [] → worker.hashes ≡ [] → worker.replies ≡ []
+    → AreOrders config orders → AreClocked clock config scripts orders → IsWorker clock config scripts worker
+has_begun clock config scripts worker orders all trial given base found unhashed replies are clocked =
+    let known = none_known worker orders base found in
+    record {
+      all = all;
+      trial = trial;
+      given = given;
+      found = λ one has. absurd (has_none one (subst (λ (points : List FoundPoint). Has points one) found has));
+      hashed = subst (λ (x : List FoundPoint × List ℕ). AreHashed config x.0 x.1) (λ i. (sym found i, sym unhashed i)) (record { count = refl; each = λ k one at. absurd (cc); configured = λ k one at. absurd (cc) });
+      apart = subst (AreAllApart config) (sym found) (λ j k one other below at also. absurd (cc));
+      orders = subst (AreOrders config) (sym known) are;
+      clocked = subst (AreClocked clock config scripts) (sym known) clocked;
+      replies = subst (AreFound clock config scripts) (sym replies) (none_found config scripts clock);
+    }
+
+-- its own points are some of those that it was given
+pub reach_within : (worker : Worker) → HasLeft worker → reach worker ≤ length worker.given.value.items
+reach_within worker left =
+    let all = ap (λ (points : List PortsView). length points) left.all in
+    let count = left.count in
+    omega (arith, all, count, length-append left.done (worker.points.items ++ left.away), length-append worker.points.items left.away)
+
 -- ---- results
 
 pub on_ok : {X E : Type 0} (r : Result X E) (P Q : Type 0) → (P → Q) → OnOk r P → OnOk r Q
@@ -179,9 +211,10 @@ pub ok_then : {X E P : Type 0} (r : Result X E) (Q : Type 0) → OnOk r P → (P
 ok_then (Ok x) Q is f = f is
 ok_then (Err e) Q is f = tt
 
-pub all_on_ok : {X E : Type 0} (r : Result X E) (P Q R S T U : Type 0) → (P → Q → R → S → T → U) → OnOk r P → OnOk r Q → OnOk r R → OnOk r S → OnOk r T → OnOk r U
-all_on_ok (Ok x) P Q R S T U f one two three four five = f one two three four five
-all_on_ok (Err e) P Q R S T U f one two three four five = tt
+pub all_on_ok : {X E : Type 0} (r : Result X E) (P Q R S T U V : Type 0) → (P → Q → R → S → T → U → V)
+    → OnOk r P → OnOk r Q → OnOk r R → OnOk r S → OnOk r T → OnOk r U → OnOk r V
+all_on_ok (Ok x) P Q R S T U V f one two three four five six = f one two three four five six
+all_on_ok (Err e) P Q R S T U V f one two three four five six = tt
 
 pub when_ok : {X E : Type 0} (r : Result X E) (P : Type 0) → is_err r ≡ false → OnOk r P → P
 when_ok (Ok x) P ok is = is

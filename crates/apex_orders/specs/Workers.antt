@@ -1,5 +1,5 @@
 -- What the parts of a search find that can run in threads of their own.
-use Rattle.std.specs.Prelude.{ℕ, suc, Bool, ◌≡◌, ◌⊎◌, ◌<◌, ◌≤◌, ◌+◌, ◌^◌, List, [], ◌∷◌, ◌++◌, length, map, slice_get, Some, OnOk}
+use Rattle.std.specs.Prelude.{ℕ, suc, Bool, false, ◌≡◌, ◌⊎◌, ◌<◌, ◌≤◌, ◌+◌, ◌^◌, List, [], ◌∷◌, ◌++◌, length, map, slice_get, Some, OnOk}
 use Rattle.apex_orders.specs.Prelude.{Configuration, History, PortsView}
 use Rattle.apex_orders.specs.declared.asked.Asked.{Asked}
 use Rattle.apex_orders.specs.declared.rounds.Rounds.{Rounds}
@@ -58,15 +58,20 @@ pub record AreGiven (config : Configuration) (scripts : Scripts) (worker : Worke
   pub room : length worker.base.value < 2 ^ 64
   pub each : (j : ℕ) (ports : PortsView) → slice_get worker.given.value.items j ≡ Some ports → IsAfter config scripts (order_given worker j) ports
 
--- it has tried so many of its points, and the others are left
+-- it has tried so many of its points, others are left, and the last ones may have been given away
 pub record HasLeft (worker : Worker) : Type 0 where
   pub done : List PortsView
+  pub away : List PortsView
   pub count : length done ≡ worker.tried
-  pub all : worker.given.value.items ≡ done ++ worker.points.items
+  pub all : worker.given.value.items ≡ done ++ (worker.points.items ++ away)
 
--- it has tried all of them
+-- how many of them are its own: those that it has tried, and those that are left
+abbrev pub reach : Worker → ℕ
+reach worker = worker.tried + length worker.points.items
+
+-- none is left
 abbrev pub HasTriedAll : Worker → Type 0
-HasTriedAll worker = length worker.given.value.items ≤ worker.tried
+HasTriedAll worker = worker.points.items ≡ []
 
 -- what the worker found is one call behind one of its points
 pub record IsFoundBy (config : Configuration) (scripts : Scripts) (worker : Worker) (one : FoundPoint) : Type 0 where
@@ -105,7 +110,7 @@ HasContinued clock config scripts known worker =
 -- its points are those of the orders from one index up to another
 pub record IsRange (from to : ℕ) (worker : Worker) : Type 0 where
   pub first : worker.first ≡ from
-  pub last : worker.first + length worker.given.value.items ≡ to
+  pub last : worker.first + reach worker ≡ to
 
 -- so many calls were made before each of its points
 abbrev pub HasMade : Configuration → Scripts → ℕ → Worker → Type 0
@@ -120,18 +125,16 @@ CanAllTry config workers = (k : ℕ) (worker : Worker) → slice_get workers k �
 abbrev pub CanAllMark : Configuration → List Marks → Type 0
 CanAllMark config marks = (k : ℕ) (one : Marks) → slice_get marks k ≡ Some one → IsTrialOf config one.trial
 
--- so can those that were made, with marks and a weight for each, and at least one thread may run
+-- so can those that were made, with marks for each
 pub record AreWorkers (config : Configuration) (workers : Workers) : Type 0 where
-  pub some : 0 < workers.threads
   pub each : CanAllTry config workers.all.items
   pub count : length workers.marks.items ≡ length workers.all.items
-  pub weights : length workers.weights.items ≡ length workers.all.items
   pub marks : CanAllMark config workers.marks.items
 
 -- the index is that of the order to one of the worker's points
 pub record IsPointOf (worker : Worker) (i : ℕ) : Type 0 where
   pub past : worker.first ≤ i
-  pub within : i < worker.first + length worker.given.value.items
+  pub within : i < worker.first + reach worker
 
 -- it is that of one of some workers
 pub record HasPointAt (workers : List Worker) (i : ℕ) : Type 0 where
@@ -244,13 +247,14 @@ pub record CanRun (shared : Shared) (worker : Worker) : Type 0 where
   pub left : HasLeft worker
   pub tried : AreContinued shared worker
 
--- the worker has tried more of its points, and all that were left if they were one part
+-- the worker has tried more of its points, and all that were left if they were one part and it was not to stop
 pub record HasRunOn (shared : Shared) (parts : ℕ) (old new : Worker) : Type 0 where
   pub valid : IsWorkerOf shared new
   pub later : IsLaterWorker old new
   pub left : HasLeft new
   pub tried : AreContinued shared new
-  pub all : parts ≤ 1 → new.points.items ≡ []
+  pub reach : reach new ≡ reach old
+  pub all : shared.stops ≡ false → parts ≤ 1 → new.points.items ≡ []
 
 -- this holds unless memory ran out
 abbrev pub HasRun : Shared → ℕ → Worker → Worker → Type 0

@@ -130,15 +130,14 @@ fn has_point(config: &Config, worker: &Worker, one: &FoundPoint, trial: &mut Tri
     has_found(&worker.found, &worker.hashes, &one.saved, trial, one.hash)
 }
 
-/// Marks what several workers found, in at most `threads` threads.
+/// Marks what several workers found, for those that are not `short` in threads of their own.
 pub(crate) fn mark_all<R: Threads + Sync>(
     rt: &R,
-    threads: usize,
+    short: &[bool],
     config: &Config,
     workers: &[Worker],
     marks: &mut [Marks],
 ) -> Result<(), OutOfMemory>
-    requires threads { 0 < threads }
     requires hashed { AreAllHashed config.now workers.now }
     requires marks { CanAllMark config.now marks.old }
     requires each { length marks.old ≡ length workers.now }
@@ -149,7 +148,7 @@ pub(crate) fn mark_all<R: Threads + Sync>(
     for_each_mut(
         rt,
         marks,
-        threads,
+        short,
         &|k: usize, one: &mut Marks|
             requires { IsTrialOf config.now one.old.trial × AreAllHashed config.now workers.now
                 × (k < length workers.now) }

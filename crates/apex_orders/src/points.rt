@@ -84,14 +84,3 @@ impl Points {
         self.saved.get(index - self.first).unwrap()
     }
 }
-
-/// Adds saved ports that are not used to the list.
-pub(crate) fn add_unused(
-    spare: &mut Vec<SavedPorts>,
-    unused: Option<SavedPorts>,
-) -> Result<(), OutOfMemory> {
-    if let Some(ports) = unused {
-        spare.push(ports)?;
-    }
-    Ok(())
-}

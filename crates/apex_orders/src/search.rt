@@ -13,8 +13,9 @@ use crate::asked::Asked;
 use crate::found_point::FoundPoint;
 use crate::last_uses::{LastUses, last_uses};
 use crate::orders::Orders;
-use crate::points::{Points, add_unused};
+use crate::points::Points;
 use crate::replies::Replies;
+use crate::spare::add_unused;
 use crate::worker::Worker;
 use apex_module::Config;
 use apex_ports::{SavedPorts, Script};
@@ -127,6 +128,7 @@ impl Search {
         requires worker { IsWorker clock config.now scripts.now worker.old }
         requires marks { FitMarks config.now scripts.now self.old worker.old known.now }
         requires tried { HasContinued clock config.now scripts.now self.old.replies worker.old }
+        requires left { HasLeft worker.old }
         requires all { HasTriedAll worker.old }
         requires base { Keeps worker.old.base.value self.old.orders }
         requires made { HasMade config.now scripts.now self.old.points.calls worker.old }

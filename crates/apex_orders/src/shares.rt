@@ -1,5 +1,5 @@
 //! How much of a level each worker is given. Neither points nor processors are equal, so the shares follow the workers' speed.
-ghost use Rattle.std.specs.Prelude.{◌≡◌, ◌<◌, ◌≤◌, ◌+◌, length};
+ghost use Rattle.std.specs.Prelude.{◌≡◌, ◌<◌, ◌≤◌, ◌+◌};
 
 use crate::worker::Worker;
 use apex_ports::SavedPorts;
@@ -9,16 +9,20 @@ use std::collections::VecDeque;
 /// The weight of a worker before its speed is known.
 pub(crate) const FIRST_WEIGHT: usize = 1 << 20;
 
-/// The worker that ends last gives away its weight divided by this.
+/// For how many points that a worker has left it is worth to share them with another one.
+pub(crate) const POINTS_SHARED: usize = 256;
+
+/// The slowest worker gives away its weight divided by this.
 const WEIGHT_STEPS: usize = 64;
 
-/// How many of the points that are left the worker at the index is given: all of them if it is the last worker.
-pub(crate) fn share_of(left: usize, weights: &[usize], k: usize) -> usize
-    requires { k < length weights.now }
+/// How many of the points that are left the worker at the index, of so many workers, is given: all of them if it is the
+/// last one.
+pub(crate) fn share_of(left: usize, weights: &[usize], k: usize, count: usize) -> usize
+    requires { k < count }
     ensures within { result ≤ left }
-    ensures last { length weights.now ≤ k + 1 → result ≡ left }
+    ensures last { count ≤ k + 1 → result ≡ left }
 {
-    if k + 1 >= weights.len() {
+    if k + 1 >= count || k >= weights.len() {
         return left;
     }
     let mut all: usize = 0;
@@ -29,19 +33,27 @@ pub(crate) fn share_of(left: usize, weights: &[usize], k: usize) -> usize
     share.min(left)
 }
 
-/// Lets the worker that ended last, of those in several threads, give a little of its weight to the others.
-pub(crate) fn lighten(weights: &mut [usize], last: usize, threads: usize)
-    ensures { length weights.new ≡ length weights.old }
+/// How many points are left after the next of `parts` equal parts of them.
+pub(crate) fn rest_after(points: usize, parts: usize) -> usize
+    ensures { parts ≤ 1 → result ≡ 0 }
 {
+    if parts <= 1 {
+        return 0;
+    }
+    points - points / parts
+}
+
+/// Lets the slowest worker give a little of its weight to the others.
+pub(crate) fn lighten(weights: &mut [usize], slowest: usize) {
     let count = weights.len();
-    if threads <= 1 || last >= count {
+    if slowest >= count {
         return;
     }
-    let more = weights[last] / WEIGHT_STEPS / count;
+    let more = weights[slowest] / WEIGHT_STEPS / count;
+    weights[slowest] = weights[slowest].saturating_sub(more.saturating_mul(count));
     for weight in weights.iter_mut() {
         *weight = weight.saturating_add(more);
     }
-    weights[last] = weights[last].saturating_sub(more.saturating_mul(count));
 }
 
 /// Moves the saved ports to the workers, about as many to each.

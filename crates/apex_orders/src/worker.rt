@@ -1,5 +1,5 @@
 //! A part of a search that can run in a thread of its own.
-ghost use Rattle.std.specs.Prelude.{◌≡◌, ◌<◌, ◌≤◌, ◌+◌, ◌++◌, [], ◌∷◌, ℕ, suc, true, false, length, slice_get, Some, IfOk, OnOk, IsTrue, ◌↔◌};
+ghost use Rattle.std.specs.Prelude.{◌≡◌, ◌<◌, ◌≤◌, ◌+◌, ◌++◌, [], ◌∷◌, ℕ, suc, true, false, length, option_to_list, slice_get, Some, IfNone, IfOk, OnOk, IsTrue, ◌↔◌};
 ghost use Rattle.apex_orders.specs.Choices.{is_tried};
 ghost use Rattle.apex_orders.specs.Clock.{IsClocked, IsNextDue};
 ghost use Rattle.apex_orders.specs.Hashes.{hash_of};
@@ -9,7 +9,7 @@ ghost use Rattle.apex_orders.specs.Points.{IsSamePoint, calls_made};
 ghost use Rattle.apex_orders.specs.Searching.{AreDue, Includes, Keeps};
 ghost use Rattle.apex_orders.specs.Steps.{MakesNothing};
 ghost use Rattle.apex_orders.specs.Prelude.{IsSound};
-ghost use Rattle.apex_orders.specs.Workers.{AreHashed, CanRun, IsContinued, AreContinued, HasLeft, HasRun, HasPoint, HasTriedCall, IsAnswered, IsLaterWorker, IsReady, IsShared, IsWorkerOf, KnowsPoint, history_given, order_given};
+ghost use Rattle.apex_orders.specs.Workers.{AreHashed, CanRun, IsContinued, AreContinued, HasLeft, HasRun, HasPoint, HasTriedCall, IsAnswered, IsLaterWorker, IsReady, IsShared, IsWorkerOf, KnowsPoint, history_given, order_given, reach};
 
 use crate::choice::{Choice, choose, is_tried};
 use crate::found_point::{FoundPoint, has_found};
@@ -19,6 +19,8 @@ use crate::orders::Orders;
 use crate::points::Points;
 use crate::replies::Replies;
 use crate::shared::Shared;
+use crate::shares::rest_after;
+use crate::spare::{keep, save};
 use crate::step::make_next;
 use crate::trial::Trial;
 use apex_module::Config;
@@ -28,10 +30,6 @@ use std::alloc::Global;
 use std::collections::VecDeque;
 use std::mem;
 use std::snapshot::Snapshot;
-use std::sync::atomic::Ordering;
-
-/// For how many points a worker keeps memory to use again.
-const MOST_SPARE: usize = 16_384;
 
 /// Continues from points that it is given. It reads nothing of other workers: what it finds is compared with what they find
 /// afterwards.
@@ -115,28 +113,57 @@ impl Worker {
         ensures replies { OnOk result (self.new.replies ≡ []) }
         ensures trial { OnOk result (self.new.trial ≡ self.old.trial) }
     {
-        self.base = Snapshot::of(orders);
-        self.first = points.first;
-        self.found.clear();
-        self.hashes.clear();
-        self.replies.clear();
-        self.tried = 0;
-        let bytes = points.bytes;
-        self.points = points.take(count)?;
-        self.bytes = bytes.saturating_sub(points.bytes);
-        self.given = Snapshot::of(&self.points);
+        let (first, bytes) = (points.first, points.bytes);
+        let taken = points.take(count)?;
+        self.start(orders, first, taken, bytes.saturating_sub(points.bytes));
         Ok(())
     }
 
-    /// Tries the next of `parts` equal parts of the worker's points. Then `shared` tells that the worker with this number
-    /// has ended.
+    /// Takes over these points, of which the first one is that of the order at the index. They take about so many bytes.
+    pub(crate) fn start(
+        &mut self,
+        orders: &Orders,
+        first: usize,
+        points: VecDeque<SavedPorts>,
+        bytes: usize,
+    )
+        ensures base { self.new.base.value ≡ orders.now }
+        ensures first { self.new.first ≡ first }
+        ensures given { self.new.given.value.items ≡ points.items }
+        ensures left { self.new.points.items ≡ points.items }
+        ensures tried { self.new.tried ≡ 0 }
+        ensures found { self.new.found.items ≡ [] }
+        ensures unhashed { self.new.hashes ≡ [] }
+        ensures replies { self.new.replies ≡ [] }
+        ensures trial { self.new.trial ≡ self.old.trial }
+    {
+        self.base = Snapshot::of(orders);
+        self.first = first;
+        self.given = Snapshot::of(&points);
+        self.tried = 0;
+        self.points = points;
+        self.found.clear();
+        self.hashes.clear();
+        self.replies.clear();
+        self.bytes = bytes;
+    }
+
+    /// Whether it was given no points.
+    pub(crate) fn is_idle(&self) -> bool
+        ensures { IsTrue result → reach self.now ≡ 0 }
+    {
+        self.tried == 0 && self.points.is_empty()
+    }
+
+    /// Tries the next of `parts` equal parts of the worker's points, or as many as it can until it is to end. Then `shared`
+    /// tells that the worker with this number has ended.
     pub(crate) fn run(&mut self, shared: &Shared<'_>, number: usize, parts: usize)
         requires shared { IsShared shared.now }
         requires ready { CanRun shared.now self.old }
         ensures { HasRun shared.now parts self.old self.new }
     {
         self.result = self.try_points(shared, parts);
-        shared.last.store(number, Ordering::Relaxed);
+        shared.tell(number, self.tried);
     }
 
     /// Frees all saved ports.
@@ -156,21 +183,23 @@ impl Worker {
         ensures later { OnOk result (IsLaterWorker self.old self.new) }
         ensures left { OnOk result (HasLeft self.new) }
         ensures tried { OnOk result (AreContinued shared.now self.new) }
-        ensures all { OnOk result (parts ≤ 1 → self.new.points.items ≡ []) }
+        ensures reach { OnOk result (reach self.new ≡ reach self.old) }
+        ensures all { OnOk result (shared.now.stops ≡ false → parts ≤ 1
+            → self.new.points.items ≡ []) }
     {
         let mut choice = Choice::new(shared.alloc);
         let mut points = mem::replace(&mut self.points, VecDeque::new(shared.alloc));
-        let first = self.tried;
+        let mut tried = self.tried;
         let mut bytes: usize = 0;
-        let count = first_part(points.len(), parts);
-        for n in 0..count {
-            let saved = points.pop_front().unwrap();
-            self.try_point(shared, first + n, &saved, &mut choice)?;
+        let rest = rest_after(points.len(), parts);
+        while let Some(saved) = next_of(shared, &mut points, rest) {
+            self.try_point(shared, tried, &saved, &mut choice)?;
+            tried += 1;
             bytes = bytes.saturating_add(saved.bytes());
             keep(&mut self.spare, saved)?;
         }
         self.points = points;
-        self.tried = first + count;
+        self.tried = tried;
         self.bytes = self.bytes.saturating_sub(bytes);
         Ok(())
     }
@@ -333,37 +362,19 @@ fn answer_next(
     Ok(true)
 }
 
-/// How many points are in the next of `parts` equal parts of them.
-fn first_part(points: usize, parts: usize) -> usize
-    ensures within { result ≤ points }
-    ensures only { parts ≤ 1 → result ≡ points }
+/// Takes the next point, unless no more than `rest` are left or the worker is to end.
+fn next_of(
+    shared: &Shared<'_>,
+    points: &mut VecDeque<SavedPorts>,
+    rest: usize,
+) -> Option<SavedPorts>
+    ensures taken { points.old.items ≡ option_to_list result ++ points.new.items }
+    ensures left { IfNone result (shared.now.stops ≡ false → length points.new.items ≤ rest) }
 {
-    if parts <= 1 {
-        return points;
+    if points.len() <= rest || shared.is_over(points.len()) {
+        return None;
     }
-    points / parts
-}
-
-/// Keeps the memory of saved ports to use it again, unless there is enough.
-fn keep(spare: &mut Vec<SavedPorts>, saved: SavedPorts) -> Result<(), OutOfMemory> {
-    if spare.len() < MOST_SPARE {
-        spare.push(saved)?;
-    }
-    Ok(())
-}
-
-/// Saves the ports, in memory that is spare if there is some.
-fn save(
-    alloc: Global,
-    ports: &Ports,
-    spare: &mut Vec<SavedPorts>,
-) -> Result<SavedPorts, OutOfMemory>
-    ensures { IfOk result (λ saved. saved ≡ ports.now) }
-{
-    match spare.pop() {
-        None => ports.save(alloc),
-        Some(old) => ports.save_over(old),
-    }
+    points.pop_front()
 }
 
 /// Sets the ports to what was saved, unless they are there already.

@@ -1,15 +1,15 @@
 //! The workers of a search, which run in threads beside each other if there are many points.
-ghost use Rattle.std.specs.Prelude.{◌≡◌, ◌<◌, ◌≤◌, ◌+◌, ℕ, length, slice_get, slice_index_or, Some, OnOk, IsTrue, is_err, false};
+ghost use Rattle.std.specs.Prelude.{◌≡◌, ◌<◌, ◌≤◌, ◌+◌, ℕ, length, OnOk, false};
 ghost use Rattle.apex_orders.specs.Known.{IsSameLevel, IsTrialOf};
 ghost use Rattle.apex_orders.specs.Searching.{HasLevel, HasTried, IsLater, IsSearch};
 ghost use Rattle.apex_orders.specs.Marks.{AreAllMarked};
-ghost use Rattle.apex_orders.specs.Workers.{AreUnderTrial, AreWorkers, CanAllTry, CanRun, HasGivenAll, HasPointAt, HasRun, HavePoints, HaveTriedAll, IsShared};
-ghost use Rattle.apex_orders.specs.declared.worker.Worker.{Worker};
+ghost use Rattle.apex_orders.specs.Workers.{AreUnderTrial, AreWorkers, CanAllTry, HasGivenAll, HasPointAt, HavePoints, HaveTriedAll};
 
+use crate::halving::{halve_at, slowest_of};
 use crate::marks::{Marks, mark_all};
 use crate::orders::Orders;
+use crate::runs::try_all;
 use crate::search::Search;
-use crate::shared::Shared;
 use crate::shares::{FIRST_WEIGHT, lighten, share_of, share_out};
 use crate::threads::for_each_mut;
 use crate::worker::Worker;
@@ -34,8 +34,8 @@ const WORK_EACH: usize = 1_000;
 /// How much work one worker does before the search tells how far it is: about a sixtieth of a second.
 const WORK_ALONE: usize = 8_000_000;
 
-/// How much each of several workers does, which wait for each other afterwards: about an eighth of a second.
-const WORK_TOGETHER: usize = 64_000_000;
+/// How much several workers do, which wait for each other afterwards: about an eighth of a second of two.
+const WORK_TOGETHER: usize = 128_000_000;
 
 /// The workers that a search has made.
 #[derive(Drop)]
@@ -43,7 +43,7 @@ pub(crate) struct Workers {
     pub(crate) all: Vec<Worker>,
     /// For each worker the marks of what it finds.
     pub(crate) marks: Vec<Marks>,
-    /// For each worker how much of a level it is given, compared with the others.
+    /// For each worker how much of a level it is given, compared with the others; the last of several is given nothing.
     pub(crate) weights: Vec<usize>,
     /// How many threads may run beside each other, this one included.
     pub(crate) threads: usize,
@@ -64,7 +64,6 @@ impl Workers {
 
     /// Lets at most `threads` threads run beside each other, as far as there are processors.
     pub(crate) fn allow<R: Threads + Sync>(&mut self, rt: &R, threads: usize)
-        ensures some { 0 < self.new.threads }
         ensures same { self.new.all ≡ self.old.all }
         ensures marks { self.new.marks ≡ self.old.marks }
         ensures weights { self.new.weights ≡ self.old.weights }
@@ -128,14 +127,86 @@ impl Workers {
             → HasPointAt self.new.all.items i) }
         ensures all { OnOk result (parts ≤ 1 → HaveTriedAll self.new.all.items) }
     {
-        let threads = self.threads_for(self.left() / self.all.len().max(1));
-        let last = AtomicUsize::new(0);
-        let workers = self.all.as_mut_slice();
-        try_all(
-            rt, alloc, config, scripts, clock, threads, parts, &last, workers, current,
+        self.try_until_one_ends(rt, alloc, config, scripts, clock, parts, current)?;
+        let ended = AtomicUsize::new(0);
+        // (what is left of one part is tried in the next)
+        let stops = parts > 1;
+        self.run(
+            rt, alloc, config, scripts, clock, parts, stops, &ended, current,
         )?;
-        let slowest = last.load(Ordering::Relaxed);
-        lighten(self.weights.as_mut_slice(), slowest, threads);
+        Ok(())
+    }
+
+    /// If the workers are to try all that they have left, and it is much: they try it until one of them has nothing left. Then
+    /// the slowest one shares its rest with the last one, which had nothing.
+    fn try_until_one_ends<R: Threads + Sync>(
+        &mut self,
+        rt: &R,
+        alloc: Global,
+        config: &Config,
+        scripts: &[Script],
+        clock: bool,
+        parts: usize,
+        current: &Search,
+    ) -> Result<(), OutOfMemory>
+        requires workers { AreWorkers config.now self.old }
+        requires valid { IsSearch clock config.now scripts.now current.now }
+        requires given { AreUnderTrial clock config.now scripts.now
+            current.now self.old.all.items }
+        ensures workers { OnOk result (AreWorkers config.now self.new) }
+        ensures given { OnOk result (AreUnderTrial clock config.now scripts.now
+            current.now self.new.all.items) }
+        ensures points { OnOk result ((i : ℕ) → HasPointAt self.old.all.items i
+            → HasPointAt self.new.all.items i) }
+    {
+        let workers = self.all.len();
+        if parts > 1 || workers <= 1 || self.left() / workers < POINTS_EACH {
+            return Ok(());
+        }
+        let ended = AtomicUsize::new(0);
+        self.run(rt, alloc, config, scripts, clock, 1, true, &ended, current)?;
+        let last = ended.load(Ordering::Relaxed);
+        let slowest = slowest_of(self.all.as_slice(), last.saturating_sub(1));
+        lighten(self.weights.as_mut_slice(), slowest);
+        halve_at(config, scripts, clock, current, &mut self.all, slowest)?;
+        Ok(())
+    }
+
+    /// Each worker tries the next of `parts` equal parts of its points; if it `stops`, and has many, only until one of them has
+    /// ended.
+    fn run<R: Threads + Sync>(
+        &mut self,
+        rt: &R,
+        alloc: Global,
+        config: &Config,
+        scripts: &[Script],
+        clock: bool,
+        parts: usize,
+        stops: bool,
+        ended: &AtomicUsize,
+        current: &Search,
+    ) -> Result<(), OutOfMemory>
+        requires workers { AreWorkers config.now self.old }
+        requires valid { IsSearch clock config.now scripts.now current.now }
+        requires given { AreUnderTrial clock config.now scripts.now
+            current.now self.old.all.items }
+        ensures workers { OnOk result (AreWorkers config.now self.new) }
+        ensures given { OnOk result (AreUnderTrial clock config.now scripts.now
+            current.now self.new.all.items) }
+        ensures points { OnOk result ((i : ℕ) → HasPointAt self.old.all.items i
+            → HasPointAt self.new.all.items i) }
+        ensures all { OnOk result (stops ≡ false → parts ≤ 1
+            → HaveTriedAll self.new.all.items) }
+    {
+        let mut short = Vec::new(alloc);
+        for worker in self.all.as_slice() {
+            short.push(worker.points.len() < POINTS_EACH)?;
+        }
+        let workers = self.all.as_mut_slice();
+        let short = short.as_slice();
+        try_all(
+            rt, alloc, config, scripts, clock, short, parts, stops, ended, workers, current,
+        )?;
         Ok(())
     }
 
@@ -162,23 +233,15 @@ impl Workers {
         ensures tried { OnOk result ((i : ℕ) → HasPointAt self.old.all.items i
             → HasTried clock config.now scripts.now current.new.orders current.new.replies i) }
     {
-        let threads = self.threads_for(self.found() / self.all.len().max(1));
+        let mut short = Vec::new(alloc);
+        for worker in self.all.as_slice() {
+            short.push(worker.found.len() < POINTS_EACH)?;
+        }
         let workers = self.all.as_mut_slice();
         let marks = self.marks.as_mut_slice();
-        mark_all(rt, threads, config, workers, marks)?;
+        mark_all(rt, short.as_slice(), config, workers, marks)?;
         finish_all(alloc, config, scripts, clock, workers, marks, current)?;
         Ok(())
-    }
-
-    /// How many threads to start if each gets about this many points.
-    fn threads_for(&self, points: usize) -> usize
-        requires { 0 < self.now.threads }
-        ensures { 0 < result }
-    {
-        if points < POINTS_EACH {
-            return 1;
-        }
-        self.threads
     }
 
     /// How many points the workers have yet to try.
@@ -198,11 +261,10 @@ impl Workers {
             .left()
             .saturating_mul(WORK_EACH)
             .saturating_add(self.bytes());
-        let workers = self.all.len();
-        if workers <= 1 {
+        if self.all.len() <= 1 {
             return work / WORK_ALONE + 1;
         }
-        work / workers / WORK_TOGETHER + 1
+        work / WORK_TOGETHER + 1
     }
 
     /// How many points all workers have found since the search last added what they found.
@@ -227,28 +289,31 @@ impl Workers {
     pub(crate) fn free<R: Threads + Sync>(self, rt: &R, saved: VecDeque<SavedPorts>) {
         let mut left = saved;
         let mut all = self.all;
-        let threads = all.len().max(1);
         let workers = all.as_mut_slice();
         if left.is_empty() || share_out(&mut left, workers).is_ok() {
-            for_each_mut(rt, workers, threads, &|_, worker| worker.free());
+            for_each_mut(rt, workers, &[], &|_, worker| worker.free());
         }
     }
 
-    /// Makes the workers that are missing, so that there are at least `count`.
+    /// Makes the workers that are missing, so that there is one for each of so many threads, and one more if there are
+    /// several.
     fn make(
         &mut self,
         alloc: Global,
         config: &Config,
-        count: usize,
+        threads: usize,
         orders: &Orders,
     ) -> Result<(), OutOfMemory>
         requires { AreWorkers config.now self.old }
         ensures workers { OnOk result (AreWorkers config.now self.new) }
-        ensures count { OnOk result (count ≤ length self.new.all.items) }
+        ensures count { OnOk result (threads ≤ length self.new.all.items) }
     {
-        for _ in self.all.len()..count {
-            self.marks.push(Marks::new(alloc, config)?)?;
+        for _ in self.weights.len()..threads {
             self.weights.push(FIRST_WEIGHT)?;
+        }
+        let more = (threads > 1) as usize;
+        for _ in self.all.len()..threads.saturating_add(more) {
+            self.marks.push(Marks::new(alloc, config)?)?;
             self.all.push(Worker::new(alloc, config, orders)?)?;
         }
         Ok(())
@@ -266,7 +331,6 @@ fn give_all(
     current: &mut Search,
 ) -> Result<(), OutOfMemory>
     requires some { 0 < length workers.old }
-    requires each { length weights.now ≡ length workers.old }
     requires workers { CanAllTry config.now workers.old }
     requires valid { IsSearch clock config.now scripts.now current.old }
     requires all { current.old.points.first + count ≡ current.old.points.next }
@@ -280,91 +344,12 @@ fn give_all(
 {
     let mut left = count;
     for k in 0..workers.len() {
-        let share = share_of(left, weights, k);
+        let share = share_of(left, weights, k, workers.len());
         let worker = &mut workers[k];
         current.give(config, scripts, clock, share, worker)?;
         left -= share;
     }
     Ok(())
-}
-
-/// Each worker tries the next of `parts` equal parts of its points, in at most `threads` threads. `last` becomes the number
-/// of the worker that ends last.
-fn try_all<R: Threads + Sync>(
-    rt: &R,
-    alloc: Global,
-    config: &Config,
-    scripts: &[Script],
-    clock: bool,
-    threads: usize,
-    parts: usize,
-    last: &AtomicUsize,
-    workers: &mut [Worker],
-    current: &Search,
-) -> Result<(), OutOfMemory>
-    requires threads { 0 < threads }
-    requires valid { IsSearch clock config.now scripts.now current.now }
-    requires given { AreUnderTrial clock config.now scripts.now current.now workers.old }
-    ensures given { OnOk result (AreUnderTrial clock config.now scripts.now
-        current.now workers.new) }
-    ensures workers { OnOk result (CanAllTry config.now workers.new) }
-    ensures count { length workers.new ≡ length workers.old }
-    ensures points { OnOk result ((i : ℕ) → HasPointAt workers.old i
-        → HasPointAt workers.new i) }
-    ensures all { OnOk result (parts ≤ 1 → HaveTriedAll workers.new) }
-{
-    let shared = Shared {
-        alloc,
-        config,
-        scripts,
-        clock,
-        uses: current.uses.as_slice(),
-        from: current.from.as_slice(),
-        known: &current.replies,
-        last,
-    };
-    run_all(rt, threads, &shared, parts, workers);
-    if !have_run(workers) {
-        return Err(OutOfMemory);
-    }
-    Ok(())
-}
-
-/// Runs the workers, in at most `threads` threads. Each tries the next of `parts` equal parts of its points.
-fn run_all<R: Threads + Sync>(
-    rt: &R,
-    threads: usize,
-    shared: &Shared<'_>,
-    parts: usize,
-    workers: &mut [Worker],
-)
-    requires threads { 0 < threads }
-    requires shared { IsShared shared.now }
-    requires workers { (k : ℕ) (worker : Worker) → slice_get workers.old k ≡ Some worker
-        → CanRun shared.now worker }
-    ensures count { length workers.new ≡ length workers.old }
-    ensures ran { (k : ℕ) (d : Worker) → k < length workers.old → HasRun shared.now parts
-        (slice_index_or workers.old k d) (slice_index_or workers.new k d) }
-{
-    for_each_mut(
-        rt,
-        workers,
-        threads,
-        &|k, worker| worker.run(shared, k, parts),
-    );
-}
-
-/// Whether there was memory for what the workers tried.
-fn have_run(workers: &[Worker]) -> bool
-    ensures { IsTrue result → (k : ℕ) (worker : Worker) → slice_get workers.now k ≡ Some worker
-        → is_err worker.result ≡ false }
-{
-    for k in 0..workers.len() {
-        if workers[k].result.is_err() {
-            return false;
-        }
-    }
-    true
 }
 
 /// Adds what the workers found, in the order of their points.

@@ -8,4 +8,7 @@ abbrev pub decreases-run_all : goal.decreases-run_all
 decreases-run_all g l = 4 * length l.items.now
 
 abbrev pub decreases-run_both : goal.decreases-run_both
-decreases-run_both g l = 4 * length l.before.now + 3
+decreases-run_both g l = 4 * length l.before.now + 2
+
+abbrev pub decreases-run_last : goal.decreases-run_last
+decreases-run_last g l = 4 * length l.before.now + 3

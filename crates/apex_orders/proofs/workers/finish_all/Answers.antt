@@ -1,9 +1,9 @@
-use Rattle.apex_orders.proofs.Common.{◌≡◌, ◌≢◌, ⊎_elim, inl, inr, List, Has, history_of, orders_known, ℕ, ◌+◌, ◌<◌, length, length-set, refl, sym, ap, ◌∙◌, subst, arith, cases_eq, slice_get, Some, slice_get-get_or, slice_get-set_cases, slice_get_within, Bool, Configuration, Scripts, Worker, HasMade, IsPointOf, IsTrialOf, IsUnderTrial}
+use Rattle.apex_orders.proofs.Common.{◌≡◌, ◌≢◌, ⊎_elim, inl, inr, List, Has, history_of, orders_known, ℕ, ◌+◌, ◌<◌, length, length-set, refl, sym, ap, ◌∙◌, subst, arith, cases_eq, slice_get, Some, slice_get-get_or, slice_get-set_cases, slice_get_within, Bool, Configuration, Scripts, Worker, HasMade, IsPointOf, IsTrialOf, IsUnderTrial, reach}
 use Rattle.std.specs.Prelude.{get_or}
 use Rattle.apex_orders.proofs.AnswerLemmas.{set_elsewhere}
 use Rattle.apex_orders.proofs.GrowthLemmas.{still_within}
 use Rattle.apex_orders.proofs.SearchLemmas.{has_tried_kept, includes_along, keeps_along, knows_kept}
-use Rattle.apex_orders.proofs.WorkerLemmas.{continued_with_more, keeps_same}
+use Rattle.apex_orders.proofs.WorkerLemmas.{continued_with_more, keeps_same, reach_within}
 use Rattle.apex_orders.proofs.MarkLemmas.{fit}
 use Rattle.apex_orders.specs.Marks.{AreMarks, IsFoundOrder, IsFoundOrderBefore}
 use Rattle.apex_orders.specs.declared.search.Search.{Search}
@@ -15,7 +15,8 @@ known_too : (clock : Bool) (config : Configuration) (scripts : Scripts) (current
 known_too clock config scripts current worker i trial is =
     let below = is.within in
     let all = trial.valid.given.within in
-    still_within worker.base.value current.orders i (keeps_same worker.base.value current.orders (sym trial.base)) (omega (arith, below, all))
+    let own = reach_within worker trial.left in
+    still_within worker.base.value current.orders i (keeps_same worker.base.value current.orders (sym trial.base)) (omega (arith, below, all, own))
 
 -- the next worker is as it was in the beginning
 next_here : (c : goal.After-index-workers-k) → slice_get c.args.workers.now c.loop-k.k ≡ Some (get_or c.loop-k.workers c.loop-k.k c.index-workers-k.result)
@@ -34,6 +35,9 @@ pub finish-requires-clause-tried : goal.finish-requires-clause-tried
 finish-requires-clause-tried c =
     let worker = get_or c.loop-k.workers c.loop-k.k c.index-workers-k.result in
     continued_with_more c.args.config.now c.args.scripts.now c.args.clock c.args.current.now.replies c.loop-k.current.replies worker c.loop-k.invariant.later.replies (next_trial c).tried
+
+pub finish-requires-clause-left : goal.finish-requires-clause-left
+finish-requires-clause-left c = (next_trial c).left
 
 pub finish-requires-clause-all : goal.finish-requires-clause-all
 finish-requires-clause-all c = c.requires.all c.loop-k.k _ (next_here c)
@@ -110,7 +114,7 @@ loop-k-preserved c =
           ⊎_elim
           (λ (own : j ≡ k).
           let point = subst (λ (w : Worker). IsPointOf w i) (sym (same j other own at)) is in
-          now.tried worker.first (worker.first + length worker.given.value.items) (record { first = refl; last = refl }) i point.past point.within)
+          now.tried worker.first (worker.first + reach worker) (record { first = refl; last = refl }) i point.past point.within)
           (λ (earlier : j ≡ k → ⊥).
           let sooner : j < k = omega (arith, below, earlier) in
           let known = known_too clock config scripts start other i (c.requires.given j other at) is in

@@ -1,12 +1,7 @@
-use Rattle.apex_orders.proofs.Common.{◌≡◌, ◌≢◌, ⊎_elim, ℕ, ◌+◌, ◌-◌, ◌<◌, ◌≤◌, List, length, length-set, sym, ap, ◌∙◌, subst, arith, cases_lt, slice_get, Some, slice_get-get_or, slice_get-set_cases, slice_get_within, get_or-set_same, Bool, Configuration, Scripts, HasContinued, HasMade, IsUnderTrial, PossibleReply, Worker}
+use Rattle.apex_orders.proofs.Common.{◌≡◌, ◌≢◌, ⊎_elim, ℕ, ◌+◌, ◌-◌, ◌<◌, ◌≤◌, List, length, length-set, sym, ◌∙◌, subst, arith, cases_lt, slice_get, Some, slice_get-set_cases, slice_get_within, Bool, Configuration, Scripts, HasContinued, HasMade, IsUnderTrial, PossibleReply, Worker}
 use Rattle.apex_orders.specs.declared.search.Search.{Search}
-use Rattle.std.specs.Prelude.{set}
-use Rattle.apex_orders.proofs.AnswerLemmas.{set_elsewhere}
+use Rattle.apex_orders.proofs.AnswerLemmas.{set_elsewhere, set_here}
 use Rattle.apex_orders.proofs.workers.give_all.Goals as goal
-
--- the item that was set
-set_here : {X : Type 0} (xs : List X) (i : ℕ) (y : X) → i < length xs → slice_get (set xs i y) i ≡ Some y
-set_here xs i y within = let count = length-set xs i y in slice_get-get_or (set xs i y) i y (omega (arith, within, count)) ∙ ap Some (get_or-set_same xs i y y within)
 
 moved_on : (new first share left total : ℕ) → new ≡ first + share → share ≤ left → first + left ≡ total → new + (left - share) ≡ total
 moved_on new first share left total is fits all = omega (arith, is, fits, all)
@@ -35,7 +30,6 @@ loop-k-preserved c =
     let first = now.first in
     let begun = was.low in
     let many = was.many in
-    let each = c.requires.each in
     let within : k < length workers = omega (arith, c.loop-k-test.true) in
     let count = length-set workers k worker in
     let start = c.loop-k.current.points.first in
@@ -47,7 +41,7 @@ loop-k-preserved c =
       calls = now.calls ∙ was.calls;
       first = moved_on c.give.new.self.points.first start share left (c.args.current.now.points.first + c.args.count) first fits was.first;
       low = omega (arith, first, begun);
-      last = λ end. let all = c.share_of-share.ensures.last (omega (arith, end, count, within, many, each)) in omega (arith, all);
+      last = λ end. let all = c.share_of-share.ensures.last (omega (arith, end, count, within)) in omega (arith, all);
       many = count ∙ was.many;
       rest = λ j other past at. was.rest j other (omega (arith, past)) (sym (set_elsewhere workers k worker j (λ same. absurd (omega (arith, past, same)))) ∙ at);
       given = λ j other below at.

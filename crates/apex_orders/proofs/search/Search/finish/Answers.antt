@@ -1,7 +1,7 @@
-use Rattle.apex_orders.proofs.Common.{◌≡◌, ⊎_elim, ◌+◌, ◌++◌, ◌-◌, ◌<◌, ℕ, Some, length, sym, ap, ◌∙◌, subst, arith, slice_get, Has, HasTriedEnough, order_given, orders_known}
+use Rattle.apex_orders.proofs.Common.{◌≡◌, ⊎_elim, ◌+◌, ◌++◌, ◌-◌, ◌<◌, ℕ, List, Some, length, sym, ap, ◌∙◌, subst, arith, slice_get, Has, HasTriedEnough, PortsView, order_given, orders_known}
 use Rattle.apex_orders.proofs.GrowthLemmas.{order_here}
 use Rattle.apex_orders.proofs.Having.{has_either}
-use Rattle.apex_orders.proofs.WorkerLemmas.{tried_along}
+use Rattle.apex_orders.proofs.WorkerLemmas.{reach_within, tried_along}
 use Rattle.apex_orders.proofs.search.Search.finish.Goals as goal
 
 pub add_points-requires-clause-valid : goal.add_points-requires-clause-valid
@@ -39,15 +39,16 @@ returns-clause-tried c from to range k past below order at =
     let new = c.add_points.new.self in
     let known = c.args.self.now.replies in
     let base = c.requires.base in
-    let whole = c.requires.all in
+    let none = ap (λ (points : List PortsView). length points) c.requires.all in
     let later = c.in_ok-add_points.ensures.later in
     let first = range.first in
     let last = range.last in
     let j : ℕ = k - old.first in
     let index : old.first + j ≡ k = omega (arith, first, past) in
-    let within : j < length old.given.value.items = omega (arith, first, last, past, below) in
+    let within : j < old.tried = omega (arith, first, last, past, below, none) in
     let all = c.requires.worker.given.within in
-    let inside : old.first + j < length old.base.value = omega (arith, all, within) in
+    let own = reach_within old c.requires.left in
+    let inside : old.first + j < length old.base.value = omega (arith, all, within, own) in
     let there : slice_get new.orders k ≡ Some (order_given old j) =
     ap (λ (n : ℕ). slice_get new.orders n) (sym index)
     ∙ later.orders (old.first + j) (order_given old j) (base (old.first + j) (order_given old j) (order_here old.base.value (old.first + j) inside)) in
@@ -61,4 +62,4 @@ returns-clause-tried c from to range k past below order at =
     (λ (before : Has known one). c.in_ok-add_all.ensures.kept one before)
     (λ (found : Has old.replies one). c.in_ok-add_all.ensures.added one found)
     (has_either known old.replies one has)))
-    (c.requires.tried j (omega (arith, within, whole))))
+    (c.requires.tried j within))

@@ -1,8 +1,7 @@
-use Rattle.apex_orders.proofs.Common.{◌≡◌, ◌+◌, ◌++◌, [], List, ℕ, length, map, refl, sym, ap, ◌∙◌, subst, arith, append-nil, FoundPoint, Worker, AreAllApart, Has, AreLevels, AreOrders, AreClocked, AreFound, AreHashed, IsAfter, IsTrialOf, calls_made, history_of, order_at, order_found, orders_known}
+use Rattle.apex_orders.proofs.Common.{◌≡◌, ◌+◌, [], List, ℕ, length, sym, ap, ◌∙◌, subst, arith, append-nil, PortsView, AreLevels, IsAfter, IsTrialOf, calls_made, history_of, order_at}
 use Rattle.apex_orders.proofs.GrowthLemmas.{order_here}
-use Rattle.apex_orders.proofs.Having.{has_none}
 use Rattle.apex_orders.proofs.KnownLemmas.{points_given, points_left}
-use Rattle.apex_orders.proofs.SearchLemmas.{none_found}
+use Rattle.apex_orders.proofs.WorkerLemmas.{has_begun}
 use Rattle.apex_orders.proofs.Levels.{levels_left}
 use Rattle.apex_orders.proofs.search.Search.give.Goals as goal
 
@@ -30,11 +29,6 @@ returns-clause-valid c =
       uses = was.uses;
     }
 
--- a worker that has found nothing knows the orders that it was given
-none_known : (worker : Worker) (orders : List (List ℕ)) → worker.base.value ≡ orders → worker.found.items ≡ [] → orders_known worker ≡ orders
-none_known worker orders base none =
-    ap (λ (items : List FoundPoint). worker.base.value ++ map (order_found worker) items) none ∙ (append-nil worker.base.value ∙ base)
-
 pub returns-clause-worker : goal.returns-clause-worker
 returns-clause-worker c =
     let config = c.args.config.now in
@@ -43,38 +37,37 @@ returns-clause-worker c =
     let begun = c.in_ok-begin.ensures in
     let old = c.args.self.now in
     let new = c.begin.new.self in
-    let known = none_known new old.orders begun.base begun.found in
-    record {
-      all = was.all;
-      trial = subst (IsTrialOf config) (sym begun.trial) c.requires.trial;
-      given = record {
-        within =
-            let count = begun.count in
-            let first = begun.first in
-            let base = ap (λ (orders : List (List ℕ)). length orders) begun.base in
-            let within = c.requires.within in
-            let hashed = was.points.next in
-            omega (arith, count, first, base, within, hashed);
-        room =
-            let base = ap (λ (orders : List (List ℕ)). length orders) begun.base in
-            let len = c.len-orders.ensures in
-            omega (arith, base, len);
-        each = λ j ports at.
-            subst (λ (x : List (List ℕ) × ℕ). IsAfter config scripts (order_at x.0 (x.1 + j)) ports) (λ i. (sym begun.base i, sym begun.first i))
-            (points_given config scripts old.orders old.points c.begin.new.points was.points new.given.value.items c.args.count begun.given begun.count begun.rest begun.next c.requires.within j ports at);
-      };
-      found = λ one has. absurd (has_none one (subst (λ (points : List FoundPoint). Has points one) begun.found has));
-      hashed = subst (λ (x : List FoundPoint × List ℕ). AreHashed config x.0 x.1) (λ i. (sym begun.found i, sym begun.unhashed i)) (record { count = refl; each = λ k one at. absurd (cc); configured = λ k one at. absurd (cc) });
-      apart = subst (AreAllApart config) (sym begun.found) (λ j k one other below at also. absurd (cc));
-      orders = subst (AreOrders config) (sym known) was.orders;
-      clocked = subst (AreClocked c.args.clock config scripts) (sym known) was.clocked;
-      replies = subst (AreFound c.args.clock config scripts) (sym begun.replies) (none_found config scripts c.args.clock);
-    }
+    has_begun c.args.clock config scripts new old.orders was.all (subst (IsTrialOf config) (sym begun.trial) c.requires.trial)
+    (record {
+      within =
+          let count = begun.count in
+          let first = begun.first in
+          let base = ap (λ (orders : List (List ℕ)). length orders) begun.base in
+          let within = c.requires.within in
+          let hashed = was.points.next in
+          omega (arith, count, first, base, within, hashed);
+      room =
+          let base = ap (λ (orders : List (List ℕ)). length orders) begun.base in
+          let len = c.len-orders.ensures in
+          omega (arith, base, len);
+      each = λ j ports at.
+          subst (λ (x : List (List ℕ) × ℕ). IsAfter config scripts (order_at x.0 (x.1 + j)) ports) (λ i. (sym begun.base i, sym begun.first i))
+          (points_given config scripts old.orders old.points c.begin.new.points was.points new.given.value.items c.args.count begun.given begun.count begun.rest begun.next c.requires.within j ports at);
+    })
+    begun.base begun.found begun.unhashed begun.replies was.orders was.clocked
 
 pub returns-clause-range : goal.returns-clause-range
 returns-clause-range c =
     let begun = c.in_ok-begin.ensures in
-    record { first = begun.first; last = let first = begun.first in let count = begun.count in omega (arith, first, count) }
+    record {
+      first = begun.first;
+      last =
+          let first = begun.first in
+          let count = begun.count in
+          let none = begun.tried in
+          let left = ap (λ (points : List PortsView). length points) begun.left in
+          omega (arith, first, count, none, left);
+    }
 
 pub returns-clause-made : goal.returns-clause-made
 returns-clause-made c j below =
@@ -91,4 +84,6 @@ returns-clause-made c j below =
     (was.levels.here k (order_at old.orders k) (omega arith) (omega (arith, below, count, within)) (order_here old.orders k (omega (arith, below, count, within, hashed))))
 
 pub returns-clause-left : goal.returns-clause-left
-returns-clause-left c = let begun = c.in_ok-begin.ensures in record { done = []; count = sym begun.tried; all = sym begun.left }
+returns-clause-left c =
+    let begun = c.in_ok-begin.ensures in
+    record { done = []; away = []; count = sym begun.tried; all = sym begun.left ∙ sym (append-nil c.begin.new.self.points.items) }

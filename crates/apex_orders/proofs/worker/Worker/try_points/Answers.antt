@@ -1,58 +1,83 @@
-use Rattle.apex_orders.proofs.Common.{◌≡◌, ◌++◌, ◌∷◌, [], ◌+◌, ⊎_elim, ℕ, List, Option, Some, append_assoc, length, length-append, option_to_list, slice_get, refl, sym, ap, ◌∙◌, subst, arith, cases_eq, PortsView, IsContinued, order_given, orders_known}
+use Rattle.apex_orders.proofs.Common.{◌≡◌, ◌++◌, ◌∷◌, [], ◌+◌, ⊎_elim, ℕ, List, Option, None, Some, append_assoc, length, length-append, option_to_list, slice_get, refl, sym, ap, ◌∙◌, subst, arith, cases_eq, PortsView, IsContinued, order_given, orders_known}
 use Rattle.apex_orders.proofs.Lists.{at_seam}
 use Rattle.apex_orders.proofs.WorkerLemmas.{enough_kept, includes_behind, later_along, same_given}
+use Rattle.std.specs.Prelude.{IfNone}
 use Rattle.std.proofs.lemmas.List.{nil_from_length}
 use Rattle.apex_orders.proofs.worker.Worker.try_points.Goals as goal
 
--- the item that was taken from a list stood before the others
-first_of : (items rest : List PortsView) (taken : Option PortsView) (one : PortsView) → items ≡ option_to_list taken ++ rest → taken ≡ Some one → items ≡ one ∷ rest
-first_of items rest taken one all some = all ∙ ap (λ (o : Option PortsView). option_to_list o ++ rest) some
+-- nothing was taken
+none_of : {X : Type 0} (taken : Option X) (items rest : List X) → ((x : X) → taken ≡ Some x → ⊥) → items ≡ option_to_list taken ++ rest → items ≡ rest
+none_of None items rest never is = is
+none_of (Some x) items rest never is = absurd (never x refl)
 
-pub loop-n-init : goal.loop-n-init
-loop-n-init c =
-    let was = c.requires.valid in
+-- what holds if nothing was taken
+if_none : {X : Type 0} (taken : Option X) (P : Type 0) → ((x : X) → taken ≡ Some x → ⊥) → IfNone taken P → P
+if_none None P never is = is
+if_none (Some x) P never is = absurd (never x refl)
+
+pub loop-saved-init : goal.loop-saved-init
+loop-saved-init c =
+    let is = c.requires.valid in
+    let left = c.requires.left in
+    let same = c.replace-points.ensures.value in
     record {
       valid = record {
-        all = was.all;
-        trial = was.trial;
-        given = record { within = was.given.within; room = was.given.room; each = was.given.each };
-        found = λ one has. let is = was.found one has in record { before = is.before; partition = is.partition; hash = is.hash; after = is.after; made = is.made };
-        hashed = was.hashed;
-        apart = was.apart;
-        orders = was.orders;
-        clocked = was.clocked;
-        replies = was.replies;
+        all = is.all;
+        trial = is.trial;
+        given = record { within = is.given.within; room = is.given.room; each = is.given.each };
+        found = λ one has. let own = is.found one has in record { before = own.before; partition = own.partition; hash = own.hash; after = own.after; made = own.made };
+        hashed = is.hashed;
+        apart = is.apart;
+        orders = is.orders;
+        clocked = is.clocked;
+        replies = is.replies;
       };
       later = record { base = refl; first = refl; given = refl; orders = λ k x at. at; replies = λ x has. has };
-      left =
-          let left = c.requires.left in
-          (left.done, (left.count ∙ omega arith, left.all ∙ ap (λ (points : _). left.done ++ points.items) (sym c.replace-points.ensures.value)));
-      more = omega arith ∙ ap (λ (points : _). length points.items) c.replace-points.ensures.value;
-      tried = λ j below. c.requires.tried j (omega (arith, below));
+      left = (left.done, (left.away, (left.count, left.all ∙ ap (λ (points : _). left.done ++ (points.items ++ left.away)) (sym same))));
+      same = ap (λ (points : _). c.args.self.now.tried + length points.items) same;
+      tried = c.requires.tried;
     }
+
+-- the points that were given, with the next one
+next_in : (given points done away rest : List PortsView) (one : PortsView) → given ≡ done ++ (points ++ away) → points ≡ one ∷ rest → given ≡ done ++ (one ∷ (rest ++ away))
+next_in given points done away rest one all first = all ∙ ap (λ (items : List PortsView). done ++ (items ++ away)) first
 
 pub try_point-requires-clause-given : goal.try_point-requires-clause-given
 try_point-requires-clause-given c =
-    let left = c.loop-n.invariant.left in
-    let given : c.args.self.now.given.value.items ≡ left.0 ++ c.unwrap-saved.result ∷ c.pop_front.new.self.items =
-    left.1.1 ∙ ap (λ (items : List PortsView). left.0 ++ items) (first_of c.loop-n.points.items c.pop_front.new.self.items c.pop_front.result c.unwrap-saved.result c.pop_front.ensures.items c.unwrap-saved.ensures) in
-    let j = c.args.self.now.tried + c.loop-n.n in
-    ap (λ (items : List PortsView). slice_get items j) (c.loop-n.invariant.later.given ∙ given)
-    ∙ (ap (λ (k : ℕ). slice_get (left.0 ++ c.unwrap-saved.result ∷ c.pop_front.new.self.items) k) (sym left.1.0) ∙ at_seam left.0 c.unwrap-saved.result c.pop_front.new.self.items)
+    let left = c.loop-saved.invariant.left in
+    let one = c.in-Some.saved in
+    let rest = c.next_of.new.points.items ++ left.1.0 in
+    let all = next_in c.args.self.now.given.value.items c.loop-saved.points.items left.0 left.1.0 c.next_of.new.points.items one left.1.1.1 c.in-Some.ensures.taken in
+    ap (λ (items : List PortsView). slice_get items c.loop-saved.tried) (c.loop-saved.invariant.later.given ∙ all)
+    ∙ (ap (λ (k : ℕ). slice_get (left.0 ++ one ∷ rest) k) (sym left.1.1.0) ∙ at_seam left.0 one rest)
 
-pub loop-n-preserved : goal.loop-n-preserved
-loop-n-preserved c =
+pub overflow_add-tried : goal.overflow_add-tried
+overflow_add-tried c =
+    let left = c.loop-saved.invariant.left in
+    let one = c.in-Some.saved in
+    let rest = c.next_of.new.points.items ++ left.1.0 in
+    let count = left.1.1.0 in
+    let all = ap (λ (items : List PortsView). length items)
+    (c.loop-saved.invariant.later.given ∙ next_in c.args.self.now.given.value.items c.loop-saved.points.items left.0 left.1.0 c.next_of.new.points.items one left.1.1.1 c.in-Some.ensures.taken) in
+    let within = c.loop-saved.invariant.valid.given.within in
+    let room = c.loop-saved.invariant.valid.given.room in
+    omega (arith, count, all, within, room, length-append left.0 (one ∷ rest))
+
+pub loop-saved-preserved : goal.loop-saved-preserved
+loop-saved-preserved c =
     let config = c.args.shared.now.config.now in
     let scripts = c.args.shared.now.scripts.now in
     let shared = c.args.shared.now in
     let known = shared.known.now in
     let start = c.args.self.now in
-    let before = c.loop-n.self in
+    let before = c.loop-saved.self in
     let after = c.try_point.new.self in
-    let was = c.loop-n.invariant in
+    let was = c.loop-saved.invariant in
     let now = c.in_ok-try_point.ensures in
-    let last = start.tried + c.loop-n.n in
-    let first = first_of c.loop-n.points.items c.pop_front.new.self.items c.pop_front.result c.unwrap-saved.result c.pop_front.ensures.items c.unwrap-saved.ensures in
+    let last = c.loop-saved.tried in
+    let left = was.left in
+    let done = left.0 in
+    let away = left.1.0 in
     record {
       valid =
           let is = now.valid in
@@ -71,15 +96,18 @@ loop-n-preserved c =
           let later = now.later in
           let all = later_along config scripts start before after was.later (record { base = later.base; first = later.first; given = later.given; orders = later.orders; replies = later.replies }) in
           record { base = all.base; first = all.first; given = all.given; orders = all.orders; replies = all.replies };
-      left =
-          let left = was.left in (
-            left.0 ++ c.unwrap-saved.result ∷ [],
-            (
-              let count = left.1.0 in omega (arith, count, length-append left.0 (c.unwrap-saved.result ∷ [])),
-              left.1.1 ∙ (ap (λ (items : List PortsView). left.0 ++ items) first ∙ sym (append_assoc left.0 (c.unwrap-saved.result ∷ []) c.pop_front.new.self.items)),
-            ),
-          );
-      more = let more = was.more in let one = ap (λ (items : List PortsView). length items) first in omega (arith, more, one);
+      left = (
+        done ++ c.in-Some.saved ∷ [],
+        (
+          away,
+          (
+            let count = left.1.1.0 in omega (arith, count, length-append done (c.in-Some.saved ∷ [])),
+            next_in start.given.value.items c.loop-saved.points.items done away c.next_of.new.points.items c.in-Some.saved left.1.1.1 c.in-Some.ensures.taken
+                ∙ sym (append_assoc done (c.in-Some.saved ∷ []) (c.next_of.new.points.items ++ away)),
+          ),
+        ),
+      );
+      same = let same = was.same in let one = ap (λ (items : List PortsView). length items) c.in-Some.ensures.taken in omega (arith, same, one);
       tried = λ j below.
           ⊎_elim
           (λ (here : j ≡ last).
@@ -94,7 +122,7 @@ loop-n-preserved c =
 
 pub returns-clause-valid : goal.returns-clause-valid
 returns-clause-valid c =
-    let is = c.loop-n.invariant.valid in
+    let is = c.loop-saved.invariant.valid in
     record {
       all = is.all;
       trial = is.trial;
@@ -108,27 +136,32 @@ returns-clause-valid c =
     }
 
 pub returns-clause-later : goal.returns-clause-later
-returns-clause-later c = let later = c.loop-n.invariant.later in record { base = later.base; first = later.first; given = later.given; orders = later.orders; replies = later.replies }
+returns-clause-later c = let later = c.loop-saved.invariant.later in record { base = later.base; first = later.first; given = later.given; orders = later.orders; replies = later.replies }
 
 pub returns-clause-left : goal.returns-clause-left
 returns-clause-left c =
-    let left = c.loop-n.invariant.left in
-    let within = c.loop-n.auto.n-end in
-    let end = c.loop-n-test.false in
-    record { done = left.0; count = left.1.0 ∙ omega (arith, within, end); all = c.loop-n.invariant.later.given ∙ left.1.1 }
+    let left = c.loop-saved.invariant.left in
+    record {
+      done = left.0;
+      away = left.1.0;
+      count = left.1.1.0;
+      all = c.loop-saved.invariant.later.given ∙ (left.1.1.1 ∙ ap (λ (items : List PortsView). left.0 ++ (items ++ left.1.0)) (none_of c.next_of.result c.loop-saved.points.items c.next_of.new.points.items c.in_default.not-Some c.next_of.ensures.taken));
+    }
 
 pub returns-clause-tried : goal.returns-clause-tried
 returns-clause-tried c j below =
     let config = c.args.shared.now.config.now in
     let scripts = c.args.shared.now.scripts.now in
-    let end = c.loop-n-test.false in
-    subst (IsContinued c.args.shared.now c.loop-n.self) (sym (same_given config scripts c.args.self.now c.loop-n.self j c.loop-n.invariant.later)) (c.loop-n.invariant.tried j (omega (arith, below, end)))
+    subst (IsContinued c.args.shared.now c.loop-saved.self) (sym (same_given config scripts c.args.self.now c.loop-saved.self j c.loop-saved.invariant.later)) (c.loop-saved.invariant.tried j below)
+
+pub returns-clause-reach : goal.returns-clause-reach
+returns-clause-reach c =
+    let same = c.loop-saved.invariant.same in
+    let count = ap (λ (items : List PortsView). length items) (none_of c.next_of.result c.loop-saved.points.items c.next_of.new.points.items c.in_default.not-Some c.next_of.ensures.taken) in
+    omega (arith, same, count)
 
 pub returns-clause-all : goal.returns-clause-all
-returns-clause-all c few =
-    let more = c.loop-n.invariant.more in
-    let end = c.loop-n-test.false in
-    let count = c.first_part-count.ensures.only few in
-    let len = c.len.ensures in
-    let same = ap (λ (points : _). length points.items) c.replace-points.ensures.value in
-    nil_from_length c.loop-n.points.items (omega (arith, more, end, count, len, same))
+returns-clause-all c stops few =
+    let none = c.rest_after-rest.ensures few in
+    let left = if_none c.next_of.result _ c.in_default.not-Some c.next_of.ensures.left stops in
+    nil_from_length c.next_of.new.points.items (omega (arith, none, left))

@@ -12,28 +12,24 @@ each_and_last {X} P xs x each last k y at =
     (λ (is : (k ≡ length xs) × (x ≡ y)). subst P is.1 last)
     (before_or_last xs x k y at)
 
-pub loop-preserved : goal.loop-preserved
-loop-preserved c =
-    let was = c.loop.invariant in
+pub loop-2-preserved : goal.loop-2-preserved
+loop-2-preserved c =
+    let was = c.loop-2.invariant in
     let config = c.args.config.now in
-    let all = c.loop.self.all.items in
+    let all = c.loop-2.self.all.items in
     let worker = c.in_ok-new-2.field-0 in
-    let marks = c.loop.self.marks.items in
+    let marks = c.loop-2.self.marks.items in
     let one = c.in_ok-new.field-0 in
     let pushed = c.in_ok-push-3.ensures.items in
-    let marked = c.in_ok-push.ensures.items in
+    let marked = c.in_ok-push-2.ensures.items in
     let more = ap (λ (xs : List Worker). length xs) pushed ∙ length-append all (worker ∷ []) in
     let others = ap (λ (xs : List Marks). length xs) marked ∙ length-append marks (one ∷ []) in
     let same = was.workers.count in
-    let weighed = was.workers.weights in
-    let heavier = ap (λ (xs : List ℕ). length xs) c.in_ok-push-2.ensures.items ∙ length-append c.loop.self.weights.items _ in
     let count = was.count in
     record {
       workers = record {
-        some = was.workers.some;
         each = subst (CanAllTry config) (sym pushed) (each_and_last (λ (w : Worker). IsTrialOf config w.trial) all worker was.workers.each c.in_ok-new-2.ensures);
         count = omega (arith, more, others, same);
-        weights = omega (arith, more, heavier, weighed);
         marks = subst (CanAllMark config) (sym marked) (each_and_last (λ (m : Marks). IsTrialOf config m.trial) marks one was.workers.marks c.in_ok-new.ensures);
       };
       count = omega (arith, more, count);

@@ -2,7 +2,7 @@ use denote.Param.Send.{sendable}
 use Rattle.std.proofs.Crossing.{crosses}
 use Rattle.apex_orders.proofs.Common.{◌∙◌, ap, sym, Some, slice_get-get_or}
 use Rattle.apex_orders.proofs.Crossing.{shared_sync, worker_send}
-use Rattle.apex_orders.proofs.workers.run_all.Goals as goal
+use Rattle.apex_orders.proofs.runs.run_all.Goals as goal
 
 pub for_each_mut-requires-send-T : goal.for_each_mut-requires-send-T
 for_each_mut-requires-send-T g c κs within = search (worker_send, crosses, sendable) depth 8

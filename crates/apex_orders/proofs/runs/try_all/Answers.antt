@@ -1,26 +1,17 @@
-use Rattle.apex_orders.proofs.Common.{◌≡◌, ℕ, [], List, false, length, length-append, sym, ap, ◌∙◌, subst, arith, slice_get, Some, slice_get-get_or, slice_get_within, get_or_from_slice_get, PortsView, Worker, HasLeft, HasTriedAll, IsUnderTrial, IsLaterWorker, IsPointOf}
+use Rattle.apex_orders.proofs.Common.{◌≡◌, ℕ, false, sym, ◌∙◌, subst, arith, slice_get, Some, slice_get-get_or, slice_get_within, get_or_from_slice_get, Worker, HasTriedAll, IsUnderTrial, IsLaterWorker, IsPointOf, reach}
 use Rattle.std.specs.Prelude.{get_or}
 use Rattle.std.specs.Result.{is_err}
 use Rattle.apex_orders.proofs.Levels.{still_made}
 use Rattle.apex_orders.proofs.WorkerLemmas.{when_ok}
-use Rattle.apex_orders.proofs.workers.try_all.Goals as goal
+use Rattle.apex_orders.proofs.runs.try_all.Goals as goal
 
 -- a worker that has run has the same points
-still_of : (old new : Worker) (i : ℕ) → IsLaterWorker old new → IsPointOf old i → IsPointOf new i
-still_of old new i later is =
+still_of : (old new : Worker) (i : ℕ) → IsLaterWorker old new → reach new ≡ reach old → IsPointOf old i → IsPointOf new i
+still_of old new i later same is =
     let first = later.first in
-    let count = ap (λ (points : List PortsView). length points) later.given in
     let past = is.past in
     let within = is.within in
-    record { past = omega (arith, past, first); within = omega (arith, within, first, count) }
-
--- a worker that has none left has tried all
-all_tried : (worker : Worker) → HasLeft worker → worker.points.items ≡ [] → HasTriedAll worker
-all_tried worker left none =
-    let all = ap (λ (points : List PortsView). length points) left.all in
-    let count = left.count in
-    let no = ap (λ (points : List PortsView). length points) none in
-    omega (arith, all, count, no, length-append left.done worker.points.items)
+    record { past = omega (arith, past, first); within = omega (arith, within, first, same) }
 
 pub run_all-requires-clause-workers : goal.run_all-requires-clause-workers
 run_all-requires-clause-workers g c κs within k worker at =
@@ -67,15 +58,15 @@ returns-clause-points g c i at =
       index = k;
       worker = worker;
       here = here;
-      is = still_of (get_or old k at.worker) worker i ran.later (subst (λ (w : Worker). IsPointOf w i) (sym (get_or_from_slice_get old k at.worker at.worker at.here)) at.is);
+      is = still_of (get_or old k at.worker) worker i ran.later ran.reach (subst (λ (w : Worker). IsPointOf w i) (sym (get_or_from_slice_get old k at.worker at.worker at.here)) at.is);
     }
 
 pub returns-clause-all : goal.returns-clause-all
-returns-clause-all g c few k worker at =
+returns-clause-all g c stops few k worker at =
     let new = get_or c.run_all.new.workers k worker in
     let many = c.run_all.ensures.count in
     let inside = slice_get_within c.run_all.new.workers k worker at in
     let own : new ≡ worker = get_or_from_slice_get c.run_all.new.workers k worker worker at in
     let ok = c.have_run.ensures (c.if-not-have_run.false) k worker at in
     let ran = when_ok new.result _ (subst (λ (w : Worker). is_err w.result ≡ false) (sym own) ok) (c.run_all.ensures.ran k worker (omega (arith, inside, many))) in
-    subst HasTriedAll own (all_tried new ran.left (ran.all few))
+    subst HasTriedAll own (ran.all stops few)

@@ -1,7 +1,7 @@
 use Rattle.apex_orders.proofs.Common.{◌≡◌, ⊎_elim, ℕ, false, cases_eq, Some, ap, sym, ◌∙◌, arith, subst, slice_get, slice_get-get_or, slice_get_within, Worker}
 use Rattle.std.specs.Prelude.{get_or}
 use Rattle.std.specs.Result.{is_err}
-use Rattle.apex_orders.proofs.workers.have_run.Goals as goal
+use Rattle.apex_orders.proofs.runs.have_run.Goals as goal
 
 pub loop-k-preserved : goal.loop-k-preserved
 loop-k-preserved c j worker below at =
