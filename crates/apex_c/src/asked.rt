@@ -206,7 +206,8 @@ pub extern "C" fn apex_call_words(
 ) -> u32
     ensures words { let asked = call_asked call.now bytes.now in
         let row = row_in handle.old.held.ports partition (moment_of at) asked in
-        result ≢ NO_MEMORY → IsTextFor row result buffer.old words_length.old buffer.new words_length.new }
+        result ≢ NO_MEMORY → IsTextFor row result
+        buffer.old words_length.old buffer.new words_length.new }
     ensures no_memory { result ≡ NO_MEMORY →
         (buffer.new ≡ buffer.old) × (words_length.new ≡ words_length.old) }
     ensures ports { handle.new.held.ports ≡ handle.old.held.ports }
@@ -238,7 +239,8 @@ fn put_words(
 ) -> u32
     ensures words { let asked = call_by call.entry in
         let row = row_in handle.old.held.ports partition at (Ok asked) in
-        result ≢ NO_MEMORY → IsTextFor row result buffer.old words_length.old buffer.new words_length.new }
+        result ≢ NO_MEMORY → IsTextFor row result
+        buffer.old words_length.old buffer.new words_length.new }
     ensures no_memory { result ≡ NO_MEMORY →
         (buffer.new ≡ buffer.old) × (words_length.new ≡ words_length.old) }
     ensures ports { handle.new.held.ports ≡ handle.old.held.ports }

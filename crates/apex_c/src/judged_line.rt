@@ -203,7 +203,8 @@ fn judge_entry(
     wait: MaxWait,
 ) -> Result<JudgedLine, OutOfMemory>
     requires { entry.old.partition < length judge.old.config.partitions }
-    ensures judged { let instead = instead_of judge.old.config judge.old.log (polled_entry wait entry.old) in
+    ensures judged { let instead =
+        instead_of judge.old.config judge.old.log (polled_entry wait entry.old) in
         IfOk result (λ one. found_of (λ departs. departs.expected) one.departs
         ≡ Ok (option_map (expected_waited wait) instead)) }
     ensures line { IfOk result (λ one.

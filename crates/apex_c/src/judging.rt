@@ -43,7 +43,8 @@ pub struct Departure {
 #[unsafe(no_mangle)]
 pub extern "C" fn apex_judge_open(alloc: Global, judge: &mut JudgeHandle, text: &[u8]) -> u32
     ensures { let config = config_of text.now in IsOpening
-        judge.old.held.judge judge.new.held.judge (judge_at_start config) (opening_number config) result }
+        judge.old.held.judge judge.new.held.judge
+        (judge_at_start config) (opening_number config) result }
 {
     if judge.is_open() {
         return ALREADY_OPEN;

@@ -33,12 +33,16 @@ impl Handle {
         message_length: &mut u32,
         validity: &mut u32,
     ) -> u32
-        ensures called { let asked = lending service self.old.held.ports partition (length buffer.old) id in
+        ensures called { let asked = lending service self.old.held.ports partition
+            (length buffer.old) id in
             IsCalled self.old.held.ports self.new.held.ports partition (moment_of at) asked result }
-        ensures message { let asked = lending service self.old.held.ports partition (length buffer.old) id in
+        ensures message { let asked = lending service self.old.held.ports partition
+            (length buffer.old) id in
             let reply = asked_reply self.old.held.ports partition (moment_of at) asked in
-            IsMessagePut (message_in reply) buffer.old buffer.new message_length.old message_length.new }
-        ensures validity { let asked = lending service self.old.held.ports partition (length buffer.old) id in
+            IsMessagePut (message_in reply) buffer.old buffer.new
+            message_length.old message_length.new }
+        ensures validity { let asked = lending service self.old.held.ports partition
+            (length buffer.old) id in
             let reply = asked_reply self.old.held.ports partition (moment_of at) asked in
             validity.new ≡ validity_after reply validity.old }
     {
@@ -85,9 +89,12 @@ fn lend(
     ensures answer { let asked = lending_call service id in
         result ≡ reply_number (reply_of_ports ports.old partition at asked) }
     ensures ports { ports.new ≡ ports_with ports.old partition at (lending_call service id) }
-    ensures message { let reply = Some (reply_of_ports ports.old partition at (lending_call service id)) in
-        IsMessagePut (message_in reply) buffer.old buffer.new message_length.old message_length.new }
-    ensures validity { let reply = Some (reply_of_ports ports.old partition at (lending_call service id)) in
+    ensures message { let reply =
+        Some (reply_of_ports ports.old partition at (lending_call service id)) in
+        IsMessagePut (message_in reply) buffer.old buffer.new
+        message_length.old message_length.new }
+    ensures validity { let reply =
+        Some (reply_of_ports ports.old partition at (lending_call service id)) in
         validity.new ≡ validity_after reply validity.old }
 {
     match service {

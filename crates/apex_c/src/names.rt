@@ -23,7 +23,8 @@ pub extern "C" fn apex_partition_name(
     buffer: &mut [u8],
     name_length: &mut u32,
 ) -> u32
-    ensures name { let name = partition_name_in (length buffer.old) handle.old.held.ports partition in
+    ensures name { let name =
+        partition_name_in (length buffer.old) handle.old.held.ports partition in
         AreBytesPut name result buffer.old buffer.new name_length.old name_length.new }
     ensures ports { handle.new.held.ports ≡ handle.old.held.ports }
 {

@@ -32,7 +32,8 @@ pub const CLOSED: u32 = 0;
 #[unsafe(no_mangle)]
 pub extern "C" fn apex_open(alloc: Global, handle: &mut Handle, text: &[u8]) -> u32
     ensures { let config = config_of text.now in IsOpening
-        handle.old.held.ports handle.new.held.ports (ports_at_start config) (opening_number config) result }
+        handle.old.held.ports handle.new.held.ports
+        (ports_at_start config) (opening_number config) result }
 {
     if handle.is_open() {
         return ALREADY_OPEN;
@@ -57,7 +58,8 @@ pub extern "C" fn apex_open_explained(
     lines_length: &mut u64,
 ) -> u32
     ensures opening { let config = config_of text.now in IsOpening
-        handle.old.held.ports handle.new.held.ports (ports_at_start config) (opening_number config) result }
+        handle.old.held.ports handle.new.held.ports
+        (ports_at_start config) (opening_number config) result }
     ensures path { handle.old.held.ports ≡ None → result ≢ OUT_OF_MEMORY →
         path.new ≡ text_after (path_in (read_of text.now)) path.old }
     ensures path_length { handle.old.held.ports ≡ None → result ≢ OUT_OF_MEMORY →

@@ -78,11 +78,14 @@ pub extern "C" fn apex_receive_queuing_message(
     buffer: &mut [u8],
     message_length: &mut u32,
 ) -> u32
-    ensures called { let asked = lending lent.Receive handle.old.held.ports partition (length buffer.old) id in
+    ensures called { let asked = lending lent.Receive handle.old.held.ports partition
+        (length buffer.old) id in
         IsCalled handle.old.held.ports handle.new.held.ports partition (moment_of at) asked result }
-    ensures message { let asked = lending lent.Receive handle.old.held.ports partition (length buffer.old) id in
+    ensures message { let asked = lending lent.Receive handle.old.held.ports partition
+        (length buffer.old) id in
         let reply = asked_reply handle.old.held.ports partition (moment_of at) asked in
-        IsMessagePut (message_in reply) buffer.old buffer.new message_length.old message_length.new }
+        IsMessagePut (message_in reply) buffer.old buffer.new
+        message_length.old message_length.new }
 {
     let service = Lending::Receive;
     handle.lend(

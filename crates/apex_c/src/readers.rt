@@ -65,7 +65,8 @@ pub extern "C" fn apex_last_sample(
     ensures answer { let bytes = length buffer.old in
         result ≡ answer_of (sample_in bytes handle.old.held.ports channel) }
     ensures message { let sample = sample_in (length buffer.old) handle.old.held.ports channel in
-        IsMessagePut (message_of sample) buffer.old buffer.new message_length.old message_length.new }
+        IsMessagePut (message_of sample) buffer.old buffer.new
+        message_length.old message_length.new }
     ensures at { let sample = sample_in (length buffer.old) handle.old.held.ports channel in
         at.new ≡ moment_after sample at.old }
     ensures ports { handle.new.held.ports ≡ handle.old.held.ports }
@@ -101,7 +102,8 @@ pub extern "C" fn apex_waiting_message(
     buffer: &mut [u8],
     message_length: &mut u32,
 ) -> u32
-    ensures message { let message = waiting_in (length buffer.old) handle.old.held.ports channel index in
+    ensures message { let message =
+        waiting_in (length buffer.old) handle.old.held.ports channel index in
         AreBytesPut message result buffer.old buffer.new message_length.old message_length.new }
     ensures ports { handle.new.held.ports ≡ handle.old.held.ports }
 {

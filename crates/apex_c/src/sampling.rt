@@ -78,12 +78,16 @@ pub extern "C" fn apex_read_sampling_message(
     message_length: &mut u32,
     validity: &mut u32,
 ) -> u32
-    ensures called { let asked = lending lent.Read handle.old.held.ports partition (length buffer.old) id in
+    ensures called { let asked = lending lent.Read handle.old.held.ports partition
+        (length buffer.old) id in
         IsCalled handle.old.held.ports handle.new.held.ports partition (moment_of at) asked result }
-    ensures message { let asked = lending lent.Read handle.old.held.ports partition (length buffer.old) id in
+    ensures message { let asked = lending lent.Read handle.old.held.ports partition
+        (length buffer.old) id in
         let reply = asked_reply handle.old.held.ports partition (moment_of at) asked in
-        IsMessagePut (message_in reply) buffer.old buffer.new message_length.old message_length.new }
-    ensures validity { let asked = lending lent.Read handle.old.held.ports partition (length buffer.old) id in
+        IsMessagePut (message_in reply) buffer.old buffer.new
+        message_length.old message_length.new }
+    ensures validity { let asked = lending lent.Read handle.old.held.ports partition
+        (length buffer.old) id in
         let reply = asked_reply handle.old.held.ports partition (moment_of at) asked in
         validity.new ≡ validity_after reply validity.old }
 {

@@ -69,10 +69,13 @@ impl Handle {
         call: CallRef<'_>,
     ) -> Result<ReplyRef<'static>, u32>
         requires { is_plain (call_by call) ≡ true }
-        ensures reply { let reply = reply_in self.old.held.ports partition (moment_of at) (call_by call.entry) in
+        ensures reply { let reply =
+            reply_in self.old.held.ports partition (moment_of at) (call_by call.entry) in
             MatchResult result (λ given. reply ≡ Some (reply_by given)) (λ _. reply ≡ None) }
-        ensures answer { let answer = answer_in self.old.held.ports partition (moment_of at) (call_by call.entry) in
-            MatchResult result (λ given. answer ≡ reply_number (reply_by given)) (λ none. answer ≡ none) }
+        ensures answer { let answer =
+            answer_in self.old.held.ports partition (moment_of at) (call_by call.entry) in
+            MatchResult result (λ given. answer ≡ reply_number (reply_by given))
+            (λ none. answer ≡ none) }
         ensures ports { self.new.held.ports
             ≡ ports_after self.old.held.ports partition (moment_of at) (call_by call.entry) }
     {

@@ -97,8 +97,10 @@ impl<A: Allocator> State<A> {
         requires current { IsCurrent config.now self.old }
         requires plain { is_plain (call_by call) ≡ true }
         requires active { is_idle (mode_of partition self.old.history) ≡ false }
-        ensures reply { let given = reply_to config.now self.old.history partition at (call_by call.entry) in
-            MatchResult result (λ reply. reply_by reply ≡ given) (λ refusal. Code (code_of refusal) ≡ given) }
+        ensures reply { let given =
+            reply_to config.now self.old.history partition at (call_by call.entry) in
+            MatchResult result (λ reply. reply_by reply ≡ given)
+            (λ refusal. Code (code_of refusal) ≡ given) }
         ensures short { IfOk result (λ reply. message_length (reply_by reply) ≤ MESSAGE_LIMIT) }
         ensures kept { IfOk result (λ reply.
             let entry = entry_of partition at (call_by call.entry) (reply_by reply) in

@@ -41,7 +41,8 @@ impl<A: Allocator> State<A> {
             ≡ reply_to config.now self.old.history partition at (call_by call) }
         requires kept { let entry = entry_of partition at (call_by call) (reply_by reply) in
             IsKeptWith config.now self.old entry self.old }
-        ensures history { let entry = entry_of partition at (call_by call.entry) (reply_by reply.entry) in
+        ensures history { let entry =
+            entry_of partition at (call_by call.entry) (reply_by reply.entry) in
             self.new.history ≡ self.old.history ++ entry ∷ [] }
         ensures kept { IsPortsKept config.now self.new calls.new }
     {

@@ -92,7 +92,8 @@ pub fn push_entry(
     reply: ReplyRef<'_>,
 ) -> Result<(), AllocError>
     requires { message_length (reply_by reply) ≤ MESSAGE_LIMIT }
-    ensures { let line = entry_line number name.now at (call_by call.entry) (reply_by reply.entry) in
+    ensures { let line =
+        entry_line number name.now at (call_by call.entry) (reply_by reply.entry) in
         OnOk result (string_bytes text.new ≡ string_bytes text.old ++ line) }
 {
     let Moment(nanoseconds) = at;
