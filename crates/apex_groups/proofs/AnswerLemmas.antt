@@ -53,12 +53,6 @@ written_back new more n is = ap (λ (k : ℕ). take k (new ++ more)) is ∙ take
 
 -- ---- some of the questions
 
-pub none_picked : (asked : List Asked) (picked : Picked) → picked.indexes.items ≡ [] → picked.asked.items ≡ [] → ArePicked asked picked
-none_picked asked picked indexes nothing = record {
-  count = ap (λ (xs : List Asked). length xs) nothing ∙ sym (ap (λ (ks : List ℕ). length ks) indexes);
-  each = λ j k at. absurd (let none = sym (ap (λ (ks : List ℕ). slice_get ks j) indexes) ∙ at in cc);
-}
-
 pub one_picked : (asked : List Asked) (picked more : Picked) (k : ℕ) (one : Asked) → ArePicked asked picked → slice_get asked k ≡ Some one
     → more.indexes.items ≡ picked.indexes.items ++ k ∷ [] → more.asked.items ≡ picked.asked.items ++ one ∷ [] → ArePicked asked more
 one_picked asked picked more k one are at indexes questions = record {

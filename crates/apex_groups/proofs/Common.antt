@@ -13,7 +13,7 @@ pub use Rattle.apex_ports.proofs.Interference.{filter_map-inside, leaves_channel
 pub use Rattle.apex_ports.specs.declared.history.Entry.{Entry}
 pub use Rattle.apex_orders.proofs.ClockLemmas.{unclocked}
 pub use Rattle.apex_orders.proofs.Walks.{entries_of-append, IsGood, IsDone, IsNext, answered, calls_count, continued-append, next_cases, one_longer, own_entry}
-pub use Rattle.apex_groups.specs.Counts.{AreSameTotals, HasSameTotals, HasSuchTotals, KeepTotals, ShowAllCounts, ShowsCounts}
+pub use Rattle.apex_groups.specs.Counts.{HasSameTotals, HasSuchTotals, KeepTotals, ShowAllCounts, ShowsCounts, totals_below}
 pub use Rattle.apex_groups.specs.Groups.{AreExchanged, IsPart, list_of, AreApart, HasItsChannels, group_of, HasNone, in_group}
 pub use Rattle.apex_groups.specs.LogParts.{AreWhole, IsOfGroups}
 pub use Rattle.apex_groups.specs.Merging.{AreAdded, AreCounted, AreEndsAdded, AreNextPast, EndsAlike, IsBefore, IsClockedWay, IsEndOfPart, IsFirst, IsFirstUntil, IsFoundBefore, IsMerged, IsPast, IsWholeOf, moment_of, next_moment, next_of}

@@ -1,6 +1,5 @@
 -- Ends that are asked for.
-use Rattle.apex_groups.proofs.Common.{◌≡◌, ◌++◌, ◌∷◌, [], ⊎_elim, ℕ, Bool, List, length, Option, Some, None, ap, subst, sym, ◌∙◌, slice_get, Configuration, History, Scripts, history_of, HasSameTotals, ShowAllCounts}
-use Rattle.apex_orders.proofs.Lists.{before_or_last}
+use Rattle.apex_groups.proofs.Common.{◌≡◌, ℕ, Bool, List, Option, Some, None, subst, Configuration, History, Scripts, history_of, HasSameTotals, ShowAllCounts}
 use Rattle.apex_groups.specs.Ends.{AreEndAnswers, Compares, FindEnds, FindsEnd, IsEndAnswer, IsSuchEnd, count_after}
 use Rattle.apex_groups.specs.declared.asked_end.AskedEnd.{AskedEnd}
 use Rattle.apex_groups.specs.declared.asked_end.Count.{Count}
@@ -40,16 +39,3 @@ are_end_answers clock config scripts ends listed asked answers lists show find =
   each = λ k one answer at here.
       is_end_answer clock config scripts ends show one answer (subst (λ (orders : List (List ℕ)). FindsEnd config scripts orders one answer) lists (find.each k one answer at here));
 }
-
--- one more answer
-pub one_more_end : (config : Configuration) (scripts : Scripts) (orders : List (List ℕ)) (asked : List AskedEnd) (answers : List (Option (List ℕ))) (one : AskedEnd) (answer : Option (List ℕ))
-    → slice_get asked (length answers) ≡ Some one → FindsEnd config scripts orders one answer
-    → ((k : ℕ) (other : AskedEnd) (given : Option (List ℕ)) → slice_get asked k ≡ Some other → slice_get answers k ≡ Some given → FindsEnd config scripts orders other given)
-    → (k : ℕ) (other : AskedEnd) (given : Option (List ℕ)) → slice_get asked k ≡ Some other → slice_get (answers ++ answer ∷ []) k ≡ Some given → FindsEnd config scripts orders other given
-one_more_end config scripts orders asked answers one answer here finds each k other given at now = ⊎_elim
-    (λ (before : slice_get answers k ≡ Some given). each k other given at before)
-    (λ (last : (k ≡ length answers) × (answer ≡ given)).
-    let both : Some one ≡ Some other = sym here ∙ (sym (ap (slice_get asked) last.0) ∙ at) in
-    let same : one ≡ other = cc in
-    subst (λ (pair : AskedEnd × Option (List ℕ)). FindsEnd config scripts orders pair.0 pair.1) (λ i. (same i, last.1 i)) finds)
-    (before_or_last answers answer k given now)

@@ -1,5 +1,5 @@
 -- Items of lists.
-use Rattle.apex_groups.proofs.Common.{◌≡◌, ⊎_elim, ℕ, zero, suc, ◌<◌, Bool, true, false, cond, List, [], ◌∷◌, length, map, Some, refl, sym, ap, subst, ◌∙◌, arith, slice_get, filter, Has}
+use Rattle.apex_groups.proofs.Common.{◌≡◌, ⊎_elim, ℕ, zero, suc, ◌<◌, Bool, true, false, cond, List, [], ◌∷◌, length, map, Some, refl, sym, ap, subst, ◌∙◌, arith, slice_get, slice_get-map, option_map, filter, Has}
 use Rattle.apex_orders.proofs.Having.{first_or_rest, has_none, has_rest}
 
 module _ {X : Type 0} where
@@ -48,3 +48,6 @@ module _ {X : Type 0} where
 pub nothing_mapped : {X Y : Type 0} (f : X → Y) (xs : List X) → map f xs ≡ [] → xs ≡ []
 nothing_mapped f [] is = refl
 nothing_mapped f (x ∷ xs) is = absurd (cc)
+
+pub mapped_at : {X Y : Type 0} (f : X → Y) (xs : List X) (k : ℕ) (x : X) → slice_get xs k ≡ Some x → slice_get (map f xs) k ≡ Some (f x)
+mapped_at f xs k x at = slice_get-map f xs k ∙ ap (option_map f) at

@@ -33,6 +33,7 @@ module _ (clock : Bool) (can_stop : Type 0) (config : Configuration) (inside : �
       found = answered_here clock config scripts parts n inside own holds valid count are.part are.is one order whole same answer.found merged.0 merged.1;
       never = tt;
       undecided = tt;
+      memory = λ is. absurd (cc);
     }
     merged_is one same (Ok (Some order)) (Ok None) answer merged = absurd merged
     merged_is one same (Ok (Some order)) (Err fault) answer merged = absurd merged
@@ -40,12 +41,14 @@ module _ (clock : Bool) (can_stop : Type 0) (config : Configuration) (inside : �
       found = tt;
       never = λ can. answer.never (answered_there clock config scripts parts n inside own holds valid count are.part are.is one same can);
       undecided = tt;
+      memory = λ is. absurd (cc);
     })
     merged_is one same (Err fault) y answer merged = subst (IsAnswerTo clock can_stop config scripts bound one) (sym merged.0) (record {
       found = tt;
       never = tt;
       undecided = undecided_apart (Option (List ℕ)) (Option (List ℕ)) clock can_stop config scripts bound fault merged.1
           (undecided_part config inside scripts are.part are.is {X = Option (List ℕ)} clock can_stop bound (Err fault) answer.undecided);
+      memory = λ is. answer.memory is;
     })
 
     pub merged_at : (j : ℕ) (x y : Found) → slice_get found j ≡ Some x → IsMergedAnswer clock config scripts inside x y → (one : Asked) × (slice_get asked j ≡ Some one) × IsAnswerTo clock can_stop config scripts bound one y

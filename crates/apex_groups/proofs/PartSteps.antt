@@ -42,9 +42,6 @@ end_added clock config inside scripts ends old all end whole added is = record {
 pub is_in : (groups : List ℕ) (p : ℕ) → group_of groups p ≡ 1 → in_group groups 1 p ≡ true
 is_in groups p same = grind (arith, nat_tests, same)
 
-pub has_group : (groups : List ℕ) (p : ℕ) → in_group groups 1 p ≡ true → group_of groups p ≡ 1
-has_group groups p is = grind (arith, nat_tests, is)
-
 pub below_of : (parts : Parts) → ((p id : ℕ) → p < length parts.of_ports.items → part_of_port parts p id < parts.count)
     → ((c : ℕ) → group_of parts.of_channels.items c < parts.count) → ((p : ℕ) → group_of parts.of_partitions.items p < parts.count) → AreBelow parts
 below_of parts ports channels partitions = record { ports = λ p id. of_ports p id (cases_lt p (length parts.of_ports.items)); channels = channels; partitions = partitions }

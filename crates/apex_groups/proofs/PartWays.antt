@@ -1,5 +1,5 @@
 -- What is found for the scripts of a part is so for all scripts: the replies to its calls, and what its channels count.
-use Rattle.apex_groups.proofs.Common.{◌≡◌, ℕ, zero, suc, ◌<◌, Bool, true, false, if◌then◌else◌, List, [], ◌∷◌, ◌++◌, length, drop, filter, map, take, Option, Some, None, refl, sym, ap, ◌∙◌, subst, arith, slice_get, slice_get-map, option_map, take_all, append_assoc, append-nil, Configuration, IsConfiguration, Entry, History, entries_of, IsPart, Scripts, script_of, calls_of, continued, history_of, IsWay, Asked, PossibleReply}
+use Rattle.apex_groups.proofs.Common.{◌≡◌, ℕ, zero, suc, ◌<◌, Bool, true, false, if◌then◌else◌, List, [], ◌∷◌, ◌++◌, length, drop, filter, map, take, Option, Some, None, refl, sym, ap, ◌∙◌, subst, arith, slice_get, take_all, append_assoc, append-nil, Configuration, IsConfiguration, Entry, History, entries_of, IsPart, Scripts, script_of, calls_of, continued, history_of, IsWay, Asked, PossibleReply}
 use Rattle.apex_groups.proofs.Common.{IsGood, HasSameTotals, IsMerged, IsOrder, IsBeginning, next_of, CanOccurWith, CanBeAnsweredWith, IsAnsweredByWith, IsGivenByWith, next_entries}
 use Rattle.apex_types.specs.declared.call.Call.{Call}
 use Rattle.apex_types.specs.declared.moment.Moment.{Moment}
@@ -18,7 +18,7 @@ use Rattle.apex_orders.proofs.Walks.{entries_of-append, is_beginning, ordered, o
 use Rattle.apex_groups.proofs.AlikeInside.{AreAlike, alike_nil, is_own_call, step_alike, told, way_alike}
 use Rattle.apex_groups.specs.Parts.{IsFed}
 use Rattle.apex_groups.proofs.Exchanged.{here_inside, none_outside}
-use Rattle.apex_groups.proofs.Lists.{nothing_mapped}
+use Rattle.apex_groups.proofs.Lists.{mapped_at, nothing_mapped}
 use Rattle.apex_groups.proofs.MergedEnds.{HasWhole, complete}
 use Rattle.apex_groups.proofs.MergeSteps.{made_one}
 use Rattle.apex_groups.proofs.PartOrders.{made_alike, order_alike, part_same}
@@ -37,9 +37,6 @@ at_mapped : {X Y : Type 0} (f : X → Y) (xs : List X) (k : ℕ) (y : Y) → sli
 at_mapped f [] k y at = absurd (cc)
 at_mapped f (x ∷ xs) zero y at = (x, refl, let same : f x ≡ y = cc in same)
 at_mapped f (x ∷ xs) (suc k) y at = at_mapped f xs k y at
-
-mapped_at : {X Y : Type 0} (f : X → Y) (xs : List X) (k : ℕ) (x : X) → slice_get xs k ≡ Some x → slice_get (map f xs) k ≡ Some (f x)
-mapped_at f xs k x at = slice_get-map f xs k ∙ ap (option_map f) at
 
 -- ---- counts
 

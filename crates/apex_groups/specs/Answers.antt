@@ -1,14 +1,15 @@
 -- Answers to several questions about calls, found part by part.
 use Rattle.std.specs.Prelude.{ℕ, Bool, false, ◌≡◌, ◌⊎◌, List, length, slice_get, Option, Some, None, Result, Ok, Err, IfOk, IfSome}
-use Rattle.apex_groups.specs.Prelude.{Configuration, Scripts, Asked, Has, IsOrder}
+use Rattle.apex_groups.specs.Prelude.{Configuration, Scripts, Asked, Has, IsGivenByWith, IsOrder, IsUndecidedWith, PossibleReply}
 use Rattle.apex_groups.specs.Groups.{IsPart}
 use Rattle.apex_groups.specs.Merging.{IsMerged, IsOfPart}
 use Rattle.apex_groups.specs.Parts.{part_of_index}
 use Rattle.apex_groups.specs.declared.parts.Parts.{Parts}
 use Rattle.apex_groups.specs.declared.questions.Picked.{Picked}
 use Rattle.apex_orders.specs.Outcomes.{AreAnswersTo, IsAnswerTo}
+use Rattle.apex_orders.specs.declared.asked.Admitted.TheVariants as admitted
 use Rattle.apex_orders.specs.declared.orders_fault.OrdersFault.{OrdersFault}
-use Rattle.apex_orders.specs.declared.orders_fault.OrdersFault.TheVariants.{TooManyStates}
+use Rattle.apex_orders.specs.declared.orders_fault.OrdersFault.TheVariants.{OutOfMemory, TooManyStates}
 
 -- an order, that there is none, or why that is unknown
 abbrev pub Found : Type 0
@@ -72,3 +73,26 @@ IsMergedAnswer clock config scripts inside (Ok (Some order)) (Ok (Some whole)) =
 IsMergedAnswer clock config scripts inside (Ok (Some order)) _ = ⊥
 IsMergedAnswer clock config scripts inside (Ok None) answer = answer ≡ Ok None
 IsMergedAnswer clock config scripts inside (Err fault) answer = (answer ≡ Err fault) × (fault ≡ TooManyStates → clock ≡ false)
+
+-- ---- replies
+
+-- the question whether the call gets this reply
+abbrev pub question_about : PossibleReply → Asked
+question_about one = record { partition = one.partition; index = one.index; admitted = admitted.Reply one.reply }
+
+-- the answer with this order, or why it is unknown
+abbrev pub answer_with : Result (List ℕ) OrdersFault → Found
+answer_with (Ok order) = Ok (Some order)
+answer_with (Err fault) = Err fault
+
+-- an order that ends with the reply, or why none is known, other than memory
+pub record IsReplyOrder (clock : Bool) (can_stop : Type 0) (config : Configuration) (scripts : Scripts) (bound : ℕ) (one : PossibleReply) (order : Result (List ℕ) OrdersFault) : Type 0 where
+  pub given : IfOk order (IsGivenByWith clock config scripts one)
+  pub undecided : IsUndecidedWith clock can_stop config scripts bound order
+  pub memory : ¬ (order ≡ Err OutOfMemory)
+
+-- this for each of the replies, at its index
+pub record AreReplyOrders (clock : Bool) (can_stop : Type 0) (config : Configuration) (scripts : Scripts) (bound : ℕ) (replies : List PossibleReply) (orders : List (Result (List ℕ) OrdersFault)) : Type 0 where
+  pub count : length orders ≡ length replies
+  pub each : (k : ℕ) (one : PossibleReply) (order : Result (List ℕ) OrdersFault) → slice_get replies k ≡ Some one → slice_get orders k ≡ Some order
+      → IsReplyOrder clock can_stop config scripts bound one order

@@ -1,6 +1,6 @@
 -- Orders of all calls that show each channel's counts.
-use Rattle.std.specs.Prelude.{ℕ, Bool, ◌≡◌, ◌<◌, List, length}
-use Rattle.apex_groups.specs.Prelude.{Configuration, waiting_on, History, Scripts, IsWay, history_of, HasSameCounts, Has}
+use Rattle.std.specs.Prelude.{ℕ, zero, suc, Bool, ◌≡◌, ◌<◌, List, [], ◌∷◌, ◌++◌, length}
+use Rattle.apex_groups.specs.Prelude.{Configuration, accepted_on, received_on, cleared_on, waiting_on, count_of, History, Scripts, IsWay, history_of, HasSameCounts, Has}
 use Rattle.apex_orders.specs.Clock.{IsClocked}
 
 -- the channel has the same counts of messages after both, and the same number wait
@@ -11,6 +11,14 @@ pub record HasSameTotals (config : Configuration) (history other : History) (c :
 -- each channel has the same counts of messages after both, and the same number wait
 abbrev pub AreSameTotals : Configuration → History → History → Type 0
 AreSameTotals config history other = (c : ℕ) → c < length config.channels → HasSameTotals config history other c
+
+-- what the first channels count: messages accepted, received and cleared, and how many wait
+abbrev pub totals_below : Configuration → History → ℕ → List ℕ
+totals_below config history zero = []
+totals_below config history (suc c) =
+    totals_below config history c
+    ++ count_of (accepted_on config c history) ∷ count_of (received_on config c history) ∷ count_of (cleared_on config c history)
+    ∷ length (waiting_on config c history) ∷ []
 
 -- one of the orders leads to each channel's counts after the history
 pub record HasSuchTotals (config : Configuration) (scripts : Scripts) (ends : List (List ℕ)) (history : History) : Type 0 where

@@ -2,6 +2,7 @@
 pub use Rattle.apex_module.specs.Configuration.{Configuration, port_of, PartitionData, port_at, ports_of_partition, IsConfiguration}
 pub use Rattle.apex_module.specs.declared.port.Port.{Port}
 pub use Rattle.apex_ports.specs.Channels.{waiting_on, accepted_on, received_on, cleared_on}
+pub use Rattle.apex_ports.specs.Counts.{count_of}
 pub use Rattle.apex_ports.specs.History.{History, entries_of}
 pub use Rattle.apex_ports.specs.Interference.{IsClosed, entries_inside}
 pub use Rattle.apex_orders.specs.Lists.{Has}

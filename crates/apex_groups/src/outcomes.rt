@@ -223,11 +223,7 @@ fn add_replies(
 {
     for one in found {
         if parts.of_index(config, scripts, one.partition, one.index) == part {
-            all.push(PossibleReply {
-                partition: one.partition,
-                index: one.index,
-                reply: one.reply.copy(),
-            })?;
+            all.push(one.copy())?;
         }
     }
     Ok(())

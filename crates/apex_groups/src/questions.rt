@@ -1,7 +1,8 @@
 //! Questions about calls, each with the index of its answer.
-ghost use Rattle.std.specs.Prelude.{◌≡◌, ◌<◌, ◌++◌, ◌∷◌, [], ℕ, None, Some, length, map, replicate, slice_get, slice_set, IfOk, OnOk};
+ghost use Rattle.std.specs.Prelude.{◌≡◌, ◌<◌, ◌++◌, ◌∷◌, [], ℕ, None, Some, length, map, replicate, slice_get, slice_set, IfOk, IsTrue, OnOk};
 ghost use Rattle.apex_groups.specs.Prelude.{Has};
 ghost use Rattle.apex_groups.specs.Answers.{ArePicked, AreOfPart, ArePut};
+ghost use Rattle.apex_groups.specs.Parts.{part_of_index};
 
 use crate::parts::Parts;
 use apex_module::Config;
@@ -43,12 +44,13 @@ impl Picked {
         Ok(())
     }
 
-    /// The questions about calls of the part.
+    /// The questions about calls of the part that partition `p` makes.
     pub(crate) fn of_part(
         alloc: Global,
         config: &Config,
         parts: &Parts,
         part: usize,
+        p: usize,
         scripts: &[Script],
         asked: &[Asked],
     ) -> Result<Picked, AllocError>
@@ -58,7 +60,7 @@ impl Picked {
     {
         let mut picked = Picked::new(alloc);
         for (index, one) in asked.iter().enumerate() {
-            if parts.of_index(config, scripts, one.partition, one.index) == part {
+            if is_of_part(config, parts, part, p, scripts, one) {
                 picked.add(index, one)?;
             }
         }
@@ -84,6 +86,21 @@ impl Picked {
         }
         Ok(picked)
     }
+}
+
+/// Whether the question is about a call of the part that partition `p` makes.
+fn is_of_part(
+    config: &Config,
+    parts: &Parts,
+    part: usize,
+    p: usize,
+    scripts: &[Script],
+    one: &Asked,
+) -> bool
+    ensures { IsTrue result
+        → part_of_index config.now parts.now scripts.now one.now.partition one.now.index ≡ part }
+{
+    one.partition == p && parts.of_index(config, scripts, p, one.index) == part
 }
 
 /// The same question.

@@ -1,22 +1,22 @@
 //! Orders in which calls get replies, searched for in the parts of the calls.
 ghost use Rattle.std.specs.Prelude.{◌≡◌, length, IfOk, IfSome, IfNone};
 ghost use Rattle.apex_orders.specs.Outcomes.{AreAnswersTo};
-ghost use Rattle.apex_groups.specs.Prelude.{CanBeAnsweredWith, CanOccurWith, IsAnsweredByWith, IsGivenByWith, IsUndecidedWith};
+ghost use Rattle.apex_groups.specs.Prelude.{CanBeAnsweredWith, IsAnsweredByWith, IsUndecidedWith};
 ghost use Rattle.apex_groups.specs.Answers.{AreKnown};
 
 use crate::part_answers::answer_part;
 use crate::parts::Parts;
 use crate::questions::{Found, Picked, all_answers, no_answers, put_all};
 use apex_module::Config;
-use apex_orders::{Admitted, Asked, Order, OrdersFault, PossibleReply, Progress, orders_giving};
+use apex_orders::{Asked, Order, OrdersFault, Progress, orders_giving};
 use apex_ports::Script;
 use apex_types::OutOfMemory;
 use std::alloc::Global;
 use std::slice;
 use std::thread::Threads;
 
-/// The answer to each question, like `orders_giving` of `apex_orders`, but the questions about the calls of one part are
-/// answered by one search of the partitions at the ends of its channels. With `clock`, the moments of all partitions are
+/// The answer to each question, like `orders_giving` of `apex_orders`, but the questions about one partition's calls of one
+/// part are answered by one search of the partitions at the ends of its channels. With `clock`, the moments of all partitions are
 /// of one clock, and each order also has the calls of the others that come before. Questions that are then undecided,
 /// since their parts lead to more states than the bound, are answered by one search of all calls. The scripts change only
 /// during the search.
@@ -41,7 +41,8 @@ pub fn orders_giving_apart<R: Threads + Sync, P: Progress>(
     )
 }
 
-/// The answers that searches of the parts give.
+/// The answers that searches of the parts give. A search always tries the next calls of the partitions that it is asked
+/// about, so those of two of them would multiply the states: each has a search of its own.
 fn answers_of_parts<R: Threads + Sync, P: Progress>(
     rt: &R,
     alloc: Global,
@@ -61,11 +62,13 @@ fn answers_of_parts<R: Threads + Sync, P: Progress>(
     let parts = Parts::new(alloc, config)?;
     let mut answers = no_answers(alloc, asked.len())?;
     for part in 0..parts.count {
-        let picked = Picked::of_part(alloc, config, &parts, part, scripts, asked)?;
-        let answers = answers.as_mut_slice();
-        answer_part(
-            rt, alloc, config, &parts, part, scripts, clock, &picked, bound, progress, answers,
-        )?;
+        for p in 0..config.partitions() {
+            let picked = Picked::of_part(alloc, config, &parts, part, p, scripts, asked)?;
+            let answers = answers.as_mut_slice();
+            answer_part(
+                rt, alloc, config, &parts, part, scripts, clock, &picked, bound, progress, answers,
+            )?;
+        }
     }
     Ok(answers)
 }
@@ -143,36 +146,5 @@ pub fn order_giving_apart<R: Threads + Sync, P: Progress>(
     match answers.pop() {
         Some(answer) => answer,
         None => unreachable!(),
-    }
-}
-
-/// An order that ends with the call and gives it this reply, which some order of all calls does. It searches like
-/// `order_giving_apart`.
-pub fn order_of_reply<R: Threads + Sync, P: Progress>(
-    rt: &R,
-    alloc: Global,
-    config: &Config,
-    scripts: &mut [Script],
-    clock: bool,
-    one: &PossibleReply,
-    bound: usize,
-    progress: &mut P,
-) -> Result<Order, OrdersFault>
-    requires count { length scripts.old ≡ length config.now.partitions }
-    requires possible { CanOccurWith clock config.now scripts.old one.now }
-    ensures same { scripts.new ≡ scripts.old }
-    ensures given { IfOk result (λ order.
-        IsGivenByWith clock config.now scripts.old one.now order) }
-    ensures undecided { IsUndecidedWith clock P.CanStop config.now scripts.old bound result }
-{
-    let asked = Asked {
-        partition: one.partition,
-        index: one.index,
-        admitted: Admitted::Reply(one.reply.copy()),
-    };
-    match order_giving_apart(rt, alloc, config, scripts, clock, &asked, bound, progress) {
-        Err(fault) => Err(fault),
-        Ok(Some(order)) => Ok(order),
-        Ok(None) => unreachable!(),
     }
 }

@@ -1,27 +1,17 @@
 -- The answers that a search finds.
-use Rattle.apex_orders.proofs.Common.{◌≡◌, ⊎_elim, ◌≢◌, ℕ, zero, suc, ◌+◌, ◌<◌, ◌≤◌, Bool, false, List, [], ◌∷◌, length, length-set, MatchOption, Option, Some, None, is_some, refl, sym, ap, ◌∙◌, subst, arith, cases_lt, slice_get, slice_get-set_cases, Configuration, Scripts}
-use Rattle.apex_orders.proofs.ChoiceLemmas.{one_more}
+use Rattle.apex_orders.proofs.Common.{◌≡◌, ◌↔◌, ⊎_elim, ◌≢◌, ℕ, ◌+◌, ◌-◌, ◌^◌, ◌<◌, ◌≤◌, Bool, false, List, [], ◌∷◌, length, length-set, MatchOption, Option, Some, None, is_some, refl, sym, ap, ◌∙◌, subst, arith, cases_lt, slice_get, slice_get-set_cases, slice_get_within, Configuration, Scripts, Call, Moment, Entry, History, entry_of, entries_of, entries_for, count_of, script_of, next_entries, history_of, mix, Makes}
+use Rattle.std.proofs.Math.Nat.{min-eq_left}
 use Rattle.std.specs.Prelude.{IfNone, set}
-use Rattle.apex_orders.proofs.Common.{Asked, PossibleReply, HasEnded, HasNothingLeft, HaveOrders, AreAllAnswered, AreAnswersBy, IsAnsweredByWith, IsOpen, IsSearched, IsSearchedInVain, IsUnansweredAt, IsUnderWay}
+use Rattle.apex_orders.proofs.Common.{Asked, PossibleReply, HasEnded, HasNothingLeft, HaveOrders, AreAllAnswered, AreAnswersBy, IsAnsweredAfter, IsAnsweredByWith, IsOpen, IsSearched, IsSearchedInVain, IsUnansweredAt, IsUnderWay}
+use Rattle.apex_orders.specs.Outcomes.{Answers}
+use Rattle.apex_orders.specs.Searching.{IsNextReply}
+use Rattle.apex_orders.specs.declared.answer.NextReply.{NextReply}
 use Rattle.apex_orders.specs.declared.rounds.Found.{Found}
 use Rattle.apex_orders.specs.declared.rounds.Rounds.{Rounds}
 
 pub none_there : {X : Type 0} (o : Option X) → is_some o ≡ false → o ≡ None
 none_there None is = refl
 none_there (Some x) is = absurd (cc)
-
--- the item that was set
-pub set_here : {X : Type 0} (xs : List X) (i : ℕ) (y : X) → i < length xs → slice_get (set xs i y) i ≡ Some y
-set_here [] i y within = absurd (omega (arith, within))
-set_here (z ∷ xs) zero y within = refl
-set_here (z ∷ xs) (suc i) y within = set_here xs i y (omega (arith, within))
-
-pub set_elsewhere : {X : Type 0} (xs : List X) (i : ℕ) (y : X) (k : ℕ) → (k ≡ i → ⊥) → slice_get (set xs i y) k ≡ slice_get xs k
-set_elsewhere [] i y k other = refl
-set_elsewhere (z ∷ xs) zero y zero other = absurd (other refl)
-set_elsewhere (z ∷ xs) zero y (suc k) other = refl
-set_elsewhere (z ∷ xs) (suc i) y zero other = refl
-set_elsewhere (z ∷ xs) (suc i) y (suc k) other = set_elsewhere xs i y k (λ same. other (ap suc same))
 
 -- what holds without an item
 pub when_none : {X : Type 0} (o : Option X) (P : Type 0) → o ≡ None → IfNone o P → P
@@ -37,6 +27,39 @@ found_by (Some one) P R order is match = let same : one ≡ order = cc in subst 
 found_none : (o : Option (List ℕ)) (P : Type 0) (R : List ℕ → Type 0) → o ≡ None → MatchOption o P R → P
 found_none None P R is match = match
 found_none (Some one) P R is match = absurd (cc)
+
+-- a question is answered after an order by the reply that its partition's next call gets
+pub answered_by : (clock : Bool) (config : Configuration) (scripts : Scripts) (asked : Asked) (order : List ℕ) (next : NextReply) → IsNextReply clock config scripts order next → next.partition ≡ asked.partition
+    → ((one : PossibleReply) × (next.reply ≡ Some one) × Answers asked one) ↔ IsAnsweredAfter clock config scripts asked order
+answered_by clock config scripts asked order next is of = (
+  (λ found. record { one = found.0; answers = found.2; given = ((is found.0).0 found.1).1 }),
+  (λ answered. (answered.one, (is answered.one).1 (answered.answers.partition ∙ sym of, answered.given), answered.answers)),
+)
+
+-- the call that a question is about after an order that answers it
+module _ (clock : Bool) (config : Configuration) (scripts : Scripts) (asked : Asked) (order : List ℕ) where
+  made_within : (h : History) (p : ℕ) (entry : Entry) → next_entries config scripts h p ≡ entry ∷ [] → length (entries_of p h) < length (script_of scripts p)
+  made_within h p entry made = of_next (slice_get (script_of scripts p) (length (entries_of p h))) refl (made)
+    where
+      of_next : (o : Option (Moment × Call)) → slice_get (script_of scripts p) (length (entries_of p h)) ≡ o → entries_for config h p o ≡ entry ∷ [] → length (entries_of p h) < length (script_of scripts p)
+      of_next None at made = absurd (cc)
+      of_next (Some timed) at made = slice_get_within (script_of scripts p) (length (entries_of p h)) timed at
+
+  -- it is the next one
+  pub answered_is_next : length (script_of scripts asked.partition) ≤ 2 ^ 64 - 1 → IsAnsweredAfter clock config scripts asked order
+      → asked.index ≡ count_of (entries_of asked.partition (history_of config scripts order))
+  answered_is_next short answered =
+      let h = history_of config scripts order in
+      let of = answered.answers.partition in
+      let makes = subst (λ (p : ℕ). Makes config scripts h p answered.one) of answered.given.makes in
+      let within = made_within h asked.partition (entry_of asked.partition makes.at makes.call answered.one.reply) makes.entry in
+      let index : asked.index ≡ length (entries_of asked.partition h) = sym answered.answers.index ∙ makes.index in
+      index ∙ sym (min-eq_left (omega (arith, within, short)))
+
+  -- another one isn't answered
+  pub other_is_unanswered : length (script_of scripts asked.partition) ≤ 2 ^ 64 - 1 → (mix asked.partition asked.index ≡ mix asked.partition (count_of (entries_of asked.partition (history_of config scripts order))) → ⊥)
+      → IsAnsweredAfter clock config scripts asked order → ⊥
+  other_is_unanswered short other answered = other (ap (λ (n : ℕ). mix asked.partition n) (answered_is_next short answered))
 
 module _ (clock : Bool) (config : Configuration) (scripts : Scripts) (asked : List Asked) where
   module _ (orders : List (List ℕ)) (i : ℕ) (answers : List (Option (List ℕ))) (are : AreAnswersBy clock config scripts asked orders i answers) (q : ℕ) (one : Asked) (at : slice_get asked q ≡ Some one) (none : slice_get answers q ≡ Some None) (answer : Option (List ℕ)) (found : MatchOption answer (IsUnansweredAt clock config scripts one orders i) (IsAnsweredByWith clock config scripts one)) where
@@ -83,13 +106,27 @@ module _ (clock : Bool) (config : Configuration) (scripts : Scripts) (asked : Li
         (λ (other : (q ≢ q) × (slice_get answers q ≡ Some None)). absurd (other.0 refl))
         (slice_get-set_cases answers q answer q None left)
 
-    -- and so did each question up to this one
-    pub more_done : ((r : ℕ) → r < q → IsOpen clock config scripts asked orders (i + 1) answers r)
-        → (r : ℕ) → r < q + 1 → IsOpen clock config scripts asked orders (i + 1) (set answers q answer) r
-    more_done was =
-        one_more (IsOpen clock config scripts asked orders (i + 1) (set answers q answer)) q
-        (λ r below two there left. was r below two there (sym (set_elsewhere answers q answer r (λ same. absurd (omega (arith, below, same)))) ∙ left))
-        open_set
+    -- as all did that did before
+    pub still_open : (r : ℕ) → IsOpen clock config scripts asked orders (i + 1) answers r → IsOpen clock config scripts asked orders (i + 1) (set answers q answer) r
+    still_open r was two there left k below =
+        ⊎_elim
+        (λ (own : (r ≡ q) × (None ≡ answer)).
+        open_set two (ap (λ (n : ℕ). slice_get asked n) (sym own.0) ∙ there) (ap (λ (n : ℕ). slice_get (set answers q answer) n) (sym own.0) ∙ left) k below)
+        (λ (other : (r ≢ q) × (slice_get answers r ≡ Some None)). was two there other.1 k below)
+        (slice_get-set_cases answers q answer r None left)
+
+  -- a question that one more order doesn't answer
+  module _ (orders : List (List ℕ)) (i : ℕ) (answers : List (Option (List ℕ))) (are : AreAnswersBy clock config scripts asked orders i answers) where
+    pub one_more_open : (q : ℕ) (one : Asked) → slice_get asked q ≡ Some one → IsUnansweredAt clock config scripts one orders i → IsOpen clock config scripts asked orders (i + 1) answers q
+    one_more_open q one at missed two there left k below =
+        ⊎_elim
+        (λ (before : k < i). are.unanswered q two there left k before)
+        (λ (past : i ≤ k).
+        let index : i ≡ k = omega (arith, past, below) in
+        let both : Some one ≡ Some two = sym at ∙ there in
+        let same : one ≡ two = cc in
+        subst (λ (pair : Asked × ℕ). IsUnansweredAt clock config scripts pair.0 orders pair.1) (λ j. (same j, index j)) missed)
+        (cases_lt k i)
 
   -- ---- the end of a search
 

@@ -24,17 +24,17 @@ pub use Rattle.apex_orders.specs.Choices.{is_tried, HasNoChannel, IsNextCall, Is
 pub use Rattle.apex_orders.specs.Clock.{IsNextDue, ClockedNeverFalls, IsDue, IsClocked}
 pub use Rattle.apex_orders.specs.Commuting.{names, Commutes, id_in, port_in, is_on, is_change, changes, IsApart, AlwaysCommutes, channel_in, channel_named}
 pub use Rattle.apex_orders.specs.Enough.{HasNext, IsApartFromRest, IsEnough, IsRefusedEarly, HasSameByTried, is_early, IsSameWay, AreAmongTried, TryingEnoughIsEnough, EnoughGoesFirst}
-pub use Rattle.apex_orders.specs.Hashes.{mix, calls_below, shown_below, all_shown_below, shown_hash, messages_hash, channels_below, hash_of, AreHashes, bytes_below, messages_below}
+pub use Rattle.apex_orders.specs.Hashes.{mix, calls_below, shown_below, all_shown_below, shown_hash, messages_hash, channels_below, hash_of, bytes_below, messages_below}
 pub use Rattle.apex_orders.specs.Known.{IsAfter, AreLevels, ArePoints, IsSameLevel, IsTrialOf, IsReadyAfter, KnowsFrom}
 pub use Rattle.apex_orders.specs.LastUses.{IsLastUseBelow, IsQuiet, IsQuietFrom, AreLastUses, AreOfScripts}
 pub use Rattle.apex_orders.specs.Lists.{Has}
 pub use Rattle.apex_orders.specs.Orders.{Scripts, script_of, IsWay, next_entries, calls_of, replies_of, IsBeginning, IsOrder, continued, history_of, AreShort, times, entries_for, order_at, order_of}
 pub use Rattle.apex_orders.specs.Outcomes.{CanOccurWith, AreRepliesWith, AreEndsWith, EndsAtOne, HasMorePointsWith, IsUndecidedWith, CanBeAnsweredWith, IsAnsweredByWith, IsGivenByWith, IsAnswerTo, AreAnswersTo}
 pub use Rattle.apex_orders.specs.Points.{IsSamePoint, IsSameCalls, HasSameCounts, calls_made, made_below}
-pub use Rattle.apex_orders.specs.Searching.{AreAllAnswered, AreAnswersBy, AreDue, IsEnoughWith, IsSearched, IsGivenByAnOrder, IsOpen, HasMadeAll, AreEndsOf, HasMoreOrders, HaveOrders, IsGivenUp, Keeps, Knows, Includes, AreOrders, AreApart, AreClocked, IsUnansweredAt, IsTried, HasTried, IsFound, AreFound, HasEnded, IsAnsweredAfter, IsGivenAfter, IsSearchedInVain, HasTriedEnough, HasTriedFrom, HasLevel, IsLater, IsSearch, answer_by}
+pub use Rattle.apex_orders.specs.Searching.{AreAllAnswered, AreAnswersBy, AreDue, IsEnoughWith, IsSearched, IsGivenByAnOrder, IsOpen, HasMadeAll, NamesAll, AreEndsOf, HasMoreOrders, HaveOrders, IsGivenUp, Keeps, Knows, Includes, AreOrders, AreApart, AreClocked, IsUnansweredAt, IsTried, HasTried, IsFound, AreFound, HasEnded, IsAnsweredAfter, IsGivenAfter, IsSearchedInVain, HasTriedEnough, HasTriedFrom, HasLevel, IsLater, IsSearch, answer_by}
 pub use Rattle.apex_orders.specs.States.{IsSameChannel, IsSameState, IsSamePorts, last_shown, IsSamePartition}
 pub use Rattle.apex_orders.specs.Steps.{Makes, MakesNothing, possible}
-pub use Rattle.apex_orders.specs.Workers.{AreAllApart, HasNothingLeft, AreContinued, AreHashed, AreGiven, HasContinued, HasMade, HasPoint, HasTriedCall, IsAnswered, IsContinued, IsFoundBy, IsLaterWorker, IsRange, IsReady, IsShared, IsWorker, IsUnderWay, IsWorkerOf, AreWorkers, KnowsPoint, order_given, order_found, orders_known, AreUnderTrial, CanAllTry, CanRun, HasRun, HasRunOn, HasPointAt, IsPointOf, IsUnderTrial, HasTriedAll, HasLeft, HaveTriedAll, reach, HavePoints, HasGivenAll, HasLooked, IsLevelUnderTrial}
+pub use Rattle.apex_orders.specs.Workers.{AreAllApart, HasNothingLeft, AreContinued, AreHashed, AreGiven, HasContinued, HasMade, HasPoint, HasTriedCall, IsAnswered, IsContinued, IsFoundBy, IsLaterWorker, IsRange, IsReady, IsShared, IsWorker, IsUnderWay, IsWorkerOf, AreWorkers, KnowsPoint, order_given, order_found, orders_known, AreUnderTrial, CanAllTry, CanRun, HasRun, HasRunOn, IsUnderTrial, HasTriedAll, HasLeft, HaveInOrder, HaveTriedAll, reach, HasGivenAll, HasLooked, IsLevelUnderTrial}
 pub use Rattle.apex_orders.specs.declared.asked.Asked.{Asked}
 pub use Rattle.apex_orders.specs.declared.last_uses.LastUse.{LastUse}
 pub use Rattle.apex_orders.specs.declared.last_uses.LastUses.{LastUses}

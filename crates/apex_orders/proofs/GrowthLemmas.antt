@@ -80,7 +80,3 @@ order_kept old new k keeps within = get_or_from_slice_get new k (order_at old k)
 
 pub still_within : (old new : List (List ℕ)) (k : ℕ) → Keeps old new → k < length old → k < length new
 still_within old new k keeps within = slice_get_within new k (order_at old k) (keeps k (order_at old k) (order_here old k within))
-
-pub still_many : (old new : List (List ℕ)) (n : ℕ) → Keeps old new → n ≤ length old → n ≤ length new
-still_many old new zero keeps within = omega arith
-still_many old new (suc n) keeps within = let below = still_within old new n keeps (omega (arith, within)) in omega (arith, below)

@@ -15,6 +15,7 @@ pub mod GoingOn
 pub mod GrowthLemmas
 pub mod HashLemmas
 pub mod Having
+pub mod InOrder
 pub mod KnownLemmas
 pub mod Leaving
 pub mod Levels

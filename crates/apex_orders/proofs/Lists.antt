@@ -1,7 +1,15 @@
 -- Indexes of lists.
-use Rattle.std.specs.Prelude.{slice_set}
+use Rattle.std.specs.Prelude.{set, slice_set}
 use Rattle.std.proofs.lemmas.List.{get_or_append_left, get_or-append_right}
 use Rattle.apex_orders.proofs.Common.{◌≡◌, ◌⊎◌, inl, inr, ⊎_elim, ℕ, zero, suc, ◌+◌, ◌-◌, ◌<◌, ◌≤◌, List, [], ◌∷◌, ◌++◌, length, take, drop, Some, None, refl, sym, subst, ap, ◌∙◌, arith, slice_get, get_or, get_or-set_same, length-append, cases_lt, Has}
+
+-- the items other than the one that was set
+pub set_elsewhere : {X : Type 0} (xs : List X) (i : ℕ) (y : X) (k : ℕ) → (k ≡ i → ⊥) → slice_get (set xs i y) k ≡ slice_get xs k
+set_elsewhere [] i y k other = refl
+set_elsewhere (z ∷ xs) zero y zero other = absurd (other refl)
+set_elsewhere (z ∷ xs) zero y (suc k) other = refl
+set_elsewhere (z ∷ xs) (suc i) y zero other = refl
+set_elsewhere (z ∷ xs) (suc i) y (suc k) other = set_elsewhere xs i y k (λ same. other (ap suc same))
 
 pub at_seam : {X : Type 0} (xs : List X) (x : X) (ys : List X) → slice_get (xs ++ x ∷ ys) (length xs) ≡ Some x
 at_seam [] x ys = refl
@@ -77,17 +85,6 @@ of_inserted (z ∷ xs) (suc n) y (suc k) x at =
     (λ (has : Has xs x). inl (suc has.0, has.1))
     (λ (is : y ≡ x). inr is)
     (of_inserted xs n y k x at)
-
-pub inserted : {X : Type 0} (xs : List X) (n : ℕ) (y : X) → Has (take n xs ++ y ∷ drop n xs) y
-inserted xs zero y = (0, refl)
-inserted [] (suc n) y = (0, refl)
-inserted (z ∷ xs) (suc n) y = let rest = inserted xs n y in (suc rest.0, rest.1)
-
-pub kept_by_insert : {X : Type 0} (xs : List X) (n : ℕ) (y : X) (k : ℕ) (x : X) → slice_get xs k ≡ Some x → Has (take n xs ++ y ∷ drop n xs) x
-kept_by_insert xs zero y k x at = (suc k, at)
-kept_by_insert [] (suc n) y k x at = absurd (cc)
-kept_by_insert (z ∷ xs) (suc n) y zero x at = (0, at)
-kept_by_insert (z ∷ xs) (suc n) y (suc k) x at = let rest = kept_by_insert xs n y k x at in (suc rest.0, rest.1)
 
 -- items of the same number take the place of all
 pub all_replaced : {X : Type 0} (xs ys : List X) (n : ℕ) → length ys ≡ length xs → n ≡ length xs → take n (ys ++ drop (length ys) xs) ≡ ys

@@ -2,8 +2,9 @@
 use Rattle.apex_orders.proofs.Common.{◌≡◌, ℕ, Bool, List, [], ◌∷◌, ◌++◌, Option, Some, None, IfSome, refl, sym, ap, ◌∙◌, subst, slice_get, slice_get_within, Configuration, IsConfiguration, History, entry_of, Asked, PossibleReply, IsClocked, Scripts, IsOrder, IsBeginning, next_entries, history_of, CanBeAnsweredWith, IsAnsweredByWith, IsGivenByWith, IsAnswerTo, HasEnded, IsAnsweredAfter, IsGivenAfter, IsGivenUp, IsSearchedInVain, answer_by}
 use Rattle.apex_orders.proofs.ClockLemmas.{clocked_next}
 use Rattle.apex_orders.specs.declared.orders_fault.OrdersFault.{OrdersFault}
+use Rattle.apex_orders.specs.declared.orders_fault.OrdersFault.TheVariants.{OutOfMemory}
 use Rattle.apex_orders.specs.declared.rounds.Found.{Found}
-use Rattle.apex_orders.proofs.EndLemmas.{undecided_of}
+use Rattle.apex_orders.proofs.EndLemmas.{not_of_memory, undecided_of}
 use Rattle.apex_orders.proofs.Walks.{good_next, is_beginning}
 use Rattle.apex_orders.proofs.Completing.{IsAnswered, given_of_occurs, good_history, made_is_answered}
 use Rattle.apex_orders.proofs.SearchLemmas.{behind, longer_is_order}
@@ -56,10 +57,15 @@ module _ (clock : Bool) (config : Configuration) (scripts : Scripts) where
   answer_from : IsConfiguration config → (can_stop : Type 0) (bound : ℕ) (asked : Asked) (given_up : Option OrdersFault) (order : Option (List ℕ)) → IfSome given_up (IsGivenUp clock can_stop config scripts bound)
       → ((one : List ℕ) → order ≡ Some one → IsAnsweredByWith clock config scripts asked one) → (given_up ≡ None → order ≡ None → CanBeAnsweredWith clock config scripts asked → ⊥)
       → IsAnswerTo clock can_stop config scripts bound asked (answer_by given_up order)
-  answer_from valid can_stop bound asked given_up (Some one) why answers never = record { found = answers one refl; never = tt; undecided = tt }
-  answer_from valid can_stop bound asked None None why answers never = record { found = tt; never = never refl refl; undecided = tt }
+  answer_from valid can_stop bound asked given_up (Some one) why answers never = record { found = answers one refl; never = tt; undecided = tt; memory = λ is. absurd (cc) }
+  answer_from valid can_stop bound asked None None why answers never = record { found = tt; never = never refl refl; undecided = tt; memory = λ is. absurd (cc) }
   answer_from valid can_stop bound asked (Some fault) None why answers never =
-      record { found = tt; never = tt; undecided = undecided_of (Option (List ℕ)) clock can_stop config scripts valid bound fault why }
+      record {
+        found = tt;
+        never = tt;
+        undecided = undecided_of (Option (List ℕ)) clock can_stop config scripts valid bound fault why;
+        memory = λ is. not_of_memory clock can_stop config scripts bound fault why (let same : fault ≡ OutOfMemory = cc in same);
+      }
 
   -- what a search ended with answers each question
   pub is_answer : IsConfiguration config → (can_stop : Type 0) (bound : ℕ) (asked : List Asked) (found : Found) → HasEnded clock config scripts asked found

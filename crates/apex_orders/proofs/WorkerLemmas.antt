@@ -158,9 +158,6 @@ module _ (config : Configuration) (scripts : Scripts) where
 pub keeps_same : (old new : List (List ℕ)) → new ≡ old → Keeps old new
 keeps_same old new same = subst (λ (orders : List (List ℕ)). Keeps old orders) (sym same) (λ k x at. at)
 
-pub includes_same : (old new : List PossibleReply) → new ≡ old → Includes old new
-includes_same old new same = subst (λ (replies : List PossibleReply). Includes old replies) (sym same) (λ x has. has)
-
 -- what more replies include, they include with others in front
 pub includes_behind : (known old new : List PossibleReply) → Includes old new → Includes (known ++ old) (known ++ new)
 includes_behind known old new includes one has =
@@ -206,10 +203,6 @@ reach_within worker left =
 pub on_ok : {X E : Type 0} (r : Result X E) (P Q : Type 0) → (P → Q) → OnOk r P → OnOk r Q
 on_ok (Ok x) P Q f is = f is
 on_ok (Err e) P Q f is = tt
-
-pub ok_then : {X E P : Type 0} (r : Result X E) (Q : Type 0) → OnOk r P → (P → Q) → OnOk r Q
-ok_then (Ok x) Q is f = f is
-ok_then (Err e) Q is f = tt
 
 pub all_on_ok : {X E : Type 0} (r : Result X E) (P Q R S T U V : Type 0) → (P → Q → R → S → T → U → V)
     → OnOk r P → OnOk r Q → OnOk r R → OnOk r S → OnOk r T → OnOk r U → OnOk r V

@@ -1,9 +1,8 @@
 -- Hashes of points, made only of counts.
-use Rattle.std.specs.Prelude.{ℕ, ◌≡◌, zero, suc, ◌+◌, ◌*◌, ◌%◌, ◌^◌, List, length, slice_get, slice_index_or, Option, Some, None}
+use Rattle.std.specs.Prelude.{ℕ, zero, suc, ◌+◌, ◌*◌, ◌%◌, ◌^◌, List, length, slice_get, slice_index_or, Option, Some, None}
 use Rattle.apex_orders.specs.Prelude.{Configuration, ports_of, accepted_on, received_on, waiting_on, count_of, History, entries_of}
 use Rattle.apex_types.specs.Validity.{number_of}
 use Rattle.apex_orders.specs.States.{last_shown}
-use Rattle.apex_orders.specs.Orders.{Scripts, history_of}
 
 -- the hash extended by one number
 abbrev pub mix : ℕ → ℕ → ℕ
@@ -72,9 +71,3 @@ channels_below config hash (suc c) history =
 -- the hash of the point that a history leads to
 abbrev pub hash_of : Configuration → History → ℕ
 hash_of config history = channels_below config (shown_hash config history) (length config.channels) history
-
--- each order from the index on has the hash of its point
-pub record AreHashes (config : Configuration) (scripts : Scripts) (orders : List (List ℕ)) (from : ℕ) (hashes : List ℕ) : Type 0 where
-  pub count : from + length hashes ≡ length orders
-  pub each : (k : ℕ) (order : List ℕ) → slice_get orders (from + k) ≡ Some order
-      → slice_get hashes k ≡ Some (hash_of config (history_of config scripts order))

@@ -7,7 +7,7 @@ use Rattle.apex_orders.specs.declared.asked.Admitted.{Admitted}
 use Rattle.apex_orders.specs.declared.asked.Admitted.TheVariants as admitted
 use Rattle.apex_orders.specs.declared.asked.Asked.{Asked}
 use Rattle.apex_orders.specs.declared.orders_fault.OrdersFault.{OrdersFault}
-use Rattle.apex_orders.specs.declared.orders_fault.OrdersFault.TheVariants.{TooManyStates, Stopped}
+use Rattle.apex_orders.specs.declared.orders_fault.OrdersFault.TheVariants.{OutOfMemory, TooManyStates, Stopped}
 use Rattle.apex_orders.specs.declared.replies.PossibleReply.{PossibleReply}
 use Rattle.apex_orders.specs.Clock.{IsClocked}
 use Rattle.apex_orders.specs.Orders.{Scripts, IsBeginning, IsWay, IsOrder, history_of, replies_of}
@@ -124,11 +124,12 @@ IsUndecided can_stop config scripts bound result = IsUndecidedWith false can_sto
 
 -- ---- answers
 
--- what an answer says: an order answers the question, or none does, or it is undecided
+-- what an answer says: an order answers the question, or none does, or it is undecided, for another reason than memory
 pub record IsAnswerTo (clock : Bool) (can_stop : Type 0) (config : Configuration) (scripts : Scripts) (bound : ℕ) (asked : Asked) (answer : Result (Option (List ℕ)) OrdersFault) : Type 0 where
   pub found : IfOk answer (λ given. IfSome given (λ order. IsAnsweredByWith clock config scripts asked order))
   pub never : IfOk answer (λ given. IfNone given (¬ CanBeAnsweredWith clock config scripts asked))
   pub undecided : IsUndecidedWith clock can_stop config scripts bound answer
+  pub memory : ¬ (answer ≡ Err OutOfMemory)
 
 -- each question has its answer, at its index
 pub record AreAnswersTo (clock : Bool) (can_stop : Type 0) (config : Configuration) (scripts : Scripts) (bound : ℕ) (asked : List Asked) (answers : List (Result (Option (List ℕ)) OrdersFault)) : Type 0 where

@@ -1,6 +1,7 @@
 -- What a search has found.
-use Rattle.std.specs.Prelude.{ℕ, Bool, true, false, ◌≡◌, ◌<◌, ◌≤◌, List, ◌∷◌, [], ◌++◌, length, slice_get, Option, Some, None, Result, Ok, Err}
-use Rattle.apex_orders.specs.Prelude.{Configuration, count_of, History, entries_of}
+use Rattle.std.specs.Prelude.{ℕ, Bool, true, false, ◌≡◌, ◌↔◌, ◌<◌, ◌≤◌, List, ◌∷◌, [], ◌++◌, length, slice_get, Option, Some, None, Result, Ok, Err}
+use Rattle.apex_orders.specs.Prelude.{Configuration, History}
+use Rattle.apex_orders.specs.declared.answer.NextReply.{NextReply}
 use Rattle.apex_orders.specs.declared.asked.Asked.{Asked}
 use Rattle.apex_orders.specs.declared.replies.PossibleReply.{PossibleReply}
 use Rattle.apex_orders.specs.declared.orders_fault.OrdersFault.{OrdersFault}
@@ -9,9 +10,10 @@ use Rattle.apex_orders.specs.declared.rounds.Found.{Found}
 use Rattle.apex_orders.specs.declared.search.Search.{Search}
 use Rattle.apex_orders.specs.Clock.{IsClocked, IsNextDue}
 use Rattle.apex_orders.specs.Enough.{IsEnough, HasNext}
+use Rattle.apex_orders.specs.Hashes.{mix}
 use Rattle.apex_orders.specs.Known.{AreLevels, ArePoints}
 use Rattle.apex_orders.specs.LastUses.{AreOfScripts}
-use Rattle.apex_orders.specs.Orders.{Scripts, script_of, AreShort, IsOrder, history_of}
+use Rattle.apex_orders.specs.Orders.{Scripts, script_of, calls_of, times, AreShort, IsOrder, history_of}
 use Rattle.apex_orders.specs.Outcomes.{Answers, IsAnsweredByWith}
 use Rattle.apex_orders.specs.Points.{IsSamePoint}
 use Rattle.apex_orders.specs.Lists.{Has}
@@ -131,11 +133,27 @@ pub record IsSearched (clock : Bool) (config : Configuration) (scripts : Scripts
   pub found : AreFound clock config scripts replies
   pub tried : (k : ℕ) → k < length orders → HasTried clock config scripts orders replies k
 
+-- the hash of the call that the question is about
+abbrev pub asked_hash : Asked → ℕ
+asked_hash asked = mix asked.partition asked.index
+
 -- after the order, the asked call is its partition's next one and gets an admitted reply
 pub record IsAnsweredAfter (clock : Bool) (config : Configuration) (scripts : Scripts) (asked : Asked) (order : List ℕ) : Type 0 where
   pub one : PossibleReply
   pub answers : Answers asked one
   pub given : IsGivenAfter clock config scripts order one
+
+-- this is the reply that its partition's next call gets after the order; none if there is no such call, or it isn't due
+abbrev pub IsNextReply : Bool → Configuration → Scripts → List ℕ → NextReply → Type 0
+IsNextReply clock config scripts order next =
+    (one : PossibleReply) → (next.reply ≡ Some one) ↔ ((one.partition ≡ next.partition) × IsGivenAfter clock config scripts order one)
+
+-- the reply that this partition's next call gets is looked up
+pub record HasNextReply (clock : Bool) (config : Configuration) (scripts : Scripts) (order : List ℕ) (p : ℕ) (known : Option NextReply) : Type 0 where
+  pub next : NextReply
+  pub here : known ≡ Some next
+  pub partition : next.partition ≡ p
+  pub reply : IsNextReply clock config scripts order next
 
 -- the asked call isn't answered so after the order at the index
 abbrev pub IsUnansweredAt : Bool → Configuration → Scripts → Asked → List (List ℕ) → ℕ → Type 0
@@ -150,6 +168,11 @@ pub record HaveOrders (clock : Bool) (config : Configuration) (scripts : Scripts
 abbrev pub IsOpen : Bool → Configuration → Scripts → List Asked → List (List ℕ) → ℕ → List (Option (List ℕ)) → ℕ → Type 0
 IsOpen clock config scripts asked orders n answers q =
     (one : Asked) → slice_get asked q ≡ Some one → slice_get answers q ≡ Some None → (k : ℕ) → k < n → IsUnansweredAt clock config scripts one orders k
+
+-- this holds for each question about the partition's calls
+abbrev pub AreOpenOf : Bool → Configuration → Scripts → List Asked → List (List ℕ) → ℕ → List (Option (List ℕ)) → ℕ → Type 0
+AreOpenOf clock config scripts asked orders n answers p =
+    (q : ℕ) (one : Asked) → slice_get asked q ≡ Some one → one.partition ≡ p → IsOpen clock config scripts asked orders n answers q
 
 -- the answers that the first orders give
 pub record AreAnswersBy (clock : Bool) (config : Configuration) (scripts : Scripts) (asked : List Asked) (orders : List (List ℕ)) (n : ℕ) (answers : List (Option (List ℕ))) : Type 0 where
@@ -182,7 +205,11 @@ answer_by (Some fault) None = Err fault
 -- each partition has made all calls of its script
 abbrev pub HasMadeAll : Configuration → Scripts → History → Type 0
 HasMadeAll config scripts history =
-    (p : ℕ) → p < length config.partitions → length (script_of scripts p) ≤ count_of (entries_of p history)
+    (p : ℕ) → p < length config.partitions → length (script_of scripts p) ≤ length (calls_of p history)
+
+-- the order has as many calls of each partition as its script has, or more
+abbrev pub NamesAll : Scripts → List ℕ → Type 0
+NamesAll scripts order = (p : ℕ) → p < length scripts → length (script_of scripts p) ≤ times p order
 
 -- the ends are those of the orders that make all calls
 pub record AreEndsOf (config : Configuration) (scripts : Scripts) (orders ends : List (List ℕ)) : Type 0 where
@@ -201,4 +228,4 @@ pub record HasMoreOrders (clock : Bool) (config : Configuration) (scripts : Scri
 abbrev pub IsGivenUp : Bool → Type 0 → Configuration → Scripts → ℕ → OrdersFault → Type 0
 IsGivenUp clock can_stop config scripts bound TooManyStates = HasMoreOrders clock config scripts bound
 IsGivenUp clock can_stop config scripts bound Stopped = can_stop
-IsGivenUp clock can_stop config scripts bound OutOfMemory = Unit {0}
+IsGivenUp clock can_stop config scripts bound OutOfMemory = ⊥

@@ -131,21 +131,10 @@ pub record AreWorkers (config : Configuration) (workers : Workers) : Type 0 wher
   pub count : length workers.marks.items ≡ length workers.all.items
   pub marks : CanAllMark config workers.marks.items
 
--- the index is that of the order to one of the worker's points
-pub record IsPointOf (worker : Worker) (i : ℕ) : Type 0 where
-  pub past : worker.first ≤ i
-  pub within : i < worker.first + reach worker
-
--- it is that of one of some workers
-pub record HasPointAt (workers : List Worker) (i : ℕ) : Type 0 where
-  pub index : ℕ
-  pub worker : Worker
-  pub here : slice_get workers index ≡ Some worker
-  pub is : IsPointOf worker i
-
--- each of these indices is that of one of some workers' points
-abbrev pub HavePoints : List Worker → ℕ → ℕ → Type 0
-HavePoints workers from to = (i : ℕ) → from ≤ i → i < to → HasPointAt workers i
+-- one worker after the other, their points are those of the orders from one index up to another
+abbrev pub HaveInOrder : ℕ → ℕ → List Worker → Type 0
+HaveInOrder from to [] = from ≡ to
+HaveInOrder from to (worker ∷ workers) = (worker.first ≡ from) × HaveInOrder (worker.first + reach worker) to workers
 
 -- all points of the level are given out, and nothing else is different
 pub record HasGivenAll (old new : Search) : Type 0 where
@@ -176,7 +165,7 @@ HaveTriedAll workers = (k : ℕ) (worker : Worker) → slice_get workers k ≡ S
 pub record IsLevelUnderTrial (clock : Bool) (config : Configuration) (scripts : Scripts) (rounds : Rounds) : Type 0 where
   pub whole : rounds.current.points.first ≡ rounds.current.points.next
   pub each : AreUnderTrial clock config scripts rounds.current rounds.workers.all.items
-  pub points : HavePoints rounds.workers.all.items rounds.first rounds.current.points.first
+  pub points : HaveInOrder rounds.first rounds.current.points.first rounds.workers.all.items
 
 -- all points of the levels before are tried, the workers try those that are given out, and all of these give the answers
 pub record IsUnderWay (clock : Bool) (config : Configuration) (scripts : Scripts) (asked : List Asked) (rounds : Rounds) : Type 0 where

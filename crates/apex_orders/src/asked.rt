@@ -1,9 +1,13 @@
 //! A question about a call of a script.
-ghost use Rattle.std.specs.Prelude.{◌≡◌, ◌↔◌, IsTrue};
+ghost use Rattle.std.specs.Prelude.{◌≡◌, ◌↔◌, map, IfOk, IsTrue};
 ghost use Rattle.apex_orders.specs.Outcomes.{Admits, Answers, admitted_by, others_of};
+ghost use Rattle.apex_orders.specs.Searching.{asked_hash};
 
+use crate::hash::mix;
+use crate::hash_index::HashIndex;
 use crate::replies::{PossibleReply, is_same_reply};
-use apex_types::{Reply, ReturnCode};
+use apex_types::{OutOfMemory, Reply, ReturnCode};
+use std::alloc::Global;
 
 /// The replies that a question admits.
 #[derive(Debug, Drop, PartialEq, Eq)]
@@ -86,4 +90,15 @@ impl Asked {
             && one.partition == self.partition
             && self.admitted.admits(&one.reply)
     }
+}
+
+/// The hashes of the calls that the questions are about, to look up the questions by their calls.
+pub(crate) fn asked_hashes(alloc: Global, asked: &[Asked]) -> Result<HashIndex, OutOfMemory>
+    ensures { IfOk result (λ hashes. hashes ≡ map asked_hash asked.now) }
+{
+    let mut hashes = HashIndex::new(alloc)?;
+    for one in asked {
+        hashes.push(alloc, mix(one.partition as u64, one.index as u64))?;
+    }
+    Ok(hashes)
 }

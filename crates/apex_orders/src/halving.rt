@@ -1,8 +1,8 @@
 //! Half of what the slowest worker has yet to try goes to a worker that has nothing.
-ghost use Rattle.std.specs.Prelude.{◌≡◌, ◌⊎◌, ℕ, length, OnOk};
+ghost use Rattle.std.specs.Prelude.{◌≡◌, ◌+◌, ℕ, length, OnOk};
 ghost use Rattle.apex_orders.specs.Known.{IsTrialOf};
 ghost use Rattle.apex_orders.specs.Searching.{IsSearch};
-ghost use Rattle.apex_orders.specs.Workers.{AreUnderTrial, HasPointAt, IsPointOf, IsUnderTrial};
+ghost use Rattle.apex_orders.specs.Workers.{AreUnderTrial, HaveInOrder, IsRange, IsUnderTrial, reach};
 
 use crate::search::Search;
 use crate::shares::POINTS_SHARED;
@@ -39,8 +39,8 @@ pub(crate) fn halve_at(
     requires given { AreUnderTrial clock config.now scripts.now current.now workers.old.items }
     ensures given { OnOk result
         (AreUnderTrial clock config.now scripts.now current.now workers.new.items) }
-    ensures points { OnOk result ((i : ℕ) → HasPointAt workers.old.items i
-        → HasPointAt workers.new.items i) }
+    ensures points { OnOk result ((from to : ℕ) → HaveInOrder from to workers.old.items
+        → HaveInOrder from to workers.new.items) }
     ensures count { OnOk result (length workers.new.items ≡ length workers.old.items) }
 {
     let Some(mut other) = workers.pop() else {
@@ -72,8 +72,9 @@ fn halve(
         (IsUnderTrial clock config.now scripts.now current.now worker.new) }
     ensures second { OnOk result
         (IsUnderTrial clock config.now scripts.now current.now other.new) }
-    ensures points { OnOk result ((i : ℕ) → IsPointOf worker.old i
-        → IsPointOf worker.new i ⊎ IsPointOf other.new i) }
+    ensures kept { OnOk result (IsRange worker.old.first other.new.first worker.new) }
+    ensures rest { OnOk result
+        (IsRange other.new.first (worker.old.first + reach worker.old) other.new) }
 {
     let kept = worker.points.len() / 2;
     let rest = worker.points.split_off(kept)?;

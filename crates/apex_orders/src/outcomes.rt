@@ -1,18 +1,18 @@
 //! All that can happen to scripts.
-ghost use Rattle.std.specs.Prelude.{◌≡◌, ◌<◌, ◌+◌, length, take, min, IfOk, OnOk, IsTrue, ◌↔◌};
+ghost use Rattle.std.specs.Prelude.{◌≡◌, ◌↔◌, length, min, IfOk, IsTrue};
 ghost use Rattle.std.specs.List.{sum_by};
+ghost use Rattle.apex_orders.specs.Orders.{times};
 ghost use Rattle.apex_orders.specs.Outcomes.{AreReplies, AreEnds, IsUndecided};
-ghost use Rattle.apex_orders.specs.Searching.{AreEndsOf, HasMadeAll};
+ghost use Rattle.apex_orders.specs.Searching.{AreEndsOf, NamesAll};
 
-use crate::order::Order;
+use crate::order::{Order, PackedOrder};
 use crate::orders::Orders;
 use crate::orders_fault::OrdersFault;
 use crate::outcome_search::{OutcomeSearch, Searched};
 use crate::progress::NoProgress;
-use crate::replay::Replayer;
 use crate::replies::PossibleReply;
 use apex_module::Config;
-use apex_ports::{Ports, Script};
+use apex_ports::Script;
 use apex_types::OutOfMemory;
 use std::alloc::Global;
 use std::thread::Threads;
@@ -63,7 +63,7 @@ pub fn all_outcomes<R: Threads + Sync>(
     }
 }
 
-/// The orders that make all calls. Only an order that is as long as all scripts together is run.
+/// The orders that make all calls. Only an order that is as long as all scripts together can be one.
 pub(crate) fn ends_of(
     alloc: Global,
     config: &Config,
@@ -77,10 +77,12 @@ pub(crate) fn ends_of(
     let lengths = orders.lengths(alloc)?;
     let total = calls_in(scripts);
     let mut ends = Vec::new(alloc);
-    let mut replayer = Replayer::new(alloc, config)?;
     for k in 0..orders.len() {
         if lengths[k] >= total {
-            add_end(alloc, scripts, orders, k, &mut replayer, &mut ends)?;
+            let order = orders.order(alloc, k)?;
+            if names_all(&order, scripts) {
+                ends.push(order.unpacked(alloc)?)?;
+            }
         }
     }
     Ok(ends)
@@ -97,41 +99,22 @@ fn calls_in(scripts: &[Script]) -> usize
     calls
 }
 
-/// Adds the order at the index to the ends among those before it, if it makes all calls.
-fn add_end(
-    alloc: Global,
-    scripts: &[Script],
-    orders: &Orders,
-    k: usize,
-    replayer: &mut Replayer,
-    ends: &mut Vec<Order>,
-) -> Result<(), OutOfMemory>
-    requires scripts { length scripts.now ≡ length replayer.old.config.partitions }
-    requires index { k < length orders.now }
-    requires ends { AreEndsOf replayer.old.config scripts.now
-        (take k orders.now) ends.old.items }
-    ensures ends { OnOk result (AreEndsOf replayer.old.config scripts.now
-        (take (k + 1) orders.now) ends.new.items) }
-    ensures config { OnOk result (replayer.new.config ≡ replayer.old.config) }
-{
-    let order = orders.order(alloc, k)?.unpacked(alloc)?;
-    replayer.run(scripts, &order);
-    if !has_made_all(replayer.ports(), scripts) {
-        return Ok(());
-    }
-    ends.push(order)?;
-    Ok(())
-}
-
-/// Whether each partition has made all calls of its script.
-fn has_made_all(ports: &Ports, scripts: &[Script]) -> bool
-    requires { length scripts.now ≡ length ports.now.config.partitions }
-    ensures { IsTrue result ↔ HasMadeAll ports.now.config scripts.now ports.now.history }
+/// Whether the order has as many calls of each partition as its script has, or more.
+fn names_all(order: &PackedOrder, scripts: &[Script]) -> bool
+    ensures { IsTrue result ↔ NamesAll scripts.now order.now }
 {
     for (p, script) in scripts.iter().enumerate() {
-        if (ports.calls(p) as usize) < script.calls.len() {
+        if calls_by(order, p) < script.calls.len() {
             return false;
         }
     }
     true
+}
+
+/// How many of the order's calls are the partition's.
+fn calls_by(order: &PackedOrder, p: usize) -> usize
+    ensures { result ≡ times p order.now }
+{
+    let partitions = order.partitions();
+    partitions.iter().filter(|q| **q as usize == p).count()
 }

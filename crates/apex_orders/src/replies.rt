@@ -25,7 +25,8 @@ pub struct PossibleReply {
 }
 
 impl PossibleReply {
-    fn copy(&self) -> PossibleReply
+    /// The same reply to the same call.
+    pub fn copy(&self) -> PossibleReply
         ensures { result ≡ self.now }
     {
         PossibleReply {

@@ -1,7 +1,7 @@
 //! What workers try beside each other.
 ghost use Rattle.std.specs.Prelude.{◌≡◌, ◌<◌, ◌≤◌, ℕ, length, slice_get, slice_index_or, Some, OnOk, IsTrue, is_err, false};
 ghost use Rattle.apex_orders.specs.Searching.{IsSearch};
-ghost use Rattle.apex_orders.specs.Workers.{AreUnderTrial, CanAllTry, CanRun, HasPointAt, HasRun, HaveTriedAll, IsShared};
+ghost use Rattle.apex_orders.specs.Workers.{AreUnderTrial, CanAllTry, CanRun, HasRun, HaveInOrder, HaveTriedAll, IsShared};
 ghost use Rattle.apex_orders.specs.declared.worker.Worker.{Worker};
 
 use crate::search::Search;
@@ -37,8 +37,8 @@ pub(crate) fn try_all<R: Threads + Sync>(
         current.now workers.new) }
     ensures workers { OnOk result (CanAllTry config.now workers.new) }
     ensures count { length workers.new ≡ length workers.old }
-    ensures points { OnOk result ((i : ℕ) → HasPointAt workers.old i
-        → HasPointAt workers.new i) }
+    ensures points { OnOk result ((from to : ℕ) → HaveInOrder from to workers.old
+        → HaveInOrder from to workers.new) }
     ensures all { OnOk result (stops ≡ false → parts ≤ 1 → HaveTriedAll workers.new) }
 {
     let shared = Shared {

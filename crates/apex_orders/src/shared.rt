@@ -29,7 +29,7 @@ pub(crate) struct Shared<'a> {
 }
 
 impl Shared<'_> {
-    /// Whether a worker is to end that has so many points left.
+    /// Whether a worker that has so many points left is to end.
     pub(crate) fn is_over(&self, left: usize) -> bool
         ensures { self.now.stops ≡ false → result ≡ false }
     {

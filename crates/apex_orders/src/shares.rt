@@ -15,8 +15,8 @@ pub(crate) const POINTS_SHARED: usize = 256;
 /// The slowest worker gives away its weight divided by this.
 const WEIGHT_STEPS: usize = 64;
 
-/// How many of the points that are left the worker at the index, of so many workers, is given: all of them if it is the
-/// last one.
+/// How many of the points that are left are given to the worker at the index, of so many workers. The last one is given all
+/// of them.
 pub(crate) fn share_of(left: usize, weights: &[usize], k: usize, count: usize) -> usize
     requires { k < count }
     ensures within { result ≤ left }

@@ -7,8 +7,8 @@ ghost use denote.Param.Send.{IsSend, IsSync};
 
 use std::thread::{Threads, join_mut};
 
-/// Calls `f` with the index of each item and with the item: at those that are `short`, and at the first one that is not, in
-/// this thread, at each of the others in a thread of its own.
+/// Calls `f` with each item and its index: in this thread for items that are `short` and for the first that isn't, in a
+/// thread of its own for each other. Items past the end of `short` count as short.
 pub(crate) fn for_each_mut<R: Threads + Sync, T: Send, F: Fn(usize, &mut T) + Sync>(
     rt: &R,
     items: &mut [T],
@@ -109,7 +109,7 @@ fn are_short_before(short: &[bool], index: usize) -> bool {
 
 fn is_short(short: &[bool], index: usize) -> bool {
     match short.get(index) {
-        None => false,
+        None => true,
         Some(is_short) => *is_short,
     }
 }

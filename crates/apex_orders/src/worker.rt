@@ -119,7 +119,7 @@ impl Worker {
         Ok(())
     }
 
-    /// Takes over these points, of which the first one is that of the order at the index. They take about so many bytes.
+    /// Takes over these points: those of the orders from the index on. They take about so many bytes.
     pub(crate) fn start(
         &mut self,
         orders: &Orders,

@@ -1,9 +1,9 @@
 //! The workers of a search, which run in threads beside each other if there are many points.
 ghost use Rattle.std.specs.Prelude.{◌≡◌, ◌<◌, ◌≤◌, ◌+◌, ℕ, length, OnOk, false};
 ghost use Rattle.apex_orders.specs.Known.{IsSameLevel, IsTrialOf};
-ghost use Rattle.apex_orders.specs.Searching.{HasLevel, HasTried, IsLater, IsSearch};
+ghost use Rattle.apex_orders.specs.Searching.{HasLevel, HasTriedFrom, IsLater, IsSearch};
 ghost use Rattle.apex_orders.specs.Marks.{AreAllMarked};
-ghost use Rattle.apex_orders.specs.Workers.{AreUnderTrial, AreWorkers, CanAllTry, HasGivenAll, HasPointAt, HavePoints, HaveTriedAll};
+ghost use Rattle.apex_orders.specs.Workers.{AreUnderTrial, AreWorkers, CanAllTry, HasGivenAll, HaveInOrder, HaveTriedAll};
 
 use crate::halving::{halve_at, slowest_of};
 use crate::marks::{Marks, mark_all};
@@ -93,14 +93,15 @@ impl Workers {
         ensures valid { OnOk result (IsSearch clock config.now scripts.now current.new) }
         ensures given { OnOk result (AreUnderTrial clock config.now scripts.now
             current.new self.new.all.items) }
-        ensures points { OnOk result (HavePoints self.new.all.items
-            current.old.points.first current.new.points.first) }
+        ensures points { OnOk result (HaveInOrder
+            current.old.points.first current.new.points.first self.new.all.items) }
     {
         let count = current.orders.len() - current.points.first;
         let threads = self.threads.min(count / POINTS_EACH).max(1);
         self.make(alloc, config, threads, &current.orders)?;
         let workers = self.all.as_mut_slice();
-        let weights = self.weights.as_slice();
+        let all = self.weights.as_slice();
+        let weights = all.get(..threads).unwrap_or(all);
         give_all(config, scripts, clock, count, weights, workers, current)?;
         Ok(())
     }
@@ -123,8 +124,8 @@ impl Workers {
         ensures workers { OnOk result (AreWorkers config.now self.new) }
         ensures given { OnOk result (AreUnderTrial clock config.now scripts.now
             current.now self.new.all.items) }
-        ensures points { OnOk result ((i : ℕ) → HasPointAt self.old.all.items i
-            → HasPointAt self.new.all.items i) }
+        ensures points { OnOk result ((from to : ℕ) → HaveInOrder from to self.old.all.items
+            → HaveInOrder from to self.new.all.items) }
         ensures all { OnOk result (parts ≤ 1 → HaveTriedAll self.new.all.items) }
     {
         self.try_until_one_ends(rt, alloc, config, scripts, clock, parts, current)?;
@@ -156,10 +157,10 @@ impl Workers {
         ensures workers { OnOk result (AreWorkers config.now self.new) }
         ensures given { OnOk result (AreUnderTrial clock config.now scripts.now
             current.now self.new.all.items) }
-        ensures points { OnOk result ((i : ℕ) → HasPointAt self.old.all.items i
-            → HasPointAt self.new.all.items i) }
+        ensures points { OnOk result ((from to : ℕ) → HaveInOrder from to self.old.all.items
+            → HaveInOrder from to self.new.all.items) }
     {
-        let workers = self.all.len();
+        let workers = self.at_once();
         if parts > 1 || workers <= 1 || self.left() / workers < POINTS_EACH {
             return Ok(());
         }
@@ -193,14 +194,15 @@ impl Workers {
         ensures workers { OnOk result (AreWorkers config.now self.new) }
         ensures given { OnOk result (AreUnderTrial clock config.now scripts.now
             current.now self.new.all.items) }
-        ensures points { OnOk result ((i : ℕ) → HasPointAt self.old.all.items i
-            → HasPointAt self.new.all.items i) }
+        ensures points { OnOk result ((from to : ℕ) → HaveInOrder from to self.old.all.items
+            → HaveInOrder from to self.new.all.items) }
         ensures all { OnOk result (stops ≡ false → parts ≤ 1
             → HaveTriedAll self.new.all.items) }
     {
         let mut short = Vec::new(alloc);
+        let mut taken = 0;
         for worker in self.all.as_slice() {
-            short.push(worker.points.len() < POINTS_EACH)?;
+            short.push(is_short(worker.points.len(), self.threads, &mut taken))?;
         }
         let workers = self.all.as_mut_slice();
         let short = short.as_slice();
@@ -230,12 +232,14 @@ impl Workers {
         ensures valid { OnOk result (IsSearch clock config.now scripts.now current.new) }
         ensures later { OnOk result (IsLater current.old current.new) }
         ensures level { OnOk result (IsSameLevel current.old.points current.new.points) }
-        ensures tried { OnOk result ((i : ℕ) → HasPointAt self.old.all.items i
-            → HasTried clock config.now scripts.now current.new.orders current.new.replies i) }
+        ensures tried { OnOk result ((from to : ℕ) → HaveInOrder from to self.old.all.items
+            → HasTriedFrom clock config.now scripts.now
+            current.new.orders current.new.replies from to) }
     {
         let mut short = Vec::new(alloc);
+        let mut taken = 0;
         for worker in self.all.as_slice() {
-            short.push(worker.found.len() < POINTS_EACH)?;
+            short.push(is_short(worker.found.len(), self.threads, &mut taken))?;
         }
         let workers = self.all.as_mut_slice();
         let marks = self.marks.as_mut_slice();
@@ -261,10 +265,15 @@ impl Workers {
             .left()
             .saturating_mul(WORK_EACH)
             .saturating_add(self.bytes());
-        if self.all.len() <= 1 {
+        if self.at_once() <= 1 {
             return work / WORK_ALONE + 1;
         }
         work / WORK_TOGETHER + 1
+    }
+
+    /// How many workers may run beside each other.
+    fn at_once(&self) -> usize {
+        self.threads.min(self.all.len())
     }
 
     /// How many points all workers have found since the search last added what they found.
@@ -290,13 +299,14 @@ impl Workers {
         let mut left = saved;
         let mut all = self.all;
         let workers = all.as_mut_slice();
-        if left.is_empty() || share_out(&mut left, workers).is_ok() {
-            for_each_mut(rt, workers, &[], &|_, worker| worker.free());
+        let threads = self.threads.min(workers.len()).min(MOST_THREADS);
+        let apart = [false; MOST_THREADS];
+        if left.is_empty() || share_out(&mut left, &mut workers[..threads]).is_ok() {
+            for_each_mut(rt, workers, &apart[..threads], &|_, worker| worker.free());
         }
     }
 
-    /// Makes the workers that are missing, so that there is one for each of so many threads, and one more if there are
-    /// several.
+    /// Makes the workers that are missing: one for each of so many threads, and a spare one if there are several.
     fn make(
         &mut self,
         alloc: Global,
@@ -320,7 +330,16 @@ impl Workers {
     }
 }
 
-/// Gives each worker its share of the points.
+/// Whether so many points are not worth a thread, or as many threads as may run are taken; `taken` counts them.
+fn is_short(points: usize, threads: usize, taken: &mut usize) -> bool {
+    if points < POINTS_EACH || *taken >= threads {
+        return true;
+    }
+    *taken += 1;
+    false
+}
+
+/// Gives each worker its share of the points, and none to those past the end of `weights`.
 fn give_all(
     config: &Config,
     scripts: &[Script],
@@ -338,8 +357,8 @@ fn give_all(
     ensures valid { OnOk result (IsSearch clock config.now scripts.now current.new) }
     ensures given { OnOk result (AreUnderTrial clock config.now scripts.now
         current.new workers.new) }
-    ensures points { OnOk result (HavePoints workers.new
-        current.old.points.first current.new.points.first) }
+    ensures points { OnOk result (HaveInOrder
+        current.old.points.first current.new.points.first workers.new) }
     ensures count { length workers.new ≡ length workers.old }
 {
     let mut left = count;
@@ -371,8 +390,9 @@ fn finish_all(
     ensures valid { OnOk result (IsSearch clock config.now scripts.now current.new) }
     ensures later { OnOk result (IsLater current.old current.new) }
     ensures level { OnOk result (IsSameLevel current.old.points current.new.points) }
-    ensures tried { OnOk result ((i : ℕ) → HasPointAt workers.old i
-        → HasTried clock config.now scripts.now current.new.orders current.new.replies i) }
+    ensures tried { OnOk result ((from to : ℕ) → HaveInOrder from to workers.old
+        → HasTriedFrom clock config.now scripts.now
+        current.new.orders current.new.replies from to) }
     ensures workers { OnOk result (CanAllTry config.now workers.new) }
     ensures count { OnOk result (length workers.new ≡ length workers.old) }
 {

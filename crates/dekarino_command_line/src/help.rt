@@ -109,12 +109,13 @@ prints all replies that some order gives, and no others, after `*` if there are 
 the least and the greatest of its counts in the end. Then come the number of states tried and of ends that differ in a
 count, in a line for the partitions at the ends of each channel, and the number of calls with several replies. A search
 that meets a bound of seconds, memory or states gives up: the status is 5. The partitions at the ends of each channel are
-searched by themselves: once for all questions about their calls, and once for all questions about ends.
+searched by themselves: once for the report, and once more for the orders that --witness writes for the calls of each
+partition. Questions about the calls of one partition share such a search, and so do all about ends.
 
 With --witness FOLDER, each reply of several has a file NAME_LINE_REPLY.log in FOLDER, named behind the reply: a shortest
 order that ends with that call and that reply, as a log in which `judge` finds no departure. FOLDER is made if it isn't
-there, and a file with that name is replaced. At most 1,000 files are written, the first in the order of the report. Each
-has a search of its own.
+there, and a file with that name is replaced. At most 1,000 files are written, the first in the order of the report. If a
+search gives up, the orders that it found are still written, but no report is printed.
 
 A question NAME:LINE = REPLY is about the call on that line of the partition's script. A return code alone means
 every reply with that code. The answer is a shortest order that gives such a reply. A question CHANNEL COUNT OP NUMBER,

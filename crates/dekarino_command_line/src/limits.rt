@@ -33,9 +33,9 @@ impl SearchLimits {
 
 /// The limits that the options give, or what is wrong with one of them.
 pub(crate) fn limits_in(given: &ArgMatches<'_>) -> Result<SearchLimits, &'static str> {
-    let seconds = number_in(given, commands::SECONDS).ok_or("--seconds takes a number")?;
-    let memory = number_in(given, commands::MEMORY).ok_or("--memory takes a number")?;
-    let states = number_in(given, commands::STATES).ok_or("--states takes a number")?;
+    let seconds = number_in(given, commands::SECONDS).ok_or("--seconds takes a whole number")?;
+    let memory = number_in(given, commands::MEMORY).ok_or("--memory takes a whole number")?;
+    let states = number_in(given, commands::STATES).ok_or("--states takes a whole number")?;
     Ok(SearchLimits {
         seconds: seconds.unwrap_or(SECONDS),
         memory: memory.unwrap_or(MEMORY),

@@ -38,10 +38,13 @@ impl Display for Bound {
             Bound::Memory(memory) => {
                 write!(f, "undecided: more than {memory} MiB; --memory allows more")
             }
-            Bound::States(states) => write!(
-                f,
-                "undecided: more than {states} states; --states allows more"
-            ),
+            Bound::States(states) => {
+                let counted = Counted {
+                    count: *states,
+                    noun: "state",
+                };
+                write!(f, "undecided: more than {counted}; --states allows more")
+            }
         }
     }
 }

@@ -1,4 +1,6 @@
 //! Reading a question about the ends of all orders.
+ghost use Rattle.std.specs.Prelude.{◌<◌, length, IfSome};
+
 use crate::question_faults::QuestionFault;
 use apex_groups::{AskedEnd, Comparison, Count};
 use apex_module::Config;
@@ -9,10 +11,16 @@ pub(crate) const COUNTS: [&str; 4] = ["accepted", "received", "cleared", "waitin
 /// The question that words `CHANNEL COUNT OP NUMBER` ask.
 pub(crate) fn read_end<'a>(config: &Config, words: &'a str) -> Result<AskedEnd, QuestionFault<'a>> {
     let (counted, comparison, said) = compared(words).ok_or(QuestionFault::Form)?;
+    if has_other_sign(counted, said) {
+        return Err(QuestionFault::NoComparison);
+    }
     let (name, count) = counted.trim().split_once(' ').ok_or(QuestionFault::Form)?;
-    let Some(channel) = queuing_channel(config, name) else {
+    let Some(channel) = channel_called(config, name) else {
         return Err(QuestionFault::NoChannel { name });
     };
+    if !config.channel(channel).kind.is_queuing() {
+        return Err(QuestionFault::NoCounts { name });
+    }
     let count = count.trim();
     let Some(count) = count_called(count) else {
         return Err(QuestionFault::NoCount { said: count });
@@ -47,6 +55,11 @@ fn compared(words: &str) -> Option<(&str, Comparison, &str)> {
     Some((counted, Comparison::Equal, number))
 }
 
+/// Whether a sign of a comparison is left before or behind the one that was read, as in `!=` and `==`.
+fn has_other_sign(counted: &str, said: &str) -> bool {
+    counted.ends_with(['!', '=']) || said.starts_with(['=', '<', '>'])
+}
+
 /// The count that has the word.
 fn count_called(word: &str) -> Option<Count> {
     match word {
@@ -58,11 +71,12 @@ fn count_called(word: &str) -> Option<Count> {
     }
 }
 
-/// The number of the queuing channel with the name.
-fn queuing_channel(config: &Config, name: &str) -> Option<usize> {
+/// The number of the channel with the name.
+fn channel_called(config: &Config, name: &str) -> Option<usize>
+    ensures { IfSome result (λ c. c < length config.now.channels) }
+{
     for c in 0..config.channels() {
-        let channel = config.channel(c);
-        if channel.kind.is_queuing() && channel.name.text() == name {
+        if config.channel(c).name.text() == name {
             return Some(c);
         }
     }

@@ -50,8 +50,8 @@ pub(crate) struct Occurrences {
 }
 
 impl Occurrences {
-    /// Searches for all that the questions ask. Questions about calls on channels between the same partitions share one
-    /// search, and so do all questions about ends.
+    /// Searches for all that the questions ask. Questions about one partition's calls on channels between the same
+    /// partitions share one search, and so do all questions about ends.
     pub(crate) fn find<'a, R: Threads + Sync, P: Progress>(
         rt: &R,
         alloc: Global,

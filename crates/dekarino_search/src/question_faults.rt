@@ -38,6 +38,12 @@ pub(crate) enum QuestionFault<'a> {
     NoChannel {
         name: &'a str,
     },
+    /// The channel of the name is a sampling channel.
+    NoCounts {
+        name: &'a str,
+    },
+    /// They have another sign than those of comparisons.
+    NoComparison,
     /// This word is no count.
     NoCount {
         said: &'a str,
@@ -116,8 +122,15 @@ fn reason_of(
             write!(text, "no queuing channel is called {name}; there are")?;
             push_channels(&mut text, config)?;
         }
+        QuestionFault::NoCounts { name } => write!(
+            text,
+            "{name} is a sampling channel; only queuing channels have counts"
+        )?,
+        QuestionFault::NoComparison => text.push_str(
+            "expected one of =, <=, >=, < and > between the count and the number",
+        )?,
         QuestionFault::NoCount { said } => push_no_count(alloc, &mut text, said)?,
-        QuestionFault::NoNumber { said } => write!(text, "{said} is no number")?,
+        QuestionFault::NoNumber { said } => write!(text, "{said} is no whole number")?,
     }
     Ok(text)
 }

@@ -12,7 +12,7 @@ use crate::progress::Progress;
 use crate::scripts::{Scripts, read_scripts};
 use crate::search_progress::SearchProgress;
 use crate::unfinished::Unfinished;
-use crate::witnesses::write_witnesses;
+use crate::witnesses::{make_folder, write_witnesses};
 use apex_files::Opener;
 use apex_groups::{OutcomesApart, all_outcomes_apart};
 use apex_module::Config;
@@ -52,6 +52,7 @@ pub fn outcomes_of_scripts<'a, R: Threads + Sync, O: Opener + FileWriter, P: Pro
             rt, alloc, &config, scripts, lines, limits, questions, form, progress,
         );
     }
+    make_folder(opener, witness)?;
     let mut progress = SearchProgress::new(progress, limits);
     let states = progress.states();
     let found = match all_outcomes_apart(

@@ -33,7 +33,7 @@ pub use crate::explanation::{
 pub use crate::explanation_text::ExplanationText;
 pub use crate::judged_lines::{JudgeError, judge_lines};
 pub use crate::outcome_text::OutcomeText;
-pub use crate::outcomes::{OutcomeSink, is_to, line_at, numbers_of, replies_to, walk_outcomes};
+pub use crate::outcomes::{OutcomeSink, is_to, line_at, numbers_of, replies_of, walk_outcomes};
 pub use crate::remark::Remark;
 pub use crate::remark_words::{Hex, MESSAGES_SHOWN, RemarkWords, channel_called, destination_of};
 pub use crate::run_explanation::explain_run;

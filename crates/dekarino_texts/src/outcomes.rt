@@ -1,6 +1,7 @@
 //! The outcomes of scripts: each call with the replies that it can get, and each queuing channel with the ranges of its
 //! counts.
-ghost use Rattle.std.specs.Prelude.{◌≡◌, ◌<◌, length, map, IfOk};
+ghost use Rattle.std.specs.Prelude.{◌≡◌, ◌<◌, [], length, map, IfOk};
+ghost use Rattle.apex_ports.specs.Kept.{EachAt};
 ghost use Rattle.dekarino_texts.specs.Outcomes.{is_to, line_at, numbers_of, replies_to};
 
 use crate::counts::{Ranges, ranges_of};
@@ -84,9 +85,10 @@ fn walk_script<'f, S: OutcomeSink>(
 ) -> Result<&'f [String], AllocError>
     requires { p < length config.now.partitions }
 {
+    let found = replies_of(alloc, p, script.calls.len(), replies)?;
     let mut files = files;
-    for (index, (at, call)) in script.calls.iter().enumerate() {
-        let replies = replies_to(alloc, p, index, replies)?;
+    for (index, replies) in found.into_iter().enumerate() {
+        let (at, call) = &script.calls[index];
         let count = if replies.len() > 1 { replies.len() } else { 0 };
         let (own, later) = files.split_at(count.min(files.len()));
         files = later;
@@ -109,21 +111,36 @@ pub fn line_at(numbers: &[usize], index: usize) -> usize
     numbers.get(index).copied().unwrap_or(0)
 }
 
-/// The replies to the call at an index of the partition's script.
-pub fn replies_to<'a>(
+/// For each of the first calls of the partition's script, as many as `calls` says, the replies to it, in their order.
+pub fn replies_of<'a>(
     alloc: Global,
     p: usize,
-    index: usize,
+    calls: usize,
     replies: &'a [PossibleReply],
-) -> Result<Vec<&'a Reply>, AllocError>
-    ensures { IfOk result (λ found.
-        map (λ reply. reply.now) found.items ≡ replies_to p index replies.now) }
+) -> Result<Vec<Vec<&'a Reply>>, AllocError>
+    ensures count { IfOk result (λ found. length found.items ≡ calls) }
+    ensures each { IfOk result (λ found. EachAt (λ index own.
+        map (λ reply. reply.now) own.items ≡ replies_to p index replies.now) found.items) }
+{
+    let mut found = no_replies(alloc, calls)?;
+    for one in replies {
+        if one.partition == p {
+            if let Some(own) = found.get_mut(one.index) {
+                own.push(&one.reply)?;
+            }
+        }
+    }
+    Ok(found)
+}
+
+/// For each of as many calls as `calls` says, no replies.
+fn no_replies<'a>(alloc: Global, calls: usize) -> Result<Vec<Vec<&'a Reply>>, AllocError>
+    ensures count { IfOk result (λ found. length found.items ≡ calls) }
+    ensures each { IfOk result (λ found. EachAt (λ _ own. own.items ≡ []) found.items) }
 {
     let mut found = Vec::new(alloc);
-    for one in replies {
-        if is_to(one, p, index) {
-            found.push(&one.reply)?;
-        }
+    for _ in 0..calls {
+        found.push(Vec::new(alloc))?;
     }
     Ok(found)
 }

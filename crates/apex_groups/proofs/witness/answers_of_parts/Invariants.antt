@@ -7,3 +7,10 @@ invariant-loop-part g l = record {
   count : length l.answers.items ≡ length l.asked;
   known : AreKnown l.clock g.P.Progress.CanStop l.config l.fn.scripts l.bound l.asked l.answers.items;
 }
+
+abbrev pub invariant-loop-p : goal.invariant-loop-p
+invariant-loop-p g l = record {
+  same : l.scripts ≡ l.fn.scripts;
+  count : length l.answers.items ≡ length l.asked;
+  known : AreKnown l.clock g.P.Progress.CanStop l.config l.fn.scripts l.bound l.asked l.answers.items;
+}

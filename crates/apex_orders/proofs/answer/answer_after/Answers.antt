@@ -1,4 +1,4 @@
-use Rattle.apex_orders.proofs.Common.{◌≡◌, ◌++◌, ◌∷◌, [], List, ℕ, true, false, false≢true, Some, slice_get, sym, ap, ◌∙◌, subst, arith, order_at, IsAnsweredAfter, IsAnsweredByWith}
+use Rattle.apex_orders.proofs.Common.{◌≡◌, ap, ℕ, List, ◌++◌, ◌∷◌, [], true, false, false≢true, Some, slice_get, sym, ◌∙◌, subst, arith, order_at, IsAnsweredAfter, IsAnsweredByWith}
 use Rattle.apex_orders.proofs.GrowthLemmas.{order_here}
 use Rattle.apex_orders.proofs.WitnessLemmas.{longer_answers}
 use Rattle.apex_orders.proofs.answer.answer_after.Goals as goal

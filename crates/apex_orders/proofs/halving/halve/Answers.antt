@@ -1,6 +1,6 @@
 use Rattle.std.specs.Prelude.{◌/◌}
 use Rattle.std.proofs.lemmas.List.{take-append-drop}
-use Rattle.apex_orders.proofs.Common.{◌≡◌, inl, inr, ⊎_elim, ◌+◌, ◌++◌, ◌<◌, ◌≤◌, [], Bool, List, ℕ, Some, length, length-append, append_assoc, append-nil, sym, ap, ◌∙◌, subst, arith, cases_lt, slice_get, Configuration, PortsView, Scripts, Worker, AreGiven, HasMade, IsAfter, IsTrialOf, IsUnderTrial, calls_made, history_of, order_at}
+use Rattle.apex_orders.proofs.Common.{◌≡◌, ◌+◌, ◌++◌, [], Bool, List, ℕ, Some, length, length-append, append_assoc, append-nil, refl, sym, ap, ◌∙◌, subst, arith, slice_get, Configuration, PortsView, Scripts, Worker, AreGiven, HasMade, IsAfter, IsTrialOf, IsUnderTrial, calls_made, history_of, order_at}
 use Rattle.apex_orders.proofs.Lists.{at_behind, stays_before}
 use Rattle.apex_orders.proofs.WorkerLemmas.{has_begun}
 use Rattle.apex_orders.specs.declared.search.Search.{Search}
@@ -137,20 +137,19 @@ returns-clause-second c =
       tried = λ j below. let none = begun.tried in absurd (omega (arith, below, none));
     }
 
-pub returns-clause-points : goal.returns-clause-points
-returns-clause-points c i is =
-    let worker = c.args.worker.now in
-    let was = c.requires.given in
+pub returns-clause-kept : goal.returns-clause-kept
+returns-clause-kept c =
+    let len = c.in_ok-rest.ensures.len in
+    let first = c.start.ensures.first in
+    record { first = refl; last = omega (arith, len, first) }
+
+pub returns-clause-rest : goal.returns-clause-rest
+returns-clause-rest c =
     let len = c.in_ok-rest.ensures.len in
     let count : length c.split_off.new.self.items ≡ c.len-kept.result / 2 = omega (arith, len) in
     let begun = c.start.ensures in
-    let past = is.past in
-    let within = is.within in
     let first = begun.first in
     let none = begun.tried in
     let left = ap (λ (items : List PortsView). length items) begun.left in
-    let all = points c.args.clock c.args.config.now c.args.scripts.now c.args.current.now worker was c.split_off.new.self.items c.in_ok-rest.rest.items (c.len-kept.result / 2) (cut_of c) count in
-    ⊎_elim
-    (λ (own : i < c.start.new.self.first). inl (record { past = past; within = omega (arith, own, first, count) }))
-    (λ (others : c.start.new.self.first ≤ i). inr (record { past = others; within = omega (arith, within, first, none, left, all) }))
-    (cases_lt i c.start.new.self.first)
+    let all = points c.args.clock c.args.config.now c.args.scripts.now c.args.current.now c.args.worker.now c.requires.given c.split_off.new.self.items c.in_ok-rest.rest.items (c.len-kept.result / 2) (cut_of c) count in
+    record { first = refl; last = omega (arith, first, none, left, all) }

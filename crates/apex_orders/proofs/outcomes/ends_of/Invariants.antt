@@ -1,8 +1,5 @@
-use Rattle.apex_orders.proofs.Common.{◌≡◌, take, AreEndsOf}
+use Rattle.apex_orders.proofs.Common.{take, AreEndsOf}
 use Rattle.apex_orders.proofs.outcomes.ends_of.Given as goal
 
 abbrev pub invariant-loop-k : goal.invariant-loop-k
-invariant-loop-k l = record {
-  config : l.replayer.config ≡ l.config;
-  ends : AreEndsOf l.config l.scripts (take l.k l.orders) l.ends.items;
-}
+invariant-loop-k l = AreEndsOf l.config l.scripts (take l.k l.orders) l.ends.items

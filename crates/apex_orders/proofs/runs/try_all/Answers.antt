@@ -1,17 +1,10 @@
-use Rattle.apex_orders.proofs.Common.{◌≡◌, ℕ, false, sym, ◌∙◌, subst, arith, slice_get, Some, slice_get-get_or, slice_get_within, get_or_from_slice_get, Worker, HasTriedAll, IsUnderTrial, IsLaterWorker, IsPointOf, reach}
+use Rattle.apex_orders.proofs.Common.{◌≡◌, false, sym, ◌∙◌, subst, arith, slice_get, Some, slice_get-get_or, slice_get_within, get_or_from_slice_get, Worker, HasTriedAll, IsUnderTrial}
 use Rattle.std.specs.Prelude.{get_or}
 use Rattle.std.specs.Result.{is_err}
+use Rattle.apex_orders.proofs.InOrder.{in_order_still}
 use Rattle.apex_orders.proofs.Levels.{still_made}
 use Rattle.apex_orders.proofs.WorkerLemmas.{when_ok}
 use Rattle.apex_orders.proofs.runs.try_all.Goals as goal
-
--- a worker that has run has the same points
-still_of : (old new : Worker) (i : ℕ) → IsLaterWorker old new → reach new ≡ reach old → IsPointOf old i → IsPointOf new i
-still_of old new i later same is =
-    let first = later.first in
-    let past = is.past in
-    let within = is.within in
-    record { past = omega (arith, past, first); within = omega (arith, within, first, same) }
 
 pub run_all-requires-clause-workers : goal.run_all-requires-clause-workers
 run_all-requires-clause-workers g c κs within k worker at =
@@ -44,22 +37,18 @@ pub returns-clause-workers : goal.returns-clause-workers
 returns-clause-workers g c k worker at = (returns-clause-given g c k worker at).valid.trial
 
 pub returns-clause-points : goal.returns-clause-points
-returns-clause-points g c i at =
+returns-clause-points g c from to are =
     let old = c.args.workers.now in
     let new = c.run_all.new.workers in
     let many = c.run_all.ensures.count in
-    let k = at.index in
-    let inside = slice_get_within old k at.worker at.here in
-    let worker = get_or new k at.worker in
-    let here : slice_get new k ≡ Some worker = slice_get-get_or new k at.worker (omega (arith, inside, many)) in
-    let ok = c.have_run.ensures (c.if-not-have_run.false) k worker here in
-    let ran = when_ok worker.result _ ok (c.run_all.ensures.ran k at.worker inside) in
-    record {
-      index = k;
-      worker = worker;
-      here = here;
-      is = still_of (get_or old k at.worker) worker i ran.later ran.reach (subst (λ (w : Worker). IsPointOf w i) (sym (get_or_from_slice_get old k at.worker at.worker at.here)) at.is);
-    }
+    in_order_still from to old new many
+    (λ k worker inside.
+    let one = get_or new k worker in
+    let here : slice_get new k ≡ Some one = slice_get-get_or new k worker (omega (arith, inside, many)) in
+    let ok = c.have_run.ensures (c.if-not-have_run.false) k one here in
+    let ran = when_ok one.result _ ok (c.run_all.ensures.ran k worker inside) in
+    record { first = ran.later.first; reach = ran.reach })
+    are
 
 pub returns-clause-all : goal.returns-clause-all
 returns-clause-all g c stops few k worker at =

@@ -1,7 +1,8 @@
-use Rattle.apex_orders.proofs.Common.{◌≡◌, ◌≢◌, ⊎_elim, inl, inr, List, Has, history_of, orders_known, ℕ, ◌+◌, ◌<◌, length, length-set, refl, sym, ap, ◌∙◌, subst, arith, cases_eq, slice_get, Some, slice_get-get_or, slice_get-set_cases, slice_get_within, Bool, Configuration, Scripts, Worker, HasMade, IsPointOf, IsTrialOf, IsUnderTrial, reach}
+use Rattle.apex_orders.proofs.Common.{◌≡◌, ◌≢◌, ⊎_elim, inl, inr, List, Has, history_of, orders_known, ℕ, ◌+◌, ◌<◌, length, length-set, refl, sym, ap, ◌∙◌, subst, arith, cases_eq, slice_get, Some, slice_get-get_or, slice_get-set_cases, slice_get_within, Bool, Configuration, Scripts, Worker, HasMade, IsTrialOf, IsUnderTrial, reach}
 use Rattle.std.specs.Prelude.{get_or}
-use Rattle.apex_orders.proofs.AnswerLemmas.{set_elsewhere}
+use Rattle.apex_orders.proofs.Lists.{set_elsewhere}
 use Rattle.apex_orders.proofs.GrowthLemmas.{still_within}
+use Rattle.apex_orders.proofs.InOrder.{IsPointOf, point_at}
 use Rattle.apex_orders.proofs.SearchLemmas.{has_tried_kept, includes_along, keeps_along, knows_kept}
 use Rattle.apex_orders.proofs.WorkerLemmas.{continued_with_more, keeps_same, reach_within}
 use Rattle.apex_orders.proofs.MarkLemmas.{fit}
@@ -144,7 +145,8 @@ loop-k-preserved c =
     }
 
 pub returns-clause-tried : goal.returns-clause-tried
-returns-clause-tried c i at =
+returns-clause-tried c from to are i past below =
+    let at = point_at from to c.args.workers.now i are past below in
     let within = slice_get_within c.args.workers.now at.index at.worker at.here in
     let many = c.loop-k.invariant.many in
     c.loop-k.invariant.tried at.index i at.worker (omega (arith, within, many, c.loop-k-test.false)) at.here at.is

@@ -1,4 +1,5 @@
-use Rattle.apex_orders.proofs.Common.{◌≡◌, ◌⊎◌, ◌<◌, ◌≤◌, ℕ, List, Has, Knows, history_of, orders_known, length, slice_get, Some, Worker, HasTried, IsLater, IsPointOf, IsSameLevel, IsSearch, IsTrialOf}
+use Rattle.apex_orders.proofs.Common.{◌≡◌, ◌⊎◌, ◌<◌, ◌≤◌, ℕ, List, Has, Knows, history_of, orders_known, length, slice_get, Some, Worker, HasTried, IsLater, IsSameLevel, IsSearch, IsTrialOf}
+use Rattle.apex_orders.proofs.InOrder.{IsPointOf}
 use Rattle.apex_orders.specs.Marks.{IsFoundOrderBefore}
 use Rattle.apex_orders.proofs.workers.finish_all.Given as goal
 

@@ -1,6 +1,8 @@
-use Rattle.apex_orders.proofs.Common.{◌≡◌, ◌≢◌, ⊎_elim, ℕ, ◌+◌, ◌-◌, ◌<◌, ◌≤◌, List, length, length-set, sym, ◌∙◌, subst, arith, cases_lt, slice_get, Some, slice_get-set_cases, slice_get_within, Bool, Configuration, Scripts, HasContinued, HasMade, IsUnderTrial, PossibleReply, Worker}
+use Rattle.apex_orders.proofs.Common.{◌≡◌, ◌≢◌, ⊎_elim, ℕ, ◌+◌, ◌-◌, ◌<◌, ◌≤◌, List, length, length-set, sym, ◌∙◌, subst, arith, slice_get, Some, slice_get-set_cases, slice_get_within, take, take_all, Bool, Configuration, Scripts, HasContinued, HasMade, HaveInOrder, IsUnderTrial, PossibleReply, Worker}
 use Rattle.apex_orders.specs.declared.search.Search.{Search}
-use Rattle.apex_orders.proofs.AnswerLemmas.{set_elsewhere, set_here}
+use Rattle.std.proofs.lemmas.List.{take_more_set}
+use Rattle.apex_orders.proofs.Lists.{set_elsewhere}
+use Rattle.apex_orders.proofs.InOrder.{in_order_push}
 use Rattle.apex_orders.proofs.workers.give_all.Goals as goal
 
 moved_on : (new first share left total : ℕ) → new ≡ first + share → share ≤ left → first + left ≡ total → new + (left - share) ≡ total
@@ -56,31 +58,8 @@ loop-k-preserved c =
           }))
           (λ (another : (j ≢ k) × (slice_get workers j ≡ Some other)). let apart = another.0 in still_given c.args.clock c.args.config.now c.args.scripts.now c.loop-k.current c.give.new.self other now.orders now.replies now.calls (was.given j other (omega (arith, below, apart)) another.1))
           (slice_get-set_cases workers k worker j other at);
-      points = λ i past below.
-          ⊎_elim
-          (λ (before : i < start).
-          let one = was.points i past before in
-          let earlier = one.1 in (
-            record {
-              index = one.0.index;
-              worker = one.0.worker;
-              here = set_elsewhere workers k worker one.0.index (λ same. absurd (omega (arith, earlier, same))) ∙ one.0.here;
-              is = one.0.is;
-            },
-            omega (arith, earlier),
-          ))
-          (λ (behind : start ≤ i).
-          let from = now.range.first in
-          let to = now.range.last in (
-            record {
-              index = k;
-              worker = worker;
-              here = set_here workers k worker within;
-              is = record { past = omega (arith, from, behind); within = omega (arith, below, first, to) };
-            },
-            omega arith,
-          ))
-          (cases_lt i start);
+      points = subst (HaveInOrder c.args.current.now.points.first c.give.new.self.points.first) (sym (take_more_set workers k worker within))
+          (in_order_push c.args.current.now.points.first start c.give.new.self.points.first (take k workers) worker was.points (record { first = now.range.first; last = now.range.last ∙ sym now.first }));
     }
 
 pub returns-clause-given : goal.returns-clause-given
@@ -89,7 +68,8 @@ returns-clause-given c k worker at =
     c.loop-k.invariant.given k worker (omega (arith, within, c.loop-k-test.false)) at
 
 pub returns-clause-points : goal.returns-clause-points
-returns-clause-points c i past below = (c.loop-k.invariant.points i past below).0
+returns-clause-points c =
+    subst (HaveInOrder c.args.current.now.points.first c.loop-k.current.points.first) (take_all c.loop-k.k c.loop-k.workers (omega (arith, c.loop-k-test.false))) c.loop-k.invariant.points
 
 pub returns-clause-same : goal.returns-clause-same
 returns-clause-same c =

@@ -1,4 +1,4 @@
-use Rattle.apex_orders.proofs.Common.{◌≡◌, ◌+◌, ◌<◌, ◌≤◌, ℕ, length, slice_get, Some, Worker, HasPointAt, IsSearch, IsUnderTrial, IsTrialOf}
+use Rattle.apex_orders.proofs.Common.{◌≡◌, ◌+◌, ◌<◌, ◌≤◌, ℕ, length, slice_get, Some, take, Worker, HaveInOrder, IsSearch, IsUnderTrial, IsTrialOf}
 use Rattle.apex_orders.proofs.workers.give_all.Given as goal
 
 abbrev pub invariant-loop-k : goal.invariant-loop-k
@@ -14,5 +14,5 @@ invariant-loop-k l = record {
   many : length l.workers ≡ length l.initial.workers;
   rest : (j : ℕ) (worker : Worker) → l.k ≤ j → slice_get l.workers j ≡ Some worker → IsTrialOf l.config worker.trial;
   given : (j : ℕ) (worker : Worker) → j < l.k → slice_get l.workers j ≡ Some worker → IsUnderTrial l.clock l.config l.scripts l.current worker;
-  points : (i : ℕ) → l.initial.current.points.first ≤ i → i < l.current.points.first → (one : HasPointAt l.workers i) × (one.index < l.k);
+  points : HaveInOrder l.initial.current.points.first l.current.points.first (take l.k l.workers);
 }

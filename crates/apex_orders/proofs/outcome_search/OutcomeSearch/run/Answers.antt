@@ -1,10 +1,9 @@
-use Rattle.apex_orders.specs.Orders.{history_of}
 use Rattle.apex_orders.proofs.Common.{Option, IfSome, [], IsGivenUp, HasNothingLeft, refl, subst}
 use Rattle.apex_orders.specs.declared.orders_fault.OrdersFault.{OrdersFault}
 use Rattle.apex_orders.specs.declared.outcomes.Outcomes.{Outcomes}
 use Rattle.apex_orders.proofs.AnswerLemmas.{ended, when_none}
 use Rattle.apex_orders.proofs.Completing.{are_replies, are_ends}
-use Rattle.apex_orders.proofs.EndLemmas.{full_of_made, made_of_full, undecided_of}
+use Rattle.apex_orders.proofs.EndLemmas.{not_of_memory, undecided_of}
 use Rattle.apex_orders.proofs.SearchLemmas.{none_of}
 use Rattle.apex_orders.proofs.outcome_search.OutcomeSearch.run.Goals as goal
 
@@ -14,10 +13,11 @@ returns-in-Some g c =
     let scripts = c.args.scripts.now in
     let can_stop = g.P.Progress.CanStop in
     let ran = c.in_ok-given_up.ensures in
+    let why = subst (λ (given_up : Option OrdersFault). IfSome given_up (IsGivenUp c.args.clock can_stop config scripts c.args.bound)) c.in-Some.is ran.given_up in
     record {
       valid = record { under_way = ran.under_way };
-      undecided = undecided_of Outcomes c.args.clock can_stop config scripts c.partitions-partitions.ensures.valid c.args.bound c.in-Some.fault
-          (subst (λ (given_up : Option OrdersFault). IfSome given_up (IsGivenUp c.args.clock can_stop config scripts c.args.bound)) c.in-Some.is ran.given_up);
+      undecided = undecided_of Outcomes c.args.clock can_stop config scripts c.partitions-partitions.ensures.valid c.args.bound c.in-Some.fault why;
+      memory = not_of_memory c.args.clock can_stop config scripts c.args.bound c.in-Some.fault why;
     }
 
 pub returns : goal.returns
@@ -34,7 +34,5 @@ returns g c =
     let ends = c.in_ok-ends.ensures.ends in
     record {
       replies = are_replies config scripts valid c.args.clock c.into_found-found.result.orders c.into_found-found.result.replies.items searched;
-      ends = are_ends config scripts valid c.args.clock c.into_found-found.result.orders c.into_found-found.result.replies.items searched c.in_ok-ends.ends.items
-          (λ order has. let is = ends.each order has in (is.0, λ p within. full_of_made config scripts (history_of config scripts order) p (is.1 p within)))
-          (λ order has full. ends.every order has (λ p within. made_of_full config scripts searched.short (history_of config scripts order) p within (full p within)));
+      ends = are_ends config scripts valid c.args.clock c.into_found-found.result.orders c.into_found-found.result.replies.items searched c.in_ok-ends.ends.items ends.each ends.every;
     }

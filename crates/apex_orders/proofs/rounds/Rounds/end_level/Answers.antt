@@ -45,6 +45,6 @@ returns-clause-under_way g c =
           has_tried_kept config scripts clock old.orders new.orders old.replies new.replies k keeps includes (omega (arith, before, begun, whole)) (was.tried k before))
           (λ (behind : c.args.self.now.first ≤ k).
           subst (λ (x : List (List ℕ) × List PossibleReply). HasTried clock config scripts x.0 x.1 k) (λ i. (sym ended.orders i, sym ended.replies i))
-          (finished.tried k (trial.points k behind (omega (arith, below, first)))))
+          (finished.tried c.args.self.now.first old.points.first trial.points k behind (omega (arith, below, first))))
           (cases_lt k c.args.self.now.first);
     }

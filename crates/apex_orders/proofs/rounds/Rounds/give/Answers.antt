@@ -1,4 +1,4 @@
-use Rattle.apex_orders.proofs.Common.{◌≡◌, [], List, ℕ, ap, length, sym, subst, arith, Has, AreAnswersBy, HasTried, PossibleReply}
+use Rattle.apex_orders.proofs.Common.{◌≡◌, [], List, ℕ, ap, length, sym, subst, arith, Has, AreAnswersBy, HasTried, HaveInOrder, PossibleReply}
 use Rattle.apex_orders.proofs.rounds.Rounds.give.Goals as goal
 
 pub returns-clause-under_way : goal.returns-clause-under_way
@@ -30,7 +30,7 @@ returns-clause-under_way c =
       trial = λ given. record {
         whole = same.first;
         each = c.in_ok-give.ensures.given;
-        points = λ i past below. c.in_ok-give.ensures.points i (omega (arith, past, between, begun)) below;
+        points = subst (λ (n : ℕ). HaveInOrder n new.points.first c.give.new.self.all.items) (omega (arith, between, begun)) c.in_ok-give.ensures.points;
       };
       tried = λ k below. subst (λ (x : List (List ℕ) × List PossibleReply). HasTried clock config scripts x.0 x.1 k) (λ i. (sym same.orders i, sym same.replies i)) (was.tried k below);
     }

@@ -14,6 +14,6 @@ returns-clause-under_way g c =
       begun = was.begun;
       trial = λ given.
           let trial = was.trial given in
-          record { whole = trial.whole; each = now.given; points = λ i past below. now.points i (trial.points i past below) };
+          record { whole = trial.whole; each = now.given; points = now.points _ _ trial.points };
       tried = was.tried;
     }
